@@ -1,0 +1,104 @@
+-- Formats put together are lawful where their parts are, and what follows from being lawful.
+use Rattle.std.specs.Prelude.{IfOk}
+use Rattle.std.proofs.Common.{append-nil, ◌≡◌, ◌==◌, if◌then◌else◌, length, ℕ, suc, ◌+◌, ◌<◌, List, [], ◌∷◌, ◌++◌, Result, Ok, Err, refl, Bool, true, false, cond, nat_lt, take, drop, inl, inr, ◌≤◌, sym, ◌∙◌, ap, subst, append_assoc, arith, get_or}
+use Rattle.std.proofs.lemmas.Bool.{eqb-true, cases_lt, le-ltb, ltb-false}
+use Rattle.std.proofs.lemmas.List.{take_at, drop_at, take-append-drop, length-append, length-take, get_or-take, get_or_past}
+use Rattle.simplex_base.specs.declared.codec.error.Error.{Error}
+use Rattle.simplex_base.specs.Reading.{Reading, Refusal, end_of_buffer, extra_data, ◌>>=◌, IsBytes, GivesAll, all_of}
+use Rattle.simplex_base.specs.Format.{Spelled, Lawful, BothAre, both_spelled, both_at, made_at, IsFixed, fixed_at}
+
+-- the value of a step that did not fail
+pub bind_ok : {A B : Type 0} (r : Result A Refusal) (f : A → Result B Refusal) (y : B) → (r >>= f) ≡ Ok y → (x : A) × (r ≡ Ok x) × (f x ≡ Ok y)
+bind_ok (Ok x) f y e = (x, refl, e)
+bind_ok (Err d) f y e = absurd cc
+
+pub IsBytes-after : (front rest : List ℕ) → IsBytes (front ++ rest) → IsBytes rest
+IsBytes-after [] rest h = h
+IsBytes-after (b ∷ front) rest h = IsBytes-after front rest (λ i. h (suc i))
+
+pub both_lawful : {A B : Type 0} {is_a : A → Type 0} {is_b : B → Type 0} {s : A → List ℕ} {t : B → List ℕ} {read_a : List ℕ → Reading A} {read_b : List ℕ → Reading B} → Lawful is_a s read_a → Lawful is_b t read_b → Lawful (BothAre is_a is_b) (both_spelled s t) (both_at read_a read_b)
+both_lawful {A} {B} {is_a} {is_b} {s} {t} {read_a} {read_b} la lb = record {
+  takes = λ bytes x rest fit e.
+      let p = bind_ok (read_a bytes) (λ a. read_b a.1 >>= λ b. Ok ((a.0, b.0), b.1)) (x, rest) e in
+      let q = bind_ok (read_b p.0.1) (λ b. Ok ((p.0.0, b.0), b.1)) (x, rest) p.2 in
+      let first = la.takes bytes p.0.0 p.0.1 fit p.1 in
+      let fit' = IsBytes-after (s p.0.0) p.0.1 (subst IsBytes first.parts fit) in
+      let second = lb.takes p.0.1 q.0.0 q.0.1 fit' q.1 in
+      let same : ((p.0.0, q.0.0), q.0.1) ≡ (x, rest) = cc in
+      subst (λ (r : (A × B) × List ℕ). Spelled (BothAre is_a is_b) (both_spelled s t) bytes r.0 r.1) same
+      (record {
+        value = (first.value, second.value);
+        parts = first.parts ∙ (ap (λ (r : List ℕ). s p.0.0 ++ r) second.parts ∙ sym (append_assoc (s p.0.0) (t q.0.0) q.0.1));
+      });
+  again = λ x rest v.
+      rw (append_assoc (s x.0) (t x.1) rest, la.again x.0 (t x.1 ++ rest) v.0, lb.again x.1 rest v.1) refl;
+}
+
+pub made_lawful : {A B : Type 0} {is_a : A → Type 0} {s : A → List ℕ} {read_a : List ℕ → Reading A} (make : A → B) (parts : B → A) → ((b : B) → make (parts b) ≡ b) → ((a : A) → parts (make a) ≡ a) → Lawful is_a s read_a → Lawful (λ b. is_a (parts b)) (λ b. s (parts b)) (made_at make read_a)
+made_lawful {A} {B} {is_a} {s} {read_a} make parts mp pm la = record {
+  takes = λ bytes x rest fit e.
+      let p = bind_ok (read_a bytes) (λ a. Ok (make a.0, a.1)) (x, rest) e in
+      let first = la.takes bytes p.0.0 p.0.1 fit p.1 in
+      let same : (make p.0.0, p.0.1) ≡ (x, rest) = cc in
+      subst (λ (r : B × List ℕ). Spelled (λ b. is_a (parts b)) (λ b. s (parts b)) bytes r.0 r.1) same
+      (record { value = rw (pm p.0.0) first.value; parts = rw (pm p.0.0) first.parts });
+  again = λ x rest v. rw (la.again (parts x) rest v, mp x) refl;
+}
+
+rest_none : {A : Type 0} (xs : List A) → (length xs == 0) ≡ true → xs ≡ []
+rest_none [] e = refl
+rest_none (x ∷ xs) e = absurd (omega (arith, eqb-true (length (x ∷ xs)) 0 e))
+
+-- all of the bytes were read, where reading is lawful
+pub all_of_takes : {T : Type 0} {fits : T → Type 0} {spelling : T → List ℕ} {read : List ℕ → Reading T} → Lawful fits spelling read → (bytes : List ℕ) (x : T) → IsBytes bytes → all_of read bytes ≡ Ok x → fits x × (bytes ≡ spelling x)
+all_of_takes {T} {fits} {spelling} {read} law bytes x fit e =
+    let p = bind_ok (read bytes) (λ x. if length x.1 == 0 then Ok x.0 else Err extra_data) x e in
+    let q = passed (length p.0.1 == 0) p.0.0 x p.2 in
+    let t = law.takes bytes p.0.0 p.0.1 fit p.1 in
+    let none = rest_none p.0.1 q.0 in
+    subst (λ (y : T). fits y × (bytes ≡ spelling y)) q.1 (t.value, t.parts ∙ rw none (append-nil _))
+  where
+    passed : (b : Bool) (v w : T) → cond b (Ok v) (Err extra_data) ≡ Ok w → (b ≡ true) × (v ≡ w)
+    passed true v w e = (refl, cc)
+    passed false v w e = absurd cc
+
+pub all_of_again : {T : Type 0} {fits : T → Type 0} {spelling : T → List ℕ} {read : List ℕ → Reading T} → Lawful fits spelling read → (bytes : List ℕ) (x : T) → fits x → bytes ≡ spelling x → all_of read bytes ≡ Ok x
+all_of_again {T} {fits} {spelling} {read} law bytes x v e =
+    let h = rw (append-nil (spelling x)) at (law.again x [] v) in rw (e, h) refl
+
+-- what a call that read all of the bytes returned
+pub gave_all : {T : Type 0} {fits : T → Type 0} {spelling : T → List ℕ} {read : List ℕ → Reading T} (memory : Bool) → Lawful fits spelling read → (bytes : List ℕ) → IsBytes bytes → (r : Result T Error) → GivesAll memory r (all_of read bytes) → IfOk r (λ x. fits x × (bytes ≡ spelling x))
+gave_all memory law bytes fit (Ok x) h = all_of_takes law bytes x fit h
+gave_all memory law bytes fit (Err e) h = tt
+
+IsBytes-take : (n : ℕ) (bytes : List ℕ) → IsBytes bytes → IsBytes (take n bytes)
+IsBytes-take n bytes h i =
+    elim (cases_lt i n) [
+      | inl lt ↦ rw (get_or-take n bytes i 0 lt) (h i)
+      | inr le ↦ rw (get_or_past (take n bytes) i 0 (omega (arith, length-take n bytes))) (omega arith)
+    ]
+
+pub fixed_lawful : {T : Type 0} (size : ℕ) (bytes_of : T → List ℕ) (of_bytes : List ℕ → T) → ((bs : List ℕ) → IsFixed size bs → bytes_of (of_bytes bs) ≡ bs) → ((x : T) → IsFixed size (bytes_of x) → of_bytes (bytes_of x) ≡ x) → Lawful (λ x. IsFixed size (bytes_of x)) bytes_of (fixed_at size of_bytes)
+fixed_lawful {T} size bytes_of of_bytes back forth = record {
+  takes = λ bytes x rest fit e.
+      let g = guarded (nat_lt (length bytes) size) (of_bytes (take size bytes)) (drop size bytes) x rest e in
+      let long : size ≤ length bytes = ltb-false (length bytes) size g.0 in
+      let fixed : IsFixed size (take size bytes) = record { len = omega (arith, length-take size bytes); fit = IsBytes-take size bytes fit } in
+      let b = back (take size bytes) fixed in
+      subst (λ (y : T × List ℕ). Spelled (λ x. IsFixed size (bytes_of x)) bytes_of bytes y.0 y.1) g.1
+      (record { value = rw b fixed; parts = rw b (sym (take-append-drop size bytes)) });
+  again = λ x rest v.
+      let long : nat_lt (length (bytes_of x ++ rest)) size ≡ false = le-ltb _ _ (let l = v.len in omega (arith, length-append (bytes_of x) rest)) in
+      rw (long, take_at (bytes_of x) rest size v.len, drop_at (bytes_of x) rest size v.len, forth x v) refl;
+}
+  where
+    guarded : {T : Type 0} (b : Bool) (v : T) (r : List ℕ) (w : T) (s : List ℕ) → ◌≡◌ {A = Reading T} (cond b (Err end_of_buffer) (Ok (v, r))) (Ok (w, s)) → (b ≡ false) × (◌≡◌ {A = T × List ℕ} (v, r) (w, s))
+    guarded true v r w s e = absurd cc
+    guarded false v r w s e = (refl, cc)
+
+-- no spelling begins another's
+pub one_spelling : {T : Type 0} {fits : T → Type 0} {spelling : T → List ℕ} {read : List ℕ → Reading T} → Lawful fits spelling read → (x y : T) (rest more : List ℕ) → fits x → fits y → spelling x ++ rest ≡ spelling y ++ more → (x ≡ y) × (rest ≡ more)
+one_spelling {T} {fits} {spelling} {read} law x y rest more fx fy e =
+    let p : ◌≡◌ {A = Reading T} (Ok (x, rest)) (Ok (y, more)) = sym (law.again x rest fx) ∙ (ap read e ∙ law.again y more fy) in
+    let q : ◌≡◌ {A = T × List ℕ} (x, rest) (y, more) = cc in
+    (ap (λ (r : T × List ℕ). r.0) q, ap (λ (r : T × List ℕ). r.1) q)

@@ -1,0 +1,71 @@
+-- Unions: a tag, and what it says comes after it.
+use Rattle.std.proofs.Common.{◌≡◌, ◌==◌, if◌then◌else◌, length, ℕ, suc, ◌+◌, ◌<◌, List, [], ◌∷◌, ◌++◌, Result, Ok, Err, refl, Bool, true, false, cond, sym, ◌∙◌, ap, subst}
+use Rattle.std.proofs.lemmas.Bool.{eqb-true}
+use Rattle.simplex_base.specs.Reading.{Reading, Refusal, end_of_buffer, ◌>>=◌, IsBytes}
+use Rattle.simplex_base.specs.Format.{Lawful, Spelled, made_at}
+use Rattle.simplex_base.specs.FormatLaws.{IsBytes-after, bind_ok}
+
+-- the tag, and then what the branch of that tag reads
+abbrev pub union_at : {T : Type 0} → (ℕ → List ℕ → Reading T) → List ℕ → Reading T
+union_at branches [] = Err end_of_buffer
+union_at branches (tag ∷ bytes) = branches tag bytes
+
+-- the branch of one tag, before others
+abbrev pub branch_at : {A T : Type 0} → ℕ → (A → T) → (List ℕ → Reading A) → (ℕ → List ℕ → Reading T) → ℕ → List ℕ → Reading T
+branch_at tag make read others b bytes = if b == tag then made_at make read bytes else others b bytes
+
+-- no tag is left
+abbrev pub no_branch : {T : Type 0} → Refusal → ℕ → List ℕ → Reading T
+no_branch refusal b bytes = Err refusal
+
+-- what a branch reads is a value with this tag and this body
+abbrev pub Takes : {T : Type 0} → (T → Type 0) → (T → ℕ) → (T → List ℕ) → (ℕ → List ℕ → Reading T) → Type 0
+Takes {T} fits tag_of body branches = (b : ℕ) (bytes : List ℕ) (x : T) (rest : List ℕ) → IsBytes bytes → branches b bytes ≡ Ok (x, rest) → Spelled fits (λ y. tag_of y ∷ body y) (b ∷ bytes) x rest
+
+pub no_branch_takes : {T : Type 0} {fits : T → Type 0} {tag_of : T → ℕ} {body : T → List ℕ} (refusal : Refusal) → Takes fits tag_of body (no_branch refusal)
+no_branch_takes refusal b bytes x rest fit e = absurd cc
+
+pub branch_takes : {A T : Type 0} {is_a : A → Type 0} {s : A → List ℕ} {read : List ℕ → Reading A} (fits : T → Type 0) (tag_of : T → ℕ) (body : T → List ℕ) (tag : ℕ) (make : A → T) (others : ℕ → List ℕ → Reading T) → Lawful is_a s read → ((a : A) → tag_of (make a) ≡ tag) → ((a : A) → body (make a) ≡ s a) → ((a : A) → is_a a → fits (make a)) → Takes fits tag_of body others → Takes fits tag_of body (branch_at tag make read others)
+branch_takes {A} {T} {is_a} {s} {read} fits tag_of body tag make others law tags bodies fitting more b bytes x rest fit e =
+    go (b == tag) refl e
+  where
+    go : (t : Bool) → (b == tag) ≡ t → cond t (made_at make read bytes) (others b bytes) ≡ Ok (x, rest) → Spelled fits (λ y. tag_of y ∷ body y) (b ∷ bytes) x rest
+    go true h e =
+        let p = bind_ok (read bytes) (λ a. Ok (make a.0, a.1)) (x, rest) e in
+        let first = law.takes bytes p.0.0 p.0.1 fit p.1 in
+        let same : (make p.0.0, p.0.1) ≡ (x, rest) = cc in
+        subst (λ (r : T × List ℕ). Spelled fits (λ y. tag_of y ∷ body y) (b ∷ bytes) r.0 r.1) same
+        (record { value = fitting p.0.0 first.value; parts = rw (tags p.0.0, bodies p.0.0, eqb-true b tag h) (ap (λ (t : List ℕ). tag ∷ t) first.parts) })
+    go false h e = more b bytes x rest fit e
+
+pub union_lawful : {T : Type 0} {fits : T → Type 0} {tag_of : T → ℕ} {body : T → List ℕ} {branches : ℕ → List ℕ → Reading T} → Takes fits tag_of body branches → ((x : T) (rest : List ℕ) → fits x → branches (tag_of x) (body x ++ rest) ≡ Ok (x, rest)) → Lawful fits (λ x. tag_of x ∷ body x) (union_at branches)
+union_lawful {T} {fits} {tag_of} {body} {branches} takes again = record {
+  takes = taken;
+  again = again;
+}
+  where
+    taken : (bytes : List ℕ) (x : T) (rest : List ℕ) → IsBytes bytes → union_at branches bytes ≡ Ok (x, rest) → Spelled fits (λ x. tag_of x ∷ body x) bytes x rest
+    taken [] x rest fit e = absurd cc
+    taken (b ∷ bytes) x rest fit e = takes b bytes x rest (λ i. fit (suc i)) e
+
+-- a value that stands only where a condition holds
+abbrev pub given_at : {T : Type 0} → (T → Bool) → Refusal → (List ℕ → Reading T) → List ℕ → Reading T
+given_at test refusal read bytes = read bytes >>= λ x. if test x.0 then Ok x else Err refusal
+
+-- what passes a test
+abbrev pub Passes : {T : Type 0} → (T → Type 0) → (T → Bool) → T → Type 0
+Passes is_value test x = is_value x × (test x ≡ true)
+
+pub given_lawful : {T : Type 0} {is_value : T → Type 0} {s : T → List ℕ} {read : List ℕ → Reading T} (test : T → Bool) (refusal : Refusal) → Lawful is_value s read → Lawful (Passes is_value test) s (given_at test refusal read)
+given_lawful {T} {is_value} {s} {read} test refusal law = record {
+  takes = λ bytes x rest fit e.
+      let p = bind_ok (read bytes) (λ x. cond (test x.0) (Ok x) (Err refusal)) (x, rest) e in
+      let t = law.takes bytes p.0.0 p.0.1 fit p.1 in
+      let q = passed (test p.0.0) p.0 (x, rest) p.2 in
+      subst (λ (r : T × List ℕ). Spelled (Passes is_value test) s bytes r.0 r.1) q.1 (record { value = (t.value, q.0); parts = t.parts });
+  again = λ x rest v. rw (law.again x rest v.0, v.1) refl;
+}
+  where
+    passed : (b : Bool) (v w : T × List ℕ) → ◌≡◌ {A = Reading T} (cond b (Ok v) (Err refusal)) (Ok w) → (b ≡ true) × (v ≡ w)
+    passed true v w e = (refl, cc)
+    passed false v w e = absurd cc

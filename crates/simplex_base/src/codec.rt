@@ -1,0 +1,274 @@
+//! Values as bytes: each value has one spelling, and reading finds it wherever it begins the input.
+
+ghost use Rattle.std.specs.Prelude.{◌≡◌, ◌↔◌, true, ℕ, Bool, Ok, Err, List, ◌++◌, length, OnOk, OnErr, IfOk, IfErr, IsTrue, ◌≤◌, ◌<◌};
+ghost use Rattle.std.specs.Ordering.{nat_cmp};
+ghost use Rattle.std.specs.Cmp.Lexicographic.{slice_cmp};
+ghost use Rattle.simplex_base.specs.Reading.{Reading, Gives, GivesAll, all_of};
+ghost use Rattle.simplex_base.specs.Format.{Lawful, IsFixed};
+
+pub mod error;
+pub mod parts;
+pub mod varint;
+
+use bytes::Bytes;
+use error::Error;
+use std::alloc::{AllocError, Global};
+use std::hash::Hash;
+
+/// What the values of a type are, and how each of them is spelled. It has no code of its own.
+pub trait Spell {
+    /// Holds of the values of the type.
+    ghost is_value: { Self → Type 0 };
+
+    /// The bytes of a value.
+    ghost spelling: { Self → List ℕ };
+}
+
+/// A value that can be written.
+pub trait Write: Spell {
+    /// Appends the spelling. `AllocError` comes where the buffer had to grow and could not; the buffer
+    /// is then as before.
+    fn write(&self, buf: &mut Vec<u8>) -> Result<(), AllocError>
+        ensures ok { OnOk result (buf.new.items ≡ buf.old.items ++ Self.spelling self.now) }
+        ensures err { OnErr result (buf.new.items ≡ buf.old.items) };
+}
+
+/// A value that knows how long its spelling is.
+pub trait EncodeSize: Spell {
+    /// A bound on the lengths, so that they can be added up.
+    ghost limit: { ℕ };
+
+    /// The number of bytes of the spelling.
+    fn encode_size(&self) -> usize
+        ensures size { result ≡ length (Self.spelling self.now) }
+        ensures value { Self.is_value self.now }
+        ensures limited { result ≤ limit };
+}
+
+/// A type whose spellings have a greatest length.
+pub trait MaxEncodeSize: EncodeSize {
+    /// The greatest length.
+    ghost max_size: { ℕ };
+
+    /// The greatest number of bytes that a spelling has.
+    fn max_encode_size() -> usize
+        ensures { result ≡ max_size };
+
+    /// No spelling is longer,
+    ghost within: { (x : Self) → Self.is_value x → length (Self.spelling x) ≤ max_size };
+
+    /// and some spelling is as long.
+    ghost reached: { (x : Self) × Self.is_value x × (length (Self.spelling x) ≡ max_size) };
+}
+
+/// A value that can be read.
+pub trait Read: Spell {
+    /// What bounds the values that are read.
+    type Cfg;
+
+    /// The value is within the configuration.
+    ghost fits: { Self.Cfg → Self → Type 0 };
+
+    /// What reading the front of some bytes gives.
+    ghost reading: { Self.Cfg → List ℕ → Reading Self };
+
+    /// Whether reading takes memory. Where it doesn't, `OutOfMemory` is never answered.
+    ghost takes_memory: { Bool };
+
+    /// Reads the value at the front of the input and moves the slice past it. After an error the slice
+    /// is as before.
+    fn read_cfg(alloc: Global, input: &mut &[u8], cfg: &Self::Cfg) -> Result<Self, Error>
+        ensures { Gives takes_memory result input.old.now input.new.now (reading cfg.now input.old.now) };
+
+    /// Reading gives the value whose spelling begins the input, whatever follows, and only that.
+    ghost lawful: { (cfg : Self.Cfg) → Lawful (fits cfg) Self.spelling (reading cfg) };
+}
+
+/// A value that can be written as one byte string.
+pub trait Encode: Write + EncodeSize {
+    /// The spelling.
+    fn encode(&self, alloc: Global) -> Result<Bytes, AllocError>
+        ensures { IfOk result (λ bytes. bytes ≡ Self.spelling self.now) }
+    {
+        let mut buf = Vec::new(alloc);
+        self.write(&mut buf)?;
+        Ok(Bytes::from_vec(buf)?)
+    }
+}
+
+impl<T: Write + EncodeSize> Encode for T {}
+
+/// A type whose spellings all have one length.
+pub trait FixedSize {
+    ghost SIZE: { ℕ };
+
+    /// The length in bytes, from 1 to 65,535.
+    const SIZE: usize;
+}
+
+/// A type whose values are exactly its lists of [`SIZE`](FixedSize::SIZE) bytes, as digests, signatures
+/// and public keys.
+pub trait Fixed: FixedSize + Copy + Eq + Ord + Hash {
+    /// The bytes of a value.
+    ghost bytes_of: { Self → List ℕ };
+
+    /// The value of some bytes.
+    ghost of_bytes: { List ℕ → Self };
+
+    /// The bytes of the value.
+    fn as_bytes(&self) -> &[u8]
+        ensures value { result.now ≡ bytes_of self.now }
+        ensures fixed { IsFixed Self.SIZE (bytes_of self.now) };
+
+    /// The value of these bytes, which have to be as many as the size says.
+    fn from_bytes(bytes: &[u8]) -> Self
+        requires { length bytes.now ≡ Self.SIZE }
+        ensures { result ≡ of_bytes bytes.now };
+
+    /// The size is from 1 to 65,535.
+    ghost sized: { (0 < Self.SIZE) × (Self.SIZE ≤ 65535) };
+
+    /// Each list of so many bytes is the bytes of a value,
+    ghost back: { (bytes : List ℕ) → IsFixed Self.SIZE bytes → bytes_of (of_bytes bytes) ≡ bytes };
+
+    /// and of one only.
+    ghost forth: { (x : Self) → IsFixed Self.SIZE (bytes_of x) → of_bytes (bytes_of x) ≡ x };
+
+    /// Equal is what has the same bytes.
+    ghost equal: { (x y : Self) → (Self.eq x y ≡ true) ↔ (bytes_of x ≡ bytes_of y) };
+
+    /// Values are ordered as their bytes are.
+    ghost ordered: { (x y : Self) → Self.cmp x y ≡ slice_cmp nat_cmp (bytes_of x) (bytes_of y) };
+}
+
+/// Reads a value that needs no configuration.
+pub fn read_value<T: Read<Cfg = ()>>(alloc: Global, input: &mut &[u8]) -> Result<T, Error>
+    ensures { Gives T.takes_memory result input.old.now input.new.now (T.reading tt input.old.now) }
+{
+    T::read_cfg(alloc, input, &())
+}
+
+/// Reads a value that is all of the bytes. A rest after the value is refused by `ExtraData`.
+pub fn decode_cfg<T: Read + Drop>(alloc: Global, bytes: &[u8], cfg: &T::Cfg) -> Result<T, Error>
+    // What is read is spelled so,
+    ensures taken { IfOk result (λ x. T.fits cfg.now x × (bytes.now ≡ T.spelling x)) }
+    // and what is spelled so is read, memory aside.
+    ensures again { (x : T) → T.fits cfg.now x → bytes.now ≡ T.spelling x → GivesAll T.takes_memory result (Ok x) }
+    // Which refusal it is.
+    ensures refusal { GivesAll T.takes_memory result (all_of (T.reading cfg.now) bytes.now) }
+    // No spelling begins another's, so each spelling is one value's.
+    ensures one { (x y : T) (rest more : List ℕ) → T.fits cfg.now x → T.fits cfg.now y →
+        T.spelling x ++ rest ≡ T.spelling y ++ more → (x ≡ y) × (rest ≡ more) }
+{
+    read_all(alloc, bytes, cfg)
+}
+
+fn read_all<T: Read + Drop>(alloc: Global, bytes: &[u8], cfg: &T::Cfg) -> Result<T, Error>
+    ensures { GivesAll T.takes_memory result (all_of (T.reading cfg.now) bytes.now) }
+{
+    let mut rest: &[u8] = bytes;
+    let value = T::read_cfg(alloc, &mut rest, cfg)?;
+    if !rest.is_empty() {
+        return Err(Error::ExtraData);
+    }
+    Ok(value)
+}
+
+/// Reads a value that is all of the bytes and needs no configuration.
+pub fn decode<T: Read<Cfg = ()> + Drop>(alloc: Global, bytes: &[u8]) -> Result<T, Error>
+    ensures taken { IfOk result (λ x. T.fits tt x × (bytes.now ≡ T.spelling x)) }
+    ensures again { (x : T) → T.fits tt x → bytes.now ≡ T.spelling x → GivesAll T.takes_memory result (Ok x) }
+    ensures refusal { GivesAll T.takes_memory result (all_of (T.reading tt) bytes.now) }
+{
+    decode_cfg(alloc, bytes, &())
+}
+
+#[cfg(test)]
+mod tests {
+    use super::*;
+    use crate::positions::{Epoch, Participant, Round, View};
+    use std::test::Fail;
+
+    #[test]
+    fn numbers_are_spelled_in_groups(rt: HostRuntime) -> Result<(), Fail> {
+        let alloc = rt.alloc();
+        let rows: [(u64, &[u8]); 6] = [
+            (0, &[0]),
+            (127, &[0x7f]),
+            (128, &[0x80, 1]),
+            (333, &[0xcd, 2]),
+            (4294967295, &[255, 255, 255, 255, 15]),
+            (u64::MAX, &[255, 255, 255, 255, 255, 255, 255, 255, 255, 1]),
+        ];
+        for (number, spelling) in rows {
+            let epoch = Epoch::new(number);
+            assert_eq!(rt; epoch.encode(alloc)?.as_slice(), spelling, "of {number}");
+            assert_eq!(rt; epoch.encode_size(), spelling.len(), "of {number}");
+            assert_eq!(rt; decode::<Epoch>(alloc, spelling), Ok(epoch), "of {number}");
+            assert_eq!(rt; decode::<View>(alloc, spelling), Ok(View::new(number)));
+        }
+        let last = Participant::new(u32::MAX);
+        assert_eq!(rt;
+            last.encode(alloc)?.as_slice(),
+            [255, 255, 255, 255, 15].as_slice()
+        );
+        assert_eq!(rt; Participant::max_encode_size(), last.encode_size());
+        Ok(())
+    }
+
+    #[test]
+    fn numbers_are_refused_by_name(rt: HostRuntime) {
+        let alloc = rt.alloc();
+        let rows: [(&[u8], Error); 7] = [
+            (&[], Error::EndOfBuffer),
+            (&[0x80], Error::EndOfBuffer),
+            (&[0x80, 0], Error::InvalidVarint),
+            (
+                &[255, 255, 255, 255, 255, 255, 255, 255, 255, 2],
+                Error::InvalidVarint,
+            ),
+            (
+                &[255, 255, 255, 255, 255, 255, 255, 255, 255, 129],
+                Error::InvalidVarint,
+            ),
+            (
+                &[255, 255, 255, 255, 255, 255, 255, 255, 255],
+                Error::EndOfBuffer,
+            ),
+            (&[1, 2], Error::ExtraData),
+        ];
+        for (bytes, error) in rows {
+            assert_eq!(rt; decode::<Epoch>(alloc, bytes), Err(error), "of {bytes:?}");
+        }
+        let wide: [(&[u8], Error); 3] = [
+            (&[255, 255, 255, 255], Error::EndOfBuffer),
+            (&[255, 255, 255, 255, 16], Error::InvalidVarint),
+            (&[255, 255, 255, 255, 143], Error::InvalidVarint),
+        ];
+        for (bytes, error) in wide {
+            assert_eq!(rt;
+                decode::<Participant>(alloc, bytes),
+                Err(error),
+                "of {bytes:?}"
+            );
+        }
+    }
+
+    #[test]
+    fn rounds_are_an_epoch_and_a_view(rt: HostRuntime) -> Result<(), Fail> {
+        let alloc = rt.alloc();
+        let round = Round::new(Epoch::new(333), View::new(10));
+        let bytes = round.encode(alloc)?;
+        assert_eq!(rt; bytes.as_slice(), [0xcd, 2, 10].as_slice());
+        assert_eq!(rt; decode::<Round>(alloc, bytes.as_slice()), Ok(round));
+        let mut input: &[u8] = &[0xcd, 2, 10, 7];
+        assert_eq!(rt; read_value::<Round>(alloc, &mut input), Ok(round));
+        assert_eq!(rt; input, [7].as_slice());
+        assert_eq!(rt;
+            read_value::<Round>(alloc, &mut input),
+            Err(Error::EndOfBuffer)
+        );
+        assert_eq!(rt; input, [7].as_slice());
+        Ok(())
+    }
+}

@@ -1,0 +1,125 @@
+//! Values that are spelled part after part, and values of a fixed size.
+
+ghost use Rattle.std.specs.Prelude.{◌≡◌, ◌++◌, ◌+◌, ◌<◌, ◌≤◌, ◌^◌, ◌||◌, false, OnOk, OnErr, length, take};
+ghost use Rattle.simplex_base.specs.Reading.{IsBytes};
+ghost use Rattle.simplex_base.specs.Format.{both_spelled, both_at, BothAre, IsFixed, fixed_at};
+ghost use Rattle.simplex_base.specs.FormatLaws.{both_lawful, fixed_lawful};
+
+use crate::codec::error::Error;
+use crate::codec::{EncodeSize, Fixed, Read, Spell, Write};
+use std::alloc::{AllocError, Global};
+
+/// Takes back what a refused write left behind it.
+fn or_restore(
+    buf: &mut Vec<u8>,
+    start: usize,
+    done: Result<(), AllocError>,
+) -> Result<(), AllocError>
+    requires { start ≤ length buf.old.items }
+    ensures same { result ≡ done }
+    ensures ok { OnOk result (buf.new.items ≡ buf.old.items) }
+    ensures err { OnErr result (buf.new.items ≡ take start buf.old.items) }
+{
+    if done.is_err() {
+        buf.truncate(start);
+    }
+    done
+}
+
+/// Appends one value and then another. After a refusal the buffer is as before.
+pub fn write_both<A: Write, B: Write>(
+    first: &A,
+    second: &B,
+    buf: &mut Vec<u8>,
+) -> Result<(), AllocError>
+    ensures ok { OnOk result (buf.new.items ≡ buf.old.items ++ (A.spelling first.now ++ B.spelling second.now)) }
+    ensures err { OnErr result (buf.new.items ≡ buf.old.items) }
+{
+    let start = buf.len();
+    first.write(buf)?;
+    let done = second.write(buf);
+    or_restore(buf, start, done)
+}
+
+impl<A: Spell, B: Spell> Spell for (A, B) {
+    ghost is_value = { BothAre A.is_value B.is_value };
+
+    ghost spelling = { both_spelled A.spelling B.spelling };
+}
+
+impl<A: Write, B: Write> Write for (A, B) {
+    fn write(&self, buf: &mut Vec<u8>) -> Result<(), AllocError> {
+        write_both(&self.0, &self.1, buf)
+    }
+}
+
+/// The first part needs no configuration; the second's is the pair's.
+impl<A: Read<Cfg = ()> + Drop, B: Read> Read for (A, B) {
+    type Cfg = B::Cfg;
+
+    ghost fits = { λ cfg. BothAre (A.fits tt) (B.fits cfg) };
+
+    ghost reading = { λ cfg. both_at (A.reading tt) (B.reading cfg) };
+
+    ghost takes_memory = { A.takes_memory || B.takes_memory };
+
+    fn read_cfg(alloc: Global, input: &mut &[u8], cfg: &B::Cfg) -> Result<Self, Error> {
+        let mut rest: &[u8] = *input;
+        let first = A::read_cfg(alloc, &mut rest, &())?;
+        let second = B::read_cfg(alloc, &mut rest, cfg)?;
+        *input = rest;
+        Ok((first, second))
+    }
+
+    ghost lawful = { λ cfg. both_lawful (A.lawful tt) (B.lawful cfg) };
+}
+
+impl<T: Fixed> Spell for T {
+    ghost is_value = { λ x. IsFixed T.SIZE (T.bytes_of x) };
+
+    ghost spelling = { T.bytes_of };
+}
+
+impl<T: Fixed> Write for T {
+    fn write(&self, buf: &mut Vec<u8>) -> Result<(), AllocError> {
+        buf.extend_from_slice(self.as_bytes())
+    }
+}
+
+impl<T: Fixed> EncodeSize for T {
+    ghost limit = { 65535 };
+
+    fn encode_size(&self) -> usize {
+        self.as_bytes().len()
+    }
+}
+
+impl<T: Fixed> Read for T {
+    type Cfg = ();
+
+    ghost fits = { λ _ x. IsFixed T.SIZE (T.bytes_of x) };
+
+    ghost reading = { λ _. fixed_at T.SIZE T.of_bytes };
+
+    ghost takes_memory = { false };
+
+    fn read_cfg(_alloc: Global, input: &mut &[u8], _cfg: &()) -> Result<Self, Error> {
+        let bytes: &[u8] = *input;
+        if bytes.len() < T::SIZE {
+            return Err(Error::EndOfBuffer);
+        }
+        let (front, rest) = bytes.split_at(T::SIZE);
+        *input = rest;
+        Ok(T::from_bytes(front))
+    }
+
+    ghost lawful = { λ _. fixed_lawful T.SIZE T.bytes_of T.of_bytes T.back T.forth };
+}
+
+/// The same bytes, each of which is below 256.
+pub fn known_bytes(bytes: &[u8]) -> &[u8]
+    ensures same { result.now ≡ bytes.now }
+    ensures range { IsBytes bytes.now }
+{
+    bytes
+}

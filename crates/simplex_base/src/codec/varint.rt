@@ -1,0 +1,158 @@
+//! Numbers in groups of seven bits, the lowest group first, as in LEB128. The top bit is set on each byte
+//! but the last, and the last is not zero unless it is the only one, so each number has one spelling.
+
+ghost use Rattle.std.specs.Prelude.{◌≡◌, ◌≢◌, ℕ, length, ◌++◌, OnOk, OnErr, IfOk, List, ◌≤◌, ◌<◌, ◌+◌, ◌*◌, ◌^◌, false};
+ghost use Rattle.simplex_base.specs.Reading.{Gives, GivesRest, IsBytes};
+ghost use Rattle.simplex_base.specs.Varint.{IsNumber, ReadsNumber, groups, groups_at, number_at, number_32, number_64};
+
+use crate::codec::error::Error;
+use crate::codec::parts::known_bytes;
+use std::alloc::AllocError;
+
+/// The groups of a number after the first, of which `more` may follow another; the last of all is below `top`.
+#[tactic(auto, unfolding(crate::specs::Varint::groups_at))]
+fn groups_of(bytes: &[u8], more: u8, top: u8) -> Result<(u64, &[u8]), Error>
+    requires size { top * 128 ^ more ≤ 2 ^ 64 }
+    requires some { 1 ≤ top }
+    ensures gives { GivesRest false (λ x. (x.0, x.1.now)) result (groups_at bytes.now more top) }
+    ensures range { IfOk result (λ x. x.0 < top * 128 ^ more) }
+{
+    match bytes {
+        [] => Err(Error::EndOfBuffer),
+        [group, rest @ ..] => {
+            let group = *group;
+            if more == 0 {
+                if 0 < group && group < top {
+                    Ok((u64::from(group), rest))
+                } else {
+                    Err(Error::InvalidVarint)
+                }
+            } else if group < 128 {
+                if 0 < group {
+                    Ok((u64::from(group), rest))
+                } else {
+                    Err(Error::InvalidVarint)
+                }
+            } else {
+                let (high, rest) = groups_of(rest, more - 1, top)?;
+                Ok((u64::from(group - 128) + 128 * high, rest))
+            }
+        }
+    }
+}
+
+/// Reads a number with at most `more` groups after the first, the last of which is below `top`.
+#[tactic(auto, unfolding(crate::specs::Varint::number_at))]
+fn read_number(input: &mut &[u8], more: u8, top: u8) -> Result<u64, Error>
+    requires size { top * 128 ^ more ≤ 2 ^ 64 }
+    requires some { (1 ≤ more) × (1 ≤ top) }
+    ensures gives { Gives false result input.old.now input.new.now (number_at more top input.old.now) }
+    ensures range { IfOk result (λ n. n < top * 128 ^ more) }
+    ensures bytes { IsBytes input.old.now }
+{
+    let bytes = known_bytes(*input);
+    match bytes {
+        [] => Err(Error::EndOfBuffer),
+        [group, rest @ ..] => {
+            let group = *group;
+            if group < 128 {
+                *input = rest;
+                Ok(u64::from(group))
+            } else {
+                let (high, rest) = groups_of(rest, more - 1, top)?;
+                *input = rest;
+                Ok(u64::from(group - 128) + 128 * high)
+            }
+        }
+    }
+}
+
+/// Reads a 64-bit number of 1 to 10 bytes and moves the slice past it. `EndOfBuffer` comes where the whole
+/// input is a proper beginning of the spelling of some 64-bit number (the empty input is one), and
+/// `InvalidVarint` where the input neither begins with such a spelling nor is a beginning of one.
+pub fn read_u64(input: &mut &[u8]) -> Result<u64, Error>
+    ensures reads { ReadsNumber (2 ^ 64) result input.old.now input.new.now }
+    ensures gives { Gives false result input.old.now input.new.now (number_64.reading input.old.now) }
+{
+    read_number(input, 9, 2)
+}
+
+/// Reads a 32-bit number of 1 to 5 bytes, as [`read_u64`] reads one of 64 bits.
+pub fn read_u32(input: &mut &[u8]) -> Result<u32, Error>
+    ensures reads { ReadsNumber (2 ^ 32) result input.old.now input.new.now }
+    ensures gives { Gives false result input.old.now input.new.now (number_32.reading input.old.now) }
+{
+    match read_number(input, 4, 16) {
+        Ok(number) => Ok(number as u32),
+        Err(error) => Err(error),
+    }
+}
+
+/// Appends the groups of a number.
+#[tactic(auto, unfolding(crate::specs::Varint::groups))]
+fn write_groups(number: u64, buf: &mut Vec<u8>) -> Result<(), AllocError>
+    ensures ok { OnOk result (buf.new.items ≡ buf.old.items ++ groups 9 number) }
+    ensures err { OnErr result (buf.new.items ≡ buf.old.items) }
+{
+    let start = buf.len();
+    let mut rest = number;
+    while rest >= 128 {
+        if let Err(e) = buf.push((rest % 128 + 128) as u8) {
+            buf.truncate(start);
+            return Err(e.into());
+        }
+        rest /= 128;
+    }
+    if let Err(e) = buf.push(rest as u8) {
+        buf.truncate(start);
+        return Err(e.into());
+    }
+    Ok(())
+}
+
+/// Appends the spelling of a 64-bit number, 1 to 10 bytes. After a refusal the buffer is as before.
+#[tactic(auto, using(crate::specs::VarintLaws::spells_64, crate::specs::VarintLaws::only_spelling_64))]
+pub fn write_u64(number: u64, buf: &mut Vec<u8>) -> Result<(), AllocError>
+    ensures ok { OnOk result (buf.new.items ≡ buf.old.items ++ number_64.spelling number) }
+    ensures err { OnErr result (buf.new.items ≡ buf.old.items) }
+    // The spelling is one by the grammar, and the only one.
+    ensures number { IsNumber (number_64.spelling number) number }
+    ensures only { (bytes : List ℕ) → IsNumber bytes number → bytes ≡ number_64.spelling number }
+{
+    write_groups(number, buf)
+}
+
+/// Appends the spelling of a 32-bit number, 1 to 5 bytes. After a refusal the buffer is as before.
+#[tactic(auto, using(crate::specs::VarintLaws::groups_32, crate::specs::VarintLaws::spells_32, crate::specs::VarintLaws::only_spelling_32))]
+pub fn write_u32(number: u32, buf: &mut Vec<u8>) -> Result<(), AllocError>
+    ensures ok { OnOk result (buf.new.items ≡ buf.old.items ++ number_32.spelling number) }
+    ensures err { OnErr result (buf.new.items ≡ buf.old.items) }
+    ensures number { IsNumber (number_32.spelling number) number }
+    ensures only { (bytes : List ℕ) → IsNumber bytes number → bytes ≡ number_32.spelling number }
+{
+    write_groups(u64::from(number), buf)
+}
+
+/// The number of bytes of a 64-bit number's spelling.
+#[tactic(auto, unfolding(crate::specs::Varint::groups))]
+pub fn size_u64(number: u64) -> usize
+    ensures size { result ≡ length (number_64.spelling number) }
+    ensures small { result ≤ 10 }
+{
+    let mut rest = number;
+    let mut size = 1;
+    while rest >= 128 {
+        rest /= 128;
+        size += 1;
+    }
+    size
+}
+
+/// The number of bytes of a 32-bit number's spelling.
+#[tactic(auto, using(crate::specs::VarintLaws::groups_32, crate::specs::VarintLaws::groups_len_32))]
+pub fn size_u32(number: u32) -> usize
+    ensures size { result ≡ length (number_32.spelling number) }
+    ensures small { result ≤ 5 }
+{
+    size_u64(u64::from(number))
+}

@@ -1,0 +1,6 @@
+//! The bottom layer of the simplex message layer: how values are spelled as bytes, and the positions
+//! (epochs, views, rounds, participants) that messages speak of.
+#![tactic(auto)]
+
+pub mod codec;
+pub mod positions;
