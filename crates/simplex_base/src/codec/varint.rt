@@ -1,13 +1,14 @@
 //! Numbers in groups of seven bits, the lowest group first, as in LEB128. The top bit is set on each byte
 //! but the last, and the last is not zero unless it is the only one, so each number has one spelling.
 
-ghost use Rattle.std.specs.Prelude.{◌≡◌, ◌≢◌, ℕ, length, ◌++◌, OnOk, OnErr, IfOk, List, ◌≤◌, ◌<◌, ◌+◌, ◌*◌, ◌^◌, false};
+ghost use Rattle.std.specs.Prelude.{◌≡◌, ◌≢◌, ℕ, length, ◌++◌, OnOk, OnErr, IfOk, List, take, ◌≤◌, ◌<◌, ◌+◌, ◌*◌, ◌^◌, false};
 ghost use Rattle.simplex_base.specs.Reading.{Gives, GivesRest, IsBytes};
 ghost use Rattle.simplex_base.specs.Varint.{IsNumber, ReadsNumber, groups, groups_at, number_at, number_32, number_64};
 
 use crate::codec::error::Error;
 use crate::codec::parts::known_bytes;
 use std::alloc::AllocError;
+use std::marker::Model;
 
 /// The groups of a number after the first, of which `more` may follow another; the last of all is below `top`.
 #[tactic(auto, unfolding(crate::specs::Varint::groups_at))]
@@ -88,26 +89,49 @@ pub fn read_u32(input: &mut &[u8]) -> Result<u32, Error>
     }
 }
 
-/// Appends the groups of a number.
-#[tactic(auto, unfolding(crate::specs::Varint::groups))]
-fn write_groups(number: u64, buf: &mut Vec<u8>) -> Result<(), AllocError>
-    ensures ok { OnOk result (buf.new.items ≡ buf.old.items ++ groups 9 number) }
-    ensures err { OnErr result (buf.new.items ≡ buf.old.items) }
-{
-    let start = buf.len();
-    let mut rest = number;
-    while rest >= 128 {
-        if let Err(e) = buf.push((rest % 128 + 128) as u8) {
-            buf.truncate(start);
-            return Err(e.into());
+/// The spelling of a number, on the stack.
+#[derive(Drop)]
+pub struct Varint {
+    bytes: [u8; 10],
+    len: usize,
+}
+
+impl Model for Varint {
+    ghost Value = { List ℕ };
+
+    ghost view = { λ varint. take varint.len varint.bytes };
+
+    ghost invariant = { λ varint. varint.len ≤ 10 };
+}
+
+impl Varint {
+    /// The spelling of a 64-bit number, 1 to 10 bytes; of a 32-bit number 1 to 5.
+    #[tactic(auto, unfolding(crate::specs::Varint::groups), using(crate::specs::VarintLaws::groups_32))]
+    pub fn new(number: u64) -> Self
+        ensures wide { result ≡ number_64.spelling number }
+        ensures narrow { number < 2 ^ 32 → result ≡ number_32.spelling number }
+    {
+        let mut bytes = [0; 10];
+        let mut len = 0;
+        let mut rest = number;
+        'groups: while rest >= 128 {
+            bytes[len] = (rest % 128 + 128) as u8;
+            rest /= 128;
+            len += 1;
         }
-        rest /= 128;
+        bytes[len] = rest as u8;
+        Varint {
+            bytes,
+            len: len + 1,
+        }
     }
-    if let Err(e) = buf.push(rest as u8) {
-        buf.truncate(start);
-        return Err(e.into());
+
+    /// The bytes of the spelling.
+    pub fn as_slice(&self) -> &[u8]
+        ensures { result.now ≡ self.now }
+    {
+        &self.bytes[..self.len]
     }
-    Ok(())
 }
 
 /// Appends the spelling of a 64-bit number, 1 to 10 bytes. After a refusal the buffer is as before.
@@ -119,40 +143,34 @@ pub fn write_u64(number: u64, buf: &mut Vec<u8>) -> Result<(), AllocError>
     ensures number { IsNumber (number_64.spelling number) number }
     ensures only { (bytes : List ℕ) → IsNumber bytes number → bytes ≡ number_64.spelling number }
 {
-    write_groups(number, buf)
+    buf.extend_from_slice(Varint::new(number).as_slice())
 }
 
 /// Appends the spelling of a 32-bit number, 1 to 5 bytes. After a refusal the buffer is as before.
-#[tactic(auto, using(crate::specs::VarintLaws::groups_32, crate::specs::VarintLaws::spells_32, crate::specs::VarintLaws::only_spelling_32))]
+#[tactic(auto, using(crate::specs::VarintLaws::spells_32, crate::specs::VarintLaws::only_spelling_32))]
 pub fn write_u32(number: u32, buf: &mut Vec<u8>) -> Result<(), AllocError>
     ensures ok { OnOk result (buf.new.items ≡ buf.old.items ++ number_32.spelling number) }
     ensures err { OnErr result (buf.new.items ≡ buf.old.items) }
     ensures number { IsNumber (number_32.spelling number) number }
     ensures only { (bytes : List ℕ) → IsNumber bytes number → bytes ≡ number_32.spelling number }
 {
-    write_groups(u64::from(number), buf)
+    buf.extend_from_slice(Varint::new(u64::from(number)).as_slice())
 }
 
 /// The number of bytes of a 64-bit number's spelling.
-#[tactic(auto, unfolding(crate::specs::Varint::groups))]
+#[tactic(auto, using(crate::specs::VarintLaws::groups_len_64))]
 pub fn size_u64(number: u64) -> usize
     ensures size { result ≡ length (number_64.spelling number) }
     ensures small { result ≤ 10 }
 {
-    let mut rest = number;
-    let mut size = 1;
-    while rest >= 128 {
-        rest /= 128;
-        size += 1;
-    }
-    size
+    Varint::new(number).as_slice().len()
 }
 
 /// The number of bytes of a 32-bit number's spelling.
-#[tactic(auto, using(crate::specs::VarintLaws::groups_32, crate::specs::VarintLaws::groups_len_32))]
+#[tactic(auto, using(crate::specs::VarintLaws::groups_len_32))]
 pub fn size_u32(number: u32) -> usize
     ensures size { result ≡ length (number_32.spelling number) }
     ensures small { result ≤ 5 }
 {
-    size_u64(u64::from(number))
+    Varint::new(u64::from(number)).as_slice().len()
 }
