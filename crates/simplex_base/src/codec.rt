@@ -7,6 +7,7 @@ ghost use Rattle.simplex_base.specs.Reading.{Reading, Gives, GivesAll, all_of};
 ghost use Rattle.simplex_base.specs.Format.{Lawful, IsFixed};
 
 pub mod error;
+pub mod fixed_bytes;
 pub mod parts;
 pub mod varint;
 

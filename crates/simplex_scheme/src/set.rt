@@ -1,0 +1,84 @@
+//! The keys of a committee.
+
+ghost use Rattle.std.specs.Prelude.{◌≡◌, ◌↔◌, ◌==◌, List, length, IsPermutation, IsOk, IfOk, IfSome, IfNone, All, slice_get, option_copied, false, true};
+ghost use Rattle.std.specs.List.{IsDistinct, HoldsAt};
+
+use std::marker::Model;
+use thiserror::Error;
+
+/// Why keys are no set.
+#[derive(Clone, Copy, Debug, PartialEq, Eq, Error)]
+pub enum SetError {
+    /// Two of the keys are equal.
+    #[error("a key is repeated")]
+    Repeated,
+}
+
+/// Distinct keys in ascending order. A participant's number is the place of its key.
+#[derive(Drop)]
+pub struct Set<K: Ord> {
+    keys: Vec<K>,
+}
+
+impl<K: Ord> Model for Set<K> {
+    ghost use Rattle.std.specs.Prelude.{List};
+
+    ghost Value = { List K };
+
+    ghost use Rattle.std.specs.List.Sorted.{IsStrictlySortedBy};
+
+    ghost view = { λ set. set.keys.items };
+
+    ghost invariant = { λ set. IsStrictlySortedBy K.cmp set.keys.items };
+}
+
+impl<K: Ord> Set<K> {
+    ghost use Rattle.std.specs.List.Sorted.{IsStrictlySortedBy};
+
+    /// The set of these keys, sorted in place without memory. `Repeated` comes exactly where two of them
+    /// are equal.
+    pub fn try_from_vec(mut keys: Vec<K>) -> Result<Set<K>, SetError>
+    where
+        K: Drop,
+        ensures same { IfOk result (λ set. IsPermutation keys.items set) }
+        ensures ascending { IfOk result (λ set. IsStrictlySortedBy K.cmp set) }
+        ensures distinct { IsOk result ↔ IsDistinct K.eq keys.items }
+    {
+        let given = keys.len();
+        keys.sort_unstable();
+        keys.dedup();
+        if keys.len() < given {
+            return Err(SetError::Repeated);
+        }
+        Ok(Set { keys })
+    }
+
+    /// The number of keys.
+    pub fn len(&self) -> usize
+        ensures { result ≡ length self.now }
+    {
+        self.keys.len()
+    }
+
+    /// Whether there is no key.
+    pub fn is_empty(&self) -> bool
+        ensures { result ≡ (length self.now == 0) }
+    {
+        self.keys.is_empty()
+    }
+
+    /// The key at a place, if there is one.
+    pub fn get(&self, place: usize) -> Option<&K>
+        ensures { option_copied result ≡ slice_get self.now place }
+    {
+        self.keys.get(place)
+    }
+
+    /// The place of a key, if it is in the set.
+    pub fn position(&self, key: &K) -> Option<usize>
+        ensures found { IfSome result (HoldsAt (λ one. K.eq one key.now ≡ true) self.now) }
+        ensures none { IfNone result (All (λ one. K.eq one key.now ≡ false) self.now) }
+    {
+        self.keys.binary_search(key).ok()
+    }
+}
