@@ -1,4 +1,9 @@
 //! Who signs what: committees, subjects and their namespaces, and the schemes that sign and verify.
 #![tactic(auto)]
 
+pub mod hash;
+pub mod namespace;
+pub mod plain;
+pub mod proposal;
+pub mod scheme;
 pub mod set;

@@ -1,7 +1,7 @@
 //! The keys of a committee.
 
-ghost use Rattle.std.specs.Prelude.{◌≡◌, ◌↔◌, ◌==◌, List, length, IsPermutation, IsOk, IfOk, IfSome, IfNone, All, slice_get, option_copied, false, true};
-ghost use Rattle.std.specs.List.{IsDistinct, HoldsAt};
+ghost use Rattle.std.specs.Prelude.{◌≡◌, ◌↔◌, ◌==◌, List, length, IsPermutation, IsOk, IfOk, IfSome, IfNone, IsSomeAnd, All, slice_get, option_copied, false, true};
+ghost use Rattle.std.specs.List.{IsDistinct};
 
 use std::marker::Model;
 use thiserror::Error;
@@ -76,7 +76,7 @@ impl<K: Ord> Set<K> {
 
     /// The place of a key, if it is in the set.
     pub fn position(&self, key: &K) -> Option<usize>
-        ensures found { IfSome result (HoldsAt (λ one. K.eq one key.now ≡ true) self.now) }
+        ensures found { IfSome result (λ place. IsSomeAnd (slice_get self.now place) (λ one. K.eq one key.now ≡ true)) }
         ensures none { IfNone result (All (λ one. K.eq one key.now ≡ false) self.now) }
     {
         self.keys.binary_search(key).ok()

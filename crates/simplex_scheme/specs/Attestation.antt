@@ -1,0 +1,14 @@
+-- How attestations are spelled.
+use Rattle.std.proofs.Common.{refl}
+use Rattle.simplex_base.specs.Format.{Format, IsLawful, both, made}
+use Rattle.simplex_base.specs.FormatLaws.{both_lawful, made_lawful}
+use Rattle.simplex_base.specs.Varint.{number_32}
+use Rattle.simplex_base.specs.VarintLaws.{number_32_lawful}
+use Rattle.simplex_scheme.specs.declared.scheme.Attestation.{Attestation}
+
+-- the signer, and then the signature
+abbrev pub attestation_format : {S P G : Type 0} → Format G → Format (Attestation S P G)
+attestation_format signature = made (λ p. record { signer = p.0; signature = p.1 }) (λ a. (a.signer, a.signature)) (both number_32 signature)
+
+pub attestation_lawful : {S P G : Type 0} (signature : Format G) → IsLawful signature → IsLawful (attestation_format {S = S} {P = P} signature)
+attestation_lawful signature law = made_lawful _ _ (λ a. refl) (λ p. refl) (both_lawful number_32_lawful law)

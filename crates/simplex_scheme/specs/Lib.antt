@@ -1,0 +1,6 @@
+pub mod Namespace
+pub mod Proposal
+pub mod Subject
+pub mod Parts
+pub mod Attestation
+pub mod Plain

@@ -1,0 +1,52 @@
+//! Hashing.
+
+ghost use Rattle.std.specs.Prelude.{◌≡◌, ℕ, List};
+ghost use Rattle.std.proofs.Common.{lit<, lit≤};
+ghost use Rattle.sha2.specs.Sha256.{sha256};
+ghost use Rattle.simplex_scheme.specs.Parts.{joined};
+
+use crate::scheme::Digest;
+use simplex_base::codec::Fixed;
+use simplex_base::codec::fixed_bytes::{FixedBytes, Role};
+
+/// A function from bytes to digests.
+pub trait Hasher {
+    type Digest: Digest;
+
+    /// The digest of some bytes.
+    ghost digest_of: { List ℕ → Self.Digest };
+
+    /// The digest of the parts, taken as one list of bytes. It takes no memory.
+    fn hash(parts: &[&[u8]]) -> Self::Digest
+        ensures { result ≡ digest_of (joined parts.now) };
+}
+
+/// The role of a SHA-256 digest.
+pub enum Sha256Role {}
+
+impl Role<32> for Sha256Role {
+    ghost sized = { (lit< tt, lit≤ tt) };
+}
+
+/// A digest of SHA-256: 32 bytes.
+pub type Sha256Digest = FixedBytes<Sha256Role, 32>;
+
+impl Digest for FixedBytes<Sha256Role, 32> {}
+
+/// SHA-256 by FIPS 180-4.
+pub struct Sha256;
+
+impl Hasher for Sha256 {
+    type Digest = FixedBytes<Sha256Role, 32>;
+
+    ghost digest_of = { λ bytes. sha256 bytes };
+
+    fn hash(parts: &[&[u8]]) -> Sha256Digest {
+        use sha2::Digest as _;
+        let mut state = sha2::Sha256::new();
+        for part in parts {
+            state.update(*part);
+        }
+        Sha256Digest::from_bytes(&state.finalize())
+    }
+}

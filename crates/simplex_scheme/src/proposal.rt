@@ -1,0 +1,163 @@
+//! What is voted on.
+
+ghost use Rattle.std.specs.Prelude.{◌≡◌, ◌+◌, ℕ, List, IfOk, false, length};
+ghost use Rattle.simplex_base.specs.Format.{fixed};
+ghost use Rattle.simplex_base.specs.FormatLaws.{fixed_lawful};
+
+use crate::namespace::Namespace;
+use crate::scheme::Digest;
+use bytes::Bytes;
+use simplex_base::codec::error::Error;
+use simplex_base::codec::parts::write_both;
+use simplex_base::codec::{Encode, EncodeSize, Read, Spell, Write};
+use simplex_base::positions::{Epoch, Epochable, Round, View, Viewable};
+use std::alloc::{AllocError, Global};
+
+/// A payload that is proposed for a round, on top of the proposal of the parent's view. It is spelled as
+/// its round, its parent and its payload; proposals are ordered so too.
+#[derive(Clone, Copy, Debug, PartialEq, Eq, PartialOrd, Ord, Hash)]
+pub struct Proposal<D> {
+    pub round: Round,
+    pub parent: View,
+    pub payload: D,
+}
+
+impl<D> Proposal<D> {
+    /// The proposal of these parts.
+    pub fn new(round: Round, parent: View, payload: D) -> Self
+        ensures { result ≡ record { round = round; parent = parent; payload = payload } }
+    {
+        Proposal {
+            round,
+            parent,
+            payload,
+        }
+    }
+}
+
+impl<D> Epochable for Proposal<D> {
+    ghost epoch_of = { λ proposal. proposal.round.epoch };
+
+    fn epoch(&self) -> Epoch {
+        self.round.epoch()
+    }
+}
+
+impl<D> Viewable for Proposal<D> {
+    ghost view_of = { λ proposal. proposal.round.view };
+
+    fn view(&self) -> View {
+        self.round.view()
+    }
+}
+
+impl<D: Digest> Spell for Proposal<D> {
+    ghost use Rattle.simplex_scheme.specs.Proposal.{proposal_format};
+
+    ghost is_value = { (proposal_format (fixed D.SIZE D.bytes_of D.of_bytes)).is_value };
+
+    ghost spelling = { (proposal_format (fixed D.SIZE D.bytes_of D.of_bytes)).spelling };
+}
+
+impl<D: Digest> Write for Proposal<D> {
+    fn write(&self, buf: &mut Vec<u8>) -> Result<(), AllocError> {
+        write_both(&self.round, &(self.parent, self.payload), buf)
+    }
+}
+
+impl<D: Digest> EncodeSize for Proposal<D> {
+    ghost limit = { 30 + 65535 };
+
+    fn encode_size(&self) -> usize {
+        self.round.encode_size() + self.parent.encode_size() + self.payload.encode_size()
+    }
+}
+
+impl<D: Digest> Read for Proposal<D> {
+    ghost use Rattle.simplex_scheme.specs.Proposal.{proposal_format, proposal_lawful};
+
+    type Cfg = ();
+
+    ghost fits = { λ _. (proposal_format (fixed D.SIZE D.bytes_of D.of_bytes)).is_value };
+
+    ghost reading = { λ _. (proposal_format (fixed D.SIZE D.bytes_of D.of_bytes)).reading };
+
+    ghost takes_memory = { false };
+
+    fn read_cfg(alloc: Global, input: &mut &[u8], cfg: &()) -> Result<Self, Error> {
+        match <(Round, (View, D))>::read_cfg(alloc, input, cfg) {
+            Ok((round, (parent, payload))) => Ok(Proposal::new(round, parent, payload)),
+            Err(error) => Err(error),
+        }
+    }
+
+    ghost lawful = { λ _. proposal_lawful (fixed D.SIZE D.bytes_of D.of_bytes) (fixed_lawful D.SIZE D.bytes_of D.of_bytes D.back D.forth) };
+}
+
+/// What a vote or a certificate says.
+#[derive(Clone, Copy)]
+pub enum Subject<'a, D> {
+    Notarize { proposal: &'a Proposal<D> },
+    Nullify { round: Round },
+    Finalize { proposal: &'a Proposal<D> },
+}
+
+/// What is signed: a message under a namespace.
+pub trait CertificateSubject {
+    /// The names of all kinds of subjects.
+    type Namespace;
+
+    /// The name under which the subject is signed.
+    ghost name_in: { Self → Self.Namespace → List ℕ };
+
+    /// The message that is signed.
+    ghost signed: { Self → List ℕ };
+
+    /// The name under which the subject is signed.
+    fn namespace<'b>(&self, names: &'b Self::Namespace) -> &'b [u8]
+        ensures { result.now ≡ name_in self.now names.now };
+
+    /// The bytes that are signed.
+    fn message(&self, alloc: Global) -> Result<Bytes, AllocError>
+        ensures { IfOk result (λ bytes. bytes ≡ signed self.now) };
+}
+
+impl<D: Digest> CertificateSubject for Subject<'_, D> {
+    ghost use Rattle.simplex_scheme.specs.Subject.{subject_value, name_of, message_of};
+
+    type Namespace = Namespace;
+
+    ghost name_in = { λ subject names. name_of names (subject_value subject) };
+
+    ghost signed = { λ subject. message_of (fixed D.SIZE D.bytes_of D.of_bytes) (subject_value subject) };
+
+    fn namespace<'b>(&self, names: &'b Namespace) -> &'b [u8] {
+        match self {
+            Subject::Notarize { .. } => names.notarize.as_slice(),
+            Subject::Nullify { .. } => names.nullify.as_slice(),
+            Subject::Finalize { .. } => names.finalize.as_slice(),
+        }
+    }
+
+    fn message(&self, alloc: Global) -> Result<Bytes, AllocError> {
+        match self {
+            Subject::Notarize { proposal } | Subject::Finalize { proposal } => {
+                proposal.encode(alloc)
+            }
+            Subject::Nullify { round } => round.encode(alloc),
+        }
+    }
+}
+
+impl<D> Viewable for Subject<'_, D> {
+    ghost use Rattle.simplex_scheme.specs.Subject.{subject_value, round_of};
+
+    ghost view_of = { λ subject. (round_of (subject_value subject)).view };
+
+    fn view(&self) -> View {
+        match self {
+            Subject::Notarize { proposal } | Subject::Finalize { proposal } => proposal.view(),
+            Subject::Nullify { round } => round.view(),
+        }
+    }
+}
