@@ -1,0 +1,62 @@
+-- What has to be kept of the votes so far: at most two of each round, signer and sort.
+use Rattle.std.specs.Prelude.{ℕ, Bool, true, false, not, ◌&&◌, List, Option, Some, None, if◌then◌else◌}
+use Rattle.std.specs.Option.{option_or, is_none}
+use Rattle.std.specs.List.{find}
+use Rattle.simplex_base.specs.Positions.{Round}
+use Rattle.simplex_scheme.specs.Subject.{SubjectValue, Notarizes, Finalizes, round_of}
+use Rattle.simplex_votes.specs.Votes.{Vote, Sort, Notarizing, Nullifying, Finalizing, sort_of, is_at, same_proposal}
+use Rattle.simplex_evidence.specs.Contradiction.{Kind, Conflicting_notarize, Conflicting_finalize, Nullify_finalize, Evidence}
+use Rattle.simplex_audit.specs.Evidence.{with_second}
+
+-- whether two subjects of one sort have different proposals
+abbrev pub differs : {D : Type 0} → (D → D → Bool) → SubjectValue D → SubjectValue D → Bool
+differs eq (Notarizes p) (Notarizes q) = not (same_proposal eq p q)
+differs eq (Finalizes p) (Finalizes q) = not (same_proposal eq p q)
+differs _ _ _ = false
+
+-- of one round, signer and sort: the earliest vote, and the earliest with another proposal
+pub record Slot (D G : Type 0) : Type 0 where
+  pub earliest : Option (Vote D G)
+  pub other : Option (Vote D G)
+
+-- the earliest vote with another proposal than the first, if there is a first
+abbrev pub other_than : {D G : Type 0} → (D → D → Bool) → List (Vote D G) → Sort → Round → ℕ → Option (Vote D G) → Option (Vote D G)
+other_than eq vs sort round signer None = None
+other_than eq vs sort round signer (Some v) = find (λ w. is_at sort round signer w && differs eq v.subject w.subject) vs
+
+-- the slot of a round, signer and sort in a list of votes
+abbrev pub slot_of : {D G : Type 0} → (D → D → Bool) → List (Vote D G) → Sort → Round → ℕ → Slot D G
+slot_of eq vs sort round signer =
+    let first = find (is_at sort round signer) vs in
+    record { earliest = first; other = other_than eq vs sort round signer first }
+
+-- a vote, if it has another proposal than the first
+abbrev pub if_differs : {D G : Type 0} → (D → D → Bool) → Option (Vote D G) → Vote D G → Option (Vote D G)
+if_differs eq None v = None
+if_differs eq (Some first) v = if differs eq first.subject v.subject then Some v else None
+
+-- the slot of a vote's own round, signer and sort, after it
+abbrev pub slot_with : {D G : Type 0} → (D → D → Bool) → Vote D G → Slot D G → Slot D G
+slot_with eq v slot = record { earliest = option_or slot.earliest (Some v); other = option_or slot.other (if_differs eq slot.earliest v) }
+
+-- whether a vote changes its slot: the slot is empty, or holds one vote, which has another proposal
+abbrev pub changes : {D G : Type 0} → (D → D → Bool) → Option (Vote D G) → Option (Vote D G) → Vote D G → Bool
+changes eq None other v = true
+changes eq (Some first) other v = differs eq first.subject v.subject && is_none other
+
+-- whether a vote is news to the votes before it
+abbrev pub is_news : {D G : Type 0} → (D → D → Bool) → List (Vote D G) → Vote D G → Bool
+is_news eq vs v =
+    let slot = slot_of eq vs (sort_of v.subject) (round_of v.subject) v.signer in
+    changes eq slot.earliest slot.other v
+
+-- the evidence of two votes, if there are two
+abbrev pub both : {D G : Type 0} → Kind → Option (Vote D G) → Option (Vote D G) → Option (Evidence D G)
+both kind None w = None
+both kind (Some v) w = with_second kind v w
+
+-- the evidence of one round and signer, from its slots
+abbrev pub evidence_from : {D G : Type 0} → (Sort → Slot D G) → Kind → Option (Evidence D G)
+evidence_from slot Conflicting_notarize = both Conflicting_notarize (slot Notarizing).earliest (slot Notarizing).other
+evidence_from slot Conflicting_finalize = both Conflicting_finalize (slot Finalizing).earliest (slot Finalizing).other
+evidence_from slot Nullify_finalize = both Nullify_finalize (slot Nullifying).earliest (slot Finalizing).earliest

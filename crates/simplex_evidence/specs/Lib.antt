@@ -1,0 +1,3 @@
+pub mod Contradiction
+pub mod Conflict
+pub mod Activity

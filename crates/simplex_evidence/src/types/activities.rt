@@ -1,0 +1,107 @@
+//! The union of all messages.
+
+ghost use Rattle.std.specs.Prelude.{◌+◌, false};
+ghost use Rattle.simplex_base.specs.Format.{fixed};
+ghost use Rattle.simplex_base.specs.FormatLaws.{fixed_lawful};
+
+use simplex_base::codec::error::Error;
+use simplex_base::codec::parts::write_tagged;
+use simplex_base::codec::{EncodeSize, Fixed, Read, Spell, Write};
+use simplex_base::positions::{Epoch, Epochable, View, Viewable};
+use simplex_scheme::scheme::{CertificateScheme, Digest};
+use simplex_votes::types::Notarize;
+use std::alloc::{AllocError, Global};
+
+/// A message: one byte of tag, and then the parts of the member with that tag. It is read under the
+/// committee's bound.
+#[derive(Drop)]
+#[derive_where(PartialEq, Eq, Hash)]
+pub enum Activity<S: CertificateScheme, D: Digest> {
+    /// Tag 0.
+    Notarize(Notarize<S, D>),
+}
+
+impl<S: CertificateScheme, D: Digest> Epochable for Activity<S, D> {
+    ghost use Rattle.simplex_evidence.specs.Activity.{activity_round};
+
+    ghost epoch_of = { λ message. (activity_round message).epoch };
+
+    fn epoch(&self) -> Epoch {
+        match self {
+            Activity::Notarize(vote) => vote.epoch(),
+        }
+    }
+}
+
+impl<S: CertificateScheme, D: Digest> Viewable for Activity<S, D> {
+    ghost use Rattle.simplex_evidence.specs.Activity.{activity_round};
+
+    ghost view_of = { λ message. (activity_round message).view };
+
+    fn view(&self) -> View {
+        match self {
+            Activity::Notarize(vote) => vote.view(),
+        }
+    }
+}
+
+impl<S: CertificateScheme, D: Digest> Spell for Activity<S, D> {
+    ghost use Rattle.simplex_evidence.specs.Activity.{activity_format};
+
+    ghost is_value = { (activity_format (fixed D.SIZE D.bytes_of D.of_bytes) (fixed S.Signature.SIZE S.Signature.bytes_of S.Signature.of_bytes)).is_value };
+
+    ghost spelling = { (activity_format (fixed D.SIZE D.bytes_of D.of_bytes) (fixed S.Signature.SIZE S.Signature.bytes_of S.Signature.of_bytes)).spelling };
+}
+
+impl<S: CertificateScheme, D: Digest> Write for Activity<S, D> {
+    fn write(&self, buf: &mut Vec<u8>) -> Result<(), AllocError> {
+        match self {
+            Activity::Notarize(vote) => write_tagged(0, vote, buf),
+        }
+    }
+}
+
+impl<S: CertificateScheme, D: Digest> EncodeSize for Activity<S, D> {
+    ghost limit = { 36 + 65535 + 65535 };
+
+    fn encode_size(&self) -> usize {
+        match self {
+            Activity::Notarize(vote) => 1 + vote.encode_size(),
+        }
+    }
+}
+
+impl<S: CertificateScheme, D: Digest> Read for Activity<S, D> {
+    type Cfg = u32;
+
+    ghost use Rattle.simplex_evidence.specs.Activity.{activity_format, activity_lawful};
+
+    ghost fits = { λ _. (activity_format (fixed D.SIZE D.bytes_of D.of_bytes) (fixed S.Signature.SIZE S.Signature.bytes_of S.Signature.of_bytes)).is_value };
+
+    ghost reading = { λ _. (activity_format (fixed D.SIZE D.bytes_of D.of_bytes) (fixed S.Signature.SIZE S.Signature.bytes_of S.Signature.of_bytes)).reading };
+
+    ghost takes_memory = { false };
+
+    fn read_cfg(alloc: Global, input: &mut &[u8], _bound: &u32) -> Result<Self, Error> {
+        let bytes: &[u8] = *input;
+        let [tag, body @ ..] = bytes else {
+            return Err(Error::EndOfBuffer);
+        };
+        let mut rest: &[u8] = body;
+        match *tag {
+            0 => match Notarize::read_cfg(alloc, &mut rest, &()) {
+                Ok(vote) => {
+                    *input = rest;
+                    Ok(Activity::Notarize(vote))
+                }
+                Err(error) => Err(error),
+            },
+            _ => Err(Error::Invalid(
+                "consensus::simplex::Activity",
+                "Invalid type",
+            )),
+        }
+    }
+
+    ghost lawful = { λ _. activity_lawful _ _ (fixed_lawful D.SIZE D.bytes_of D.of_bytes D.back D.forth) (fixed_lawful S.Signature.SIZE S.Signature.bytes_of S.Signature.of_bytes S.Signature.back S.Signature.forth) };
+}

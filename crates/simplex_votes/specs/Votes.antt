@@ -1,0 +1,51 @@
+-- Votes as plain values, and their places: round, signer and sort.
+use Rattle.std.specs.Prelude.{ℕ, Bool, true, false, ◌==◌, ◌&&◌}
+use Rattle.simplex_base.specs.Positions.{Round}
+use Rattle.simplex_scheme.specs.declared.proposal.Proposal.{Proposal}
+use Rattle.simplex_scheme.specs.Subject.{SubjectValue, Notarizes, Nullifies, Finalizes, round_of}
+use Rattle.simplex_votes.specs.declared.types.Notarize.{Notarize}
+
+-- what a participant says, signed. D is the type of payloads, G that of signatures
+pub record Vote (D G : Type 0) : Type 0 where
+  pub subject : SubjectValue D
+  pub signer : ℕ
+  pub signature : G
+
+-- a notarize, as a vote
+abbrev pub notarize_vote : {S D P G : Type 0} → Notarize S D P G → Vote D G
+notarize_vote n = record { subject = Notarizes n.proposal; signer = n.attestation.signer; signature = n.attestation.signature }
+
+-- the three sorts of votes
+pub data Sort : Type 0 where
+  Notarizing : Sort
+  Nullifying : Sort
+  Finalizing : Sort
+
+-- the sort of the votes on a subject
+abbrev pub sort_of : {D : Type 0} → SubjectValue D → Sort
+sort_of (Notarizes p) = Notarizing
+sort_of (Nullifies r) = Nullifying
+sort_of (Finalizes p) = Finalizing
+
+-- whether two sorts are one
+abbrev pub same_sort : Sort → Sort → Bool
+same_sort Notarizing Notarizing = true
+same_sort Nullifying Nullifying = true
+same_sort Finalizing Finalizing = true
+same_sort _ _ = false
+
+-- whether two rounds are one: the same view of the same epoch
+abbrev pub same_round : Round → Round → Bool
+same_round a b = (a.epoch == b.epoch) && (a.view == b.view)
+
+-- whether two proposals are the same, by a test `eq` of their payloads
+abbrev pub same_proposal : {D : Type 0} → (D → D → Bool) → Proposal D → Proposal D → Bool
+same_proposal eq p q = same_round p.round q.round && ((p.parent == q.parent) && eq p.payload q.payload)
+
+-- whether a vote is of this round and signer
+abbrev pub is_of : {D G : Type 0} → Round → ℕ → Vote D G → Bool
+is_of round signer v = same_round (round_of v.subject) round && (v.signer == signer)
+
+-- whether a vote is of this sort, round and signer
+abbrev pub is_at : {D G : Type 0} → Sort → Round → ℕ → Vote D G → Bool
+is_at sort round signer v = same_sort (sort_of v.subject) sort && is_of round signer v
