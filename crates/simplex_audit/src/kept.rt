@@ -11,7 +11,7 @@ ghost use Rattle.simplex_audit.specs.Memory.{evidence_value, slots, no_slot, Hol
 
 use crate::evidence::Evidence;
 use crate::place::Place;
-use simplex_evidence::types::{ConflictingNotarize, conflicts};
+use simplex_evidence::types::ConflictingNotarize;
 use simplex_scheme::scheme::{Digest, SchemeTypes};
 use simplex_votes::types::Notarize;
 use std::alloc::{AllocError, Global};
@@ -69,7 +69,7 @@ impl<S: SchemeTypes, D: Digest> Kept<S, D> {
             return None;
         };
         // Two that are kept of one place always conflict: this is what `new` asks for.
-        if !conflicts(first, second) {
+        if !ConflictingNotarize::conflicts(first, second) {
             return None;
         }
         Some(Evidence::ConflictingNotarize(ConflictingNotarize::new(first.copy(), second.copy())))

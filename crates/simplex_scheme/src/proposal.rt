@@ -1,6 +1,6 @@
 //! What is voted on.
 
-ghost use Rattle.std.specs.Prelude.{◌≡◌, ◌+◌, ℕ, List, IfOk, false, length};
+ghost use Rattle.std.specs.Prelude.{◌≡◌, ⊤, ◌+◌, ℕ, List, IfOk, false, length};
 ghost use Rattle.simplex_base.specs.Format.{fixed};
 ghost use Rattle.simplex_base.specs.FormatLaws.{fixed_lawful};
 
@@ -15,7 +15,7 @@ use std::alloc::{AllocError, Global};
 
 /// A payload that is proposed for a round, on top of the proposal of the parent's view. It is spelled as
 /// its round, its parent and its payload; proposals are ordered so too.
-#[derive(Clone, Copy, Debug, PartialEq, Eq, PartialOrd, Ord, Hash)]
+#[derive(Debug, PartialEq, Eq, PartialOrd, Ord, Hash)]
 pub struct Proposal<D> {
     pub round: Round,
     pub parent: View,
@@ -34,6 +34,18 @@ impl<D> Proposal<D> {
         }
     }
 }
+
+impl<D: Copy> Clone for Proposal<D> {
+    ghost is_clone = { λ proposal copy. copy ≡ proposal };
+
+    ghost is_infallible = { λ _. ⊤ };
+
+    fn clone(&self) -> Result<Self, AllocError> {
+        Ok(*self)
+    }
+}
+
+impl<D: Copy> Copy for Proposal<D> {}
 
 impl<D> Epochable for Proposal<D> {
     ghost epoch_of = { λ proposal. proposal.round.epoch };

@@ -1,6 +1,6 @@
 //! The schemes that sign and verify.
 
-ghost use Rattle.std.specs.Prelude.{◌≡◌, ◌+◌, ℕ, Bool, true, false, List, Option, Some, None, Ok, IsTrue, IfOk, IfSome, MatchOption, length, ◌<◌, ◌≤◌, ◌^◌};
+ghost use Rattle.std.specs.Prelude.{◌≡◌, ⊤, ◌+◌, ℕ, Bool, true, false, List, Option, Some, None, Ok, IsTrue, IfOk, IfSome, MatchOption, length, ◌<◌, ◌≤◌, ◌^◌};
 ghost use Rattle.simplex_base.specs.Format.{fixed};
 ghost use Rattle.simplex_base.specs.FormatLaws.{fixed_lawful};
 ghost use Rattle.simplex_scheme.specs.Subject.{SubjectValue, subject_value};
@@ -31,10 +31,23 @@ pub trait SchemeTypes {
 
 /// A signature with the number of its signer, spelled in that order.
 #[derive(Drop)]
-#[derive_where(Clone, PartialEq, Eq, Hash)]
+#[derive_where(PartialEq, Eq, Hash)]
 pub struct Attestation<S: SchemeTypes> {
     pub signer: Participant,
     pub signature: S::Signature,
+}
+
+impl<S: SchemeTypes> Clone for Attestation<S> {
+    ghost is_clone = { λ attestation copy. copy ≡ attestation };
+
+    ghost is_infallible = { λ _. ⊤ };
+
+    fn clone(&self) -> Result<Self, AllocError> {
+        Ok(Attestation {
+            signer: self.signer,
+            signature: self.signature,
+        })
+    }
 }
 
 /// A committee, and who of it this is.

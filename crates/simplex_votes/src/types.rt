@@ -1,6 +1,6 @@
 //! The votes of the protocol.
 
-ghost use Rattle.std.specs.Prelude.{◌≡◌, ◌+◌, ℕ, false, true, Ok, None, Some, IfOk, MatchOption};
+ghost use Rattle.std.specs.Prelude.{◌≡◌, ⊤, ◌+◌, ℕ, false, true, Ok, None, Some, IfOk, MatchOption};
 ghost use Rattle.simplex_base.specs.Format.{fixed};
 ghost use Rattle.simplex_base.specs.FormatLaws.{fixed_lawful};
 ghost use Rattle.simplex_scheme.specs.Subject.{Notarizes};
@@ -25,7 +25,7 @@ pub trait Attributable {
 
 /// A vote to notarize a proposal, spelled as the proposal and the attestation.
 #[derive(Drop)]
-#[derive_where(Clone, PartialEq, Eq, Hash)]
+#[derive_where(PartialEq, Eq, Hash)]
 pub struct Notarize<S: SchemeTypes, D: Digest> {
     pub proposal: Proposal<D>,
     pub attestation: Attestation<S>,
@@ -50,6 +50,16 @@ impl<S: SchemeTypes, D: Digest> Notarize<S, D> {
                 signature: self.attestation.signature,
             },
         }
+    }
+}
+
+impl<S: SchemeTypes, D: Digest> Clone for Notarize<S, D> {
+    ghost is_clone = { λ vote copy. copy ≡ vote };
+
+    ghost is_infallible = { λ _. ⊤ };
+
+    fn clone(&self) -> Result<Self, AllocError> {
+        Ok(self.copy())
     }
 }
 

@@ -1,6 +1,6 @@
 //! Two votes that contradict.
 
-ghost use Rattle.std.specs.Prelude.{◌≡◌, ◌&&◌, IsTrue};
+ghost use Rattle.std.specs.Prelude.{◌≡◌, ◌&&◌, ⊤, IsTrue};
 ghost use Rattle.simplex_scheme.specs.Subject.{Notarizes};
 ghost use Rattle.simplex_votes.specs.Votes.{notarize_vote};
 ghost use Rattle.simplex_evidence.specs.Contradiction.{contradicts, Conflicting_notarize};
@@ -8,11 +8,12 @@ ghost use Rattle.simplex_evidence.specs.Contradiction.{contradicts, Conflicting_
 use simplex_base::positions::{Epoch, Epochable, Participant, Round, View, Viewable};
 use simplex_scheme::scheme::{Digest, Scheme, SchemeTypes};
 use simplex_votes::types::{Attributable, Notarize};
+use std::alloc::AllocError;
 use std::marker::Model;
 
 /// Two notarizes of one signer and one round for different proposals. Swapping them gives an unequal value.
 #[derive(Drop)]
-#[derive_where(Clone, PartialEq, Eq, Hash)]
+#[derive_where(PartialEq, Eq, Hash)]
 pub struct ConflictingNotarize<S: SchemeTypes, D: Digest> {
     notarize_1: Notarize<S, D>,
     notarize_2: Notarize<S, D>,
@@ -86,6 +87,19 @@ impl<S: Scheme<D>, D: Digest> ConflictingNotarize<S, D> {
             S.good scheme.now (Notarizes self.now.second.proposal) self.now.second.attestation.signer self.now.second.attestation.signature) }
     {
         self.notarize_1.verify(scheme) && self.notarize_2.verify(scheme)
+    }
+}
+
+impl<S: SchemeTypes, D: Digest> Clone for ConflictingNotarize<S, D> {
+    ghost is_clone = { λ conflict copy. copy ≡ conflict };
+
+    ghost is_infallible = { λ _. ⊤ };
+
+    fn clone(&self) -> Result<Self, AllocError> {
+        Ok(ConflictingNotarize {
+            notarize_1: self.notarize_1.copy(),
+            notarize_2: self.notarize_2.copy(),
+        })
     }
 }
 
