@@ -5,3 +5,5 @@ pub mod NamedLemmas
 pub mod KeptLemmas
 pub mod ReportLemmas
 pub mod MemoryLemmas
+pub mod StreamLemmas
+pub mod NamesLemmas

@@ -5,3 +5,7 @@ pub mod Kept
 pub mod Report
 pub mod Memory
 pub mod Laws
+pub mod Messages
+pub mod Audit
+pub mod Line
+pub mod Progress

@@ -1,3 +1,5 @@
 pub mod PartsLemmas
 pub mod SetLemmas
 pub mod PlainLemmas
+pub mod NamespaceLemmas
+pub mod MarkedLemmas

@@ -4,3 +4,4 @@ pub mod Subject
 pub mod Parts
 pub mod Attestation
 pub mod Plain
+pub mod Marked

@@ -1,17 +1,22 @@
-//! The namespaces that keep the votes of one kind, and of one deployment, apart from all others.
+//! The byte strings under which votes and seeds are signed.
 
-ghost use Rattle.std.specs.Prelude.{◌≡◌, IfOk};
-ghost use Rattle.simplex_scheme.specs.Namespace.{names_of};
+ghost use Rattle.std.specs.Prelude.{◌≡◌, ℕ, List, ◌++◌, IfOk};
+ghost use Rattle.simplex_scheme.specs.Namespace.{names_of, AreApart, TellBases};
 
 use std::alloc::{AllocError, Global};
 use std::marker::Model;
 
-/// The names under which votes of each kind and seeds are signed.
-#[derive(Drop)]
+/// The namespaces under which votes of each kind and seeds are signed: a base, which names the
+/// application, followed by a suffix of the kind.
+#[derive(Clone, Drop)]
 pub struct Namespace {
+    /// Of votes to notarize: the base and `_NOTARIZE`.
     pub notarize: Vec<u8>,
+    /// Of votes to nullify: the base and `_NULLIFY`.
     pub nullify: Vec<u8>,
+    /// Of votes to finalize: the base and `_FINALIZE`.
     pub finalize: Vec<u8>,
+    /// Of seeds: the base and `_SEED`.
     pub seed: Vec<u8>,
 }
 
@@ -24,12 +29,79 @@ impl Model for Namespace {
 }
 
 impl Namespace {
-    /// The names over a base.
+    /// The namespaces of a base, which may be empty. `AllocError` comes where one of the four strings
+    /// found no memory.
     pub fn new(alloc: Global, base: &[u8]) -> Result<Self, AllocError>
-        ensures { IfOk result (λ namespace. namespace ≡ names_of base.now) }
+        ensures names { IfOk result (λ namespace. namespace ≡ names_of base.now) }
+        // Namespaces of two kinds differ, whatever their bases are.
+        ensures apart { (other : List ℕ) → AreApart (names_of base.now) (names_of other) }
+        // Namespaces of one kind are equal exactly where their bases are.
+        ensures one { (other : List ℕ) → TellBases base.now other }
     {
-        let _ = base;
-        let _ = alloc;
-        Err(AllocError)
+        Self::derive(alloc, base)
+    }
+}
+
+/// What a certificate's attestations are signed under, made of the application's base namespace.
+pub trait CertificateNamespace: Sized {
+    /// The namespaces of a base.
+    ghost of_base: { List ℕ → Self };
+
+    /// Makes the namespaces of a base. `AllocError` comes where a string found no memory.
+    fn derive(alloc: Global, base: &[u8]) -> Result<Self, AllocError>
+        ensures { IfOk result (λ namespace. namespace ≡ of_base base.now) };
+}
+
+impl CertificateNamespace for Namespace {
+    ghost of_base = { names_of };
+
+    fn derive(alloc: Global, base: &[u8]) -> Result<Self, AllocError> {
+        Ok(Namespace {
+            notarize: with_suffix(alloc, base, b"_NOTARIZE")?,
+            nullify: with_suffix(alloc, base, b"_NULLIFY")?,
+            finalize: with_suffix(alloc, base, b"_FINALIZE")?,
+            seed: with_suffix(alloc, base, b"_SEED")?,
+        })
+    }
+}
+
+/// The base and then the suffix.
+fn with_suffix(alloc: Global, base: &[u8], suffix: &[u8]) -> Result<Vec<u8>, AllocError>
+    ensures { IfOk result (λ name. name.items ≡ base.now ++ suffix.now) }
+{
+    let mut name = Vec::with_capacity(alloc, base.len() + suffix.len())?;
+    name.extend_from_slice(base)?;
+    name.extend_from_slice(suffix)?;
+    Ok(name)
+}
+
+#[cfg(test)]
+mod tests {
+    use super::*;
+    use std::test::Fail;
+
+    fn derived<N: CertificateNamespace>(alloc: Global, base: &[u8]) -> Result<N, AllocError> {
+        N::derive(alloc, base)
+    }
+
+    #[test]
+    fn each_kind_has_its_suffix(rt: HostRuntime) -> Result<(), Fail> {
+        let namespace = Namespace::new(rt.alloc(), b"test")?;
+        let copy = namespace.clone()?;
+        for one in [&namespace, &copy] {
+            assert_eq!(rt; one.notarize.as_slice(), b"test_NOTARIZE".as_slice());
+            assert_eq!(rt; one.nullify.as_slice(), b"test_NULLIFY".as_slice());
+            assert_eq!(rt; one.finalize.as_slice(), b"test_FINALIZE".as_slice());
+            assert_eq!(rt; one.seed.as_slice(), b"test_SEED".as_slice());
+        }
+        Ok(())
+    }
+
+    #[test]
+    fn a_base_may_be_empty(rt: HostRuntime) -> Result<(), Fail> {
+        let namespace: Namespace = derived(rt.alloc(), b"")?;
+        assert_eq!(rt; namespace.notarize.as_slice(), b"_NOTARIZE".as_slice());
+        assert_eq!(rt; namespace.seed.as_slice(), b"_SEED".as_slice());
+        Ok(())
     }
 }

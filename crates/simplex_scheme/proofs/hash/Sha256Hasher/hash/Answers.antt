@@ -1,6 +1,5 @@
-use Rattle.std.proofs.Common.{◌≡◌, ℕ, List, take, length, rules, arith, ap, sym, subst, ◌∙◌, get_or}
+use Rattle.std.proofs.Common.{ℕ, List, sym, subst}
 use Rattle.sha2.specs.Hashers.{Holds256}
-use Rattle.simplex_scheme.specs.Parts.{joined}
 use Rattle.simplex_scheme.proofs.PartsLemmas.{joined_more}
 use Rattle.simplex_scheme.proofs.hash.Sha256Hasher.hash.Goals as goal
 

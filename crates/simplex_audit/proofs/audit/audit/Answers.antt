@@ -1,0 +1,37 @@
+use Rattle.std.proofs.Common.{Result, Ok, Err, IfOk, subst, map}
+use Rattle.simplex_base.specs.Format.{fixed, IsLawful}
+use Rattle.simplex_base.specs.FormatLaws.{fixed_lawful}
+use Rattle.simplex_evidence.specs.Activity.{activity_format, activity_lawful, votes_in}
+use Rattle.simplex_audit.specs.GoodVotes.{good_votes}
+use Rattle.simplex_audit.specs.Evidence.{IsEvidence}
+use Rattle.simplex_audit.specs.Memory.{evidence_value}
+use Rattle.simplex_audit.proofs.NamedLemmas.{named_in_any_order}
+use Rattle.simplex_audit.proofs.NamesLemmas.{names_exactly, names_stay}
+use Rattle.simplex_audit.proofs.StreamLemmas.{messages_once}
+use Rattle.simplex_audit.proofs.audit.audit.Given as given
+use Rattle.simplex_audit.proofs.audit.audit.Goals as goal
+
+-- what follows from a report
+if_ok : {X E : Type 0} (P Q : X → Type 0) → ((x : X) → P x → Q x) → (r : Result X E) → IfOk r P → IfOk r Q
+if_ok P Q f (Ok x) h = f x h
+if_ok P Q f (Err e) h = tt
+
+-- the format of messages is lawful
+law : (g : given.Over) → IsLawful (activity_format {S = g.row.S.Denot} {P = g.row.S-PublicKey.Denot} (fixed g.D.FixedSize.SIZE g.D.Fixed.bytes_of g.D.Fixed.of_bytes) (fixed g.S.Signature.FixedSize.SIZE g.S.Signature.Fixed.bytes_of g.S.Signature.Fixed.of_bytes))
+law g = activity_lawful _ _ (fixed_lawful _ _ _ g.met.D.Fixed.back g.met.D.Fixed.forth) (fixed_lawful _ _ _ g.met.S.Signature.Fixed.back g.met.S.Signature.Fixed.forth)
+
+pub returns-clause-single : goal.returns-clause-single
+returns-clause-single g c messages others rest left are are' = messages_once _ (law g) c.args.stream.now rest left messages others are are'
+
+pub returns-clause-any_order : goal.returns-clause-any_order
+returns-clause-any_order g c messages = named_in_any_order g.D.PartialEq.eq (g.S.Scheme.good c.args.scheme.now) votes_in messages
+
+pub returns-clause-stays : goal.returns-clause-stays
+returns-clause-stays g c more messages later rest left are are' = names_stay _ (law g) g.D.PartialEq.eq (g.S.Scheme.good c.args.scheme.now) votes_in c.args.stream.now more rest left messages later are are'
+
+pub returns-clause-names : goal.returns-clause-names
+returns-clause-names g c =
+    if_ok _ _ (λ report is messages rest are n.
+      let same = messages_once _ (law g) c.args.stream.now is.rest rest is.messages messages is.are_messages are in
+      names_exactly g.D.PartialEq.eq g.met.D.Eq.laws _ _ (subst (λ ms. IsEvidence g.D.PartialEq.eq (good_votes (g.S.Scheme.good c.args.scheme.now) votes_in ms) (map evidence_value report.evidence.items)) same.0 is.evidence) n)
+    c.audit_stream.result c.audit_stream.ensures

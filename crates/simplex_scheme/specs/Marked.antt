@@ -1,0 +1,25 @@
+-- The marked scheme: a good signature is one fixed byte, whoever signs whatever.
+use Rattle.std.specs.Prelude.{◌≡◌, ℕ, ◌<◌, Bool, true, List, [], ◌∷◌, ◌&&◌, Option, map, nat_lt}
+use Rattle.std.specs.Int.{w32, to_be_bytes}
+use Rattle.std.specs.List.{range_with_len}
+use Rattle.std.specs.Str.{bytes_eq}
+use Rattle.std.proofs.Common.{arith}
+use Rattle.std.proofs.lemmas.Bool.Decides.{nat_tests}
+use Rattle.simplex_scheme.specs.Subject.{SubjectValue}
+
+-- a committee's keys, and which of it this is
+pub record MarkedScheme : Type 0 where
+  pub keys : List (List ℕ)
+  pub me : Option ℕ
+
+-- the keys of n participants: the numbers from 0 on, each in four bytes, the most significant first
+abbrev pub numbered : ℕ → List (List ℕ)
+numbered n = map (to_be_bytes w32) (range_with_len 0 n)
+
+-- the signer is one of n participants, and the signature is the byte aa
+abbrev pub marked_good : {D : Type 0} → ℕ → SubjectValue D → ℕ → List ℕ → Bool
+marked_good n subject signer signature = nat_lt signer n && bytes_eq signature (170 ∷ [])
+
+-- whose signature is good is in the committee
+pub marked_members : {D : Type 0} (n : ℕ) (subject : SubjectValue D) (signer : ℕ) (signature : List ℕ) → marked_good n subject signer signature ≡ true → signer < n
+marked_members n subject signer signature h = grind (arith, nat_tests)

@@ -1,0 +1,160 @@
+//! A scheme for tests: a signature is the byte `aa`, whoever signs whatever.
+
+ghost use Rattle.std.specs.Prelude.{◌≡◌, List, [], ◌∷◌, Option, Some, None, Ok, IsOk, IfOk, IfSome, MatchOption, length, ◌<◌, ◌≤◌, ◌^◌, true};
+ghost use Rattle.std.specs.Option.{ForSome};
+ghost use Rattle.std.proofs.Common.{lit<, lit≤};
+ghost use Rattle.simplex_scheme.specs.Subject.{subject_value};
+ghost use Rattle.simplex_scheme.specs.Marked.{numbered, marked_good, marked_members};
+
+use crate::proposal::Subject;
+use crate::scheme::{
+    Attestation, CertificateScheme, Digest, PublicKey, Scheme, SchemeTypes, Signature,
+};
+use crate::set::Set;
+use simplex_base::codec::Fixed;
+use simplex_base::codec::fixed_bytes::{FixedBytes, Role};
+use simplex_base::positions::Participant;
+use std::alloc::{AllocError, Global};
+use std::marker::Model;
+
+/// The digest of a payload in tests.
+pub enum MarkedDigestRole {}
+
+impl Role<1> for MarkedDigestRole {
+    ghost sized = { (lit< tt, lit≤ tt) };
+}
+
+/// A digest for tests: 1 byte.
+pub type MarkedDigest = FixedBytes<MarkedDigestRole, 1>;
+
+impl Digest for FixedBytes<MarkedDigestRole, 1> {}
+
+/// The role of a key of the marked scheme.
+pub enum MarkedKeyRole {}
+
+impl Role<4> for MarkedKeyRole {
+    ghost sized = { (lit< tt, lit≤ tt) };
+}
+
+/// A key of the marked scheme: the number of its participant in 4 bytes, the most significant first.
+pub type MarkedKey = FixedBytes<MarkedKeyRole, 4>;
+
+impl PublicKey for FixedBytes<MarkedKeyRole, 4> {}
+
+/// The role of a signature of the marked scheme.
+pub enum MarkedSignatureRole {}
+
+impl Role<1> for MarkedSignatureRole {
+    ghost sized = { (lit< tt, lit≤ tt) };
+}
+
+/// A signature of the marked scheme: 1 byte, which is `aa` where it is good.
+pub type MarkedSignature = FixedBytes<MarkedSignatureRole, 1>;
+
+impl Signature for FixedBytes<MarkedSignatureRole, 1> {}
+
+/// A committee that signs by a mark. The signature of each participant over each subject is the byte `aa`,
+/// so it is for tests alone.
+#[derive(Drop)]
+pub struct Marked {
+    participants: Set<MarkedKey>,
+    me: Option<Participant>,
+}
+
+impl Model for Marked {
+    ghost use Rattle.std.specs.Prelude.{◌<◌, ◌≤◌, ◌^◌, length};
+    ghost use Rattle.std.specs.Option.{ForSome};
+    ghost use Rattle.simplex_scheme.specs.Marked.{MarkedScheme};
+
+    ghost Value = { MarkedScheme };
+
+    ghost view = { λ marked. record { keys = marked.participants; me = marked.me } };
+
+    ghost invariant = { λ marked. (1 ≤ length marked.participants) × (length marked.participants < 2 ^ 32) × ForSome marked.me (λ me. me < length marked.participants) };
+}
+
+impl Marked {
+    /// The scheme of a committee of `n`, for the participant with this number, or with `None` for who only
+    /// verifies. The key of a participant is its number.
+    pub fn new(alloc: Global, n: u32, me: Option<Participant>) -> Result<Marked, AllocError>
+        requires some { 1 ≤ n }
+        requires member { ForSome me (λ me. me < n) }
+        ensures { IfOk result (λ marked. marked ≡ record { keys = numbered n; me = me }) }
+    {
+        Ok(Marked {
+            participants: numbered_keys(alloc, n)?,
+            me,
+        })
+    }
+}
+
+/// The keys of so many participants.
+fn numbered_keys(alloc: Global, n: u32) -> Result<Set<MarkedKey>, AllocError>
+    ensures { IfOk result (λ keys. keys ≡ numbered n) }
+{
+    let mut keys = Vec::with_capacity(alloc, n as usize)?;
+    for number in 0..n {
+        keys.push(MarkedKey::from_bytes(&number.to_be_bytes()))?;
+    }
+    Ok(Set::ascending(keys))
+}
+
+/// The signature of everyone over everything.
+fn mark() -> MarkedSignature
+    ensures { result ≡ 170 ∷ [] }
+{
+    MarkedSignature::from_bytes(&[0xaa])
+}
+
+impl SchemeTypes for Marked {
+    type PublicKey = FixedBytes<MarkedKeyRole, 4>;
+
+    type Signature = FixedBytes<MarkedSignatureRole, 1>;
+}
+
+impl CertificateScheme for Marked {
+    ghost keys = { λ marked. marked.keys };
+
+    ghost own = { λ marked. marked.me };
+
+    fn participants(&self) -> &Set<MarkedKey> {
+        &self.participants
+    }
+
+    fn me(&self) -> Option<Participant> {
+        self.me
+    }
+}
+
+impl<D: Digest> Scheme<D> for Marked {
+    ghost good = { λ marked. marked_good (length marked.keys) };
+
+    fn sign(
+        &self,
+        _alloc: Global,
+        _subject: Subject<'_, D>,
+    ) -> Result<Option<Attestation<Self>>, AllocError>
+        ensures none { self.now.me ≡ None → result ≡ Ok None }
+        ensures signed { IfOk result (λ signed. MatchOption signed (self.now.me ≡ None) (λ a.
+            (self.now.me ≡ Some a.signer) × (marked_good (length self.now.keys) (subject_value _subject.entry) a.signer a.signature ≡ true))) }
+        // No memory is taken.
+        ensures ample { IsOk result }
+    {
+        let Some(signer) = self.me else {
+            return Ok(None);
+        };
+        Ok(Some(Attestation {
+            signer,
+            signature: mark(),
+        }))
+    }
+
+    fn verify_attestation(&self, _subject: Subject<'_, D>, attestation: &Attestation<Self>) -> bool
+        ensures { result ≡ marked_good (length self.now.keys) (subject_value _subject.entry) attestation.now.signer attestation.now.signature }
+    {
+        (attestation.signer.get() as usize) < self.participants.len()
+            && attestation.signature == mark()
+    }
+
+    ghost members = { λ marked subject signer signature h. marked_members (length marked.keys) subject signer signature h };
+}
