@@ -46,8 +46,15 @@ impl<S: SchemeTypes, D: Digest> Evidence<S, D> {
     pub fn line(&self, alloc: Global) -> Result<String, AllocError>
         ensures { IfOk result (λ line. string_bytes line ≡ line_of D.bytes_of (evidence_value self.now)) }
     {
+        conflicting_notarize_line(alloc, self.notarizes())
+    }
+
+    /// The two notarizes.
+    fn notarizes(&self) -> &ConflictingNotarize<S, D>
+        ensures { notarize_evidence result.now ≡ evidence_value self.now }
+    {
         match self {
-            Evidence::ConflictingNotarize(conflict) => conflicting_notarize_line(alloc, conflict),
+            Evidence::ConflictingNotarize(conflict) => conflict,
         }
     }
 }
