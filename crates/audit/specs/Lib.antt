@@ -1,0 +1,5 @@
+pub mod Arguments
+pub mod Answer
+pub mod Status
+pub mod Streams
+pub mod Text

@@ -1,0 +1,24 @@
+-- How the program ends, and what it says then.
+use Rattle.std.specs.Prelude.{ℕ, List, ◌++◌, codes, decimal}
+use Rattle.audit.specs.declared.status.Status.{Status}
+use Rattle.audit.specs.declared.status.Status.TheVariants as statuses
+use Rattle.audit.specs.declared.status.Failure.{Failure}
+use Rattle.audit.specs.declared.status.Failure.TheVariants.{Usage, Read, Write, OutOfMemory}
+
+-- the status after a failure
+abbrev pub status_after : Failure → Status
+status_after Usage = statuses.Usage
+status_after Read = statuses.Failed
+status_after Write = statuses.Failed
+status_after OutOfMemory = statuses.Failed
+
+-- what is said of a failure
+abbrev pub complaint_of : Failure → List ℕ
+complaint_of Usage = codes "usage: audit NAMESPACE KEY...\n"
+complaint_of Read = codes "audit: read failed\n"
+complaint_of Write = codes "audit: write failed\n"
+complaint_of OutOfMemory = codes "audit: out of memory\n"
+
+-- what is said of a fault at a byte of the stream
+abbrev pub complaint_at : ℕ → List ℕ
+complaint_at place = codes "audit: fault at byte " ++ (decimal place ++ codes "\n")

@@ -1,0 +1,66 @@
+//! How the program ends, and what it says then.
+
+ghost use Rattle.std.specs.Prelude.{◌≡◌};
+ghost use Rattle.audit.specs.Status.{status_after, complaint_of};
+
+use std::alloc::AllocError;
+
+/// How the program ends. Its number is the exit status.
+#[derive(Clone, Copy, Debug, PartialEq, Eq)]
+pub enum Status {
+    /// The whole stream was read as messages.
+    Whole = 0,
+    /// The stream stops being messages somewhere. What stands before was audited.
+    Fault = 1,
+    /// The arguments are no namespace and keys.
+    Usage = 2,
+    /// A read, a write or memory failed.
+    Failed = 3,
+}
+
+/// Why the program gives up.
+#[derive(Clone, Copy, Debug, PartialEq, Eq)]
+pub enum Failure {
+    /// The arguments are no namespace and keys.
+    Usage,
+    /// The input can't be read to its end.
+    Read,
+    /// The text can't be written, or flushed.
+    Write,
+    /// A growth was refused.
+    OutOfMemory,
+}
+
+impl From<AllocError> for Failure {
+    ghost use Rattle.audit.specs.declared.status.Failure.{Failure};
+
+    ghost from_gives = { λ _ e. e ≡ Failure.OutOfMemory };
+
+    fn from(_error: AllocError) -> Failure {
+        Failure::OutOfMemory
+    }
+}
+
+impl Failure {
+    /// The status after this failure: `Usage` for the arguments, else `Failed`.
+    pub fn status(self) -> Status
+        ensures { result ≡ status_after self }
+    {
+        match self {
+            Failure::Usage => Status::Usage,
+            Failure::Read | Failure::Write | Failure::OutOfMemory => Status::Failed,
+        }
+    }
+
+    /// What is said on standard error, with its line's end.
+    pub fn complaint(self) -> &'static str
+        ensures { result.now ≡ complaint_of self }
+    {
+        match self {
+            Failure::Usage => "usage: audit NAMESPACE KEY...\n",
+            Failure::Read => "audit: read failed\n",
+            Failure::Write => "audit: write failed\n",
+            Failure::OutOfMemory => "audit: out of memory\n",
+        }
+    }
+}

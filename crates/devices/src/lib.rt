@@ -1,0 +1,14 @@
+//! Fake readers and writers for tests. They stand over memory that a test gives or over a fixed array, so
+//! they take no memory themselves, and they tell their bytes: what a reader has left, and what a writer
+//! holds.
+#![tactic(auto)]
+
+pub mod source;
+pub mod target;
+#[cfg(test)]
+mod tests;
+pub mod trouble;
+
+pub use source::Source;
+pub use target::Target;
+pub use trouble::Trouble;
