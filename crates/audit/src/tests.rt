@@ -30,6 +30,30 @@ const LONG: &str = "000000000000000000000000000000000000000000000000000000000000
 /// 64 bytes, the last of which is no digit.
 const WRONG: &str = "000000000000000000000000000000000000000000000000000000000000000g";
 
+/// Two notarizes of participant 0, whose key is `ZEROS`, under the namespace `test`: epoch 0, view 10, parent 5,
+/// payloads 32 times 06 and 07.
+const CONFLICT: &[u8] = b"\x00\x00\x0a\x05\x06\x06\x06\x06\x06\x06\x06\x06\x06\x06\x06\x06\x06\x06\x06\x06\
+    \x06\x06\x06\x06\x06\x06\x06\x06\x06\x06\x06\x06\x06\x06\x06\x06\x00\x8c\x67\x74\
+    \xd2\xf6\x8c\x56\x7d\x3d\x70\x99\x35\x3b\xa7\xb9\xa7\x3b\x4a\x39\x19\xf0\x0b\xf8\
+    \x57\x1c\x6c\xf1\x4b\x8b\x0e\x1f\xbc\x00\x00\x0a\x05\x07\x07\x07\x07\x07\x07\x07\
+    \x07\x07\x07\x07\x07\x07\x07\x07\x07\x07\x07\x07\x07\x07\x07\x07\x07\x07\x07\x07\
+    \x07\x07\x07\x07\x07\x00\x85\xc5\xf6\x12\x87\x21\x54\xca\x52\xe9\x92\xa7\x9a\xec\
+    \x3b\xfd\xc4\x07\xbf\x28\x73\xf7\xf4\x37\x2e\x33\xb4\xbe\x6d\xe3\xd7\x1b";
+
+/// The same, and then a byte that is no tag.
+const CONFLICT_AND_FAULT: &[u8] = b"\x00\x00\x0a\x05\x06\x06\x06\x06\x06\x06\x06\x06\x06\x06\x06\x06\x06\x06\x06\x06\
+    \x06\x06\x06\x06\x06\x06\x06\x06\x06\x06\x06\x06\x06\x06\x06\x06\x00\x8c\x67\x74\
+    \xd2\xf6\x8c\x56\x7d\x3d\x70\x99\x35\x3b\xa7\xb9\xa7\x3b\x4a\x39\x19\xf0\x0b\xf8\
+    \x57\x1c\x6c\xf1\x4b\x8b\x0e\x1f\xbc\x00\x00\x0a\x05\x07\x07\x07\x07\x07\x07\x07\
+    \x07\x07\x07\x07\x07\x07\x07\x07\x07\x07\x07\x07\x07\x07\x07\x07\x07\x07\x07\x07\
+    \x07\x07\x07\x07\x07\x00\x85\xc5\xf6\x12\x87\x21\x54\xca\x52\xe9\x92\xa7\x9a\xec\
+    \x3b\xfd\xc4\x07\xbf\x28\x73\xf7\xf4\x37\x2e\x33\xb4\xbe\x6d\xe3\xd7\x1b\x0a";
+
+/// The line of the conflict.
+const LINE: &str = "0 10 0 conflicting-notarize 5 0606060606060606060606060606060606060606060606060606060606060606 5 0707070707070707070707070707070707070707070707070707070707070707\n";
+
+const FAULT: &str = "audit: fault at byte 138\n";
+
 /// One run over devices, and what it comes to.
 #[derive(Clone, Copy)]
 struct Row {
@@ -173,28 +197,20 @@ fn are_streams_refused(rt: &(impl Abort + AllocGlobal)) -> bool {
             "",
             "audit: fault at byte 0\n",
         ),
-        steady(words, b"\x07\x09", Status::Whole, TWO_LINES, ""),
-        steady(
-            words,
-            b"\x07\x09\x0a\x07",
-            Status::Fault,
-            TWO_LINES,
-            "audit: fault at byte 2\n",
-        ),
+        steady(words, CONFLICT, Status::Whole, LINE, ""),
+        steady(words, CONFLICT_AND_FAULT, Status::Fault, LINE, FAULT),
     ];
     is_any_refused(rt, &rows)
 }
 
-const TWO_LINES: &str = "7 nullify-finalize\n9 nullify-finalize\n";
-
-/// A stream in four reads, of two lines, with a fault.
-fn two_lines() -> Row {
+/// A stream in many reads, with a line and a fault.
+fn line_and_fault() -> Row {
     steady(
         &["test", ZEROS],
-        b"\x07\x09\x0a\x07\x07\x07\x07\x07",
+        CONFLICT_AND_FAULT,
         Status::Fault,
-        TWO_LINES,
-        "audit: fault at byte 2\n",
+        LINE,
+        FAULT,
     )
 }
 
@@ -204,7 +220,7 @@ fn failing(text: &'static str, said: &'static str) -> Row {
         status: Status::Failed,
         text,
         said,
-        ..two_lines()
+        ..line_and_fault()
     }
 }
 
@@ -214,11 +230,11 @@ fn are_troubles_refused(rt: &(impl Abort + AllocGlobal)) -> bool {
     let rows: [Row; 16] = [
         Row {
             reading: Trouble::Once(0, ErrorKind::Interrupted),
-            ..two_lines()
+            ..line_and_fault()
         },
         Row {
             reading: Trouble::Once(2, ErrorKind::Interrupted),
-            ..two_lines()
+            ..line_and_fault()
         },
         Row {
             reading: Trouble::Since(0, ErrorKind::Other),
@@ -234,16 +250,16 @@ fn are_troubles_refused(rt: &(impl Abort + AllocGlobal)) -> bool {
         },
         Row {
             room: (1, all),
-            ..two_lines()
+            ..line_and_fault()
         },
         Row {
             writing: Trouble::Once(0, ErrorKind::Interrupted),
-            ..two_lines()
+            ..line_and_fault()
         },
         Row {
             room: (5, all),
             writing: Trouble::Once(1, ErrorKind::Interrupted),
-            ..two_lines()
+            ..line_and_fault()
         },
         Row {
             writing: Trouble::Since(0, ErrorKind::BrokenPipe),
@@ -252,7 +268,7 @@ fn are_troubles_refused(rt: &(impl Abort + AllocGlobal)) -> bool {
         Row {
             room: (5, all),
             writing: Trouble::Once(1, ErrorKind::Other),
-            ..failing("7 nul", WRITE_FAILED)
+            ..failing("0 10 ", WRITE_FAILED)
         },
         Row {
             writing: Trouble::Once(0, ErrorKind::OutOfMemory),
@@ -264,16 +280,16 @@ fn are_troubles_refused(rt: &(impl Abort + AllocGlobal)) -> bool {
         },
         Row {
             room: (all, 7),
-            ..failing("7 nulli", WRITE_FAILED)
+            ..failing("0 10 0 ", WRITE_FAILED)
         },
         Row {
             flushing: Trouble::Since(0, ErrorKind::Other),
-            ..failing(TWO_LINES, WRITE_FAILED)
+            ..failing(LINE, WRITE_FAILED)
         },
         Row {
             saying: Trouble::Since(0, ErrorKind::Other),
             said: "",
-            ..two_lines()
+            ..line_and_fault()
         },
         Row {
             saying: Trouble::Since(0, ErrorKind::Other),
@@ -299,11 +315,11 @@ fn ample_troubles(rt: HostRuntime) {
     assert!(rt; !are_troubles_refused(&rt));
 }
 
-/// A run with two keys, two lines and a fault, which makes each growth that the program makes.
+/// A run with two keys, a line and a fault, which makes each growth that the program makes.
 fn whole_run() -> Row {
     Row {
         words: &["test", ZEROS, LOWER],
-        ..two_lines()
+        ..line_and_fault()
     }
 }
 

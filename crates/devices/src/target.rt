@@ -33,8 +33,16 @@ pub struct Target {
 impl Model for Target {
     ghost Value = { Writer };
 
-    ghost view = { λ t. record { held = take t.count t.bytes; step = t.step; room = t.room; writing = t.writing;
-        flushing = t.flushing; writes = t.writes; flushes = t.flushes; pending = t.pending } };
+    ghost view = { λ t. record {
+      held = take t.count t.bytes;
+      step = t.step;
+      room = t.room;
+      writing = t.writing;
+      flushing = t.flushing;
+      writes = t.writes;
+      flushes = t.flushes;
+      pending = t.pending;
+    } };
 
     ghost invariant = { λ t. t.count ≤ 4096 };
 }
@@ -42,8 +50,16 @@ impl Model for Target {
 impl Target {
     /// An empty writer, with room for [`ROOM`] bytes at most, however much `room` is.
     pub fn new(step: usize, room: usize, writing: Trouble, flushing: Trouble) -> Target
-        ensures { result ≡ record { held = []; step = step; room = room; writing = writing;
-            flushing = flushing; writes = 0; flushes = 0; pending = false } }
+        ensures { result ≡ record {
+          held = [];
+          step = step;
+          room = room;
+          writing = writing;
+          flushing = flushing;
+          writes = 0;
+          flushes = 0;
+          pending = false;
+        } }
     {
         Target {
             bytes: [0; 4096],
@@ -99,8 +115,12 @@ impl Write for Target {
         ensures count { IfOk result (λ n. n ≡ min (min self.old.step (length buf.now)) (min self.old.room (4096 - length self.old.held))) }
         ensures room { self.new.room ≡ self.old.room - (length self.new.held - length self.old.held) }
         ensures pending { self.new.pending ≡ (self.old.pending || nat_lt (length self.old.held) (length self.new.held)) }
-        ensures state { self.new ≡ record self.old { held = self.new.held; room = self.new.room; pending = self.new.pending;
-            writes = one_more self.old.writes } }
+        ensures state { self.new ≡ record self.old {
+          held = self.new.held;
+          room = self.new.room;
+          pending = self.new.pending;
+          writes = one_more self.old.writes;
+        } }
     {
         let call = self.writes;
         self.writes = call.saturating_add(1);

@@ -1,0 +1,12 @@
+# The two commands of the README.
+.PHONY: run test
+
+# Proves and builds the program, and runs it on the sample stream of crates/audit.
+run:
+	cd crates/audit && rt run -- $$(cat args) < stdin
+
+# Refuses each growth of the program in turn, and then proves everything from nothing, tries the wrong
+# bodies, and runs the tests and the program.
+test:
+	.ci/refusals audit
+	rt ci
