@@ -87,11 +87,12 @@ pub trait Read: Spell {
 
 /// A value that can be written as one byte string.
 pub trait Encode: Write + EncodeSize {
-    /// The spelling.
+    /// The spelling, in memory of just its size.
     fn encode(&self, alloc: Global) -> Result<Bytes, AllocError>
-        ensures { IfOk result (λ bytes. bytes ≡ Self.spelling self.now) }
+        ensures spelling { IfOk result (λ bytes. bytes ≡ Self.spelling self.now) }
+        ensures value { Self.is_value self.now }
     {
-        let mut buf = Vec::new(alloc);
+        let mut buf = Vec::with_capacity(alloc, self.encode_size())?;
         self.write(&mut buf)?;
         Ok(Bytes::from_vec(buf)?)
     }

@@ -3,3 +3,4 @@ pub mod SetLemmas
 pub mod PlainLemmas
 pub mod NamespaceLemmas
 pub mod MarkedLemmas
+pub mod SubjectLemmas

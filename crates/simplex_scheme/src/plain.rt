@@ -236,7 +236,11 @@ impl<D: Digest> Scheme<D> for Plain {
     }
 
     fn verify_attestation(&self, subject: Subject<'_, D>, attestation: &Attestation<Self>) -> bool
-        ensures { result ≡ plain_good (fixed D.SIZE D.bytes_of D.of_bytes) self.now (subject_value subject.entry) attestation.now.signer attestation.now.signature }
+        ensures good { result ≡ plain_good (fixed D.SIZE D.bytes_of D.of_bytes) self.now (subject_value subject.entry) attestation.now.signer attestation.now.signature }
+        // The hashed bytes decide the name, the key and the message.
+        ensures decided { (name other_name key other_key message other_message : List ℕ) → length name < 2 ^ 64 → length other_name < 2 ^ 64 →
+            length key ≡ length other_key → hashed name key message ≡ hashed other_name other_key other_message →
+            (name ≡ other_name) × (key ≡ other_key) × (message ≡ other_message) }
     {
         let signer = Some(attestation.signer);
         let names = &self.namespace;

@@ -135,7 +135,8 @@ pub trait CertificateSubject {
 }
 
 impl<D: Digest> CertificateSubject for Subject<'_, D> {
-    ghost use Rattle.simplex_scheme.specs.Subject.{subject_value, name_of, message_of};
+    ghost use Rattle.simplex_scheme.specs.Namespace.{names_of};
+    ghost use Rattle.simplex_scheme.specs.Subject.{SubjectValue, IsSubject, subject_value, name_of, message_of};
 
     type Namespace = Namespace;
 
@@ -151,12 +152,18 @@ impl<D: Digest> CertificateSubject for Subject<'_, D> {
         }
     }
 
-    fn message(&self, alloc: Global) -> Result<Bytes, AllocError> {
+    fn message(&self, alloc: Global) -> Result<Bytes, AllocError>
+        ensures message { IfOk result (λ bytes. bytes ≡ message_of (fixed D.SIZE D.bytes_of D.of_bytes) (subject_value self.now)) }
+        // A name under one base and a message are those of one subject alone.
+        ensures one { (base : List ℕ) (other : SubjectValue D) → IsSubject (fixed D.SIZE D.bytes_of D.of_bytes) other →
+            name_of (names_of base) (subject_value self.now) ≡ name_of (names_of base) other →
+            message_of (fixed D.SIZE D.bytes_of D.of_bytes) (subject_value self.now) ≡ message_of (fixed D.SIZE D.bytes_of D.of_bytes) other →
+            subject_value self.now ≡ other }
+    {
         match self {
-            Subject::Notarize { proposal } | Subject::Finalize { proposal } => {
-                proposal.encode(alloc)
-            }
+            Subject::Notarize { proposal } => proposal.encode(alloc),
             Subject::Nullify { round } => round.encode(alloc),
+            Subject::Finalize { proposal } => proposal.encode(alloc),
         }
     }
 }
