@@ -1,17 +1,17 @@
 -- Whoever is named has evidence, and the votes determine a report.
 use Rattle.std.proofs.Common.{◌≡◌, Bool, true, List, Option, Some, None, map, sym, ap, ◌∙◌, inl, inr, ◌⊎◌, ⊎_elim}
-use Rattle.std.specs.Prelude.{Contains, ◌&&◌}
+use Rattle.std.specs.Prelude.{All, Contains, ◌&&◌}
 use Rattle.std.specs.Option.{is_some}
 use Rattle.std.specs.List.{find, list_any}
 use Rattle.std.specs.Cmp.{IsEquivalence}
 use Rattle.std.proofs.lemmas.Bool.{and_parts, and_from}
-use Rattle.std.proofs.lemmas.List.Elements.{recursion_from_All, All-contains, All-map}
+use Rattle.std.proofs.lemmas.List.Elements.{recursion_from_All, All-contains, All-map, All-weaker}
 use Rattle.simplex_scheme.specs.Subject.{round_of}
 use Rattle.simplex_votes.specs.Votes.{Vote, sort_of, same_sort, is_of, is_at}
 use Rattle.simplex_evidence.specs.Contradiction.{Kind, Evidence, clash, contradicts, first_sort}
 use Rattle.simplex_audit.specs.Named.{Named, is_named, named_by, named_cmp}
-use Rattle.simplex_audit.specs.Evidence.{evidence_of, with_first, with_second, IsEvidence}
-use Rattle.simplex_audit.specs.Laws.{EvidenceExists, EvidenceIsUnique}
+use Rattle.simplex_audit.specs.Evidence.{evidence_of, with_first, with_second, IsEvidence, IsEquivocation}
+use Rattle.simplex_audit.specs.Laws.{EvidenceIsUnique}
 use Rattle.simplex_audit.proofs.Lists.{same_bool, some_from_is_some, find_from_any, find_passes, find-Contains, any_from_Contains, Contains-from_list_any, unique_by_keys}
 use Rattle.simplex_audit.proofs.Places.{is_of-true, is_of-from, is_of-both, clash-first, clash_with_one, named_cmp_total}
 
@@ -82,6 +82,10 @@ evidence-from_named {D} {G} eq l vs n h =
     rw (a.1, b.1)
 
 -- whoever is named has evidence, and nobody else
+abbrev pub EvidenceExists : {D G : Type 0} → (D → D → Bool) → List (Vote D G) → Type 0
+EvidenceExists eq vs = (n : Named) → is_some (evidence_of eq vs n) ≡ is_named eq vs n
+
+-- so it is for any votes
 pub evidence_exists : {D G : Type 0} (eq : D → D → Bool) → IsEquivalence eq → (vs : List (Vote D G)) → EvidenceExists eq vs
 evidence_exists eq l vs n = same_bool _ _ (named-from_evidence eq vs n) (evidence-from_named eq l vs n)
 
@@ -101,3 +105,16 @@ evidence_is_unique eq vs es r fs s =
     (recursion_from_All _ es r.sound) (recursion_from_All _ fs s.sound)
     (λ n h. s.complete n (named-from_report eq vs es r n h))
     (λ n h. r.complete n (named-from_report eq vs fs s n h))
+
+-- each evidence of a report is two of the votes that contradict
+pub all_equivocations : {D G : Type 0} (eq : D → D → Bool) (vs : List (Vote D G)) (es : List (Evidence D G)) → IsEvidence eq vs es → All (IsEquivocation eq vs) es
+all_equivocations eq vs es is =
+    All-weaker (λ e. evidence_of eq vs (named_by e) ≡ Some e) (IsEquivocation eq vs)
+    (λ e found.
+    let parts = evidence_parts eq vs e.kind (find (is_at (first_sort e.kind) (round_of e.first.subject) e.first.signer) vs) e found in
+    record {
+      first_cast = find-Contains _ vs _ parts.1;
+      second_cast = find-Contains _ vs _ parts.2;
+      contradict = find_passes _ vs _ parts.2;
+    })
+    es is.sound

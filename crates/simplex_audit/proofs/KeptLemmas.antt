@@ -1,6 +1,6 @@
 -- The slots after one more vote, the evidence in the slots, and that the news are enough.
 use Rattle.std.proofs.Common.{◌≡◌, ℕ, Bool, true, false, cond, List, [], ◌∷◌, ◌++◌, Option, Some, None, sym, refl, ap, ◌∙◌, inl, inr}
-use Rattle.std.specs.Prelude.{not, ◌&&◌}
+use Rattle.std.specs.Prelude.{not, ◌&&◌, if◌then◌else◌}
 use Rattle.std.specs.Option.{option_or}
 use Rattle.std.specs.List.{find}
 use Rattle.std.specs.Cmp.{IsEquivalence}
@@ -13,7 +13,6 @@ use Rattle.simplex_evidence.specs.Contradiction.{Kind, Conflicting_notarize, Con
 use Rattle.simplex_audit.specs.Named.{Named}
 use Rattle.simplex_audit.specs.Evidence.{evidence_of, with_first, with_second}
 use Rattle.simplex_audit.specs.Kept.{differs, Slot, other_than, slot_of, if_differs, slot_with, changes, is_news, both, evidence_from}
-use Rattle.simplex_audit.specs.Laws.{SlotAfterVote, SameSlots}
 use Rattle.simplex_audit.proofs.Lists.{find_passes}
 use Rattle.simplex_audit.proofs.Places.{is_of-true, same_proposal_equiv}
 
@@ -34,6 +33,16 @@ find_none p q (x ∷ xs) h =
     ]
 
 -- ---- one more vote
+
+-- one more vote changes its own slot alone
+abbrev pub SlotAfterVote : {D G : Type 0} → (D → D → Bool) → List (Vote D G) → Vote D G → Type 0
+SlotAfterVote eq vs v =
+    (sort : Sort) (round : Round) (signer : ℕ) →
+    slot_of eq (vs ++ v ∷ []) sort round signer ≡ (if is_at sort round signer v then slot_with eq v (slot_of eq vs sort round signer) else slot_of eq vs sort round signer)
+
+-- two lists of votes have the same slots
+abbrev pub SameSlots : {D G : Type 0} → (D → D → Bool) → List (Vote D G) → List (Vote D G) → Type 0
+SameSlots eq vs ws = (sort : Sort) (round : Round) (signer : ℕ) → slot_of eq vs sort round signer ≡ slot_of eq ws sort round signer
 
 -- a subject does not differ from itself
 pub differs_itself : {D : Type 0} (eq : D → D → Bool) → IsEquivalence eq → (x : SubjectValue D) → differs eq x x ≡ false

@@ -1,6 +1,6 @@
 -- Who is named, under a change of order and under an append.
 use Rattle.std.proofs.Common.{◌≡◌, ℕ, Bool, true, List, [], ◌∷◌, ◌++◌, sym, refl, ap, ◌∙◌}
-use Rattle.std.specs.Prelude.{◌&&◌, ◌||◌, filter}
+use Rattle.std.specs.Prelude.{◌&&◌, ◌||◌, filter, IsTrue}
 use Rattle.std.specs.List.{list_any, flat_map}
 use Rattle.std.proofs.lemmas.List.{append-nil}
 use Rattle.std.proofs.lemmas.List.Folds.{list_any-append}
@@ -12,7 +12,7 @@ use Rattle.simplex_votes.specs.Votes.{Vote, is_of}
 use Rattle.simplex_evidence.specs.Contradiction.{contradicts}
 use Rattle.simplex_audit.specs.GoodVotes.{good_votes}
 use Rattle.simplex_audit.specs.Named.{Named, is_named}
-use Rattle.simplex_audit.specs.Laws.{NamedInAnyOrder, NamedStays}
+use Rattle.simplex_audit.specs.Laws.{NamedInAnyOrder}
 use Rattle.simplex_audit.proofs.EvidenceLemmas.{named_from_votes, votes_from_named}
 
 -- lists whose elements pass the same tests name the same signers
@@ -51,6 +51,11 @@ named-append eq vs ws n h =
     named_from_votes eq (vs ++ ws) n v w (Contains-append_left vs ws v in_v) (Contains-append_left vs ws w in_w) of_v against
 
 -- whoever is named stays named, whatever messages follow
+abbrev pub NamedStays : {D G M : Type 0} → (D → D → Bool) → (SubjectValue D → ℕ → G → Bool) → (M → List (Vote D G)) → List M → Type 0
+NamedStays {D} {G} {M} eq good votes_in ms =
+    (ks : List M) (n : Named) → IsTrue (is_named eq (good_votes good votes_in ms) n) → IsTrue (is_named eq (good_votes good votes_in (ms ++ ks)) n)
+
+-- so it is for any messages
 pub named_stays : {D G M : Type 0} (eq : D → D → Bool) (good : SubjectValue D → ℕ → G → Bool) (votes_in : M → List (Vote D G)) (ms : List M) → NamedStays eq good votes_in ms
 named_stays eq good votes_in ms ks n h =
     ap (λ vs. is_named eq vs n) (good_votes-append good votes_in ms ks) ∙ named-append eq (good_votes good votes_in ms) (good_votes good votes_in ks) n h

@@ -114,7 +114,7 @@ messages_continue {M} format law stream more rest left messages later are are' =
     go (m ∷ ms) [] each each' e = absurd (are'.stuck m (flat_map format.spelling ms ++ (rest ++ more)) (All-head format.is_value m ms each) (sym e ∙ append_assoc (format.spelling m) (flat_map format.spelling ms) (rest ++ more)))
     go (m ∷ ms) (k ∷ ks) each each' e =
         let one = one_spelling law m k (flat_map format.spelling ms ++ (rest ++ more)) (flat_map format.spelling ks ++ left) (All-head format.is_value m ms each) (All-head format.is_value k ks each')
-              (sym (append_assoc (format.spelling m) (flat_map format.spelling ms) (rest ++ more)) ∙ (e ∙ append_assoc (format.spelling k) (flat_map format.spelling ks) left)) in
+        (sym (append_assoc (format.spelling m) (flat_map format.spelling ms) (rest ++ more)) ∙ (e ∙ append_assoc (format.spelling k) (flat_map format.spelling ks) left)) in
         let c = go ms ks (All-tail format.is_value m ms each) (All-tail format.is_value k ks each') one.1 in
         record { further = c.further; same = ap (λ (x : M). x ∷ ks) (sym one.0) ∙ ap (λ (xs : List M). m ∷ xs) c.same; after = c.after }
 

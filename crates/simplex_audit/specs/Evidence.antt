@@ -25,3 +25,9 @@ pub record IsEvidence {D G : Type 0} (eq : D → D → Bool) (vs : List (Vote D 
   pub ordered : IsStrictlySortedBy named_cmp (map named_by es)
   pub sound : All (λ e. evidence_of eq vs (named_by e) ≡ Some e) es
   pub complete : (n : Named) → IsTrue (is_named eq vs n) → Contains (map named_by es) n
+
+-- both votes of an evidence are among the votes, and contradict with its kind
+pub record IsEquivocation {D G : Type 0} (eq : D → D → Bool) (vs : List (Vote D G)) (e : Evidence D G) : Type 0 where
+  pub first_cast : Contains vs e.first
+  pub second_cast : Contains vs e.second
+  pub contradict : IsTrue (contradicts eq e.kind e.first e.second)

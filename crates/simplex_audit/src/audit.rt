@@ -1,19 +1,20 @@
 //! The audit of a whole stream.
 
-ghost use Rattle.std.specs.Prelude.{◌≡◌, ◌↔◌, ℕ, List, ◌++◌, map, IfOk, IsTrue, IsPermutation, Contains};
+ghost use Rattle.std.specs.Prelude.{◌≡◌, ◌↔◌, ℕ, List, ◌++◌, map, IfOk, IsTrue, IsPermutation, Contains, All};
 ghost use Rattle.simplex_base.specs.Format.{fixed};
 ghost use Rattle.simplex_evidence.specs.Activity.{activity_format, votes_in};
 ghost use Rattle.simplex_audit.specs.GoodVotes.{good_votes};
 ghost use Rattle.simplex_audit.specs.Named.{Named, is_named, named_by};
-ghost use Rattle.simplex_audit.specs.Laws.{NamedInAnyOrder};
+ghost use Rattle.simplex_audit.specs.Evidence.{IsEquivocation};
+ghost use Rattle.simplex_audit.specs.Laws.{EvidenceIsUnique, NamedInAnyOrder};
 ghost use Rattle.simplex_audit.specs.Messages.{AreMessages};
 ghost use Rattle.simplex_audit.specs.Audit.{IsReport};
 ghost use Rattle.simplex_audit.specs.Memory.{evidence_value};
 
 use crate::evidence::Evidence;
 use crate::reading::read_stream;
-use simplex_base::codec::error::Error;
 use simplex_base::codec::Fixed;
+use simplex_base::codec::error::Error;
 use simplex_evidence::types::Activity;
 use simplex_scheme::scheme::{Digest, Scheme, SchemeTypes};
 use std::alloc::{AllocError, Global};
@@ -59,6 +60,14 @@ pub fn audit<S: Scheme<D>, D: Digest>(
     ensures names { IfOk result (λ report. (messages : List (Activity S D S.PublicKey S.Signature)) (rest : List ℕ) →
         AreMessages (activity_format (fixed D.SIZE D.bytes_of D.of_bytes) (fixed S.Signature.SIZE S.Signature.bytes_of S.Signature.of_bytes)) stream.now messages rest →
         (n : Named) → Contains (map named_by (map evidence_value report.evidence.items)) n ↔ IsTrue (is_named D.eq (good_votes (S.good scheme.now) votes_in messages) n)) }
+    // Each evidence is two of the messages' good votes that contradict.
+    ensures sound { IfOk result (λ report. (messages : List (Activity S D S.PublicKey S.Signature)) (rest : List ℕ) →
+        AreMessages (activity_format (fixed D.SIZE D.bytes_of D.of_bytes) (fixed S.Signature.SIZE S.Signature.bytes_of S.Signature.of_bytes)) stream.now messages rest →
+        All (IsEquivocation D.eq (good_votes (S.good scheme.now) votes_in messages)) (map evidence_value report.evidence.items)) }
+    // No other list is the evidence of the messages' good votes.
+    ensures only { IfOk result (λ report. (messages : List (Activity S D S.PublicKey S.Signature)) (rest : List ℕ) →
+        AreMessages (activity_format (fixed D.SIZE D.bytes_of D.of_bytes) (fixed S.Signature.SIZE S.Signature.bytes_of S.Signature.of_bytes)) stream.now messages rest →
+        EvidenceIsUnique D.eq (good_votes (S.good scheme.now) votes_in messages) (map evidence_value report.evidence.items)) }
     // Who is named does not depend on the order of the messages.
     ensures any_order { (messages : List (Activity S D S.PublicKey S.Signature)) → NamedInAnyOrder D.eq (S.good scheme.now) votes_in messages }
     // Who is named stays named, whatever bytes follow.

@@ -69,7 +69,13 @@ fn conflicting_notarize_line<S: SchemeTypes, D: Digest>(
     let (first, second) = (conflict.notarize_1(), conflict.notarize_2());
     let (round, signer) = (first.round(), first.signer());
     let place = (round.epoch().get(), round.view().get(), signer.get());
-    line_of_two(alloc, place, "conflicting-notarize", &first.proposal, &second.proposal)
+    line_of_two(
+        alloc,
+        place,
+        "conflicting-notarize",
+        &first.proposal,
+        &second.proposal,
+    )
 }
 
 /// The two words of a proposal.

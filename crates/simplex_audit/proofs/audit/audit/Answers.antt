@@ -1,12 +1,10 @@
-use Rattle.std.proofs.Common.{Result, Ok, Err, IfOk, subst, map}
+use Rattle.std.proofs.Common.{Result, Ok, Err, IfOk}
 use Rattle.simplex_base.specs.Format.{fixed, IsLawful}
 use Rattle.simplex_base.specs.FormatLaws.{fixed_lawful}
 use Rattle.simplex_evidence.specs.Activity.{activity_format, activity_lawful, votes_in}
-use Rattle.simplex_audit.specs.GoodVotes.{good_votes}
-use Rattle.simplex_audit.specs.Evidence.{IsEvidence}
-use Rattle.simplex_audit.specs.Memory.{evidence_value}
+use Rattle.simplex_audit.proofs.EvidenceLemmas.{all_equivocations, evidence_is_unique}
 use Rattle.simplex_audit.proofs.NamedLemmas.{named_in_any_order}
-use Rattle.simplex_audit.proofs.NamesLemmas.{names_exactly, names_stay}
+use Rattle.simplex_audit.proofs.NamesLemmas.{names_exactly, names_stay, evidence_of_messages}
 use Rattle.simplex_audit.proofs.StreamLemmas.{messages_once}
 use Rattle.simplex_audit.proofs.audit.audit.Given as given
 use Rattle.simplex_audit.proofs.audit.audit.Goals as goal
@@ -31,7 +29,15 @@ returns-clause-stays g c more messages later rest left are are' = names_stay _ (
 
 pub returns-clause-names : goal.returns-clause-names
 returns-clause-names g c =
-    if_ok _ _ (λ report is messages rest are n.
-      let same = messages_once _ (law g) c.args.stream.now is.rest rest is.messages messages is.are_messages are in
-      names_exactly g.D.PartialEq.eq g.met.D.Eq.laws _ _ (subst (λ ms. IsEvidence g.D.PartialEq.eq (good_votes (g.S.Scheme.good c.args.scheme.now) votes_in ms) (map evidence_value report.evidence.items)) same.0 is.evidence) n)
+    if_ok _ _ (λ report is messages rest are. names_exactly g.D.PartialEq.eq g.met.D.Eq.laws _ _ (evidence_of_messages _ (law g) votes_in g.D.PartialEq.eq (g.S.Scheme.good c.args.scheme.now) c.args.stream.now _ _ _ is messages rest are))
+    c.audit_stream.result c.audit_stream.ensures
+
+pub returns-clause-sound : goal.returns-clause-sound
+returns-clause-sound g c =
+    if_ok _ _ (λ report is messages rest are. all_equivocations g.D.PartialEq.eq _ _ (evidence_of_messages _ (law g) votes_in g.D.PartialEq.eq (g.S.Scheme.good c.args.scheme.now) c.args.stream.now _ _ _ is messages rest are))
+    c.audit_stream.result c.audit_stream.ensures
+
+pub returns-clause-only : goal.returns-clause-only
+returns-clause-only g c =
+    if_ok _ _ (λ report is messages rest are. evidence_is_unique g.D.PartialEq.eq _ _ (evidence_of_messages _ (law g) votes_in g.D.PartialEq.eq (g.S.Scheme.good c.args.scheme.now) c.args.stream.now _ _ _ is messages rest are))
     c.audit_stream.result c.audit_stream.ensures

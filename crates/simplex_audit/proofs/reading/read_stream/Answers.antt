@@ -27,7 +27,7 @@ messages-smaller g c =
 pub messages-preserved : goal.messages-preserved
 messages-preserved g c =
     so_far_next _ _ _ c.args.stream.now c.messages.rest.now c.read_cfg.new.input.now c.messages.read c.in-Ok.message (law g) (λ m. omega arith) (λ i. omega (arith, c.type_inv.stream i)) c.messages.invariant c.in-Ok.ensures
-      (λ ms held. subst (λ vs. Holds g.D.PartialEq.eq vs c.keep_votes.new.memory) (sym (good_votes-push (g.S.Scheme.good c.args.scheme.now) votes_in ms c.in-Ok.message)) (c.in_ok-keep_votes-in-Ok.ensures _ held))
+    (λ ms held. subst (λ vs. Holds g.D.PartialEq.eq vs c.keep_votes.new.memory) (sym (good_votes-push (g.S.Scheme.good c.args.scheme.now) votes_in ms c.in-Ok.message)) (c.in_ok-keep_votes-in-Ok.ensures _ held))
 
 pub returns-in-Err : goal.returns-in-Err
 returns-in-Err g c =
