@@ -29,9 +29,9 @@ one_subject payload law base (Finalizes p) (Finalizes q) is is' name message = a
 -- two lists whose fronts are of one length are equal where their parts are
 parts : (front other rest more : List ℕ) → length front ≡ length other → front ++ rest ≡ other ++ more → (front ≡ other) × (rest ≡ more)
 parts front other rest more size same = (
-    sym (take_at front rest (length front) refl) ∙ (ap (take (length front)) same ∙ take_at other more (length front) (sym size)),
-    sym (drop_at front rest (length front) refl) ∙ (ap (drop (length front)) same ∙ drop_at other more (length front) (sym size)),
-  )
+  sym (take_at front rest (length front) refl) ∙ (ap (take (length front)) same ∙ take_at other more (length front) (sym size)),
+  sym (drop_at front rest (length front) refl) ∙ (ap (drop (length front)) same ∙ drop_at other more (length front) (sym size)),
+)
 
 pub hashed_decides : (name other_name key other_key message other_message : List ℕ) → length name < 2 ^ 64 → length other_name < 2 ^ 64 → length key ≡ length other_key → hashed name key message ≡ hashed other_name other_key other_message → (name ≡ other_name) × (key ≡ other_key) × (message ≡ other_message)
 hashed_decides name other_name key other_key message other_message small other_small keys same =

@@ -8,3 +8,5 @@ pub mod plain;
 pub mod proposal;
 pub mod scheme;
 pub mod set;
+#[cfg(test)]
+mod tests;
