@@ -1,0 +1,119 @@
+//! Rounds, each a view of an epoch.
+
+ghost use Rattle.std.specs.Prelude.{◌≡◌, false};
+ghost use Rattle.simplex_base.specs.Positions.{round_format, round_lawful, round_within, longest_round};
+
+use crate::codec::error::Error;
+use crate::codec::parts::write_both;
+use crate::codec::{EncodeSize, MaxEncodeSize, Read, Spell, Write};
+use crate::positions::epochs::{Epoch, Epochable};
+use crate::positions::views::{View, Viewable};
+use std::alloc::{AllocError, Global};
+use std::marker::Model;
+
+/// A view of an epoch, ordered by epoch and then by view, spelled in 2 to 20 bytes.
+#[derive(Clone, Copy, Debug, PartialEq, Eq, PartialOrd, Ord, Hash)]
+pub struct Round {
+    epoch: Epoch,
+    view: View,
+}
+
+impl Model for Round {
+    ghost use Rattle.simplex_base.specs.Positions as positions;
+
+    ghost Value = { positions.Round };
+
+    ghost view = { λ round. record { epoch = round.epoch; view = round.view } };
+
+    ghost inverse = { λ round. record { epoch = round.epoch; view = round.view } };
+}
+
+impl Round {
+    /// The round of an epoch and a view.
+    pub fn new(epoch: Epoch, view: View) -> Self
+        ensures { result ≡ record { epoch = epoch; view = view } }
+    {
+        Round { epoch, view }
+    }
+
+    /// The epoch.
+    pub fn epoch(self) -> Epoch
+        ensures { result ≡ self.epoch }
+    {
+        self.epoch
+    }
+
+    /// The view.
+    pub fn view(self) -> View
+        ensures { result ≡ self.view }
+    {
+        self.view
+    }
+}
+
+impl Epochable for Round {
+    ghost epoch_of = { λ round. round.epoch };
+
+    fn epoch(&self) -> Epoch {
+        self.epoch
+    }
+}
+
+impl Viewable for Round {
+    ghost view_of = { λ round. round.view };
+
+    fn view(&self) -> View {
+        self.view
+    }
+}
+
+impl Spell for Round {
+    ghost is_value = { round_format.is_value };
+
+    ghost spelling = { round_format.spelling };
+}
+
+impl Write for Round {
+    fn write(&self, buf: &mut Vec<u8>) -> Result<(), AllocError> {
+        write_both(&self.epoch, &self.view, buf)
+    }
+}
+
+impl EncodeSize for Round {
+    ghost limit = { 20 };
+
+    fn encode_size(&self) -> usize {
+        self.epoch.encode_size() + self.view.encode_size()
+    }
+}
+
+impl MaxEncodeSize for Round {
+    ghost max_size = { 20 };
+
+    fn max_encode_size() -> usize {
+        Epoch::max_encode_size() + View::max_encode_size()
+    }
+
+    ghost within = { round_within };
+
+    ghost reached = { longest_round };
+}
+
+impl Read for Round {
+    type Cfg = ();
+
+    ghost fits = { λ _. round_format.is_value };
+
+    ghost reading = { λ _. round_format.reading };
+
+    ghost takes_memory = { false };
+
+    fn read_cfg(alloc: Global, input: &mut &[u8], cfg: &()) -> Result<Self, Error> {
+        match <(Epoch, View)>::read_cfg(alloc, input, cfg) {
+            Ok((epoch, view)) => Ok(Round { epoch, view }),
+            Err(error) => Err(error),
+        }
+    }
+
+    ghost lawful = { λ _. round_lawful };
+}
