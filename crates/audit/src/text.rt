@@ -14,7 +14,10 @@ use simplex_scheme::scheme::{Digest, SchemeTypes};
 use std::alloc::{AllocError, Global};
 
 /// The lines of some evidence, each with its end.
-pub fn text<S: SchemeTypes, D: Digest>(alloc: Global, evidence: &[Evidence<S, D>]) -> Result<String, AllocError>
+pub fn text<S: SchemeTypes, D: Digest>(
+    alloc: Global,
+    evidence: &[Evidence<S, D>],
+) -> Result<String, AllocError>
     ensures { IfOk result (λ text. string_bytes text ≡ text_of (line_of D.bytes_of) (map evidence_value evidence.now)) }
 {
     let mut text = String::new(alloc);

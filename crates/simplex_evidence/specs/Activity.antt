@@ -50,9 +50,9 @@ activity_round (activity.Notarize vote) = vote.proposal.round
 pub activity_lawful : {S D P G : Type 0} (payload : Format D) (signature : Format G) → IsLawful payload → IsLawful signature → IsLawful (activity_format {S = S} {P = P} payload signature)
 activity_lawful {S} {D} {P} {G} payload signature payloads signatures =
     union_lawful
-      (branch_takes (IsActivity {S = S} {P = P} payload signature) activity_tag (activity_body payload signature) 0 (λ vote. activity.Notarize vote) (no_branch unknown_activity) (notarize_lawful payload signature payloads signatures) (λ vote. refl) (λ vote. refl) (λ vote h. h)
-      (no_branch_takes unknown_activity))
-      again
+    (branch_takes (IsActivity {S = S} {P = P} payload signature) activity_tag (activity_body payload signature) 0 (λ vote. activity.Notarize vote) (no_branch unknown_activity) (notarize_lawful payload signature payloads signatures) (λ vote. refl) (λ vote. refl) (λ vote h. h)
+    (no_branch_takes unknown_activity))
+    again
   where
     again : (m : Activity S D P G) (rest : List ℕ) → IsActivity payload signature m → activity_branches payload signature (activity_tag m) (activity_body payload signature m ++ rest) ≡ Ok (m, rest)
     again (activity.Notarize vote) rest h = rw ((notarize_lawful payload signature payloads signatures).again vote rest h) refl

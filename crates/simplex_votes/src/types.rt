@@ -65,7 +65,11 @@ impl<S: SchemeTypes, D: Digest> Clone for Notarize<S, D> {
 
 impl<S: Scheme<D>, D: Digest> Notarize<S, D> {
     /// Signs a proposal as the scheme's participant. `None` comes exactly where it has none.
-    pub fn sign(alloc: Global, scheme: &S, proposal: Proposal<D>) -> Result<Option<Self>, AllocError>
+    pub fn sign(
+        alloc: Global,
+        scheme: &S,
+        proposal: Proposal<D>,
+    ) -> Result<Option<Self>, AllocError>
         ensures none { S.own scheme.now ≡ None → result ≡ Ok None }
         ensures signed { IfOk result (λ signed. MatchOption signed (S.own scheme.now ≡ None) (λ vote.
             (vote.proposal ≡ proposal) × (S.own scheme.now ≡ Some vote.attestation.signer) ×

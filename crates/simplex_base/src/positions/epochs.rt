@@ -96,4 +96,3 @@ impl Read for Epoch {
 
     ghost lawful = { λ _. number_64_lawful };
 }
-

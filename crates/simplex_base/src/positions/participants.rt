@@ -86,4 +86,3 @@ impl Read for Participant {
 
     ghost lawful = { λ _. number_32_lawful };
 }
-

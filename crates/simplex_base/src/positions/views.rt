@@ -97,4 +97,3 @@ impl Read for View {
 
     ghost lawful = { λ _. number_64_lawful };
 }
-

@@ -96,10 +96,7 @@ impl<S: CertificateScheme, D: Digest> Read for Activity<S, D> {
                 }
                 Err(error) => Err(error),
             },
-            _ => Err(Error::Invalid(
-                "consensus::simplex::Activity",
-                "Invalid type",
-            )),
+            _ => Err(Error::Invalid("consensus::simplex::Activity", "Invalid type")),
         }
     }
 
