@@ -1,5 +1,5 @@
 -- Formats: which values there are, how each is spelled, and how it is read.
-use Rattle.std.specs.Prelude.{◌≡◌, ◌++◌, ℕ, List, Result, Ok, Err, nat_lt, take, drop, length, if◌then◌else◌}
+use Rattle.std.specs.Prelude.{◌≡◌, ◌++◌, ℕ, List, Ok, Err, nat_lt, take, drop, length, if◌then◌else◌}
 use Rattle.simplex_base.specs.Reading.{Reading, ◌>>=◌, IsBytes, end_of_buffer}
 
 -- x is a value, and its spelling stands in front of the rest

@@ -1,6 +1,6 @@
 -- Formats put together are lawful where their parts are, and what follows from being lawful.
 use Rattle.std.specs.Prelude.{IfOk}
-use Rattle.std.proofs.Common.{append-nil, ◌≡◌, ◌==◌, if◌then◌else◌, length, ℕ, suc, ◌+◌, ◌<◌, List, [], ◌∷◌, ◌++◌, Result, Ok, Err, refl, Bool, true, false, cond, nat_lt, take, drop, inl, inr, ◌≤◌, sym, ◌∙◌, ap, subst, append_assoc, arith, get_or}
+use Rattle.std.proofs.Common.{append-nil, ◌≡◌, ◌==◌, if◌then◌else◌, length, ℕ, suc, List, [], ◌∷◌, ◌++◌, Result, Ok, Err, refl, Bool, true, false, cond, nat_lt, take, drop, inl, inr, ◌≤◌, sym, ◌∙◌, ap, subst, append_assoc, arith}
 use Rattle.std.proofs.lemmas.Bool.{eqb-true, cases_lt, le-ltb, ltb-false}
 use Rattle.std.proofs.lemmas.List.{take_at, drop_at, take-append-drop, length-append, length-take, get_or-take, get_or_past}
 use Rattle.simplex_base.specs.declared.codec.error.Error.{Error}

@@ -1,5 +1,5 @@
 -- Positions in the protocol, and how they are spelled. An epoch, a view and a participant are numbers.
-use Rattle.std.proofs.Common.{◌≡◌, ℕ, ◌≤◌, ◌-◌, ◌^◌, length, refl, arith, ap, ◌∙◌, length-append, lit<, ◌<◌, ◌++◌}
+use Rattle.std.proofs.Common.{◌≡◌, ℕ, ◌≤◌, ◌-◌, ◌^◌, length, refl, arith, length-append, lit<}
 use Rattle.simplex_base.specs.Format.{Format, IsLawful, both, made}
 use Rattle.simplex_base.specs.FormatLaws.{both_lawful, made_lawful}
 use Rattle.simplex_base.specs.Varint.{number_64, groups}

@@ -1,9 +1,9 @@
 -- Unions: a tag, and what it says comes after it.
-use Rattle.std.proofs.Common.{◌≡◌, ◌==◌, if◌then◌else◌, length, ℕ, suc, ◌+◌, ◌<◌, List, [], ◌∷◌, ◌++◌, Result, Ok, Err, refl, Bool, true, false, cond, sym, ◌∙◌, ap, subst}
+use Rattle.std.proofs.Common.{◌≡◌, ◌==◌, if◌then◌else◌, ℕ, suc, List, [], ◌∷◌, ◌++◌, Ok, Err, refl, Bool, true, false, cond, ap, subst}
 use Rattle.std.proofs.lemmas.Bool.{eqb-true}
-use Rattle.simplex_base.specs.Reading.{Reading, Refusal, end_of_buffer, ◌>>=◌, IsBytes}
+use Rattle.simplex_base.specs.Reading.{Reading, Refusal, end_of_buffer, IsBytes}
 use Rattle.simplex_base.specs.Format.{Lawful, Spelled, made_at}
-use Rattle.simplex_base.specs.FormatLaws.{IsBytes-after, bind_ok}
+use Rattle.simplex_base.specs.FormatLaws.{bind_ok}
 
 -- the tag, and then what the branch of that tag reads
 abbrev pub union_at : {T : Type 0} → (ℕ → List ℕ → Reading T) → List ℕ → Reading T
@@ -47,25 +47,3 @@ union_lawful {T} {fits} {tag_of} {body} {branches} takes again = record {
     taken : (bytes : List ℕ) (x : T) (rest : List ℕ) → IsBytes bytes → union_at branches bytes ≡ Ok (x, rest) → Spelled fits (λ x. tag_of x ∷ body x) bytes x rest
     taken [] x rest fit e = absurd cc
     taken (b ∷ bytes) x rest fit e = takes b bytes x rest (λ i. fit (suc i)) e
-
--- a value that stands only where a condition holds
-abbrev pub given_at : {T : Type 0} → (T → Bool) → Refusal → (List ℕ → Reading T) → List ℕ → Reading T
-given_at test refusal read bytes = read bytes >>= λ x. if test x.0 then Ok x else Err refusal
-
--- what passes a test
-abbrev pub Passes : {T : Type 0} → (T → Type 0) → (T → Bool) → T → Type 0
-Passes is_value test x = is_value x × (test x ≡ true)
-
-pub given_lawful : {T : Type 0} {is_value : T → Type 0} {s : T → List ℕ} {read : List ℕ → Reading T} (test : T → Bool) (refusal : Refusal) → Lawful is_value s read → Lawful (Passes is_value test) s (given_at test refusal read)
-given_lawful {T} {is_value} {s} {read} test refusal law = record {
-  takes = λ bytes x rest fit e.
-      let p = bind_ok (read bytes) (λ x. cond (test x.0) (Ok x) (Err refusal)) (x, rest) e in
-      let t = law.takes bytes p.0.0 p.0.1 fit p.1 in
-      let q = passed (test p.0.0) p.0 (x, rest) p.2 in
-      subst (λ (r : T × List ℕ). Spelled (Passes is_value test) s bytes r.0 r.1) q.1 (record { value = (t.value, q.0); parts = t.parts });
-  again = λ x rest v. rw (law.again x rest v.0, v.1) refl;
-}
-  where
-    passed : (b : Bool) (v w : T × List ℕ) → ◌≡◌ {A = Reading T} (cond b (Ok v) (Err refusal)) (Ok w) → (b ≡ true) × (v ≡ w)
-    passed true v w e = (refl, cc)
-    passed false v w e = absurd cc

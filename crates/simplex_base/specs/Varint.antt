@@ -1,6 +1,6 @@
 -- Numbers in groups of seven bits, the lowest group first.
 use Rattle.std.specs.Prelude.{◌≡◌, ◌≢◌, ℕ, zero, suc, ◌+◌, ◌-◌, ◌*◌, ◌/◌, ◌%◌, ◌^◌, ◌<◌, ◌≤◌, List, [], ◌∷◌, ◌++◌, Result, Ok, Err, nat_lt, ◌==◌, if◌then◌else◌, OnErr, IfOk}
-use Rattle.simplex_base.specs.Reading.{Reading, Refusal, end_of_buffer, invalid_varint, ◌>>=◌}
+use Rattle.simplex_base.specs.Reading.{Reading, end_of_buffer, invalid_varint, ◌>>=◌}
 use Rattle.simplex_base.specs.Format.{Format}
 use Rattle.simplex_base.specs.declared.codec.error.Error.{Error}
 use Rattle.simplex_base.specs.declared.codec.error.Error.TheVariants as errors

@@ -1,9 +1,9 @@
 -- A number that is read is the number that was written, and what was written is read again.
 use Rattle.std.proofs.Math.Nat.{mul-le-mul_left}
-use Rattle.std.proofs.Common.{◌≡◌, ℕ, zero, suc, length, zero-add, ◌+◌, ◌-◌, ◌*◌, ◌/◌, ◌%◌, ◌^◌, ◌<◌, ◌≤◌, Bool, true, false, cond, List, [], ◌∷◌, ◌++◌, get_or, append_assoc, append-nil, Result, Ok, Err, refl, sym, ap, subst, ◌∙◌, arith, inl, inr, ltb, eqb, ◌⊎◌, sub-one}
+use Rattle.std.proofs.Common.{◌≡◌, ℕ, zero, suc, length, zero-add, ◌+◌, ◌-◌, ◌*◌, ◌/◌, ◌%◌, ◌^◌, ◌<◌, ◌≤◌, Bool, true, false, cond, List, [], ◌∷◌, ◌++◌, Result, Ok, Err, refl, sym, ap, subst, ◌∙◌, arith, inl, inr, ltb, eqb, ◌⊎◌}
 use Rattle.std.proofs.Math.Dec.{eqb-suc-zero}
 use Rattle.std.proofs.lemmas.Bool.{cases_lt, lt-ltb, le-ltb, ltb-true, ltb-false}
-use Rattle.std.specs.Prelude.{OnErr, IfOk, ◌≢◌}
+use Rattle.std.specs.Prelude.{◌≢◌}
 use Rattle.simplex_base.specs.declared.codec.error.Error.{Error}
 use Rattle.simplex_base.specs.declared.codec.error.Error.TheVariants as errors
 use Rattle.simplex_base.specs.Reading.{Reading, Refusal, end_of_buffer, invalid_varint, ◌>>=◌, IsBytes, Fails, Gives}

@@ -1,4 +1,4 @@
-use Rattle.std.proofs.Common.{rules, arith, ◌≡◌, ℕ, Ok, Err, Result}
+use Rattle.std.proofs.Common.{arith}
 use Rattle.simplex_base.specs.FormatLaws.{all_of_again, gave_all, one_spelling}
 use Rattle.simplex_base.proofs.codec.decode_cfg.Goals as goal
 

@@ -1,5 +1,5 @@
-use Rattle.std.proofs.Common.{rules, arith, ◌≡◌, ℕ, ◌<◌, ◌≤◌, ◌*◌, ◌^◌, ◌-◌, add-zero}
-use Rattle.simplex_base.specs.VarintLaws.{step_of_power, some_of_power, top_of_power}
+use Rattle.std.proofs.Common.{arith, ◌<◌}
+use Rattle.simplex_base.specs.VarintLaws.{step_of_power, some_of_power}
 use Rattle.simplex_base.proofs.codec.varint.+groups_of.Goals as goal
 
 pub groups_of-requires : goal.groups_of-requires
