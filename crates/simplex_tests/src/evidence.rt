@@ -1,0 +1,143 @@
+//! Two votes of one signer that contradict, and the lines that tell of them.
+
+use crate::outcome::{bytes, outcome_of};
+use simplex_audit::audit::audit;
+use simplex_base::codec::{Encode, Fixed};
+use simplex_base::positions::{Epoch, Epochable, Participant, Round, View, Viewable};
+use simplex_evidence::types::{Activity, ConflictingNotarize};
+use simplex_scheme::hash::Sha256Digest;
+use simplex_scheme::marked::{Marked, MarkedDigest, MarkedSignature};
+use simplex_scheme::plain::{Plain, PlainKey};
+use simplex_scheme::proposal::Proposal;
+use simplex_scheme::scheme::Attestation;
+use simplex_scheme::set::Set;
+use simplex_votes::types::{Attributable, Notarize};
+use std::alloc::Global;
+use std::process::Abort;
+use std::test::Fail;
+
+/// A notarize at the epoch 2.
+fn notarize(place: u64, payload: u8, signer: u32, signature: u8) -> Notarize<Marked, MarkedDigest> {
+    let round = Round::new(Epoch::new(2), View::new(place));
+    Notarize {
+        proposal: Proposal::new(round, View::new(5), MarkedDigest::from_bytes(&[payload])),
+        attestation: Attestation {
+            signer: Participant::new(signer),
+            signature: MarkedSignature::from_bytes(&[signature]),
+        },
+    }
+}
+
+#[test]
+fn votes_conflict_at_one_round_and_signer(rt: HostRuntime) {
+    let first = notarize(10, 6, 1, 0xaa);
+    let rows = [
+        (notarize(10, 7, 1, 0xaa), true),
+        (notarize(10, 7, 1, 0), true),
+        (notarize(10, 6, 1, 0), false),
+        (notarize(11, 7, 1, 0xaa), false),
+        (notarize(10, 7, 2, 0xaa), false),
+    ];
+    for (second, wanted) in &rows {
+        assert_eq!(rt; ConflictingNotarize::conflicts(&first, second), *wanted);
+        assert_eq!(rt; ConflictingNotarize::conflicts(second, &first), *wanted);
+    }
+}
+
+#[test]
+fn a_conflict_holds_both_votes(rt: HostRuntime) -> Result<(), Fail> {
+    let (first, second) = (notarize(10, 6, 1, 0xaa), notarize(10, 7, 1, 0xaa));
+    assert!(rt; ConflictingNotarize::conflicts(&first, &second));
+    assert!(rt; ConflictingNotarize::conflicts(&second, &first));
+    let conflict = ConflictingNotarize::new(first.copy(), second.copy());
+    assert!(rt; *conflict.notarize_1() == first);
+    assert!(rt; *conflict.notarize_2() == second);
+    assert_eq!(rt; conflict.round(), first.round());
+    assert_eq!(rt;
+        (conflict.epoch(), conflict.view()),
+        (Epoch::new(2), View::new(10))
+    );
+    assert_eq!(rt; conflict.signer(), Participant::new(1));
+    assert!(rt; conflict.clone()? == conflict);
+    let swapped = ConflictingNotarize::new(second, first);
+    assert!(rt; swapped != conflict);
+    Ok(())
+}
+
+#[test]
+fn a_conflict_is_verified_by_both_signatures(rt: HostRuntime) -> Result<(), Fail> {
+    let scheme = Marked::new(rt.alloc(), 4, None)?;
+    let rows = [
+        (0xaa, 0xaa, 1, true),
+        (0xaa, 0, 1, false),
+        (0, 0xaa, 1, false),
+        (0xaa, 0xaa, 4, false),
+    ];
+    for (one, other, signer, wanted) in rows {
+        let (first, second) = (notarize(10, 6, signer, one), notarize(10, 7, signer, other));
+        assert!(rt; ConflictingNotarize::conflicts(&first, &second));
+        let conflict = ConflictingNotarize::new(first, second);
+        assert_eq!(rt; conflict.verify(&scheme), wanted, "{one} {other} {signer}");
+    }
+    Ok(())
+}
+
+#[test]
+fn evidence_tells_its_round_and_signer(rt: HostRuntime) -> Result<(), Fail> {
+    let alloc = rt.alloc();
+    let scheme = Marked::new(alloc, 4, None)?;
+    let stream = bytes(alloc, "00cd020a0506 01aa 00cd020a0507 01aa")?;
+    let report = audit::<Marked, MarkedDigest>(alloc, &scheme, stream.as_slice())?;
+    let found = report.evidence.first().ok_or("no evidence")?;
+    assert_eq!(rt; found.round(), Round::new(Epoch::new(333), View::new(10)));
+    assert_eq!(rt; found.signer(), Participant::new(1));
+    let line = found.line(alloc)?;
+    assert_eq!(rt; line.as_str(), "333 10 1 conflicting-notarize 5 06 5 07");
+    Ok(())
+}
+
+/// The bytes of two messages: the first participant of the plain scheme signs two payloads, each so often its
+/// byte, for one round.
+fn equivocation(alloc: Global, scheme: &Plain, payloads: [u8; 2]) -> Result<Vec<u8>, Fail> {
+    let round = Round::new(Epoch::new(0), View::new(10));
+    let mut stream = Vec::new(alloc);
+    for payload in payloads {
+        let payload = Sha256Digest::from_bytes(&[payload; 32]);
+        let proposal = Proposal::new(round, View::new(5), payload);
+        let vote = Notarize::sign(alloc, scheme, proposal)?.ok_or("nobody signs")?;
+        stream.extend_from_slice(Activity::Notarize(vote).encode(alloc)?.as_slice())?;
+    }
+    Ok(stream)
+}
+
+/// The plain scheme of the one participant with a key of zeros, which signs.
+fn lone_signer(rt: &impl Abort, alloc: Global) -> Result<Plain, Fail> {
+    let key = PlainKey::from_bytes(&[0; 32]);
+    let committee = Set::try_from_vec(Vec::from_array(alloc, [key])?)?;
+    assert_eq!(rt; committee.len(), 1);
+    Ok(Plain::signer(alloc, b"test", committee, &key)?.ok_or("the key is not in the committee")?)
+}
+
+#[test]
+fn a_plain_signer_of_two_proposals_is_named(rt: HostRuntime) -> Result<(), Fail> {
+    let alloc = rt.alloc();
+    let scheme = lone_signer(&rt, alloc)?;
+    let stream = bytes(
+        alloc,
+        "00 000a05 0606060606060606060606060606060606060606060606060606060606060606 00 \
+         8c6774d2f68c567d3d7099353ba7b9a73b4a3919f00bf8571c6cf14b8b0e1fbc \
+         00 000a05 0707070707070707070707070707070707070707070707070707070707070707 00 \
+         85c5f612872154ca52e992a79aec3bfdc407bf2873f7f4372e33b4be6de3d71b",
+    )?;
+    assert_eq!(rt;
+        equivocation(alloc, &scheme, [6, 7])?.as_slice(),
+        stream.as_slice()
+    );
+    let found = outcome_of::<Plain, Sha256Digest>(alloc, &scheme, stream.as_slice())?;
+    assert_eq!(rt; (found.read, found.fault), (2, None));
+    assert_eq!(rt;
+        found.text.as_str(),
+        "0 10 0 conflicting-notarize 5 0606060606060606060606060606060606060606060606060606060606060606 5 0707070707070707070707070707070707070707070707070707070707070707\n"
+    );
+    Ok(())
+}

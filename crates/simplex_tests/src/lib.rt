@@ -1,0 +1,17 @@
+//! Tests that cross the crates, and the plain auditor that every other body of the audit is run against.
+#![tactic(auto)]
+
+#[cfg(test)]
+mod against_model;
+#[cfg(test)]
+mod evidence;
+#[cfg(test)]
+mod model;
+#[cfg(test)]
+mod outcome;
+#[cfg(test)]
+mod signing;
+#[cfg(test)]
+mod spelling;
+#[cfg(test)]
+mod streams;
