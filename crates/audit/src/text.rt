@@ -7,8 +7,7 @@ ghost use Rattle.simplex_audit.specs.Memory.{evidence_value};
 ghost use Rattle.audit.specs.Status.{complaint_at};
 ghost use Rattle.audit.specs.Text.{text_of};
 
-use simplex_audit::audit::Fault;
-use simplex_audit::evidence::Evidence;
+use simplex_audit::audit::{Evidence, Fault};
 use simplex_base::codec::Fixed;
 use simplex_scheme::scheme::{Digest, SchemeTypes};
 use std::alloc::{AllocError, Global};

@@ -11,7 +11,7 @@ ghost use Rattle.simplex_audit.specs.Messages.{AreMessages};
 ghost use Rattle.simplex_audit.specs.Audit.{IsReport};
 ghost use Rattle.simplex_audit.specs.Memory.{evidence_value};
 
-use crate::evidence::Evidence;
+pub use crate::evidence::Evidence;
 use crate::reading::read_stream;
 use simplex_base::codec::Fixed;
 use simplex_base::codec::error::Error;

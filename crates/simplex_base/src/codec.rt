@@ -12,7 +12,7 @@ pub mod parts;
 pub mod varint;
 
 use bytes::Bytes;
-use error::Error;
+pub use error::Error;
 use std::alloc::{AllocError, Global};
 use std::hash::Hash;
 
