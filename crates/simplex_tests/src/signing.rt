@@ -1,14 +1,12 @@
-//! Committees that sign, and what they sign.
+//! Committees that sign.
 
-use crate::outcome::bytes;
 use simplex_base::codec::Fixed;
 use simplex_base::positions::{Epoch, Epochable, Participant, Round, View, Viewable};
-use simplex_scheme::hash::{Hasher, Sha256, Sha256Digest};
+use simplex_scheme::hash::Sha256Digest;
 use simplex_scheme::marked::{Marked, MarkedDigest, MarkedKey};
-use simplex_scheme::namespace::{CertificateNamespace, Namespace};
 use simplex_scheme::plain::{Plain, PlainKey};
-use simplex_scheme::proposal::{CertificateSubject, Proposal, Subject};
-use simplex_scheme::scheme::{Attestation, CertificateScheme, Digest, Scheme};
+use simplex_scheme::proposal::Proposal;
+use simplex_scheme::scheme::{CertificateScheme, Digest, Scheme};
 use simplex_scheme::set::Set;
 use simplex_votes::types::{Attributable, Notarize};
 use std::alloc::Global;
@@ -121,102 +119,5 @@ fn a_signature_is_of_one_name_key_signer_and_proposal(rt: HostRuntime) -> Result
     let mut other = vote.copy();
     other.proposal.parent = View::new(6);
     assert!(rt; !other.verify(&scheme));
-    Ok(())
-}
-
-/// Compares a signature.
-fn has_signature(
-    rt: &impl Abort,
-    alloc: Global,
-    attestation: &Attestation<Plain>,
-    wanted: &str,
-) -> Result<(), Fail> {
-    let wanted = bytes(alloc, wanted)?;
-    assert_eq!(rt; attestation.signature.as_bytes(), wanted.as_slice());
-    Ok(())
-}
-
-#[test]
-fn signatures_of_each_kind_are_known_hashes(rt: HostRuntime) -> Result<(), Fail> {
-    let alloc = rt.alloc();
-    let scheme = signer_of_two(&rt, alloc, b"test", 0, 1)?;
-    let proposal = &plain_proposal();
-    let round = Round::new(Epoch::new(333), View::new(10));
-    let notarize = scheme.sign(alloc, Subject::Notarize { proposal })?;
-    let notarize = notarize.ok_or("no notarize")?;
-    let wanted = "8c6774d2f68c567d 3d7099353ba7b9a7 3b4a3919f00bf857 1c6cf14b8b0e1fbc";
-    has_signature(&rt, alloc, &notarize, wanted)?;
-    let nullify: Subject<'_, Sha256Digest> = Subject::Nullify { round };
-    let nullify = scheme.sign(alloc, nullify)?.ok_or("no nullify")?;
-    let wanted = "4df0f9547d9496d4 777725109d8abb55 a9cb678313245247 5997702285b28f8e";
-    has_signature(&rt, alloc, &nullify, wanted)?;
-    let finalize = scheme.sign(alloc, Subject::Finalize { proposal })?;
-    let finalize = finalize.ok_or("no finalize")?;
-    let wanted = "9e7dbd4e2fb55eb4 920340c7ec6dfb53 1c0af1a7fd9c2e32 2e02e47d5aeaed6f";
-    has_signature(&rt, alloc, &finalize, wanted)?;
-    assert!(rt; scheme.verify_attestation(Subject::Notarize { proposal }, &notarize));
-    assert!(rt; scheme.verify_attestation(Subject::Finalize { proposal }, &finalize));
-    assert!(rt; !scheme.verify_attestation(Subject::Notarize { proposal }, &finalize));
-    assert!(rt; !scheme.verify_attestation(Subject::Notarize { proposal }, &nullify));
-    Ok(())
-}
-
-/// The name and the message of a subject, one after the other.
-fn signed_bytes<T: CertificateSubject>(
-    alloc: Global,
-    subject: &T,
-    names: &T::Namespace,
-) -> Result<Vec<u8>, Fail> {
-    let mut signed = subject.namespace(names).to_vec(alloc)?;
-    signed.extend_from_slice(subject.message(alloc)?.as_slice())?;
-    Ok(signed)
-}
-
-/// The names of the base `test`.
-fn test_names<N: CertificateNamespace>(alloc: Global) -> Result<N, Fail> {
-    Ok(N::derive(alloc, b"test")?)
-}
-
-#[test]
-fn subjects_have_a_name_and_a_message(rt: HostRuntime) -> Result<(), Fail> {
-    let alloc = rt.alloc();
-    let derived: Namespace = test_names(alloc)?;
-    let made = Namespace::new(alloc, b"test")?;
-    let proposal = &marked_proposal();
-    let round = Round::new(Epoch::new(333), View::new(10));
-    for names in [&derived, &made, &made.clone()?] {
-        let notarize = signed_bytes(alloc, &Subject::Notarize { proposal }, names)?;
-        assert_eq!(rt;
-            notarize.as_slice(),
-            b"test_NOTARIZE\x00\x0a\x05\x06".as_slice()
-        );
-        let subject: Subject<'_, MarkedDigest> = Subject::Nullify { round };
-        let nullify = signed_bytes(alloc, &subject, names)?;
-        assert_eq!(rt; nullify.as_slice(), b"test_NULLIFY\xcd\x02\x0a".as_slice());
-        let finalize = signed_bytes(alloc, &Subject::Finalize { proposal }, names)?;
-        assert_eq!(rt;
-            finalize.as_slice(),
-            b"test_FINALIZE\x00\x0a\x05\x06".as_slice()
-        );
-        assert_eq!(rt; names.seed.as_slice(), b"test_SEED".as_slice());
-    }
-    Ok(())
-}
-
-/// The hash of a text in two parts.
-fn hash_in_parts<H: Hasher>(first: &[u8], second: &[u8]) -> H::Digest {
-    H::hash(&[first, second])
-}
-
-#[test]
-fn hashes_are_those_of_the_standard(rt: HostRuntime) -> Result<(), Fail> {
-    let alloc = rt.alloc();
-    let abc = "ba7816bf8f01cfea 414140de5dae2223 b00361a396177a9c b410ff61f20015ad";
-    let wanted = bytes(alloc, abc)?;
-    assert_eq!(rt; Sha256::hash(&[b"abc"]).as_bytes(), wanted.as_slice());
-    assert_eq!(rt;
-        hash_in_parts::<Sha256>(b"a", b"bc").as_bytes(),
-        wanted.as_slice()
-    );
     Ok(())
 }

@@ -2,7 +2,7 @@
 
 use crate::outcome::bytes;
 use simplex_base::codec::error::Error;
-use simplex_base::codec::{Encode, Fixed, MaxEncodeSize, Read, decode, decode_cfg, read_value};
+use simplex_base::codec::{Encode, Fixed, MaxEncodeSize, Read, decode_cfg};
 use simplex_base::positions::{Epoch, Participant, Round, View};
 use simplex_evidence::types::Activity;
 use simplex_scheme::hash::Sha256Digest;
@@ -148,13 +148,4 @@ fn votes_are_proposal_signer_and_signature(rt: HostRuntime) -> Result<(), Fail> 
     };
     let spelling = "8001 0202020202020202 0202020202020202 0202020202020202 0202020202020202";
     is_spelled(&rt, alloc, &last, &(), spelling)
-}
-
-#[test]
-fn rounds_are_read_at_the_front(rt: HostRuntime) {
-    let alloc = rt.alloc();
-    let mut input: &[u8] = &[0xcd, 2, 10, 7];
-    assert_eq!(rt; read_value::<Round>(alloc, &mut input), Ok(far_round()));
-    assert_eq!(rt; input, [7].as_slice());
-    assert_eq!(rt; decode::<Round>(alloc, &[0xcd, 2, 10]), Ok(far_round()));
 }

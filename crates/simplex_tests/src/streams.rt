@@ -139,7 +139,7 @@ fn nothing_is_read_after_a_fault(rt: HostRuntime) -> Result<(), Fail> {
             Error::InvalidVarint,
         ),
         (("0a", 0, ""), 0, UNKNOWN_TAG),
-        (("ff000a01aa", 0, ""), 0, UNKNOWN_TAG),
+        (("03000a01aa", 0, ""), 0, UNKNOWN_TAG),
         // The contradiction stands behind the fault, and before it.
         (("00000a050601aa ff 00000a050701aa", 1, ""), 7, UNKNOWN_TAG),
         (
