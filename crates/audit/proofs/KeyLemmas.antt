@@ -1,11 +1,10 @@
 -- Which keys texts name.
-use Rattle.std.proofs.Common.{◌≡◌, ℕ, zero, suc, ◌<◌, ◌≤◌, ◌^◌, List, [], ◌∷◌, ◌++◌, length, Option, None, Some, refl, ap, sym, ◌∙◌, append_assoc, subst, arith}
+use Rattle.std.proofs.Common.{◌≡◌, ℕ, suc, ◌<◌, ◌≤◌, ◌^◌, List, [], ◌∷◌, ◌++◌, length, Option, None, Some, refl, ap, sym, ◌∙◌, append_assoc, subst, arith}
 use Rattle.std.specs.Prelude.{◌≢◌, AllPairs, IsPermutation, String, string_bytes, map}
 use Rattle.std.specs.Global.{Global}
 use Rattle.std.proofs.lemmas.List.{length-map}
 use Rattle.std.proofs.lemmas.List.Sorted.{length_permutation}
-use Rattle.std.specs.Option.{option_map}
-use Rattle.audit.specs.Arguments.{key_named, keys_named, with_key, AreArguments, AreNoArguments}
+use Rattle.audit.specs.Arguments.{key_named, keys_named, with_key, AreNoArguments}
 
 -- some keys in front of others, where these are there
 abbrev pub with_keys : List (List ℕ) → Option (List (List ℕ)) → Option (List (List ℕ))

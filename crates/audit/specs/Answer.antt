@@ -14,7 +14,7 @@ use Rattle.simplex_audit.specs.declared.audit.Fault.{Fault}
 use Rattle.std.specs.Str.{bytes_eq}
 use Rattle.audit.specs.Arguments.{AreArguments, AreNoArguments}
 use Rattle.audit.specs.Status.{status_after, complaint_of, complaint_at}
-use Rattle.audit.specs.Streams.{AppendsBeginning}
+use Rattle.audit.specs.Streams.{AppendsBeginning, ReaderUse, WriterUse}
 use Rattle.audit.specs.Text.{text_of}
 use Rattle.audit.specs.declared.status.Status.{Status}
 use Rattle.audit.specs.declared.status.Status.TheVariants as statuses
@@ -73,10 +73,10 @@ said_of (Ok None) = []
 said_of (Ok (Some said)) = said
 said_of (Err failure) = complaint_of failure
 
--- what an ending says of the arguments, of the reader's bytes before and after, and of the writer's
-abbrev pub Ends : List (List ℕ) → Option (List ℕ) → Option (List ℕ) → Option (List ℕ) → Option (List ℕ) → Ending → Type 0
-Ends words before after held holds (Ok said) = (text : List ℕ) × IsRead words before after text said × Appends held holds text
-Ends words before after held holds (Err Usage) = AreNoArguments words
-Ends words before after held holds (Err Read) = ((scheme : PlainScheme) × IsCommittee words scheme) × Keeps held holds
-Ends words before after held holds (Err OutOfMemory) = Keeps held holds
-Ends words before after held holds (Err Write) = (text : List ℕ) × (said : Option (List ℕ)) × IsRead words before after text said × AppendsBeginning held holds text
+-- what an ending says of the arguments, of the reader and of the writer
+abbrev pub Ends : List (List ℕ) → ReaderUse → WriterUse → Ending → Type 0
+Ends words reader writer (Ok said) = (text : List ℕ) × IsRead words reader.before reader.after text said × Appends writer.before writer.after text × writer.flushed
+Ends words reader writer (Err Usage) = AreNoArguments words
+Ends words reader writer (Err Read) = ((scheme : PlainScheme) × IsCommittee words scheme) × reader.failed × Keeps writer.before writer.after
+Ends words reader writer (Err OutOfMemory) = Keeps writer.before writer.after
+Ends words reader writer (Err Write) = (text : List ℕ) × (said : Option (List ℕ)) × IsRead words reader.before reader.after text said × AppendsBeginning writer.before writer.after text × writer.failed

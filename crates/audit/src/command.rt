@@ -12,13 +12,14 @@ use crate::arguments;
 use crate::printing::print;
 use crate::reading::read_whole;
 use crate::status::{Failure, Status};
+use crate::streams::{Input, Output};
 use crate::text::{complaint, text};
 use simplex_audit::audit::audit;
 use simplex_scheme::hash::Sha256Digest;
 use simplex_scheme::plain::Plain;
 use std::alloc::{AllocError, Global};
 use std::io;
-use std::io::{ErrorKind, Read, Write};
+use std::io::ErrorKind;
 
 /// What is to be printed and said of a stream.
 #[derive(Drop)]
@@ -51,14 +52,16 @@ fn prepare(alloc: Global, scheme: &Plain, stream: &[u8]) -> Result<Answer, Alloc
 }
 
 /// Reads the input and prints its text. Answers what is to be said of a fault, if there is one.
-fn run<R: Read, W: Write>(
+fn run<R: Input, W: Output>(
     alloc: Global,
     arguments: &[String],
     input: &mut R,
     output: &mut W,
 ) -> Result<Option<String>, Failure>
     ensures ends { Ends (map string_bytes arguments.now)
-        (R.remaining input.old) (R.remaining input.new) (W.contents output.old) (W.contents output.new) (ending_of result) }
+        (record { before = R.remaining input.old; after = R.remaining input.new; failed = R.has_failed input.new })
+        (record { before = W.contents output.old; after = W.contents output.new; failed = W.has_failed output.new; flushed = W.is_flushed output.new })
+        (ending_of result) }
     ensures untouched { AreNoArguments (map string_bytes arguments.now) → (input.new ≡ input.old) × (output.new ≡ output.old) }
 {
     let scheme = committee(alloc, arguments)?;
@@ -69,7 +72,7 @@ fn run<R: Read, W: Write>(
 }
 
 /// Says on standard error how a run ended, and gives its status. That it can't be said changes nothing.
-fn conclude<E: Write>(errors: &mut E, ended: Result<Option<String>, Failure>) -> Status
+fn conclude<E: Output>(errors: &mut E, ended: Result<Option<String>, Failure>) -> Status
     ensures status { result ≡ status_of (ending_of ended) }
     ensures said { AppendsBeginning (E.contents errors.old) (E.contents errors.new) (said_of (ending_of ended)) }
 {
@@ -87,7 +90,7 @@ fn conclude<E: Write>(errors: &mut E, ended: Result<Option<String>, Failure>) ->
 }
 
 /// How the program ends where its arguments can't be had: `Failed` for want of memory, else `Usage`.
-pub fn without_arguments<E: Write>(error: io::Error, errors: &mut E) -> Status
+pub fn without_arguments<E: Output>(error: io::Error, errors: &mut E) -> Status
     ensures memory { error_kind error ≡ ErrorKind.OutOfMemory → (result ≡ Status.Failed)
         × AppendsBeginning (E.contents errors.old) (E.contents errors.new) (complaint_of Failure.OutOfMemory) }
     ensures usage { error_kind error ≢ ErrorKind.OutOfMemory → (result ≡ Status.Usage)
@@ -105,7 +108,7 @@ pub fn without_arguments<E: Write>(error: io::Error, errors: &mut E) -> Status
 ///
 /// The arguments are judged before anything is read, and nothing is written before the whole input is read
 /// and all memory is had. What can't be said on `errors` leaves the status.
-pub fn command<R: Read, W: Write, E: Write>(
+pub fn command<R: Input, W: Output, E: Output>(
     alloc: Global,
     arguments: &[String],
     input: &mut R,
@@ -114,8 +117,10 @@ pub fn command<R: Read, W: Write, E: Write>(
 ) -> Status
     ensures ends { (ending : Ending) × (result ≡ status_of ending)
         × AppendsBeginning (E.contents errors.old) (E.contents errors.new) (said_of ending)
-        × Ends (map string_bytes arguments.now) (R.remaining input.old) (R.remaining input.new)
-        (W.contents output.old) (W.contents output.new) ending }
+        × Ends (map string_bytes arguments.now)
+        (record { before = R.remaining input.old; after = R.remaining input.new; failed = R.has_failed input.new })
+        (record { before = W.contents output.old; after = W.contents output.new; failed = W.has_failed output.new; flushed = W.is_flushed output.new })
+        ending }
     ensures refused { AreNoArguments (map string_bytes arguments.now) → (result ≡ Status.Usage) ⊎ (result ≡ Status.Failed) }
     ensures untouched { AreNoArguments (map string_bytes arguments.now) → (input.new ≡ input.old) × (output.new ≡ output.old) }
 {

@@ -7,6 +7,7 @@ mod command;
 mod printing;
 mod reading;
 mod status;
+mod streams;
 #[cfg(test)]
 mod tests;
 mod text;

@@ -3,4 +3,4 @@ use Rattle.audit.proofs.command.command.Goals as goal
 
 pub returns-clause-refused : goal.returns-clause-refused
 returns-clause-refused g c = λ none.
-    rw c.conclude.ensures.status (refused-status _ (ends-refused _ _ _ _ _ _ none c.run-ended.ensures.ends))
+    rw c.conclude.ensures.status (refused-status _ (ends-refused _ _ _ _ none c.run-ended.ensures.ends))
