@@ -1,5 +1,6 @@
 pub mod Lists
 pub mod Places
+pub mod Entries
 pub mod EvidenceLemmas
 pub mod NamedLemmas
 pub mod KeptLemmas

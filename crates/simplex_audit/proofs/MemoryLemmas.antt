@@ -22,8 +22,9 @@ use Rattle.simplex_evidence.specs.Contradiction.{Kind, Conflicting_notarize, Con
 use Rattle.simplex_audit.specs.Named.{Named}
 use Rattle.simplex_audit.specs.Evidence.{evidence_of, IsEvidence}
 use Rattle.simplex_audit.specs.Kept.{Slot, slot_of, slot_with, changes, is_news, evidence_from}
-use Rattle.simplex_audit.specs.Report.{place_cmp, place_of, Entry, AreKept, evidence_at, report_of}
-use Rattle.simplex_audit.specs.Memory.{slots, slots_or_none, Holds, entry_of, if_contradicts, found_of_kind, found_at}
+use Rattle.simplex_audit.specs.Places.{place_cmp, place_of}
+use Rattle.simplex_audit.proofs.Entries.{Entry, AreKept, evidence_at, report_of, entry_of}
+use Rattle.simplex_audit.specs.Memory.{slots, slots_or_none, Holds, if_contradicts, found_of_kind, found_at}
 use Rattle.simplex_audit.specs.declared.place.Place.{Place}
 use Rattle.simplex_audit.specs.declared.kept.Kept.{Kept}
 use Rattle.simplex_audit.specs.declared.kept.Memory.{Memory}

@@ -17,7 +17,8 @@ use Rattle.simplex_evidence.specs.Contradiction.{Kind, Conflicting_notarize, Con
 use Rattle.simplex_audit.specs.Named.{Named, named_by, round_cmp, kind_rank, named_cmp}
 use Rattle.simplex_audit.specs.Evidence.{evidence_of, IsEvidence}
 use Rattle.simplex_audit.specs.Kept.{slot_of, evidence_from}
-use Rattle.simplex_audit.specs.Report.{place_cmp, place_of, Entry, AreKept, evidence_at, report_of}
+use Rattle.simplex_audit.specs.Places.{place_cmp, place_of}
+use Rattle.simplex_audit.proofs.Entries.{Entry, AreKept, evidence_at, report_of}
 use Rattle.simplex_audit.specs.declared.place.Place.{Place}
 use Rattle.simplex_audit.proofs.Lists.{some_from_is_some, find_passes, find-Contains, Contains-first, Contains-cons_cases, Contains-none, Contains-map, Contains-from_map, Contains-flat_map, below_all}
 use Rattle.simplex_audit.proofs.Places.{is_of-true}

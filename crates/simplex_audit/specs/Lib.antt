@@ -2,7 +2,7 @@ pub mod GoodVotes
 pub mod Named
 pub mod Evidence
 pub mod Kept
-pub mod Report
+pub mod Places
 pub mod Memory
 pub mod Laws
 pub mod Messages

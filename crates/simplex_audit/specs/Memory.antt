@@ -7,7 +7,7 @@ use Rattle.simplex_evidence.specs.Contradiction as contradiction
 use Rattle.simplex_evidence.specs.Contradiction.{Kind, Conflicting_notarize, Conflicting_finalize, Nullify_finalize, contradicts}
 use Rattle.simplex_evidence.specs.Conflict.{notarize_evidence}
 use Rattle.simplex_audit.specs.Kept.{Slot, slot_of, evidence_from}
-use Rattle.simplex_audit.specs.Report.{place_cmp, Entry}
+use Rattle.simplex_audit.specs.Places.{place_cmp}
 use Rattle.simplex_audit.specs.declared.place.Place.{Place}
 use Rattle.simplex_audit.specs.declared.kept.Kept.{Kept}
 use Rattle.simplex_audit.specs.declared.kept.Memory.{Memory}
@@ -36,10 +36,6 @@ slots_or_none (Some kept) sort = slots kept sort
 -- the memory holds what has to be kept of the votes: at each place, its slots
 abbrev pub Holds : {S D P G : Type 0} → (D → D → Bool) → List (Vote D G) → Memory S D P G → Type 0
 Holds eq vs memory = (sort : Sort) (place : Place) → slots_or_none (get place_cmp memory.places place) sort ≡ slot_of eq vs sort place.round place.signer
-
--- what is kept of one place, with the place
-abbrev pub entry_of : {S D P G : Type 0} → Place × Kept S D P G → Entry D G
-entry_of e = record { place = e.0; slots = slots e.1 }
 
 -- an evidence, if its votes contradict
 abbrev pub if_contradicts : {D G : Type 0} → (D → D → Bool) → Option (contradiction.Evidence D G) → Option (contradiction.Evidence D G)

@@ -2,7 +2,7 @@
 
 ghost use Rattle.std.specs.Prelude.{◌≡◌};
 ghost use Rattle.simplex_votes.specs.Votes.{notarize_vote};
-ghost use Rattle.simplex_audit.specs.Report.{place_of};
+ghost use Rattle.simplex_audit.specs.Places.{place_of};
 
 use simplex_base::positions::{Participant, Round};
 use simplex_scheme::scheme::{Digest, SchemeTypes};

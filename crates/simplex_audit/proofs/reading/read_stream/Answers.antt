@@ -1,9 +1,8 @@
-use Rattle.std.proofs.Common.{◌≡◌, ℕ, ◌+◌, ◌<◌, List, [], ◌∷◌, ◌++◌, length, refl, arith, sym, subst, ap, ◌∙◌}
+use Rattle.std.proofs.Common.{◌≡◌, ℕ, ◌<◌, length, arith, sym, subst, ap, ◌∙◌}
 use Rattle.std.proofs.lemmas.Bool.{eqb-true, eqb-false}
 use Rattle.simplex_base.specs.Format.{fixed, IsLawful}
 use Rattle.simplex_base.specs.FormatLaws.{fixed_lawful}
 use Rattle.simplex_evidence.specs.Activity.{activity_format, activity_lawful, votes_in}
-use Rattle.simplex_audit.specs.GoodVotes.{good_votes}
 use Rattle.simplex_audit.specs.Memory.{Holds}
 use Rattle.simplex_audit.proofs.NamedLemmas.{good_votes-push}
 use Rattle.simplex_audit.proofs.StreamLemmas.{so_far_start, so_far_next, so_far_shorter, progress_at_fault, progress_at_end, nothing_left}

@@ -1,4 +1,4 @@
-use Rattle.std.proofs.Common.{List, length}
+use Rattle.std.proofs.Common.{length}
 use Rattle.simplex_base.specs.Format.{fixed}
 use Rattle.simplex_evidence.specs.Activity.{activity_format, votes_in}
 use Rattle.simplex_audit.specs.GoodVotes.{good_votes}

@@ -2,7 +2,7 @@ use Rattle.std.proofs.Common.{◌≡◌, Some, cond, refl, ap, ◌∙◌, subst}
 use Rattle.std.specs.Option.{IsSome}
 use Rattle.std.specs.BTreeMap.{get, is_at as is_key}
 use Rattle.simplex_votes.specs.Votes.{notarize_vote}
-use Rattle.simplex_audit.specs.Report.{place_cmp}
+use Rattle.simplex_audit.specs.Places.{place_cmp}
 use Rattle.simplex_audit.specs.Memory.{slots_or_none}
 use Rattle.simplex_audit.specs.declared.place.Place.{Place}
 use Rattle.simplex_audit.proofs.MemoryLemmas.{holds_after, own_notarize}

@@ -1,7 +1,7 @@
 use Rattle.std.proofs.Common.{◌≡◌, map, rules}
 use Rattle.std.specs.List.{flat_map}
 use Rattle.std.specs.BTreeMap.{IsOrdered}
-use Rattle.simplex_audit.specs.Report.{place_cmp}
+use Rattle.simplex_audit.specs.Places.{place_cmp}
 use Rattle.simplex_audit.specs.Memory.{evidence_value, slots, found_at}
 use Rattle.simplex_audit.proofs.MemoryLemmas.{report_of_memory}
 use Rattle.simplex_audit.proofs.kept.Memory.report.Goals as goal

@@ -1,24 +1,15 @@
--- The report of what is kept, round by round and signer by signer.
+-- What is kept, place by place, and the report that it gives.
 use Rattle.std.specs.Prelude.{◌≡◌, Bool, List, ◌++◌, map, All, Contains}
 use Rattle.std.specs.List.{flat_map}
 use Rattle.std.specs.List.Sorted.{IsStrictlySortedBy}
 use Rattle.std.specs.Option.{option_to_list}
-use Rattle.std.specs.Ordering.{ordering_then, nat_cmp}
-use Rattle.std.specs.declared.cmp.Ordering.{Ordering}
-use Rattle.simplex_scheme.specs.Subject.{round_of}
 use Rattle.simplex_votes.specs.Votes.{Vote, Sort}
 use Rattle.simplex_evidence.specs.Contradiction.{Conflicting_notarize, Conflicting_finalize, Nullify_finalize, Evidence}
-use Rattle.simplex_audit.specs.Named.{round_cmp}
 use Rattle.simplex_audit.specs.Kept.{Slot, slot_of, evidence_from}
+use Rattle.simplex_audit.specs.Places.{place_cmp, place_of}
+use Rattle.simplex_audit.specs.Memory.{slots}
 use Rattle.simplex_audit.specs.declared.place.Place.{Place}
-
--- places are ordered by round, and then by signer
-abbrev pub place_cmp : Place → Place → Ordering
-place_cmp a b = ordering_then (round_cmp a.round b.round) (nat_cmp a.signer b.signer)
-
--- the place of a vote: its round and signer
-abbrev pub place_of : {D G : Type 0} → Vote D G → Place
-place_of v = record { round = round_of v.subject; signer = v.signer }
+use Rattle.simplex_audit.specs.declared.kept.Kept.{Kept}
 
 -- what is kept of one place
 pub record Entry (D G : Type 0) : Type 0 where
@@ -41,3 +32,7 @@ evidence_at e =
 -- the evidence of the places, one after another
 abbrev pub report_of : {D G : Type 0} → List (Entry D G) → List (Evidence D G)
 report_of entries = flat_map evidence_at entries
+
+-- what is kept of one place, with the place
+abbrev pub entry_of : {S D P G : Type 0} → Place × Kept S D P G → Entry D G
+entry_of e = record { place = e.0; slots = slots e.1 }
