@@ -29,7 +29,7 @@ struct Reading {
 }
 
 /// What an audit of the stream has to answer.
-pub fn audit_by_definition(
+pub(crate) fn audit_by_definition(
     alloc: Global,
     scheme: &Marked,
     bound: u32,

@@ -17,7 +17,7 @@ pub struct Outcome {
 }
 
 /// What the audit of a stream answers.
-pub fn outcome_of<S: Scheme<D>, D: Digest>(
+pub(crate) fn outcome_of<S: Scheme<D>, D: Digest>(
     alloc: Global,
     scheme: &S,
     stream: &[u8],
@@ -36,7 +36,7 @@ pub fn outcome_of<S: Scheme<D>, D: Digest>(
 }
 
 /// The bytes that a text names by two digits each, parted by blanks.
-pub fn bytes(alloc: Global, text: &str) -> Result<Vec<u8>, Fail> {
+pub(crate) fn bytes(alloc: Global, text: &str) -> Result<Vec<u8>, Fail> {
     let mut digits = Vec::new(alloc);
     for byte in text.bytes() {
         if byte != b' ' {
