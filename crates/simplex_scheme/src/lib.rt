@@ -2,6 +2,7 @@
 #![tactic(auto)]
 
 pub mod hash;
+pub mod listed;
 pub mod marked;
 pub mod namespace;
 pub mod plain;
