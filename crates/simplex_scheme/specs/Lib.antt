@@ -4,5 +4,6 @@ pub mod Subject
 pub mod Parts
 pub mod Attestation
 pub mod Listed
+pub mod ListedLaws
 pub mod Plain
 pub mod Marked

@@ -1,5 +1,5 @@
 -- Certificates that list attestations: which they are, how they are spelled and how they are read.
-use Rattle.std.specs.Prelude.{ℕ, zero, suc, ◌+◌, ◌<◌, ◌≤◌, ◌^◌, List, [], ◌∷◌, ◌++◌, length, Ok, Err, nat_lt, ◌==◌, ◌||◌, if◌then◌else◌, codes, All, AllPairs}
+use Rattle.std.specs.Prelude.{ℕ, zero, suc, ◌+◌, ◌<◌, ◌≤◌, ◌^◌, List, [], ◌∷◌, ◌++◌, length, Ok, Err, nat_lt, nat_le, ◌==◌, ◌||◌, if◌then◌else◌, codes, All, AllPairs}
 use Rattle.std.specs.List.{flat_map}
 use Rattle.simplex_base.specs.Format.{Format}
 use Rattle.simplex_base.specs.Reading.{Reading, Refusal, invalid, ◌>>=◌}
@@ -37,7 +37,7 @@ bad_signer = invalid (codes "simplex_messages::Listed") (codes "signers out of o
 -- an attestation whose signer is from least on and below the bound
 abbrev pub attestation_at : {S P G : Type 0} → Format G → ℕ → ℕ → List ℕ → Reading (Attestation S P G)
 attestation_at signature bound least bytes = (attestation_format signature).reading bytes >>= λ read.
-    if nat_lt read.0.signer least || nat_lt bound (read.0.signer + 1) then Err bad_signer else Ok read
+    if nat_lt read.0.signer least || nat_le bound read.0.signer then Err bad_signer else Ok read
 
 -- so many attestations, the first signer from least on and each further one above the one before it
 unfoldable pub attestations_at : {S P G : Type 0} → Format G → ℕ → ℕ → ℕ → List ℕ → Reading (List (Attestation S P G))
