@@ -6,6 +6,7 @@ ghost use Rattle.std.specs.Cmp.Lexicographic.{slice_cmp};
 ghost use Rattle.simplex_base.specs.Reading.{Reading, Gives, GivesAll, all_of};
 ghost use Rattle.simplex_base.specs.Format.{Lawful, IsFixed};
 
+pub mod counted;
 pub mod error;
 pub mod fixed_bytes;
 pub mod parts;

@@ -1,6 +1,6 @@
 -- Reading a listed certificate gives the one whose spelling begins the input, and how long a spelling is.
 use Rattle.std.proofs.Common.{◌≡◌, ◌==◌, ◌⊎◌, inl, inr, ℕ, zero, suc, ◌+◌, ◌*◌, ◌<◌, ◌≤◌, List, [], ◌∷◌, ◌++◌, length, Ok, Err, Bool, true, false, cond, nat_lt, nat_le, ◌||◌, refl, ap, sym, subst, ◌∙◌, append_assoc, arith, length-append}
-use Rattle.std.specs.Prelude.{All, AllPairs}
+use Rattle.std.specs.Prelude.{All}
 use Rattle.std.specs.List.{flat_map}
 use Rattle.std.proofs.lemmas.Bool.{ltb-false, leb-false, le-ltb, lt-leb, eqb-false}
 use Rattle.std.proofs.lemmas.List.Elements.{All-cons, All-head, All-tail, All-nil}
@@ -9,11 +9,11 @@ use Rattle.std.proofs.Math.Dec.{eqb-suc-zero}
 use Rattle.std.proofs.Math.Nat.{mul-le-mul_left}
 use Rattle.simplex_base.specs.Format.{Format, IsLawful, Lawful, Spelled}
 use Rattle.simplex_base.specs.FormatLaws.{bind_ok, IsBytes-after}
-use Rattle.simplex_base.specs.Reading.{Reading, ◌>>=◌, IsBytes}
+use Rattle.simplex_base.specs.Reading.{◌>>=◌, IsBytes}
 use Rattle.simplex_base.specs.Varint.{number_32}
 use Rattle.simplex_base.specs.VarintLaws.{number_32_lawful, groups_len_32}
 use Rattle.simplex_scheme.specs.Attestation.{attestation_format, attestation_lawful}
-use Rattle.simplex_scheme.specs.Listed.{SignersAscend, AreListed, ListedFits, listed_spelling, bad_count, bad_signer, attestation_at, attestations_at, listed_at}
+use Rattle.simplex_scheme.specs.Listed.{SignersAscend, ListedFits, listed_spelling, bad_count, bad_signer, attestation_at, attestations_at, listed_at}
 use Rattle.simplex_scheme.specs.declared.scheme.Attestation.{Attestation}
 
 -- which way a test went
@@ -42,13 +42,13 @@ attestation_takes {S} {P} {G} signature law bound least bytes a rest fit e =
     elim (chosen (nat_lt p.0.0.signer least || nat_le bound p.0.0.signer) (Err bad_signer) (Ok p.0) (Ok (a, rest)) p.2) [
       | inl q ↦ absurd (let h = q.1 in cc)
       | inr q ↦
-        let t = neither (nat_lt p.0.0.signer least) (nat_le bound p.0.0.signer) q.0 in
-        let low = ltb-false p.0.0.signer least t.0 in
-        let high = leb-false bound p.0.0.signer t.1 in
-        let s = (attestation_lawful signature law).takes bytes p.0.0 p.0.1 fit p.1 in
-        let same : p.0 ≡ (a, rest) = let h = q.1 in cc in
-        subst (λ (r : Attestation S P G × List ℕ). Taken signature bound least bytes r.0 r.1) same
-        (record { low = low; high = high; spelled = s })
+          let t = neither (nat_lt p.0.0.signer least) (nat_le bound p.0.0.signer) q.0 in
+          let low = ltb-false p.0.0.signer least t.0 in
+          let high = leb-false bound p.0.0.signer t.1 in
+          let s = (attestation_lawful signature law).takes bytes p.0.0 p.0.1 fit p.1 in
+          let same : p.0 ≡ (a, rest) = let h = q.1 in cc in
+          subst (λ (r : Attestation S P G × List ℕ). Taken signature bound least bytes r.0 r.1) same
+          (record { low = low; high = high; spelled = s })
     ]
 
 -- attestations that were read, their signers from least on and below the bound
@@ -106,18 +106,18 @@ listed_take {S} {P} {G} signature bound law bytes xs rest fit e =
     elim (chosen (count.0 == 0 || nat_lt bound count.0) (Err bad_count) (attestations_at signature bound 0 count.0 count.1) (Ok (xs, rest)) p.2) [
       | inl q ↦ absurd (let h = q.1 in cc)
       | inr q ↦
-        let t = neither (count.0 == 0) (nat_lt bound count.0) q.0 in
-        let some = eqb-false count.0 0 t.0 in
-        let within = ltb-false bound count.0 t.1 in
-        let n = number_32_lawful.takes bytes count.0 count.1 fit p.1 in
-        let value = n.value in
-        let fit' = IsBytes-after (number_32.spelling count.0) count.1 (subst IsBytes n.parts fit) in
-        let l = attestations_take signature law bound 0 count.0 count.1 xs rest fit' q.1 in
-        let len = l.len in
-        record {
-          value = record { listed = record { some = omega (arith, some); few = omega arith; ascending = l.ascending }; count = omega arith; below = l.below; each = l.each };
-          parts = rw len (joined bytes (number_32.spelling count.0) count.1 (flat_map form.spelling xs) rest n.parts l.parts);
-        }
+          let t = neither (count.0 == 0) (nat_lt bound count.0) q.0 in
+          let some = eqb-false count.0 0 t.0 in
+          let within = ltb-false bound count.0 t.1 in
+          let n = number_32_lawful.takes bytes count.0 count.1 fit p.1 in
+          let value = n.value in
+          let fit' = IsBytes-after (number_32.spelling count.0) count.1 (subst IsBytes n.parts fit) in
+          let l = attestations_take signature law bound 0 count.0 count.1 xs rest fit' q.1 in
+          let len = l.len in
+          record {
+            value = record { listed = record { some = omega (arith, some); few = omega arith; ascending = l.ascending }; count = omega arith; below = l.below; each = l.each };
+            parts = rw len (joined bytes (number_32.spelling count.0) count.1 (flat_map form.spelling xs) rest n.parts l.parts);
+          }
     ]
 
 positive_not_zero : (n : ℕ) → 0 < n → (n == 0) ≡ false

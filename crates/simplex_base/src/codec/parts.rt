@@ -10,7 +10,7 @@ use crate::codec::{EncodeSize, Fixed, Read, Spell, Write};
 use std::alloc::{AllocError, Global};
 
 /// Takes back what a refused write left behind it.
-fn or_restore(
+pub(super) fn or_restore(
     buf: &mut Vec<u8>,
     start: usize,
     done: Result<(), AllocError>,

@@ -1,0 +1,52 @@
+//! Values of one type, spelled one after another behind their number.
+
+ghost use Rattle.std.specs.Prelude.{◌≡◌, ◌++◌, ◌+◌, ◌*◌, ◌<◌, ◌≤◌, ◌^◌, All, OnOk, OnErr, length};
+ghost use Rattle.std.specs.List.{flat_map};
+ghost use Rattle.simplex_base.specs.Varint.{number_32};
+
+use crate::codec::parts::or_restore;
+use crate::codec::varint::{size_u32, write_u32};
+use crate::codec::{EncodeSize, Write};
+use std::alloc::AllocError;
+
+/// Appends values one after another. After a refusal the buffer is as before.
+fn write_all<T: Write>(items: &[T], buf: &mut Vec<u8>) -> Result<(), AllocError>
+    ensures ok { OnOk result (buf.new.items ≡ buf.old.items ++ flat_map T.spelling items.now) }
+    ensures err { OnErr result (buf.new.items ≡ buf.old.items) }
+{
+    let start = buf.len();
+    for item in items {
+        let done = item.write(buf);
+        or_restore(buf, start, done)?;
+    }
+    Ok(())
+}
+
+/// Appends the number of the values as a 32-bit number, 1 to 5 bytes, and then the values one after another. After a
+/// refusal the buffer is as before.
+pub fn write_counted<T: Write>(items: &[T], buf: &mut Vec<u8>) -> Result<(), AllocError>
+    requires { length items.now < 2 ^ 32 }
+    ensures ok { OnOk result (buf.new.items ≡ buf.old.items ++ (number_32.spelling (length items.now) ++ flat_map T.spelling items.now)) }
+    ensures err { OnErr result (buf.new.items ≡ buf.old.items) }
+{
+    let start = buf.len();
+    write_u32(items.len() as u32, buf)?;
+    let done = write_all(items, buf);
+    or_restore(buf, start, done)
+}
+
+/// The number of bytes that the values take with their number in front. The bound of the type's sizes has to leave
+/// room for the sum.
+pub fn size_counted<T: EncodeSize>(items: &[T]) -> usize
+    requires few { length items.now < 2 ^ 32 }
+    requires room { 5 + length items.now * T.limit < 2 ^ 64 }
+    ensures size { result ≡ length (number_32.spelling (length items.now) ++ flat_map T.spelling items.now) }
+    ensures values { All T.is_value items.now }
+    ensures limited { result ≤ 5 + length items.now * T.limit }
+{
+    let mut size = size_u32(items.len() as u32);
+    for item in items {
+        size += item.encode_size();
+    }
+    size
+}
