@@ -4,3 +4,4 @@ pub mod PlainLemmas
 pub mod NamespaceLemmas
 pub mod MarkedLemmas
 pub mod SubjectLemmas
+pub mod ListedLemmas

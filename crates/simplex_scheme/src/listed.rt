@@ -1,17 +1,24 @@
 //! Certificates that list their attestations.
 
-ghost use Rattle.std.specs.Prelude.{◌≡◌, List, ◌<◌, ◌^◌, length};
+ghost use Rattle.std.specs.Prelude.{◌≡◌, ◌<◌, ◌^◌, IfOk, length, true, false};
 ghost use Rattle.std.specs.Hash as fed;
 ghost use Rattle.std.specs.Cmp.Lexicographic.{pointwise, lists_per};
 ghost use Rattle.std.specs.Cmp.Rules.{comparing, hashing};
 ghost use Rattle.std.proofs.Common.{rules};
 ghost use Rattle.std.proofs.lemmas.Cmp.{lists_equiv};
 ghost use Rattle.simplex_base.specs.Format.{fixed};
-ghost use Rattle.simplex_scheme.specs.Listed.{AreListed, ListedFits, listed_spelling};
+ghost use Rattle.simplex_base.specs.FormatLaws.{fixed_lawful};
+ghost use Rattle.simplex_base.specs.Reading.{Gives};
+ghost use Rattle.simplex_scheme.specs.Listed.{AreListed, ListedFits, listed_spelling, attestation_at, attestations_at, listed_at};
+ghost use Rattle.simplex_scheme.specs.ListedLaws.{listed_lawful};
 
 use crate::scheme::{Attestation, SchemeTypes};
-use simplex_base::codec::Spell;
-use std::alloc::AllocError;
+use simplex_base::codec::counted::{size_counted, write_counted};
+use simplex_base::codec::error::Error;
+use simplex_base::codec::parts::known_bytes;
+use simplex_base::codec::varint::read_u32;
+use simplex_base::codec::{EncodeSize, FixedSize, Read, Spell, Write};
+use std::alloc::{AllocError, Global};
 use std::hash::{Hash, Hasher};
 use std::marker::Model;
 
@@ -89,4 +96,101 @@ impl<S: SchemeTypes> Spell for Listed<S> {
     ghost is_value = { ListedFits (fixed S.Signature.SIZE S.Signature.bytes_of S.Signature.of_bytes) (2 ^ 32) };
 
     ghost spelling = { listed_spelling (fixed S.Signature.SIZE S.Signature.bytes_of S.Signature.of_bytes) };
+}
+
+impl<S: SchemeTypes> Write for Listed<S> {
+    fn write(&self, buf: &mut Vec<u8>) -> Result<(), AllocError> {
+        write_counted(self.attestations(), buf)
+    }
+}
+
+impl<S: SchemeTypes> EncodeSize for Listed<S> {
+    ghost limit = { 2 ^ 50 };
+
+    fn encode_size(&self) -> usize {
+        size_counted(self.attestations())
+    }
+}
+
+/// The bound is the number of participants: it bounds the count, and each signer is below it. As many attestations
+/// are reserved as the bytes behind the count can hold, and no more than the count.
+impl<S: SchemeTypes> Read for Listed<S> {
+    type Cfg = u32;
+
+    ghost fits = { ListedFits (fixed S.Signature.SIZE S.Signature.bytes_of S.Signature.of_bytes) };
+
+    ghost reading = { listed_at (fixed S.Signature.SIZE S.Signature.bytes_of S.Signature.of_bytes) };
+
+    ghost takes_memory = { true };
+
+    fn read_cfg(alloc: Global, input: &mut &[u8], bound: &u32) -> Result<Self, Error> {
+        let bound = *bound;
+        let mut rest: &[u8] = *input;
+        let count = read_u32(&mut rest)?;
+        if count == 0 || count > bound {
+            return Err(Error::Invalid("simplex_messages::Listed", "count out of range"));
+        }
+        match read_attestations(alloc, &mut rest, bound, count) {
+            Ok(listed) => {
+                *input = rest;
+                Ok(listed)
+            }
+            Err(error) => Err(error),
+        }
+    }
+
+    ghost lawful = { λ bound. listed_lawful (fixed S.Signature.SIZE S.Signature.bytes_of S.Signature.of_bytes) bound (fixed_lawful S.Signature.SIZE S.Signature.bytes_of S.Signature.of_bytes S.Signature.back S.Signature.forth) };
+}
+
+/// Reads so many attestations with ascending signers below the bound.
+fn read_attestations<S: SchemeTypes>(
+    alloc: Global,
+    input: &mut &[u8],
+    bound: u32,
+    count: u32,
+) -> Result<Listed<S>, Error>
+    requires { 0 < count }
+    ensures { Gives true result input.old.now input.new.now (attestations_at (fixed S.Signature.SIZE S.Signature.bytes_of S.Signature.of_bytes) bound 0 count input.old.now) }
+{
+    let mut rest: &[u8] = known_bytes(*input);
+    let room = rest.len() / (1 + S::Signature::SIZE);
+    let Ok(mut attestations) = Vec::with_capacity(alloc, room.min(count as usize)) else {
+        return Err(Error::OutOfMemory);
+    };
+    let mut least = 0;
+    'attestations: for _ in 0..count {
+        let attestation: Attestation<S> = match read_attestation(alloc, &mut rest, bound, least) {
+            Ok(attestation) => attestation,
+            Err(error) => return Err(error),
+        };
+        least = attestation.signer.get() + 1;
+        if attestations.push(attestation).is_err() {
+            return Err(Error::OutOfMemory);
+        }
+    }
+    *input = rest;
+    Ok(Listed::from_ascending(attestations))
+}
+
+/// Reads an attestation whose signer is from `least` on and below the bound.
+fn read_attestation<S: SchemeTypes>(
+    alloc: Global,
+    input: &mut &[u8],
+    bound: u32,
+    least: u32,
+) -> Result<Attestation<S>, Error>
+    ensures below { IfOk result (λ attestation. attestation.signer < bound) }
+    ensures gives { Gives false result input.old.now input.new.now (attestation_at (fixed S.Signature.SIZE S.Signature.bytes_of S.Signature.of_bytes) bound least input.old.now) }
+{
+    let mut rest: &[u8] = *input;
+    let attestation: Attestation<S> = match Read::read_cfg(alloc, &mut rest, &()) {
+        Ok(attestation) => attestation,
+        Err(error) => return Err(error),
+    };
+    let signer = attestation.signer.get();
+    if signer < least || bound <= signer {
+        return Err(Error::Invalid("simplex_messages::Listed", "signers out of order or range"));
+    }
+    *input = rest;
+    Ok(attestation)
 }
