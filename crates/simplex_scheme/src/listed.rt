@@ -194,3 +194,6 @@ fn read_attestation<S: SchemeTypes>(
     *input = rest;
     Ok(attestation)
 }
+
+#[cfg(test)]
+mod tests;
