@@ -1,10 +1,15 @@
 -- Attestations that are read one after another.
-use Rattle.std.proofs.Common.{◌≡◌, ℕ, suc, ◌+◌, ◌<◌, ◌≤◌, ◌^◌, List, [], ◌∷◌, ◌++◌, length, Ok, Err, Result, false, true, refl, ap, sym, ◌∙◌, append_assoc, append-nil, arith}
+use Rattle.std.proofs.Common.{◌≡◌, ℕ, suc, ◌+◌, ◌<◌, ◌^◌, List, [], ◌∷◌, ◌++◌, Ok, Err, false, true, refl, ap, sym, ◌∙◌, append_assoc, append-nil, arith, eqb, get_or}
+use Rattle.std.specs.Prelude.{AllPairs, IsPermutation, ◌≢◌}
+use Rattle.std.proofs.lemmas.Bool.{eqb-false, ne_eqb}
+use Rattle.std.proofs.lemmas.Bool.Decides.{nat_tests}
+use Rattle.std.proofs.lemmas.Map.Keys.{IsDistinct-from_apart, apart_from_distinct, IsDistinct-IsPermutation}
+use Rattle.std.specs.List.Sorted.{IsNonDecreasingBy}
 use Rattle.simplex_base.specs.Format.{Format, IsLawful}
 use Rattle.simplex_base.specs.Reading.{Reading, Refusal, ◌>>=◌, Fails, IsBytes, end_of_buffer, invalid_varint, invalid_bool, invalid, extra_data}
 use Rattle.simplex_base.specs.declared.codec.error.Error.{Error}
 use Rattle.simplex_base.specs.declared.codec.error.Error.TheVariants as errors
-use Rattle.simplex_scheme.specs.Listed.{AreListed, attestation_at, attestations_at}
+use Rattle.simplex_scheme.specs.Listed.{SignersAscend, AreListed, attestation_at, attestations_at}
 use Rattle.simplex_scheme.specs.ListedLaws.{attestations_take}
 use Rattle.simplex_scheme.specs.declared.scheme.Attestation.{Attestation}
 
@@ -54,3 +59,23 @@ read_is_listed signature law bound count bytes xs rest fit some few e =
     let t = attestations_take signature law bound 0 count bytes xs rest fit e in
     let len = t.len in
     record { some = omega arith; few = omega arith; ascending = t.ascending }
+
+-- ---- attestations that are sorted in place
+
+-- distinct signers that do not fall ascend
+pub sorted_ascends : {S P G : Type 0} (xs : List (Attestation S P G)) → AllPairs (λ a b. a.signer ≢ b.signer) xs → IsNonDecreasingBy (λ a. a.signer) xs → SignersAscend xs
+sorted_ascends xs distinct up i j d lt within =
+    let le = up i j d (omega arith) within in
+    let ne = distinct i j d lt within in
+    omega arith
+
+-- distinct signers stay distinct in another order
+pub permuted_distinct : {S P G : Type 0} (xs ys : List (Attestation S P G)) → IsPermutation xs ys → AllPairs (λ a b. a.signer ≢ b.signer) xs → AllPairs (λ a b. a.signer ≢ b.signer) ys
+permuted_distinct {S} {P} {G} xs ys moved distinct i j d lt within e =
+    let same = λ (a b : Attestation S P G). eqb a.signer b.signer in
+    let before = IsDistinct-from_apart same xs (λ k l f less inside. ne_eqb _ _ (distinct k l f less inside)) in
+    let after = IsDistinct-IsPermutation same (λ a b. eqb_flips a.signer b.signer) xs ys moved before in
+    eqb-false (get_or ys i d).signer (get_or ys j d).signer (apart_from_distinct same ys i j d after lt within) e
+  where
+    eqb_flips : (a b : ℕ) → eqb a b ≡ eqb b a
+    eqb_flips a b = grind (arith, nat_tests)

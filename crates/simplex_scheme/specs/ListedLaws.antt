@@ -1,6 +1,6 @@
 -- Reading a listed certificate gives the one whose spelling begins the input, and how long a spelling is.
 use Rattle.std.proofs.Common.{◌≡◌, ◌==◌, ◌⊎◌, inl, inr, ℕ, zero, suc, ◌+◌, ◌*◌, ◌<◌, ◌≤◌, List, [], ◌∷◌, ◌++◌, length, Ok, Err, Bool, true, false, cond, nat_lt, nat_le, ◌||◌, refl, ap, sym, subst, ◌∙◌, append_assoc, arith, length-append}
-use Rattle.std.specs.Prelude.{All}
+use Rattle.std.specs.Prelude.{All, AllPairs, ◌≢◌}
 use Rattle.std.specs.List.{flat_map}
 use Rattle.std.proofs.lemmas.Bool.{ltb-false, leb-false, le-ltb, lt-leb, eqb-false}
 use Rattle.std.proofs.lemmas.List.Elements.{All-cons, All-head, All-tail, All-nil}
@@ -76,7 +76,7 @@ attestations_take {S} {P} {G} signature law bound least (suc count) bytes xs res
     let others = attestations_take signature law bound (a.signer + 1) count p.0.1 r.0.0 r.0.1 fit' r.1 in
     let low = first.low in
     let same : ◌≡◌ {A = List (Attestation S P G) × List ℕ} (a ∷ r.0.0, r.0.1) (xs, rest) = let h = r.2 in cc in
-    subst (λ (y : List (Attestation S P G) × List ℕ). AllTaken signature bound least (suc count) bytes y.0 y.1) same
+    subst (λ (y : List (Attestation S P G) × List ℕ). AllTaken signature bound least (suc count) bytes y.0 y.1) {x = (a ∷ r.0.0, r.0.1)} same
     (record {
       len = ap suc others.len;
       low = All-cons (λ b. least ≤ b.signer) a r.0.0 first.low (λ k d lt. let h = others.low k d lt in omega arith);
@@ -132,6 +132,10 @@ listed_again {S} {P} {G} signature bound law xs rest v =
 
 pub listed_lawful : {S P G : Type 0} (signature : Format G) (bound : ℕ) → IsLawful signature → Lawful (ListedFits {S = S} {P = P} signature bound) (listed_spelling signature) (listed_at signature bound)
 listed_lawful signature bound law = record { takes = listed_take signature bound law; again = listed_again signature bound law }
+
+-- no signer stands twice
+pub ascending_distinct : {S P G : Type 0} (xs : List (Attestation S P G)) → SignersAscend xs → AllPairs (λ a b. a.signer ≢ b.signer) xs
+ascending_distinct xs ascending i j d lt within e = let less = ascending i j d lt within in omega arith
 
 -- ---- how long a spelling is
 

@@ -1,7 +1,7 @@
 use Rattle.std.proofs.Common.{◌≡◌, ℕ, suc, ◌+◌, ◌-◌, ◌<◌, ◌≤◌, arith, refl, sym, subst}
 use Rattle.simplex_base.specs.Reading.{IsBytes}
 use Rattle.simplex_base.specs.FormatLaws.{fixed_lawful}
-use Rattle.simplex_scheme.proofs.ListedLemmas.{SoFar, read_more, read_fails, all_read, read_is_listed}
+use Rattle.simplex_scheme.proofs.ListedLemmas.{read_more, read_fails, all_read, read_is_listed}
 use Rattle.simplex_scheme.proofs.listed.read_attestations.Goals as goal
 
 one_left : (count counter : ℕ) → counter < count → count - counter ≡ suc (count - (counter + 1))
