@@ -1,9 +1,11 @@
 //! The schemes that sign and verify.
 
-ghost use Rattle.std.specs.Prelude.{◌≡◌, ⊤, ◌+◌, ℕ, Bool, true, false, List, Option, Some, None, Ok, IsTrue, IfOk, IfSome, MatchOption, length, ◌<◌, ◌≤◌, ◌^◌};
+ghost use Rattle.std.specs.Prelude.{◌≡◌, ⊤, ◌+◌, ℕ, Bool, true, false, List, Option, Some, None, Ok, Err, IsTrue, IfOk, IfErr, IfSome, MatchOption, All, length, nat_eq, ◌<◌, ◌≤◌, ◌^◌};
+ghost use Rattle.std.specs.List.{IsDistinct, list_all};
 ghost use Rattle.simplex_base.specs.Format.{fixed};
 ghost use Rattle.simplex_base.specs.FormatLaws.{fixed_lawful};
 ghost use Rattle.simplex_scheme.specs.Subject.{SubjectValue, subject_value};
+ghost use Rattle.simplex_scheme.specs.Committee.{IsQuorum, IsInOrder, quorum_of, signers_of};
 
 use crate::proposal::Subject;
 use crate::set::Set;
@@ -12,6 +14,7 @@ use simplex_base::codec::parts::write_both;
 use simplex_base::codec::{EncodeSize, Fixed, Read, Spell, Write};
 use simplex_base::positions::Participant;
 use std::alloc::{AllocError, Global};
+use std::hash::Hash;
 
 /// A digest of a payload.
 pub trait Digest: Fixed {}
@@ -50,13 +53,33 @@ impl<S: SchemeTypes> Clone for Attestation<S> {
     }
 }
 
-/// A committee, and who of it this is.
+/// Why attestations make no certificate.
+#[derive(Clone, Copy, Debug, PartialEq, Eq, thiserror::Error)]
+pub enum AssemblyError {
+    /// The attestations are fewer than a quorum: the quorum, and how many there are.
+    #[error("{1} attestations are fewer than the quorum of {0}")]
+    InsufficientAttestations(u32, u32),
+    /// Memory was refused.
+    #[error("out of memory")]
+    OutOfMemory,
+}
+
+/// A committee, who of it this is, and the certificates that it makes.
 pub trait CertificateScheme: SchemeTypes {
+    /// What a quorum makes of its attestations. It is read under the number of participants.
+    type Certificate: Read<Cfg = u32> + Write + EncodeSize + Clone + Eq + Hash + Drop;
+
     /// The keys of the committee, in the order of the participants.
     ghost keys: { Self → List Self.PublicKey };
 
     /// The number of this participant, if it is one.
     ghost own: { Self → Option ℕ };
+
+    /// The greatest length of a certificate under a bound.
+    ghost max_size: { ℕ → ℕ };
+
+    /// Whether a certificate tells who signed it.
+    ghost attributable: { Bool };
 
     /// The keys of the committee, from 1 to 2^32 - 1 of them. A participant's number is the place of its
     /// key.
@@ -69,13 +92,53 @@ pub trait CertificateScheme: SchemeTypes {
     fn me(&self) -> Option<Participant>
         ensures own { result ≡ own self.now }
         ensures member { IfSome result (λ me. me < length (keys self.now)) };
+
+    /// The bound under which certificates of this committee are read: the number of its participants.
+    fn certificate_codec_config(&self) -> u32
+        ensures { result ≡ length (keys self.now) };
+
+    /// The greatest number of bytes, at most 2^50, of a certificate that is read under this bound.
+    fn max_certificate_size(participants: u32) -> usize
+        ensures size { result ≡ max_size participants }
+        ensures limited { result ≤ 2 ^ 50 };
+
+    /// Whether a certificate tells who signed it.
+    fn is_attributable() -> bool
+        ensures { result ≡ attributable };
+
+    /// No certificate has more than 2^50 bytes,
+    ghost certificates_limited: { Self.Certificate.limit ≤ 2 ^ 50 };
+
+    /// and none that is read under a bound is longer than the greatest.
+    ghost certificates_within: { (bound : ℕ) (certificate : Self.Certificate) → bound < 2 ^ 32 →
+        Self.Certificate.fits bound certificate → length (Self.Certificate.spelling certificate) ≤ max_size bound };
+}
+
+/// Who verifies certificates of subjects with this digest.
+pub trait CertificateVerifier<D: Digest>: CertificateScheme {
+    /// Whether a certificate certifies the subject, a fixed meaning of the scheme, the subject's value and the
+    /// certificate.
+    ghost certified: { Self → SubjectValue D → Self.Certificate → Bool };
+
+    /// Whether a certificate certifies the subject.
+    fn verify_certificate(&self, subject: Subject<'_, D>, certificate: &Self::Certificate) -> bool
+        ensures { result ≡ certified self.now (subject_value subject.entry) certificate.now };
+
+    /// Whether each certificate certifies its subject; true for none at all.
+    fn verify_all<'a>(&self, items: &[(Subject<'a, D>, &'a Self::Certificate)]) -> bool
+        ensures { result ≡ list_all (λ item. certified self.now (subject_value item.0) item.1.now) items.now };
 }
 
 /// Who signs, and verifies signatures of, subjects with this digest.
-pub trait Scheme<D: Digest>: CertificateScheme {
+pub trait Scheme<D: Digest>: CertificateVerifier<D> {
+    ghost use Rattle.simplex_scheme.specs.declared.scheme.Attestation.{Attestation};
+
     /// Whether a signature is one of this signer for the subject, a fixed meaning of the scheme, the subject's value,
     /// the signer and the signature.
     ghost good: { Self → SubjectValue D → ℕ → Self.Signature → Bool };
+
+    /// The certificate is made of these attestations.
+    ghost made_of: { List (Attestation Self Self.PublicKey Self.Signature) → Self.Certificate → Type 0 };
 
     /// Signs as this participant. `None` comes exactly where this is no participant, and then no memory is
     /// taken.
@@ -97,9 +160,53 @@ pub trait Scheme<D: Digest>: CertificateScheme {
         Self: Sized,
         ensures { result ≡ good self.now (subject_value subject.entry) attestation.now.signer attestation.now.signature };
 
+    /// Makes a certificate of attestations whose signers are distinct and in the committee. Fewer than a quorum
+    /// are refused by `InsufficientAttestations`, the quorum and their number, and then no memory is taken. From
+    /// a quorum on there is a certificate, or memory was refused. It certifies whatever subject all the
+    /// attestations are good for.
+    fn assemble(
+        &self,
+        alloc: Global,
+        attestations: Vec<Attestation<Self>>,
+    ) -> Result<Self::Certificate, AssemblyError>
+    where
+        Self: Sized,
+        requires distinct { IsDistinct nat_eq (signers_of attestations.items) }
+        requires members { All (λ a. a.signer < length (Self.keys self.now)) attestations.items }
+        ensures below { length attestations.items < quorum_of (length (Self.keys self.now)) →
+            result ≡ Err (AssemblyError.InsufficientAttestations (quorum_of (length (Self.keys self.now))) (length attestations.items)) }
+        ensures enough { quorum_of (length (Self.keys self.now)) ≤ length attestations.items →
+            IfErr result (λ error. error ≡ AssemblyError.OutOfMemory) }
+        ensures made { IfOk result (λ certificate. made_of attestations.items certificate) }
+        ensures certified { IfOk result (λ certificate. (subject : SubjectValue D) →
+            All (λ a. good self.now subject a.signer a.signature ≡ true) attestations.items →
+            Self.certified self.now subject certificate ≡ true) };
+
     /// Whose signature is good is in the committee.
     ghost members: { (scheme : Self) (subject : SubjectValue D) (signer : ℕ) (signature : Self.Signature) →
         good scheme subject signer signature ≡ true → signer < length (Self.keys scheme) };
+}
+
+/// A scheme whose certificates list their attestations.
+pub trait Listing<D: Digest>: Scheme<D> {
+    ghost use Rattle.simplex_scheme.specs.declared.scheme.Attestation.{Attestation};
+
+    /// The attestations that a certificate lists.
+    ghost listed: { Self.Certificate → List (Attestation Self Self.PublicKey Self.Signature) };
+
+    /// The attestations that a certificate lists.
+    fn attestations(certificate: &Self::Certificate) -> &[Attestation<Self>]
+    where
+        Self: Sized,
+        ensures { result.now ≡ listed certificate.now };
+
+    /// A certificate that certifies a subject lists a quorum of distinct signers, each signature good for it.
+    ghost lists_quorums: { (scheme : Self) (subject : SubjectValue D) (certificate : Self.Certificate) →
+        Self.certified scheme subject certificate ≡ true → IsQuorum (length (Self.keys scheme)) (Self.good scheme subject) (listed certificate) };
+
+    /// An assembled certificate lists what was given, ascending by signer.
+    ghost lists_given: { (given : List (Attestation Self Self.PublicKey Self.Signature)) (certificate : Self.Certificate) →
+        Self.made_of given certificate → IsInOrder given (listed certificate) };
 }
 
 impl<S: SchemeTypes> Spell for Attestation<S> {
