@@ -1,5 +1,6 @@
 pub mod PartsLemmas
 pub mod SetLemmas
+pub mod CertificateLemmas
 pub mod PlainLemmas
 pub mod NamespaceLemmas
 pub mod MarkedLemmas

@@ -2,6 +2,7 @@ pub mod Namespace
 pub mod Proposal
 pub mod Subject
 pub mod Committee
+pub mod CommitteeLaws
 pub mod Parts
 pub mod Attestation
 pub mod Listed

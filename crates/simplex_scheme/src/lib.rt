@@ -1,6 +1,7 @@
 //! Who signs what: committees, subjects and their namespaces, and the schemes that sign and verify.
 #![tactic(auto)]
 
+mod certificates;
 pub mod faults;
 pub mod hash;
 pub mod listed;

@@ -1,14 +1,21 @@
 //! A scheme for tests: a signature is the byte `aa`, whoever signs whatever.
 
-ghost use Rattle.std.specs.Prelude.{◌≡◌, List, [], ◌∷◌, Option, Some, None, Ok, IsOk, IfOk, IfSome, MatchOption, length, ◌<◌, ◌≤◌, ◌^◌, true};
+ghost use Rattle.std.specs.Prelude.{◌≡◌, ◌↔◌, ◌+◌, ◌*◌, ◌<◌, ◌≤◌, ◌^◌, List, [], ◌∷◌, Option, Some, None, Ok, Err, IsOk, IsTrue, IfOk, IfSome, MatchOption, All, length, nat_eq, nat_lt, ◌&&◌, true};
 ghost use Rattle.std.specs.Option.{ForSome};
+ghost use Rattle.std.specs.Str.{bytes_eq};
 ghost use Rattle.std.proofs.Common.{lit<, lit≤};
-ghost use Rattle.simplex_scheme.specs.Subject.{subject_value};
+ghost use Rattle.simplex_scheme.specs.Subject.{SubjectValue, subject_value};
+ghost use Rattle.simplex_scheme.specs.Committee.{IsInOrder, IsQuorum, is_quorum, quorum_of, signers_of};
+ghost use Rattle.simplex_scheme.specs.CommitteeLaws.{quorum_meaning, fixed_within};
+ghost use Rattle.std.specs.List.{IsDistinct};
 ghost use Rattle.simplex_scheme.specs.Marked.{numbered, marked_good, marked_members};
 
+use crate::certificates::{AttestationVerifier, are_certified, assembled, is_certified};
+use crate::listed::Listed;
 use crate::proposal::Subject;
 use crate::scheme::{
-    Attestation, CertificateScheme, Digest, PublicKey, Scheme, SchemeTypes, Signature,
+    AssemblyError, Attestation, CertificateScheme, CertificateVerifier, Digest, Listing, PublicKey,
+    Scheme, SchemeTypes, Signature,
 };
 use crate::set::Set;
 use simplex_base::codec::Fixed;
@@ -86,6 +93,14 @@ impl Marked {
             me,
         })
     }
+
+    /// Whether the signer is in the committee and the signature is the mark.
+    fn is_marked(&self, attestation: &Attestation<Self>) -> bool
+        ensures { result ≡ (nat_lt attestation.now.signer (length self.now.keys) && bytes_eq attestation.now.signature (170 ∷ [])) }
+    {
+        (attestation.signer.get() as usize) < self.participants.len()
+            && attestation.signature == mark()
+    }
 }
 
 /// The keys of so many participants.
@@ -113,9 +128,15 @@ impl SchemeTypes for Marked {
 }
 
 impl CertificateScheme for Marked {
+    type Certificate = Listed<Marked>;
+
     ghost keys = { λ marked. marked.keys };
 
     ghost own = { λ marked. marked.me };
+
+    ghost max_size = { λ participants. 5 + participants * 6 };
+
+    ghost attributable = { true };
 
     fn participants(&self) -> &Set<MarkedKey> {
         &self.participants
@@ -124,10 +145,60 @@ impl CertificateScheme for Marked {
     fn me(&self) -> Option<Participant> {
         self.me
     }
+
+    fn certificate_codec_config(&self) -> u32 {
+        self.participants.len() as u32
+    }
+
+    /// The number of attestations in at most 5 bytes, and for each a number in at most 5 bytes and a signature
+    /// of 1 byte.
+    fn max_certificate_size(participants: u32) -> usize {
+        5 + participants as usize * 6
+    }
+
+    fn is_attributable() -> bool {
+        true
+    }
+
+    ghost certificates_limited = { lit≤ tt };
+
+    ghost certificates_within = { λ participants certificate few fits. fixed_within 1 (λ signature. signature) (λ bytes. bytes) participants certificate fits };
+}
+
+impl<D: Digest> AttestationVerifier<D> for Marked {
+    ghost accepted = { λ marked. marked_good (length marked.keys) };
+
+    fn accepts(&self, _subject: &Subject<'_, D>, attestation: &Attestation<Self>) -> bool {
+        self.is_marked(attestation)
+    }
+}
+
+impl<D: Digest> CertificateVerifier<D> for Marked {
+    ghost certified = { λ scheme subject. is_quorum (length scheme.keys) (marked_good (length scheme.keys) subject) };
+
+    fn verify_certificate(&self, subject: Subject<'_, D>, certificate: &Listed<Marked>) -> bool
+        ensures certified { result ≡ is_quorum (length self.now.keys) (marked_good (length self.now.keys) (subject_value subject.entry)) certificate.now }
+        // The test says exactly this.
+        ensures exactly { IsTrue result ↔ IsQuorum (length self.now.keys) (marked_good (length self.now.keys) (subject_value subject.entry)) certificate.now }
+    {
+        // The prover knows a subject that came by value only by its kinds.
+        let subject = match subject {
+            Subject::Notarize { proposal } => Subject::Notarize { proposal },
+            Subject::Nullify { round } => Subject::Nullify { round },
+            Subject::Finalize { proposal } => Subject::Finalize { proposal },
+        };
+        is_certified(self, &subject, certificate)
+    }
+
+    fn verify_all<'a>(&self, items: &[(Subject<'a, D>, &'a Listed<Marked>)]) -> bool {
+        are_certified(self, items)
+    }
 }
 
 impl<D: Digest> Scheme<D> for Marked {
     ghost good = { λ marked. marked_good (length marked.keys) };
+
+    ghost made_of = { IsInOrder };
 
     fn sign(
         &self,
@@ -152,9 +223,39 @@ impl<D: Digest> Scheme<D> for Marked {
     fn verify_attestation(&self, _subject: Subject<'_, D>, attestation: &Attestation<Self>) -> bool
         ensures { result ≡ marked_good (length self.now.keys) (subject_value _subject.entry) attestation.now.signer attestation.now.signature }
     {
-        (attestation.signer.get() as usize) < self.participants.len()
-            && attestation.signature == mark()
+        self.is_marked(attestation)
+    }
+
+    fn assemble(
+        &self,
+        _alloc: Global,
+        attestations: Vec<Attestation<Self>>,
+    ) -> Result<Listed<Marked>, AssemblyError>
+        requires distinct { IsDistinct nat_eq (signers_of attestations.items) }
+        requires members { All (λ a. a.signer < length self.now.keys) attestations.items }
+        ensures below { length attestations.items < quorum_of (length self.now.keys) →
+            result ≡ Err (AssemblyError.InsufficientAttestations (quorum_of (length self.now.keys)) (length attestations.items)) }
+        // No memory is taken.
+        ensures ample { quorum_of (length self.now.keys) ≤ length attestations.items → IsOk result }
+        ensures made { IfOk result (λ certificate. IsInOrder attestations.items certificate) }
+        ensures certified { IfOk result (λ certificate. (subject : SubjectValue D) →
+            All (λ a. marked_good (length self.now.keys) subject a.signer a.signature ≡ true) attestations.items →
+            is_quorum (length self.now.keys) (marked_good (length self.now.keys) subject) certificate ≡ true) }
+    {
+        assembled(self, attestations)
     }
 
     ghost members = { λ marked subject signer signature h. marked_members (length marked.keys) subject signer signature h };
+}
+
+impl<D: Digest> Listing<D> for Marked {
+    ghost listed = { λ certificate. certificate };
+
+    fn attestations(certificate: &Listed<Marked>) -> &[Attestation<Self>] {
+        certificate.attestations()
+    }
+
+    ghost lists_quorums = { λ scheme subject certificate. (quorum_meaning (length scheme.keys) (marked_good (length scheme.keys) subject) certificate).0 };
+
+    ghost lists_given = { λ given certificate made. made };
 }

@@ -1,22 +1,28 @@
 //! A scheme without secrets: the signature of a participant is the SHA-256 of a namespace, its key and the
 //! message. It lets streams be made and judged by anyone, and binds nobody.
 
-ghost use Rattle.std.specs.Prelude.{◌≡◌, ◌≢◌, ◌↔◌, ◌&&◌, ℕ, List, [], Option, Some, None, Ok, IsOk, IsTrue, IfOk, IfSome, MatchOption, All, length, nat_lt, slice_get, option_copied, option_map, option_and_then, ◌++◌, ◌<◌, ◌≤◌, ◌^◌, true};
+ghost use Rattle.std.specs.Prelude.{◌≡◌, ◌≢◌, ◌↔◌, ◌&&◌, ◌+◌, ◌*◌, ℕ, List, [], Option, Some, None, Ok, Err, IsOk, IsTrue, IfOk, IfSome, MatchOption, All, length, nat_eq, nat_lt, slice_get, option_copied, option_map, option_and_then, ◌++◌, ◌<◌, ◌≤◌, ◌^◌, true};
 ghost use Rattle.std.proofs.Common.{lit<, lit≤};
 ghost use Rattle.simplex_base.specs.Format.{fixed};
 ghost use Rattle.simplex_base.specs.Varint.{number_64};
 ghost use Rattle.simplex_scheme.specs.Namespace.{names_of};
-ghost use Rattle.simplex_scheme.specs.Subject.{subject_value};
+ghost use Rattle.simplex_scheme.specs.Subject.{SubjectValue, subject_value};
+ghost use Rattle.simplex_scheme.specs.Committee.{IsInOrder, IsQuorum, is_quorum, quorum_of, signers_of};
+ghost use Rattle.simplex_scheme.specs.CommitteeLaws.{quorum_meaning, fixed_within};
+ghost use Rattle.std.specs.List.{IsDistinct};
 ghost use Rattle.simplex_scheme.specs.Plain.{hashed, plain_signature, plain_good, good_members};
 ghost use Rattle.simplex_scheme.specs.Proposal.{proposal_format};
 ghost use Rattle.simplex_base.specs.Positions.{round_format};
 ghost use Rattle.sha2.specs.Sha256.{sha256};
 
+use crate::certificates::{AttestationVerifier, are_certified, assembled, is_certified};
 use crate::hash::{Hasher, Sha256};
+use crate::listed::Listed;
 use crate::namespace::Namespace;
 use crate::proposal::{Proposal, Subject};
 use crate::scheme::{
-    Attestation, CertificateScheme, Digest, PublicKey, Scheme, SchemeTypes, Signature,
+    AssemblyError, Attestation, CertificateScheme, CertificateVerifier, Digest, Listing, PublicKey,
+    Scheme, SchemeTypes, Signature,
 };
 use crate::set::Set;
 use simplex_base::codec::Fixed;
@@ -192,9 +198,15 @@ impl SchemeTypes for Plain {
 }
 
 impl CertificateScheme for Plain {
+    type Certificate = Listed<Plain>;
+
     ghost keys = { λ plain. plain.keys };
 
     ghost own = { λ plain. plain.me };
+
+    ghost max_size = { λ participants. 5 + participants * 37 };
+
+    ghost attributable = { true };
 
     fn participants(&self) -> &Set<PlainKey> {
         &self.participants
@@ -203,10 +215,74 @@ impl CertificateScheme for Plain {
     fn me(&self) -> Option<Participant> {
         self.me
     }
+
+    fn certificate_codec_config(&self) -> u32 {
+        self.participants.len() as u32
+    }
+
+    /// The number of attestations in at most 5 bytes, and for each a number in at most 5 bytes and a signature
+    /// of 32 bytes.
+    fn max_certificate_size(participants: u32) -> usize {
+        5 + participants as usize * 37
+    }
+
+    fn is_attributable() -> bool {
+        true
+    }
+
+    ghost certificates_limited = { lit≤ tt };
+
+    ghost certificates_within = { λ participants certificate few fits. fixed_within 32 (λ signature. signature) (λ bytes. bytes) participants certificate fits };
+}
+
+impl<D: Digest> AttestationVerifier<D> for Plain {
+    ghost accepted = { plain_good (fixed D.SIZE D.bytes_of D.of_bytes) };
+
+    fn accepts(&self, subject: &Subject<'_, D>, attestation: &Attestation<Self>) -> bool {
+        let signer = Some(attestation.signer);
+        let names = &self.namespace;
+        let signature = match subject {
+            Subject::Notarize { proposal } => {
+                self.sign_proposal(names.notarize.as_slice(), signer, proposal)
+            }
+            Subject::Nullify { round } => self.sign_round(names.nullify.as_slice(), signer, *round),
+            Subject::Finalize { proposal } => {
+                self.sign_proposal(names.finalize.as_slice(), signer, proposal)
+            }
+        };
+        match signature {
+            Some(signature) => attestation.signature == signature,
+            None => false,
+        }
+    }
+}
+
+impl<D: Digest> CertificateVerifier<D> for Plain {
+    ghost certified = { λ scheme subject. is_quorum (length scheme.keys) (plain_good (fixed D.SIZE D.bytes_of D.of_bytes) scheme subject) };
+
+    fn verify_certificate(&self, subject: Subject<'_, D>, certificate: &Listed<Plain>) -> bool
+        ensures certified { result ≡ is_quorum (length self.now.keys) (plain_good (fixed D.SIZE D.bytes_of D.of_bytes) self.now (subject_value subject.entry)) certificate.now }
+        // The test says exactly this.
+        ensures exactly { IsTrue result ↔ IsQuorum (length self.now.keys) (plain_good (fixed D.SIZE D.bytes_of D.of_bytes) self.now (subject_value subject.entry)) certificate.now }
+    {
+        // The prover knows a subject that came by value only by its kinds.
+        let subject = match subject {
+            Subject::Notarize { proposal } => Subject::Notarize { proposal },
+            Subject::Nullify { round } => Subject::Nullify { round },
+            Subject::Finalize { proposal } => Subject::Finalize { proposal },
+        };
+        is_certified(self, &subject, certificate)
+    }
+
+    fn verify_all<'a>(&self, items: &[(Subject<'a, D>, &'a Listed<Plain>)]) -> bool {
+        are_certified(self, items)
+    }
 }
 
 impl<D: Digest> Scheme<D> for Plain {
     ghost good = { plain_good (fixed D.SIZE D.bytes_of D.of_bytes) };
+
+    ghost made_of = { IsInOrder };
 
     fn sign(
         &self,
@@ -242,22 +318,45 @@ impl<D: Digest> Scheme<D> for Plain {
             length key ≡ length other_key → hashed name key message ≡ hashed other_name other_key other_message →
             (name ≡ other_name) × (key ≡ other_key) × (message ≡ other_message) }
     {
-        let signer = Some(attestation.signer);
-        let names = &self.namespace;
-        let signature = match subject {
-            Subject::Notarize { proposal } => {
-                self.sign_proposal(names.notarize.as_slice(), signer, proposal)
-            }
-            Subject::Nullify { round } => self.sign_round(names.nullify.as_slice(), signer, round),
-            Subject::Finalize { proposal } => {
-                self.sign_proposal(names.finalize.as_slice(), signer, proposal)
-            }
+        // The prover knows a subject that came by value only by its kinds.
+        let subject = match subject {
+            Subject::Notarize { proposal } => Subject::Notarize { proposal },
+            Subject::Nullify { round } => Subject::Nullify { round },
+            Subject::Finalize { proposal } => Subject::Finalize { proposal },
         };
-        match signature {
-            Some(signature) => attestation.signature == signature,
-            None => false,
-        }
+        self.accepts(&subject, attestation)
+    }
+
+    fn assemble(
+        &self,
+        _alloc: Global,
+        attestations: Vec<Attestation<Self>>,
+    ) -> Result<Listed<Plain>, AssemblyError>
+        requires distinct { IsDistinct nat_eq (signers_of attestations.items) }
+        requires members { All (λ a. a.signer < length self.now.keys) attestations.items }
+        ensures below { length attestations.items < quorum_of (length self.now.keys) →
+            result ≡ Err (AssemblyError.InsufficientAttestations (quorum_of (length self.now.keys)) (length attestations.items)) }
+        // No memory is taken.
+        ensures ample { quorum_of (length self.now.keys) ≤ length attestations.items → IsOk result }
+        ensures made { IfOk result (λ certificate. IsInOrder attestations.items certificate) }
+        ensures certified { IfOk result (λ certificate. (subject : SubjectValue D) →
+            All (λ a. plain_good (fixed D.SIZE D.bytes_of D.of_bytes) self.now subject a.signer a.signature ≡ true) attestations.items →
+            is_quorum (length self.now.keys) (plain_good (fixed D.SIZE D.bytes_of D.of_bytes) self.now subject) certificate ≡ true) }
+    {
+        assembled(self, attestations)
     }
 
     ghost members = { λ scheme subject signer signature h. good_members (fixed D.SIZE D.bytes_of D.of_bytes) scheme subject signer signature h };
+}
+
+impl<D: Digest> Listing<D> for Plain {
+    ghost listed = { λ certificate. certificate };
+
+    fn attestations(certificate: &Listed<Plain>) -> &[Attestation<Self>] {
+        certificate.attestations()
+    }
+
+    ghost lists_quorums = { λ scheme subject certificate. (quorum_meaning (length scheme.keys) (plain_good (fixed D.SIZE D.bytes_of D.of_bytes) scheme subject) certificate).0 };
+
+    ghost lists_given = { λ given certificate made. made };
 }
