@@ -1,9 +1,11 @@
 -- Votes as plain values, and their places: round, signer and sort.
-use Rattle.std.specs.Prelude.{ℕ, Bool, true, false, ◌==◌, ◌&&◌}
+use Rattle.std.specs.Prelude.{ℕ, Bool, true, false, List, map, ◌==◌, ◌&&◌}
 use Rattle.simplex_base.specs.Positions.{Round}
 use Rattle.simplex_scheme.specs.declared.proposal.Proposal.{Proposal}
 use Rattle.simplex_scheme.specs.Subject.{SubjectValue, Notarizes, Nullifies, Finalizes, round_of}
-use Rattle.simplex_votes.specs.declared.types.Notarize.{Notarize}
+use Rattle.simplex_scheme.specs.declared.scheme.Attestation.{Attestation}
+use Rattle.simplex_votes.specs.declared.types.votes.Notarize.{Notarize}
+use Rattle.simplex_votes.specs.declared.types.certificates.Notarization.{Notarization}
 
 -- what a participant says, signed. D is the type of payloads, G that of signatures
 pub record Vote (D G : Type 0) : Type 0 where
@@ -14,6 +16,14 @@ pub record Vote (D G : Type 0) : Type 0 where
 -- a notarize, as a vote
 abbrev pub notarize_vote : {S D P G : Type 0} → Notarize S D P G → Vote D G
 notarize_vote n = record { subject = Notarizes n.proposal; signer = n.attestation.signer; signature = n.attestation.signature }
+
+-- the vote of an attestation to a proposal, as a notarize
+abbrev pub notarize_of : {S D P G : Type 0} → Proposal D → Attestation S P G → Vote D G
+notarize_of p a = record { subject = Notarizes p; signer = a.signer; signature = a.signature }
+
+-- the votes of a notarization: the attestations that its certificate lists, each as a notarize of its proposal
+abbrev pub notarization_votes : {S D C P G : Type 0} → (C → List (Attestation S P G)) → Notarization S D C P G → List (Vote D G)
+notarization_votes listed n = map (notarize_of n.proposal) (listed n.certificate)
 
 -- the three sorts of votes
 pub data Sort : Type 0 where
