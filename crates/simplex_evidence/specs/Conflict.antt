@@ -1,5 +1,5 @@
 -- Two messages that contradict, as a value.
-use Rattle.simplex_votes.specs.declared.types.Notarize.{Notarize}
+use Rattle.simplex_votes.specs.declared.types.votes.Notarize.{Notarize}
 use Rattle.simplex_votes.specs.Votes.{notarize_vote}
 use Rattle.simplex_evidence.specs.Contradiction.{Evidence, Conflicting_notarize}
 

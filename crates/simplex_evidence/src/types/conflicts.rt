@@ -21,7 +21,7 @@ pub struct ConflictingNotarize<S: SchemeTypes, D: Digest> {
 
 impl<S: SchemeTypes, D: Digest> Model for ConflictingNotarize<S, D> {
     ghost use Rattle.std.specs.Prelude.{IsTrue};
-    ghost use Rattle.simplex_votes.specs.declared.types.Notarize as declared;
+    ghost use Rattle.simplex_votes.specs.declared.types.votes.Notarize as declared;
     ghost use Rattle.simplex_votes.specs.Votes.{notarize_vote};
     ghost use Rattle.simplex_evidence.specs.Contradiction.{contradicts, Conflicting_notarize};
     ghost use Rattle.simplex_evidence.specs.Conflict.{Conflict};
