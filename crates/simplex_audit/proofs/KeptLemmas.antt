@@ -101,7 +101,7 @@ same_sort-true Finalizing Nullifying h = absurd (false≢true h)
 same_sort-true Finalizing Finalizing h = refl
 
 -- a vote that is no news leaves its slot
-slot_kept : {D G : Type 0} (eq : D → D → Bool) (v : Vote D G) (first other : Option (Vote D G)) → changes eq first other v ≡ false → slot_with eq v (record { earliest = first; other = other }) ≡ record { earliest = first; other = other }
+slot_kept : {D G : Type 0} (eq : D → D → Bool) (v : Vote D G) (first other : Option (Vote D G)) → changes eq first other v.subject ≡ false → slot_with eq v (record { earliest = first; other = other }) ≡ record { earliest = first; other = other }
 slot_kept eq v None other h = absurd (false≢true (sym h))
 slot_kept eq v (Some a) (Some w) h = refl
 slot_kept eq v (Some a) None h =
@@ -120,7 +120,7 @@ no_news eq l vs v h sort round signer =
           let of_v = is_of-true round signer v p.1 in
           let k = slot_of eq vs sort round signer in
           let here : slot_of eq vs (sort_of v.subject) (round_of v.subject) v.signer ≡ k = λ i. slot_of eq vs (same_sort-true _ sort p.0 i) (of_v.0 i) (of_v.1 i) in
-          let old : changes eq k.earliest k.other v ≡ false = ap (λ x. changes eq x.earliest x.other v) (sym here) ∙ h in
+          let old : changes eq k.earliest k.other v.subject ≡ false = ap (λ x. changes eq x.earliest x.other v.subject) (sym here) ∙ h in
           cond-true (is_at sort round signer v) _ _ e ∙ slot_kept eq v k.earliest k.other old
       | inr e ↦ cond-false (is_at sort round signer v) _ _ e
     ]

@@ -1,6 +1,6 @@
 -- The memory holds what has to be kept, vote by vote, and its report is the evidence of the votes.
-use Rattle.std.proofs.Common.{◌≡◌, ℕ, ◌<◌, Bool, true, false, cond, List, [], ◌∷◌, ◌++◌, Option, Some, None, Ordering, Less, Equal, Greater, map, sym, refl, ap, ◌∙◌, subst, inl, inr, arith}
-use Rattle.std.specs.Prelude.{◌&&◌, All, Contains}
+use Rattle.std.proofs.Common.{append_assoc, ◌≡◌, ℕ, ◌<◌, Bool, true, false, cond, List, [], ◌∷◌, ◌++◌, Option, Some, None, Ordering, Less, Equal, Greater, map, sym, refl, ap, ◌∙◌, subst, inl, inr, arith}
+use Rattle.std.specs.Prelude.{◌&&◌, All, Contains, filter}
 use Rattle.std.specs.Bool.{OnFalse}
 use Rattle.std.specs.Option.{is_some, option_to_list}
 use Rattle.std.specs.List.{AllByRecursion, flat_map}
@@ -11,12 +11,12 @@ use Rattle.std.specs.Cmp.{IsEquivalence}
 use Rattle.std.specs.Ordering.{ordering_then, nat_cmp, is_eq, MatchOrdering}
 use Rattle.std.proofs.lemmas.Bool.{false≢true, cases_Bool, and_parts, cond-true, cond-false}
 use Rattle.std.proofs.lemmas.Cmp.{ranked, tied_itself}
-use Rattle.std.proofs.lemmas.List.{append-nil}
-use Rattle.std.proofs.lemmas.List.Elements.{All-from_recursion, recursion_from_All, All-contains, All-map, All-weaker, All-contains_itself}
+use Rattle.std.proofs.lemmas.List.{append-nil, map-append}
+use Rattle.std.proofs.lemmas.List.Elements.{All-from_recursion, recursion_from_All, All-contains, All-map, All-weaker, All-contains_itself, filter-append}
 use Rattle.std.proofs.lemmas.Map.Entries.{lookup_head, lookup_tail}
 use Rattle.std.proofs.lemmas.Map.Keys.{sorted_head, sorted_tail}
 use Rattle.std.proofs.lemmas.Map.Views.{btree_map_contains_key_iff}
-use Rattle.simplex_scheme.specs.Subject.{round_of}
+use Rattle.simplex_scheme.specs.Subject.{SubjectValue, round_of}
 use Rattle.simplex_votes.specs.Votes.{Vote, Sort, Notarizing, Nullifying, Finalizing, sort_of, same_sort, is_of, is_at}
 use Rattle.simplex_evidence.specs.Contradiction.{Kind, Conflicting_notarize, Conflicting_finalize, Nullify_finalize, Evidence, contradicts}
 use Rattle.simplex_audit.specs.Named.{Named}
@@ -129,11 +129,11 @@ own_notarize eq v old before after is was notarizes nullifies finalizes sort =
 -- ---- a vote that is no news
 
 -- what is told of the slots that are kept of a vote's place p is told of all the votes
-pub news_from_slots : {S D P G : Type 0} (eq : D → D → Bool) (memory : Memory S D P G) (v : Vote D G) (p : Place) → p ≡ place_of v → (kept : Kept S D P G) → Some kept ≡ get place_cmp memory.places p → (news : Bool) → news ≡ changes eq (slots kept (sort_of v.subject)).earliest (slots kept (sort_of v.subject)).other v → (vs : List (Vote D G)) → Holds eq vs memory → news ≡ is_news eq vs v
+pub news_from_slots : {S D P G : Type 0} (eq : D → D → Bool) (memory : Memory S D P G) (v : Vote D G) (p : Place) → p ≡ place_of v → (kept : Kept S D P G) → Some kept ≡ get place_cmp memory.places p → (news : Bool) → news ≡ changes eq (slots kept (sort_of v.subject)).earliest (slots kept (sort_of v.subject)).other v.subject → (vs : List (Vote D G)) → Holds eq vs memory → news ≡ is_news eq vs v
 news_from_slots eq memory v p at kept found news is vs held =
     let same : slots kept (sort_of v.subject) ≡ slot_of eq vs (sort_of v.subject) (round_of v.subject) v.signer =
     ap (λ o. slots_or_none o (sort_of v.subject)) found ∙ ap (λ k. slots_or_none (get place_cmp memory.places k) (sort_of v.subject)) at ∙ held (sort_of v.subject) (place_of v) in
-    is ∙ ap (λ slot. changes eq slot.earliest slot.other v) same
+    is ∙ ap (λ slot. changes eq slot.earliest slot.other v.subject) same
 
 -- without news the memory holds what has to be kept of one more vote
 pub holds_no_news : {S D P G : Type 0} (eq : D → D → Bool) → IsEquivalence eq → (memory : Memory S D P G) (v : Vote D G) (news : Bool) → ((vs : List (Vote D G)) → Holds eq vs memory → news ≡ is_news eq vs v) → OnFalse news ((vs : List (Vote D G)) → Holds eq vs memory → Holds eq (vs ++ v ∷ []) memory)
@@ -253,3 +253,23 @@ pub report_of_memory : {S D P G : Type 0} (eq : D → D → Bool) → IsEquivale
 report_of_memory eq l memory ordered es is vs held =
     let found = is ∙ found-report eq vs memory.places.entries (recursion_from_All _ memory.places.entries (held_entries eq vs memory ordered held)) in
     subst (IsEvidence eq vs) (sym found) (report_of_kept eq l vs (map entry_of memory.places.entries) (are_kept eq vs memory ordered held))
+
+-- ---- votes that are told one after another
+
+-- The memory holds what has to be kept of the good ones of some more votes: those that `vote_of` makes of items.
+abbrev pub HoldsMore : {S D P G X : Type 0} → (D → D → Bool) → (SubjectValue D → ℕ → G → Bool) → (X → Vote D G) → List X → Memory S D P G → Memory S D P G → Type 0
+HoldsMore {D = D} {G = G} eq good vote_of items before after =
+    (vs : List (Vote D G)) → Holds eq vs before → Holds eq (vs ++ filter (λ v. good v.subject v.signer v.signature) (map vote_of items)) after
+
+-- no item tells nothing
+pub holds_none_more : {S D P G X : Type 0} (eq : D → D → Bool) (good : SubjectValue D → ℕ → G → Bool) (vote_of : X → Vote D G) (memory : Memory S D P G) → HoldsMore eq good vote_of [] memory memory
+holds_none_more eq good vote_of memory vs held = subst (λ ws. Holds eq ws memory) (sym (append-nil vs)) held
+
+-- one item more
+pub holds_one_more : {S D P G X : Type 0} (eq : D → D → Bool) (good : SubjectValue D → ℕ → G → Bool) (vote_of : X → Vote D G) (items : List X) (x : X) (before memory after : Memory S D P G) → HoldsMore eq good vote_of items before memory → HoldsMore eq good vote_of (x ∷ []) memory after → HoldsMore eq good vote_of (items ++ x ∷ []) before after
+holds_one_more {D = D} {G = G} eq good vote_of items x before memory after some one vs held =
+    let keep : Vote D G → Bool = λ v. good v.subject v.signer v.signature in
+    subst (λ ws. Holds eq ws after)
+    (append_assoc vs (filter keep (map vote_of items)) (filter keep (map vote_of (x ∷ []))) ∙
+    ap (λ ws. vs ++ ws) (sym (filter-append keep (map vote_of items) (map vote_of (x ∷ []))) ∙ ap (filter keep) (sym (map-append vote_of items (x ∷ [])))))
+    (one _ (some vs held))

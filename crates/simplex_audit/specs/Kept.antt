@@ -39,16 +39,16 @@ if_differs eq (Some first) v = if differs eq first.subject v.subject then Some v
 abbrev pub slot_with : {D G : Type 0} → (D → D → Bool) → Vote D G → Slot D G → Slot D G
 slot_with eq v slot = record { earliest = option_or slot.earliest (Some v); other = option_or slot.other (if_differs eq slot.earliest v) }
 
--- whether a vote changes its slot: the slot is empty, or holds one vote, which has another proposal
-abbrev pub changes : {D G : Type 0} → (D → D → Bool) → Option (Vote D G) → Option (Vote D G) → Vote D G → Bool
-changes eq None other v = true
-changes eq (Some first) other v = differs eq first.subject v.subject && is_none other
+-- whether a vote on a subject changes its slot: the slot is empty, or holds one vote, which has another proposal
+abbrev pub changes : {D G : Type 0} → (D → D → Bool) → Option (Vote D G) → Option (Vote D G) → SubjectValue D → Bool
+changes eq None other subject = true
+changes eq (Some first) other subject = differs eq first.subject subject && is_none other
 
 -- whether a vote is news to the votes before it
 abbrev pub is_news : {D G : Type 0} → (D → D → Bool) → List (Vote D G) → Vote D G → Bool
 is_news eq vs v =
     let slot = slot_of eq vs (sort_of v.subject) (round_of v.subject) v.signer in
-    changes eq slot.earliest slot.other v
+    changes eq slot.earliest slot.other v.subject
 
 -- the evidence of two votes, if there are two
 abbrev pub both : {D G : Type 0} → Kind → Option (Vote D G) → Option (Vote D G) → Option (Evidence D G)

@@ -3,7 +3,8 @@
 ghost use Rattle.std.specs.Prelude.{◌≡◌, List, [], ◌∷◌, ◌++◌, map, option_map, IfOk, OnOk, OnErr};
 ghost use Rattle.std.specs.Bool.{OnFalse};
 ghost use Rattle.std.specs.Option.{option_to_list};
-ghost use Rattle.simplex_votes.specs.Votes.{Vote, Sort, Notarizing, Nullifying, Finalizing, notarize_vote};
+ghost use Rattle.simplex_scheme.specs.Subject.{Notarizes};
+ghost use Rattle.simplex_votes.specs.Votes.{Vote, Sort, Notarizing, Nullifying, Finalizing, notarize_vote, notarize_of};
 ghost use Rattle.simplex_evidence.specs.Contradiction.{Conflicting_notarize};
 ghost use Rattle.simplex_audit.specs.Evidence.{IsEvidence};
 ghost use Rattle.simplex_audit.specs.Kept.{slot_with, changes, is_news};
@@ -12,7 +13,8 @@ ghost use Rattle.simplex_audit.specs.Memory.{evidence_value, slots, no_slot, Hol
 use crate::evidence::Evidence;
 use crate::place::Place;
 use simplex_evidence::types::ConflictingNotarize;
-use simplex_scheme::scheme::{Digest, SchemeTypes};
+use simplex_scheme::proposal::Proposal;
+use simplex_scheme::scheme::{Attestation, Digest, SchemeTypes};
 use simplex_votes::types::Notarize;
 use std::alloc::{AllocError, Global};
 use std::collections::BTreeMap;
@@ -35,13 +37,13 @@ impl<S: SchemeTypes, D: Digest> Kept<S, D> {
         }
     }
 
-    /// Tells whether a notarize has to be kept: it is the first, or the first with another proposal.
-    fn is_news(&self, vote: &Notarize<S, D>) -> bool
-        ensures { result ≡ changes D.eq (slots self.now Notarizing).earliest (slots self.now Notarizing).other (notarize_vote vote.now) }
+    /// Tells whether a notarize of a proposal has to be kept: it is the first, or the first with another proposal.
+    fn is_news(&self, proposal: &Proposal<D>) -> bool
+        ensures { result ≡ changes D.eq (slots self.now Notarizing).earliest (slots self.now Notarizing).other (Notarizes proposal.now) }
     {
         match &self.notarize {
             None => true,
-            Some(first) => first.proposal != vote.proposal && self.other_notarize.is_none(),
+            Some(first) => first.proposal != *proposal && self.other_notarize.is_none(),
         }
     }
 
@@ -51,7 +53,7 @@ impl<S: SchemeTypes, D: Digest> Kept<S, D> {
         ensures nullifies { slots self.new Nullifying ≡ slots self.old Nullifying }
         ensures finalizes { slots self.new Finalizing ≡ slots self.old Finalizing }
     {
-        if !self.is_news(&vote) {
+        if !self.is_news(&vote.proposal) {
             return;
         }
         if self.notarize.is_none() {
@@ -112,15 +114,16 @@ impl<S: SchemeTypes, D: Digest> Memory<S, D> {
         }
     }
 
-    /// Tells whether a vote has to be kept. One that is no news changes nothing, whether it verifies or not.
-    pub fn is_news(&self, vote: &Notarize<S, D>) -> bool
-        ensures news { (vs : List (Vote D S.Signature)) → Holds D.eq vs self.now → result ≡ is_news D.eq vs (notarize_vote vote.now) }
-        ensures no_news { OnFalse result ((vs : List (Vote D S.Signature)) → Holds D.eq vs self.now → Holds D.eq (vs ++ notarize_vote vote.now ∷ []) self.now) }
+    /// Tells whether a vote, an attestation to a proposal, has to be kept. One that is no news changes nothing,
+    /// whether it verifies or not.
+    pub fn is_news(&self, proposal: &Proposal<D>, attestation: &Attestation<S>) -> bool
+        ensures news { (vs : List (Vote D S.Signature)) → Holds D.eq vs self.now → result ≡ is_news D.eq vs (notarize_of proposal.now attestation.now) }
+        ensures no_news { OnFalse result ((vs : List (Vote D S.Signature)) → Holds D.eq vs self.now → Holds D.eq (vs ++ notarize_of proposal.now attestation.now ∷ []) self.now) }
     {
-        let place = Place::of_notarize(vote);
+        let place = Place::of_notarize(proposal, attestation);
         match self.places.get(&place) {
             None => true,
-            Some(kept) => kept.is_news(vote),
+            Some(kept) => kept.is_news(proposal),
         }
     }
 
@@ -129,7 +132,7 @@ impl<S: SchemeTypes, D: Digest> Memory<S, D> {
         ensures ok { OnOk result ((vs : List (Vote D S.Signature)) → Holds D.eq vs self.old → Holds D.eq (vs ++ notarize_vote vote ∷ []) self.new) }
         ensures err { OnErr result ((vs : List (Vote D S.Signature)) → Holds D.eq vs self.old → Holds D.eq vs self.new) }
     {
-        let place = Place::of_notarize(&vote);
+        let place = Place::of_notarize(&vote.proposal, &vote.attestation);
         if let Some(kept) = self.places.get_mut(&place) {
             kept.keep_notarize(vote);
             return Ok(());

@@ -1,12 +1,12 @@
 //! Where votes contradict.
 
 ghost use Rattle.std.specs.Prelude.{◌≡◌};
-ghost use Rattle.simplex_votes.specs.Votes.{notarize_vote};
+ghost use Rattle.simplex_votes.specs.Votes.{notarize_of};
 ghost use Rattle.simplex_audit.specs.Places.{place_of};
 
 use simplex_base::positions::{Participant, Round};
-use simplex_scheme::scheme::{Digest, SchemeTypes};
-use simplex_votes::types::Notarize;
+use simplex_scheme::proposal::Proposal;
+use simplex_scheme::scheme::{Attestation, Digest, SchemeTypes};
 
 /// A signer in a round: only the votes of one place contradict.
 #[derive(Clone, Copy, Debug, PartialEq, Eq, PartialOrd, Ord)]
@@ -16,13 +16,16 @@ pub struct Place {
 }
 
 impl Place {
-    /// The place of a notarize.
-    pub fn of_notarize<S: SchemeTypes, D: Digest>(vote: &Notarize<S, D>) -> Place
-        ensures { result ≡ place_of (notarize_vote vote.now) }
+    /// The place of an attestation to a proposal, as a notarize.
+    pub fn of_notarize<S: SchemeTypes, D: Digest>(
+        proposal: &Proposal<D>,
+        attestation: &Attestation<S>,
+    ) -> Place
+        ensures { result ≡ place_of (notarize_of proposal.now attestation.now) }
     {
         Place {
-            round: vote.proposal.round,
-            signer: vote.attestation.signer,
+            round: proposal.round,
+            signer: attestation.signer,
         }
     }
 }

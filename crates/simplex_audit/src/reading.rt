@@ -1,8 +1,9 @@
 //! Reads the messages of a stream one after another, and keeps what has to be kept of their votes.
 
-ghost use Rattle.std.specs.Prelude.{◌≡◌, List, [], ◌∷◌, ◌++◌, filter, IfOk, OnOk};
+ghost use Rattle.std.specs.Prelude.{◌≡◌, ◌≢◌, List, [], ◌∷◌, ◌++◌, filter, IfOk, OnOk};
 ghost use Rattle.simplex_base.specs.Format.{fixed};
-ghost use Rattle.simplex_votes.specs.Votes.{Vote, notarize_vote};
+ghost use Rattle.simplex_votes.specs.Votes.{Vote, notarize_vote, notarize_of, notarization_votes};
+ghost use Rattle.simplex_votes.specs.Spellings.{format_of};
 ghost use Rattle.simplex_evidence.specs.Activity.{activity_format, votes_in};
 ghost use Rattle.simplex_audit.specs.GoodVotes.{good_votes};
 ghost use Rattle.simplex_audit.specs.Memory.{Holds};
@@ -10,10 +11,12 @@ ghost use Rattle.simplex_audit.specs.Progress.{IsProgress};
 
 use crate::audit::Fault;
 use crate::kept::Memory;
+use simplex_base::codec::error::Error;
 use simplex_base::codec::{Fixed, Read};
 use simplex_evidence::types::Activity;
-use simplex_scheme::scheme::{CertificateScheme, Digest, Scheme, SchemeTypes};
-use simplex_votes::types::Notarize;
+use simplex_scheme::proposal::{Proposal, Subject};
+use simplex_scheme::scheme::{Attestation, Digest, Listing, Scheme, SchemeTypes};
+use simplex_votes::types::{Notarization, Notarize};
 use std::alloc::{AllocError, Global};
 
 /// What was read of a stream.
@@ -24,44 +27,92 @@ pub struct Progress<S: SchemeTypes, D: Digest> {
     pub fault: Option<Fault>,
 }
 
-/// Keeps a vote if it verifies. One that would change nothing is not verified.
+/// Keeps a notarize, an attestation to a proposal, if it verifies. One that would change nothing is not verified,
+/// and only what is kept is copied.
 fn keep_notarize<S: Scheme<D>, D: Digest>(
     scheme: &S,
-    vote: Notarize<S, D>,
+    proposal: &Proposal<D>,
+    attestation: &Attestation<S>,
     memory: &mut Memory<S, D>,
 ) -> Result<(), AllocError>
     ensures { OnOk result ((vs : List (Vote D S.Signature)) → Holds D.eq vs memory.old →
-        Holds D.eq (vs ++ filter (λ v. S.good scheme.now v.subject v.signer v.signature) (notarize_vote vote ∷ [])) memory.new) }
+        Holds D.eq (vs ++ filter (λ v. S.good scheme.now v.subject v.signer v.signature) (notarize_of proposal.now attestation.now ∷ [])) memory.new) }
 {
-    if memory.is_news(&vote) && vote.verify(scheme) {
-        memory.keep(vote)?;
+    let subject = Subject::Notarize { proposal };
+    if memory.is_news(proposal, attestation) && scheme.verify_attestation(subject, attestation) {
+        memory.keep(notarize(proposal, attestation))?;
+    }
+    Ok(())
+}
+
+/// A copy of an attestation to a proposal, as a notarize.
+fn notarize<S: SchemeTypes, D: Digest>(
+    proposal: &Proposal<D>,
+    attestation: &Attestation<S>,
+) -> Notarize<S, D>
+    ensures { notarize_vote result ≡ notarize_of proposal.now attestation.now }
+{
+    Notarize {
+        proposal: *proposal,
+        attestation: Attestation {
+            signer: attestation.signer,
+            signature: attestation.signature,
+        },
+    }
+}
+
+/// Keeps the good votes among the attestations of a notarization, each judged by itself, whether the certificate
+/// verifies or not.
+fn keep_notarization<S: Listing<D>, D: Digest>(
+    scheme: &S,
+    notarization: &Notarization<S, D>,
+    memory: &mut Memory<S, D>,
+) -> Result<(), AllocError>
+    ensures { OnOk result ((vs : List (Vote D S.Signature)) → Holds D.eq vs memory.old →
+        Holds D.eq (vs ++ filter (λ v. S.good scheme.now v.subject v.signer v.signature) (notarization_votes S.listed notarization.now)) memory.new) }
+{
+    'listed: for attestation in S::attestations(&notarization.certificate) {
+        keep_notarize(scheme, &notarization.proposal, attestation, memory)?;
     }
     Ok(())
 }
 
 /// Keeps the good votes of a message.
-fn keep_votes<S: Scheme<D>, D: Digest>(
+fn keep_votes<S: Listing<D>, D: Digest>(
     scheme: &S,
     message: Activity<S, D>,
     memory: &mut Memory<S, D>,
 ) -> Result<(), AllocError>
     ensures { OnOk result ((vs : List (Vote D S.Signature)) → Holds D.eq vs memory.old →
-        Holds D.eq (vs ++ filter (λ v. S.good scheme.now v.subject v.signer v.signature) (votes_in message)) memory.new) }
+        Holds D.eq (vs ++ filter (λ v. S.good scheme.now v.subject v.signer v.signature) (votes_in S.listed message)) memory.new) }
 {
     match message {
-        Activity::Notarize(vote) => keep_notarize(scheme, vote, memory),
+        Activity::Notarize(vote) => {
+            keep_notarize(scheme, &vote.proposal, &vote.attestation, memory)
+        }
+        Activity::Notarization(notarization) => keep_notarization(scheme, &notarization, memory),
+    }
+}
+
+/// The fault of a reading that failed at a place. For want of memory there is none.
+fn fault_at(place: usize, error: Error) -> Result<Fault, AllocError>
+    ensures { IfOk result (λ fault. (fault.place ≡ place) × (fault.error ≡ error) × (error ≢ Error.OutOfMemory)) }
+{
+    match error {
+        Error::OutOfMemory => Err(AllocError),
+        _ => Ok(Fault { place, error }),
     }
 }
 
 /// Reads a stream under a bound up to its end or first fault, and keeps what has to be kept of its votes.
-pub fn read_stream<S: Scheme<D>, D: Digest>(
+pub fn read_stream<S: Listing<D>, D: Digest>(
     alloc: Global,
     scheme: &S,
     bound: u32,
     stream: &[u8],
 ) -> Result<Progress<S, D>, AllocError>
-    ensures { IfOk result (λ p. IsProgress (activity_format {S = S} {P = S.PublicKey} (fixed D.SIZE D.bytes_of D.of_bytes) (fixed S.Signature.SIZE S.Signature.bytes_of S.Signature.of_bytes))
-        (λ messages. Holds D.eq (good_votes (S.good scheme.now) votes_in messages) p.memory) stream.now p.read p.fault) }
+    ensures { IfOk result (λ p. IsProgress (activity_format {S = S} {P = S.PublicKey} (fixed D.SIZE D.bytes_of D.of_bytes) (format_of (S.Certificate.fits bound) S.Certificate.spelling (S.Certificate.reading bound)) (fixed S.Signature.SIZE S.Signature.bytes_of S.Signature.of_bytes))
+        (λ messages. Holds D.eq (good_votes (S.good scheme.now) (votes_in S.listed) messages) p.memory) stream.now p.read p.fault) }
 {
     let mut memory = Memory::new(alloc);
     let mut rest: &[u8] = stream;
@@ -74,10 +125,11 @@ pub fn read_stream<S: Scheme<D>, D: Digest>(
             }
             Err(error) => {
                 let place = stream.len() - rest.len();
+                let fault = Some(fault_at(place, error)?);
                 return Ok(Progress {
                     memory,
                     read,
-                    fault: Some(Fault { place, error }),
+                    fault,
                 });
             }
         }

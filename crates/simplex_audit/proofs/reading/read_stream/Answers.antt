@@ -1,17 +1,26 @@
-use Rattle.std.proofs.Common.{◌≡◌, ℕ, ◌<◌, length, arith, sym, subst, ap, ◌∙◌}
+use Rattle.std.proofs.Common.{◌≡◌, ◌≢◌, Bool, false, Result, ℕ, ◌<◌, length, refl, arith, sym, subst, ap, ◌∙◌}
 use Rattle.std.proofs.lemmas.Bool.{eqb-true, eqb-false}
-use Rattle.simplex_base.specs.Format.{fixed, IsLawful}
+use Rattle.simplex_base.specs.declared.codec.error.Error.{Error}
+use Rattle.simplex_base.specs.declared.codec.error.Error.TheVariants as errors
+use Rattle.simplex_base.specs.Reading.{Refusal, Fails}
+use Rattle.simplex_base.specs.Format.{Format, fixed, IsLawful}
 use Rattle.simplex_base.specs.FormatLaws.{fixed_lawful}
+use Rattle.simplex_votes.specs.Spellings.{format_of}
 use Rattle.simplex_evidence.specs.Activity.{activity_format, activity_lawful, votes_in}
+use Rattle.simplex_evidence.specs.declared.types.activities.Activity.{Activity}
 use Rattle.simplex_audit.specs.Memory.{Holds}
 use Rattle.simplex_audit.proofs.NamedLemmas.{good_votes-push}
 use Rattle.simplex_audit.proofs.StreamLemmas.{so_far_start, so_far_next, so_far_shorter, progress_at_fault, progress_at_end, nothing_left}
 use Rattle.simplex_audit.proofs.reading.read_stream.Given as given
 use Rattle.simplex_audit.proofs.reading.read_stream.Goals as goal
 
--- the format of messages is lawful
-law : (g : given.Over) → IsLawful (activity_format {S = g.row.S.Denot} {P = g.row.S-PublicKey.Denot} (fixed g.D.FixedSize.SIZE g.D.Fixed.bytes_of g.D.Fixed.of_bytes) (fixed g.S.Signature.FixedSize.SIZE g.S.Signature.Fixed.bytes_of g.S.Signature.Fixed.of_bytes))
-law g = activity_lawful _ _ (fixed_lawful _ _ _ g.met.D.Fixed.back g.met.D.Fixed.forth) (fixed_lawful _ _ _ g.met.S.Signature.Fixed.back g.met.S.Signature.Fixed.forth)
+-- the format of messages under a bound
+abbrev format : (g : given.Over) → ℕ → Format (Activity g.row.S.Denot g.row.D.Denot g.row.S-Certificate.Denot g.row.S-PublicKey.Denot g.row.S-Signature.Denot)
+format g bound = activity_format (fixed g.D.FixedSize.SIZE g.D.Fixed.bytes_of g.D.Fixed.of_bytes) (format_of (g.S.Certificate.Read.fits bound) g.S.Certificate.Spell.spelling (g.S.Certificate.Read.reading bound)) (fixed g.S.Signature.FixedSize.SIZE g.S.Signature.Fixed.bytes_of g.S.Signature.Fixed.of_bytes)
+
+-- it is lawful
+law : (g : given.Over) (bound : ℕ) → IsLawful (format g bound)
+law g bound = activity_lawful _ _ _ (fixed_lawful _ _ _ g.met.D.Fixed.back g.met.D.Fixed.forth) (g.met.S.Certificate.Read.lawful bound) (fixed_lawful _ _ _ g.met.S.Signature.Fixed.back g.met.S.Signature.Fixed.forth)
 
 positive : (n : ℕ) → ((n ≡ 0) → ⊥) → 0 < n
 positive n h = omega (arith, h)
@@ -21,19 +30,32 @@ messages-init g c = so_far_start _ _ _ c.new-memory.ensures
 
 pub messages-smaller : goal.messages-smaller
 messages-smaller g c =
-    so_far_shorter _ _ c.args.stream.now c.messages.rest.now c.read_cfg.new.input.now c.messages.read c.in-Ok.message (law g) (λ m. omega arith) (λ i. omega (arith, c.type_inv.stream i)) c.messages.invariant c.in-Ok.ensures
+    so_far_shorter _ _ c.args.stream.now c.messages.rest.now c.read_cfg.new.input.now c.messages.read c.in-Ok.message (law g c.args.bound) (λ m. omega arith) (λ i. omega (arith, c.type_inv.stream i)) c.messages.invariant c.in-Ok.ensures
 
 pub messages-preserved : goal.messages-preserved
 messages-preserved g c =
-    so_far_next _ _ _ c.args.stream.now c.messages.rest.now c.read_cfg.new.input.now c.messages.read c.in-Ok.message (law g) (λ m. omega arith) (λ i. omega (arith, c.type_inv.stream i)) c.messages.invariant c.in-Ok.ensures
-    (λ ms held. subst (λ vs. Holds g.D.PartialEq.eq vs c.keep_votes.new.memory) (sym (good_votes-push (g.S.Scheme.good c.args.scheme.now) votes_in ms c.in-Ok.message)) (c.in_ok-keep_votes-in-Ok.ensures _ held))
+    so_far_next _ _ _ c.args.stream.now c.messages.rest.now c.read_cfg.new.input.now c.messages.read c.in-Ok.message (law g c.args.bound) (λ m. omega arith) (λ i. omega (arith, c.type_inv.stream i)) c.messages.invariant c.in-Ok.ensures
+    (λ ms held. subst (λ vs. Holds g.D.PartialEq.eq vs c.keep_votes.new.memory) (sym (good_votes-push (g.S.Scheme.good c.args.scheme.now) (votes_in g.S.Listing.listed) ms c.in-Ok.message)) (c.in_ok-keep_votes-in-Ok.ensures _ held))
+
+-- an error that is no want of memory tells of none
+fails : {X : Type 0} (memory : Bool) (e : Error) (read : Result X Refusal) → e ≢ errors.OutOfMemory → Fails memory e read → Fails false e read
+fails memory errors.EndOfBuffer read other h = h
+fails memory errors.InvalidVarint read other h = h
+fails memory errors.InvalidBool read other h = h
+fails memory (errors.Invalid subject reason) read other h = h
+fails memory errors.ExtraData read other h = h
+fails memory errors.OutOfMemory read other h = absurd (other refl)
 
 pub returns-in-Err : goal.returns-in-Err
 returns-in-Err g c =
-    let same = c.in-Err.ensures.0 in
-    let len = ap length same in
+    let len = ap length c.in-Err.ensures.0 in
     let room = c.messages.invariant.room in
-    progress_at_fault _ _ c.args.stream.now c.messages.rest.now c.messages.read _ (law g) c.messages.invariant (positive (length c.messages.rest.now) (eqb-false (length c.messages.rest.now) 0 (sym c.is_empty.ensures ∙ c.messages-test.true))) (omega arith) c.in-Err.ensures.1
+    let fault = c.in_ok-fault_at-in-Err.field-0 in
+    let is : fault.error ≡ c.in-Err.error = c.in_ok-fault_at-in-Err.ensures.1 in
+    let at = c.in_ok-fault_at-in-Err.ensures.0 in
+    let reading = (format g c.args.bound).reading c.messages.rest.now in
+    progress_at_fault _ _ c.args.stream.now c.messages.rest.now c.messages.read fault (law g c.args.bound) c.messages.invariant (positive (length c.messages.rest.now) (eqb-false (length c.messages.rest.now) 0 (sym c.is_empty.ensures ∙ c.messages-test.true))) (omega (arith, at))
+    (subst (λ e. Fails false e reading) (sym is) (fails g.S.Certificate.Read.takes_memory c.in-Err.error reading c.in_ok-fault_at-in-Err.ensures.2 c.in-Err.ensures.1))
 
 pub returns : goal.returns
 returns g c = progress_at_end _ _ c.args.stream.now c.messages.rest.now c.messages.read (λ m. omega arith) c.messages.invariant (nothing_left c.messages.rest.now (eqb-true (length c.messages.rest.now) 0 (sym c.is_empty.ensures ∙ c.messages-test.false)))
