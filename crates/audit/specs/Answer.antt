@@ -1,12 +1,16 @@
 -- What the program makes of its arguments and its input.
-use Rattle.std.specs.Prelude.{◌≡◌, ℕ, List, [], Option, Some, None, Result, Ok, Err, IsPermutation, String, string_bytes}
+use Rattle.std.specs.Prelude.{◌≡◌, ℕ, List, [], length, Option, Some, None, Result, Ok, Err, IsPermutation, String, string_bytes}
 use Rattle.std.specs.Global.{Global}
 use Rattle.std.specs.Option.{option_map}
 use Rattle.std.specs.Io.KnownBytes.{Consumes, IsAtEnd, Appends, Keeps}
 use Rattle.simplex_base.specs.Format.{Format, fixed}
 use Rattle.simplex_scheme.specs.Namespace.{names_of}
 use Rattle.simplex_scheme.specs.Plain.{PlainScheme, plain_good}
+use Rattle.simplex_scheme.specs.Listed.{ListedFits, listed_spelling, listed_at}
+use Rattle.simplex_scheme.specs.declared.scheme.Attestation.{Attestation}
+use Rattle.simplex_votes.specs.Spellings.{format_of}
 use Rattle.simplex_evidence.specs.Activity.{activity_format, votes_in}
+use Rattle.simplex_evidence.specs.declared.types.activities.Activity.{Activity}
 use Rattle.simplex_evidence.specs.Contradiction.{Evidence}
 use Rattle.simplex_audit.specs.Audit.{IsReport}
 use Rattle.simplex_audit.specs.Line.{line_of}
@@ -34,12 +38,20 @@ pub record IsCommittee (words : List (List ℕ)) (scheme : PlainScheme) : Type 0
 abbrev pub bytes_32 : Format (List ℕ)
 bytes_32 = fixed 32 (λ bytes. bytes) (λ bytes. bytes)
 
+-- what a certificate is: the attestations that it lists
+abbrev pub Certificate : Type 0
+Certificate = List (Attestation PlainScheme (List ℕ) (List ℕ))
+
+-- how messages are read by a committee of n
+abbrev pub messages_of : ℕ → Format (Activity PlainScheme (List ℕ) Certificate (List ℕ) (List ℕ))
+messages_of n = activity_format bytes_32 (format_of (ListedFits bytes_32 n) (listed_spelling bytes_32) (listed_at bytes_32 n)) bytes_32
+
 -- the text is that of the stream's report, and its fault, if it has one, is what is said
 pub record IsAnswer (scheme : PlainScheme) (stream text : List ℕ) (said : Option (List ℕ)) : Type 0 where
   pub read : ℕ
   pub fault : Option Fault
   pub found : List (Evidence (List ℕ) (List ℕ))
-  pub report : IsReport (activity_format {S = PlainScheme} {P = List ℕ} bytes_32 bytes_32) votes_in bytes_eq (plain_good bytes_32 scheme) stream read fault found
+  pub report : IsReport (messages_of (length scheme.keys)) (votes_in (λ certificate. certificate)) bytes_eq (plain_good bytes_32 scheme) stream read fault found
   pub lines : text ≡ text_of (line_of (λ bytes. bytes)) found
   pub said_is : said ≡ option_map (λ f. complaint_at f.place) fault
 
