@@ -7,7 +7,8 @@ use simplex_base::codec::{Fixed, Read};
 use simplex_base::positions::{Participant, Round};
 use simplex_evidence::types::Activity;
 use simplex_scheme::marked::{Marked, MarkedDigest};
-use simplex_votes::types::Notarize;
+use simplex_scheme::scheme::Listing;
+use simplex_votes::types::{Notarization, Notarize};
 use std::alloc::{AllocError, Global};
 
 type Vote = Notarize<Marked, MarkedDigest>;
@@ -68,9 +69,10 @@ fn read_messages(
             });
         }
         match Activity::<Marked, MarkedDigest>::read_cfg(alloc, &mut rest, &bound) {
-            Ok(Activity::Notarize(vote)) => {
-                if vote.verify(scheme) {
-                    good_votes.push(vote)?;
+            Ok(Activity::Notarize(vote)) => keep_good(scheme, vote, &mut good_votes)?,
+            Ok(Activity::Notarization(notarization)) => {
+                for vote in listed_votes(alloc, &notarization)? {
+                    keep_good(scheme, vote, &mut good_votes)?;
                 }
             }
             Err(error) => {
@@ -88,6 +90,29 @@ fn read_messages(
         read: stream.len(),
         fault: None,
     })
+}
+
+/// Appends a vote if it verifies.
+fn keep_good(scheme: &Marked, vote: Vote, good_votes: &mut Vec<Vote>) -> Result<(), AllocError> {
+    if vote.verify(scheme) {
+        good_votes.push(vote)?;
+    }
+    Ok(())
+}
+
+/// The votes that a notarization lists.
+fn listed_votes(
+    alloc: Global,
+    notarization: &Notarization<Marked, MarkedDigest>,
+) -> Result<Vec<Vote>, AllocError> {
+    let mut votes = Vec::new(alloc);
+    for attestation in <Marked as Listing<MarkedDigest>>::attestations(&notarization.certificate) {
+        votes.push(Notarize {
+            proposal: notarization.proposal,
+            attestation: attestation.clone()?,
+        })?;
+    }
+    Ok(votes)
 }
 
 /// For each signer and round the earliest vote and the earliest with another proposal, if there is one.

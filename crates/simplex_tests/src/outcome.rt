@@ -1,7 +1,7 @@
 //! What an audit answers, in a form that tests compare.
 
 use simplex_audit::audit::{Fault, audit};
-use simplex_scheme::scheme::{Digest, Scheme};
+use simplex_scheme::scheme::{Digest, Listing};
 use std::alloc::Global;
 use std::test::Fail;
 
@@ -17,7 +17,7 @@ pub struct Outcome {
 }
 
 /// What the audit of a stream answers.
-pub(crate) fn outcome_of<S: Scheme<D>, D: Digest>(
+pub(crate) fn outcome_of<S: Listing<D>, D: Digest>(
     alloc: Global,
     scheme: &S,
     stream: &[u8],

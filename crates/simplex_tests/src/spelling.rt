@@ -10,7 +10,7 @@ use simplex_scheme::marked::{Marked, MarkedDigest, MarkedSignature};
 use simplex_scheme::plain::{Plain, PlainSignature};
 use simplex_scheme::proposal::Proposal;
 use simplex_scheme::scheme::Attestation;
-use simplex_votes::types::Notarize;
+use simplex_votes::types::{Notarization, Notarize};
 use std::alloc::Global;
 use std::process::Abort;
 use std::test::Fail;
@@ -148,4 +148,36 @@ fn votes_are_proposal_signer_and_signature(rt: HostRuntime) -> Result<(), Fail> 
     };
     let spelling = "8001 0202020202020202 0202020202020202 0202020202020202 0202020202020202";
     is_spelled(&rt, alloc, &last, &(), spelling)
+}
+
+#[test]
+fn notarizations_are_proposal_and_certificate(rt: HostRuntime) -> Result<(), Fail> {
+    let alloc = rt.alloc();
+    let spelling = "01 000a0506 03 00aa 01aa 03aa";
+    let message = decode_cfg::<Activity<Marked, MarkedDigest>>(
+        alloc,
+        bytes(alloc, spelling)?.as_slice(),
+        &4,
+    )?;
+    is_spelled(&rt, alloc, &message, &4, spelling)?;
+    let Activity::Notarization(notarization) = message else {
+        return Err("another message".into());
+    };
+    is_spelled(&rt, alloc, &notarization, &4, "000a0506 03 00aa 01aa 03aa")?;
+    is_spelled(&rt, alloc, &notarization.certificate, &4, "03 00aa 01aa 03aa")?;
+    assert!(rt; notarization.clone()? == notarization);
+    assert!(rt; notarization.proposal == proposal(MarkedDigest::from_bytes(&[6])));
+    assert_eq!(rt; notarization.round(), notarization.proposal.round);
+    Ok(())
+}
+
+#[test]
+fn the_greatest_notarization_is_that_of_all_participants(rt: HostRuntime) {
+    let sizes = [
+        (Notarization::<Marked, MarkedDigest>::max_encode_size(4), 60),
+        (Notarization::<Plain, Sha256Digest>::max_encode_size(4), 215),
+    ];
+    for (size, wanted) in sizes {
+        assert_eq!(rt; size, wanted);
+    }
 }

@@ -118,6 +118,71 @@ fn evidence_comes_by_round_and_signer(rt: HostRuntime) -> Result<(), Fail> {
 }
 
 #[test]
+fn listed_attestations_are_votes(rt: HostRuntime) -> Result<(), Fail> {
+    let rows: [Row; 7] = [
+        // Two quorums of four share two signers, who are more than one faulty participant.
+        (
+            "01000a0506 03 00aa01aa02aa 01000a0507 03 01aa02aa03aa",
+            2,
+            "0 10 1 conflicting-notarize 5 06 5 07\n0 10 2 conflicting-notarize 5 06 5 07\n",
+        ),
+        // Neither certificate verifies, for want of a quorum.
+        (
+            "01000a0506 02 00aa01aa 01000a0507 02 01aa02aa",
+            2,
+            "0 10 1 conflicting-notarize 5 06 5 07\n",
+        ),
+        // One listed signature is bad, and one is good.
+        ("01000a0506 02 00aa0100 00000a0507 01aa", 2, ""),
+        (
+            "01000a0506 02 00aa0100 00000a0507 00aa",
+            2,
+            "0 10 0 conflicting-notarize 5 06 5 07\n",
+        ),
+        // A certificate of one, and a loose vote.
+        (
+            "01000a0506 01 01aa 00000a0507 01aa",
+            2,
+            "0 10 1 conflicting-notarize 5 06 5 07\n",
+        ),
+        (
+            "00000a0507 01aa 01000a0506 01 01aa",
+            2,
+            "0 10 1 conflicting-notarize 5 07 5 06\n",
+        ),
+        // One proposal in both.
+        ("01000a0506 01 01aa 00000a0506 01aa", 2, ""),
+    ];
+    for row in rows {
+        answers(&rt, rt.alloc(), row, None)?;
+    }
+    Ok(())
+}
+
+#[test]
+fn certificates_are_read_under_the_committees_bound(rt: HostRuntime) -> Result<(), Fail> {
+    let count = Error::Invalid("simplex_messages::Listed", "count out of range");
+    let signers = Error::Invalid(
+        "simplex_messages::Listed",
+        "signers out of order or range",
+    );
+    let rows: [(&'static str, Error); 7] = [
+        ("01000a0506 00", count),
+        ("01000a0506 05", count),
+        ("01000a0506 01 04aa", signers),
+        ("01000a0506 02 01aa00aa", signers),
+        ("01000a0506 02 01aa01aa", signers),
+        ("01000a0506 02 01aa00", Error::EndOfBuffer),
+        ("01000a0506 8000", Error::InvalidVarint),
+    ];
+    for (stream, error) in rows {
+        let fault = Some(Fault { place: 0, error });
+        answers(&rt, rt.alloc(), (stream, 0, ""), fault)?;
+    }
+    Ok(())
+}
+
+#[test]
 fn nothing_is_read_after_a_fault(rt: HostRuntime) -> Result<(), Fail> {
     let named = "0 10 1 conflicting-notarize 5 06 5 07\n";
     let rows: [(Row, usize, Error); 7] = [
