@@ -5,3 +5,4 @@ pub mod Union
 pub mod Varint
 pub mod VarintLaws
 pub mod Positions
+pub mod Terms

@@ -1,6 +1,6 @@
 //! Views, the places in the order of an epoch.
 
-ghost use Rattle.std.specs.Prelude.{◌≡◌, ℕ, ◌-◌, ◌^◌, false};
+ghost use Rattle.std.specs.Prelude.{◌≡◌, ℕ, ◌+◌, ◌-◌, ◌^◌, ◌↔◌, IsTrue, min, false};
 ghost use Rattle.std.proofs.Common.{lit<};
 ghost use Rattle.simplex_base.specs.Varint.{number_64};
 ghost use Rattle.simplex_base.specs.VarintLaws.{number_64_lawful, longest_64, groups_len};
@@ -8,6 +8,7 @@ ghost use Rattle.simplex_base.specs.VarintLaws.{number_64_lawful, longest_64, gr
 use crate::codec::error::Error;
 use crate::codec::varint::{read_u64, size_u64, write_u64};
 use crate::codec::{EncodeSize, MaxEncodeSize, Read, Spell, Write};
+use crate::positions::deltas::ViewDelta;
 use std::alloc::{AllocError, Global};
 use std::marker::Model;
 
@@ -37,6 +38,34 @@ impl View {
         ensures { result ≡ self }
     {
         self.0
+    }
+
+    /// View 0, that of genesis.
+    pub fn zero() -> Self
+        ensures { result ≡ 0 }
+    {
+        View(0)
+    }
+
+    /// Whether it is view 0.
+    pub fn is_zero(self) -> bool
+        ensures { IsTrue result ↔ (self ≡ 0) }
+    {
+        self.0 == 0
+    }
+
+    /// So many views later, or view 2^64 - 1 where there is no such view.
+    pub fn saturating_add(self, delta: ViewDelta) -> Self
+        ensures { result ≡ min (self + delta) (2 ^ 64 - 1) }
+    {
+        View(self.0.saturating_add(delta.get()))
+    }
+
+    /// So many views earlier, or view 0 where there is no such view.
+    pub fn saturating_sub(self, delta: ViewDelta) -> Self
+        ensures { result ≡ self - delta }
+    {
+        View(self.0.saturating_sub(delta.get()))
     }
 }
 
