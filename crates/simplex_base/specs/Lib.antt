@@ -6,3 +6,4 @@ pub mod Varint
 pub mod VarintLaws
 pub mod Positions
 pub mod Terms
+pub mod TermLaws

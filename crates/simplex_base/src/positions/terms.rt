@@ -47,7 +47,7 @@ impl TermLength {
     }
 }
 
-#[tactic(auto, using(crate::proofs::TermLemmas::term_facts))]
+#[tactic(auto, using(crate::specs::TermLaws::term_facts))]
 impl View {
     /// The number of the term that holds the view.
     pub fn term_index(self, length: TermLength) -> u64

@@ -1,6 +1,6 @@
 use Rattle.std.proofs.Common.{◌≡◌, ◌∙◌, arith}
 use Rattle.simplex_base.specs.Terms.{term_start}
-use Rattle.simplex_base.proofs.TermLemmas.{term_start-one, term_facts}
+use Rattle.simplex_base.specs.TermLaws.{term_start-one, term_facts}
 use Rattle.simplex_base.proofs.positions.views.View.term_start.Goals as goal
 
 pub returns-clause-first : goal.returns-clause-first

@@ -1,5 +1,5 @@
--- What a view's term is.
-use Rattle.std.proofs.Common.{◌≡◌, ℕ, zero, suc, ◌+◌, ◌*◌, ◌/◌, ◌-◌, ◌<◌, ◌≤◌, inl, inr, refl, sym, ap, arith}
+-- Laws of terms.
+use Rattle.std.proofs.Common.{◌≡◌, ℕ, zero, suc, ◌+◌, ◌*◌, ◌/◌, ◌-◌, ◌<◌, ◌≤◌, inl, inr, refl, sym, ◌∙◌, ap, arith}
 use Rattle.std.proofs.Math.Nat.{mul-le-mul_left}
 use Rattle.std.proofs.lemmas.Bool.{cases_lt}
 use Rattle.simplex_base.specs.Terms.{first_view, last_view, HoldsView, term_of, term_start, term_end}
@@ -33,6 +33,16 @@ term_start-one l t v positive holds = sym (ap (first_view l) (term_of-one l t v 
 pub term_end-one : (l t v : ℕ) → 1 ≤ l → HoldsView l t v → term_end l v ≡ last_view l t
 unfolding term_end
 term_end-one l t v positive holds = sym (ap (last_view l) (term_of-one l t v positive holds))
+
+-- views that one term holds are of one term
+pub same_term : (l t v w : ℕ) → HoldsView l t v → HoldsView l t w → term_of l v ≡ term_of l w
+same_term l t v w at_v at_w = elim (cases_lt 0 l) as (λ _. term_of l v ≡ term_of l w) [
+  | inl positive ↦ sym (term_of-one l t v positive at_v) ∙ term_of-one l t w positive at_w
+  | inr none ↦ let e : l ≡ 0 = omega arith in let same : v ≡ w = both_zero l t v w e at_v at_w in ap (term_of l) same
+]
+  where
+    both_zero : (l t v w : ℕ) → l ≡ 0 → HoldsView l t v → HoldsView l t w → v ≡ w
+    both_zero l t v w e at_v at_w = let zero_v : t * l ≡ 0 = rw e (omega arith) in omega (arith, at_v.1, at_w.1)
 
 -- what the code computes
 pub term_of-zero : (l v : ℕ) → v ≡ 0 → term_of l v ≡ 0
