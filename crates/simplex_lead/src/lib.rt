@@ -1,0 +1,8 @@
+//! Who leads which views, and which views a node takes messages of: terms, electors and windows.
+#![tactic(auto)]
+
+pub mod viewports;
+pub mod windows;
+
+pub use viewports::Viewport;
+pub use windows::Lookahead;
