@@ -1,2 +1,4 @@
 pub mod Counting
 pub mod Windows
+pub mod Structure
+pub mod Election

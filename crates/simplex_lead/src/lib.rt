@@ -1,6 +1,7 @@
 //! Who leads which views, and which views a node takes messages of: terms, electors and windows.
 #![tactic(auto)]
 
+pub mod elector;
 pub mod viewports;
 pub mod windows;
 

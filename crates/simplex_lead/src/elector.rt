@@ -1,0 +1,9 @@
+//! Who leads a view.
+
+pub mod electing;
+pub mod modes;
+pub mod structure;
+
+pub use electing::{Config, Elector};
+pub use modes::Mode;
+pub use structure::{Terms, can_be_stable};
