@@ -2,3 +2,5 @@ pub mod Counting
 pub mod Windows
 pub mod Structure
 pub mod Election
+pub mod Rotation
+pub mod RotationLaws
