@@ -2,8 +2,10 @@
 #![tactic(auto)]
 
 pub mod elector;
+pub mod plans;
 pub mod viewports;
 pub mod windows;
 
+pub use plans::{Plan, Recipients};
 pub use viewports::Viewport;
 pub use windows::Lookahead;

@@ -5,6 +5,7 @@ ghost use Rattle.simplex_base.specs.Terms.{term_start, term_end};
 ghost use Rattle.simplex_lead.specs.Counting.{NumberExactly};
 ghost use Rattle.simplex_lead.specs.Windows.{FitsWindow, next_start, own_limit, next_limit, IsAdmitted, admitted_above, Leads, IsOutbound};
 
+use crate::elector::structure::Terms;
 use simplex_base::positions::{TermLength, View, ViewDelta};
 
 /// How far ahead of its own view a node looks within a term, and how long terms are.
@@ -18,6 +19,16 @@ pub struct Lookahead {
 
 #[tactic(auto, using(simplex_base::specs::TermLaws::term_facts))]
 impl Lookahead {
+    /// The lookahead of terms of this structure.
+    pub fn new(terms: &Terms) -> Self
+        ensures { result ≡ record { term_length = terms.now.term_length; optimistic_views = terms.now.optimistic_views } }
+    {
+        Lookahead {
+            term_length: terms.length(),
+            optimistic_views: terms.optimistic_views(),
+        }
+    }
+
     /// Whether all that is counted from the view `c` is a view: the start of the next term plus the term length plus 1
     /// is at most 2^64 - 1. It is the condition of the calls that take `c`.
     pub fn fits(&self, c: View) -> bool
