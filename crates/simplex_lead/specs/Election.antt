@@ -1,7 +1,5 @@
 -- Who elects, and by what.
-use Rattle.std.specs.Prelude.{◌≡◌, ℕ, ◌<◌, ◌≤◌, Option, None, MatchOption}
-use Rattle.std.specs.declared.time.Duration.{Duration}
-use Rattle.std.specs.Duration.{as_nanos}
+use Rattle.std.specs.Prelude.{Option, None}
 use Rattle.simplex_lead.specs.declared.elector.modes.Mode.{Mode}
 use Rattle.simplex_lead.specs.declared.elector.modes.Mode.TheVariants.{Scheduled, Dynamic}
 

@@ -46,6 +46,10 @@ IsInReach l k v q =
 abbrev pub Leads : ℕ → ℕ → ℕ → ℕ → ℕ → Type 0
 Leads l k c p q = IsInReach l k c p × ((p ≤ term_end l c) ⊎ (l ≡ 1)) × IsInReach l k (p + 1) q
 
+-- how many views lie strictly between a view and a later one
+abbrev pub views_between : ℕ → ℕ → ℕ
+views_between earlier later = later - (earlier + 1)
+
 -- view v is kept by a node that finalized a view and keeps so many views before it
 abbrev pub IsRetained : ℕ → ℕ → ℕ → Type 0
 IsRetained finalized retention v = (0 < v) × (finalized ≤ v + retention)

@@ -3,6 +3,8 @@
 
 pub mod elector;
 pub mod plans;
+#[cfg(test)]
+mod tests;
 pub mod viewports;
 pub mod windows;
 

@@ -20,7 +20,8 @@ pub struct Viewport {
 }
 
 impl Viewport {
-    /// The finalized view less the retention, or view 0 where there is no such view. View 0 itself is never kept.
+    /// The finalized view less the retention, or view 0 where there is no such view. View 0 itself is never
+    /// kept.
     pub fn floor(&self) -> View
         ensures { result ≡ self.now.finalized - self.now.view_retention }
     {

@@ -3,7 +3,7 @@
 ghost use Rattle.std.specs.Prelude.{◌≡◌, ℕ, ◌+◌, ◌-◌, ◌*◌, ◌<◌, ◌≤◌, ◌^◌, ◌↔◌, ◌⊎◌, IsTrue, IfSome, MatchOption, min};
 ghost use Rattle.simplex_base.specs.Terms.{term_start, term_end};
 ghost use Rattle.simplex_lead.specs.Counting.{NumberExactly};
-ghost use Rattle.simplex_lead.specs.Windows.{FitsWindow, next_start, own_limit, next_limit, IsAdmitted, admitted_above, Leads, IsOutbound};
+ghost use Rattle.simplex_lead.specs.Windows.{FitsWindow, next_start, own_limit, next_limit, IsAdmitted, admitted_above, Leads, IsOutbound, views_between};
 
 use crate::elector::structure::Terms;
 use simplex_base::positions::{TermLength, View, ViewDelta};
@@ -29,49 +29,49 @@ impl Lookahead {
         }
     }
 
-    /// Whether all that is counted from the view `c` is a view: the start of the next term plus the term length plus 1
-    /// is at most 2^64 - 1. It is the condition of the calls that take `c`.
-    pub fn fits(&self, c: View) -> bool
-        ensures { IsTrue result ↔ FitsWindow self.now.term_length c }
+    /// Whether all that is counted from the view `current` is a view: the start of the next term plus the term
+    /// length plus 1 is at most 2^64 - 1. It is the condition of the calls that take `current`.
+    pub fn fits(&self, current: View) -> bool
+        ensures { IsTrue result ↔ FitsWindow self.now.term_length current }
     {
         let length = self.term_length;
-        c.term_fits(length) && c.next_term_start(length).get() < u64::MAX - length.get()
+        current.term_fits(length) && current.next_term_start(length).get() < u64::MAX - length.get()
     }
 
-    /// The last view of the term of `c` that is admitted ahead of `c`: at most twice the lookahead and one view later, and
-    /// at most the end of the term.
-    pub fn admission_limit(&self, c: View) -> View
-        requires { FitsWindow self.now.term_length c }
-        ensures { result ≡ own_limit self.now.term_length self.now.optimistic_views c }
+    /// The last view of the term of `current` that is admitted ahead of `current`: at most twice the lookahead
+    /// and one view later, and at most the end of the term.
+    pub fn admission_limit(&self, current: View) -> View
+        requires { FitsWindow self.now.term_length current }
+        ensures { result ≡ own_limit self.now.term_length self.now.optimistic_views current }
     {
         let views = self.optimistic_views;
-        c.saturating_add(views)
-            .saturating_add(views)
+        let doubled = current.saturating_add(views).saturating_add(views);
+        doubled
             .saturating_add(ViewDelta::new(1))
-            .min(c.term_end(self.term_length))
+            .min(current.term_end(self.term_length))
     }
 
-    /// Whether the view `pending` is later than `c` and at most the admission limit.
-    pub fn in_admission_window(&self, c: View, pending: View) -> bool
-        requires { FitsWindow self.now.term_length c }
-        ensures { IsTrue result ↔ ((c < pending) × (pending ≤ own_limit self.now.term_length self.now.optimistic_views c)) }
+    /// Whether the view `pending` is later than `current` and at most the admission limit.
+    pub fn in_admission_window(&self, current: View, pending: View) -> bool
+        requires { FitsWindow self.now.term_length current }
+        ensures { IsTrue result ↔ ((current < pending) × (pending ≤ own_limit self.now.term_length self.now.optimistic_views current)) }
     {
-        c < pending && pending <= self.admission_limit(c)
+        current < pending && pending <= self.admission_limit(current)
     }
 
-    /// Whether a node in view `c` takes votes of the view `pending`: of views up to the next one, of those in the
-    /// admission window, and of the first views of the next terms, at most the lookahead (at least one, at most a term)
-    /// and one view past the next term's start.
-    pub fn admits(&self, c: View, pending: View) -> bool
-        requires { FitsWindow self.now.term_length c }
-        ensures admitted { IsTrue result ↔ IsAdmitted self.now.term_length self.now.optimistic_views c pending }
+    /// Whether a node in view `current` takes votes of the view `pending`: of views up to the next one, of
+    /// those in the admission window, and of the first views of the next terms, at most the lookahead (at least
+    /// one, at most a term) and one view past the next term's start.
+    pub fn admits(&self, current: View, pending: View) -> bool
+        requires { FitsWindow self.now.term_length current }
+        ensures admitted { IsTrue result ↔ IsAdmitted self.now.term_length self.now.optimistic_views current pending }
         // What a node may have to hold is bounded.
-        ensures number { NumberExactly (λ q. (c < q) × IsAdmitted self.now.term_length self.now.optimistic_views c q) (admitted_above self.now.term_length self.now.optimistic_views c) }
-        ensures views { (q : ℕ) → IsAdmitted self.now.term_length self.now.optimistic_views c q → q < 2 ^ 64 }
-        // Whom a node in `c` hears of may be ahead of a view that it can reach, and is admitted then.
-        ensures lead { (p : ℕ) → Leads self.now.term_length self.now.optimistic_views c p pending → IsTrue result }
-        // Nothing more of the term of `c` is admitted.
-        ensures led { IsTrue result → c < pending → pending ≤ term_end self.now.term_length c → (p : ℕ) × Leads self.now.term_length self.now.optimistic_views c p pending }
+        ensures number { NumberExactly (λ q. (current < q) × IsAdmitted self.now.term_length self.now.optimistic_views current q) (admitted_above self.now.term_length self.now.optimistic_views current) }
+        ensures views { (q : ℕ) → IsAdmitted self.now.term_length self.now.optimistic_views current q → q < 2 ^ 64 }
+        // Whom a node in `current` hears of may be ahead of a view that it can reach, and is admitted then.
+        ensures lead { (p : ℕ) → Leads self.now.term_length self.now.optimistic_views current p pending → IsTrue result }
+        // Nothing more of the term of `current` is admitted.
+        ensures led { IsTrue result → current < pending → pending ≤ term_end self.now.term_length current → (p : ℕ) × Leads self.now.term_length self.now.optimistic_views current p pending }
     {
         let past = self
             .optimistic_views
@@ -79,46 +79,48 @@ impl Lookahead {
             .max(1)
             .min(self.term_length.get())
             + 1;
-        self.is_admitted(c, pending, past)
+        self.is_admitted(current, pending, past)
     }
 
-    /// Whether the view is in the set of those that are admitted, where so many views past the next term's start are.
-    fn is_admitted(&self, c: View, pending: View, past: u64) -> bool
-        requires fits { FitsWindow self.now.term_length c }
-        requires past { next_start self.now.term_length c + past ≡ next_limit self.now.term_length self.now.optimistic_views c }
-        ensures { IsTrue result ↔ IsAdmitted self.now.term_length self.now.optimistic_views c pending }
+    /// Whether the view is in the set of those that are admitted, where so many views past the next term's
+    /// start are.
+    fn is_admitted(&self, current: View, pending: View, past: u64) -> bool
+        requires fits { FitsWindow self.now.term_length current }
+        requires past { next_start self.now.term_length current + past ≡ next_limit self.now.term_length self.now.optimistic_views current }
+        ensures { IsTrue result ↔ IsAdmitted self.now.term_length self.now.optimistic_views current pending }
     {
-        let next = c.next_term_start(self.term_length);
-        c.admits(pending, self.term_length)
-            || self.in_admission_window(c, pending)
+        let next = current.next_term_start(self.term_length);
+        current.admits(pending, self.term_length)
+            || self.in_admission_window(current, pending)
             || next < pending && pending.get() <= next.get() + past
     }
 
-    /// Whether a node in view `c` sends messages of the view `pending`: of views up to the next one, of the next term's
-    /// first view, and of those of its term that are at most the lookahead ahead. All of them are admitted.
-    pub fn admits_outbound(&self, c: View, pending: View) -> bool
-        requires { FitsWindow self.now.term_length c }
-        ensures outbound { IsTrue result ↔ IsOutbound self.now.term_length self.now.optimistic_views c pending }
-        ensures admitted { IsTrue result → IsAdmitted self.now.term_length self.now.optimistic_views c pending }
+    /// Whether a node in view `current` sends messages of the view `pending`: of views up to the next one, of
+    /// the next term's first view, and of those of its term that are at most the lookahead ahead. All of them
+    /// are admitted.
+    pub fn admits_outbound(&self, current: View, pending: View) -> bool
+        requires { FitsWindow self.now.term_length current }
+        ensures outbound { IsTrue result ↔ IsOutbound self.now.term_length self.now.optimistic_views current pending }
+        ensures admitted { IsTrue result → IsAdmitted self.now.term_length self.now.optimistic_views current pending }
     {
-        c.admits(pending, self.term_length)
-            || pending <= c.saturating_add(self.optimistic_views)
-                && self.in_admission_window(c, pending)
+        current.admits(pending, self.term_length)
+            || pending <= current.saturating_add(self.optimistic_views)
+                && self.in_admission_window(current, pending)
     }
 
-    /// The earliest view from which messages of the view `v` may be issued, or `None` where no lookahead bounds it: without
-    /// a lookahead, and for the first view of a term.
-    pub fn issuance_floor(&self, v: View) -> Option<View>
-        ensures none { MatchOption result ((self.now.optimistic_views ≡ 0) ⊎ (v ≡ term_start self.now.term_length v)) (λ floor. ¬ (self.now.optimistic_views ≡ 0) × ¬ (v ≡ term_start self.now.term_length v)) }
-        ensures value { IfSome result (λ floor. floor ≡ v - self.now.optimistic_views - 1) }
+    /// The earliest view from which messages of the view `view` may be issued, or `None` where no lookahead
+    /// bounds it: without a lookahead, and for the first view of a term.
+    pub fn issuance_floor(&self, view: View) -> Option<View>
+        ensures none { MatchOption result ((self.now.optimistic_views ≡ 0) ⊎ (view ≡ term_start self.now.term_length view)) (λ floor. ¬ (self.now.optimistic_views ≡ 0) × ¬ (view ≡ term_start self.now.term_length view)) }
+        ensures value { IfSome result (λ floor. floor ≡ view - self.now.optimistic_views - 1) }
         // An earlier view is at least the floor exactly where at most the lookahead many views lie strictly between.
-        ensures between { IfSome result (λ floor. (q : ℕ) → q < v → (floor ≤ q ↔ v - (q + 1) ≤ self.now.optimistic_views)) }
+        ensures between { IfSome result (λ floor. (q : ℕ) → q < view → (floor ≤ q ↔ views_between q view ≤ self.now.optimistic_views)) }
     {
-        if self.optimistic_views.get() == 0 || v.is_term_start(self.term_length) {
+        if self.optimistic_views.get() == 0 || view.is_term_start(self.term_length) {
             return None;
         }
         Some(
-            v.saturating_sub(self.optimistic_views)
+            view.saturating_sub(self.optimistic_views)
                 .saturating_sub(ViewDelta::new(1)),
         )
     }

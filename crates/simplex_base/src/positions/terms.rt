@@ -110,8 +110,8 @@ impl View {
         View::new(self.term_end(length).get() + 1)
     }
 
-    /// Whether a node in this view takes messages of the view `pending` where it looks no further ahead: those up to
-    /// this view, of the next view and of the next term's first view.
+    /// Whether a node in this view takes messages of the view `pending` where it looks no further ahead: those
+    /// up to this view, of the next view and of the next term's first view.
     pub fn admits(self, pending: View, length: TermLength) -> bool
         requires { term_end length self + 1 < 2 ^ 64 }
         ensures { IsTrue result ↔ ((pending ≤ self) ⊎ (pending ≡ self + 1) ⊎ (pending ≡ term_end length self + 1)) }

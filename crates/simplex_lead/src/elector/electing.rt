@@ -15,7 +15,8 @@ use simplex_scheme::scheme::CertificateScheme;
 use simplex_scheme::set::Set;
 use std::alloc::{AllocError, Global};
 
-/// What an elector is made of, once the committee is known. Nodes that hold equal ones of these elect the same leaders.
+/// What an elector is made of, once the committee is known. Nodes that hold equal ones of these elect the same
+/// leaders.
 pub trait Config<S: CertificateScheme>: Clone {
     /// The elector that is made.
     type Elector: Elector<S>;

@@ -26,8 +26,8 @@ impl Mode {
         }
     }
 
-    /// What the elector can be given before the certificate is there: `Some(None)` where it goes by none, and `None` where it
-    /// has to wait.
+    /// What the elector can be given before the certificate is there: `Some(None)` where it goes by none, and
+    /// `None` where it has to wait.
     pub fn early<'a, C>(self) -> Option<Option<&'a C>>
         ensures scheduled { self ≡ Scheduled → result ≡ Some None }
         ensures dynamic { self ≡ Dynamic → result ≡ None }

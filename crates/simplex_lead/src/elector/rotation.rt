@@ -21,9 +21,10 @@ use std::alloc::{AllocError, Global};
 use std::marker::{Model, PhantomData};
 use std::time::Duration;
 
-/// Electors that go round the participants: the leader of a term is the entry `((epoch + term) mod 2^64) mod n` of an
-/// order of the n participants. Without a seed that is the order of their numbers. With one it rises by the hash of
-/// the seed followed by the number in four bytes, the most significant first, and then by the number.
+/// Electors that go round the participants: the leader of a term is the entry `((epoch + term) mod 2^64) mod n`
+/// of an order of the n participants. Without a seed that is the order of their numbers. With one it rises by
+/// the hash of the seed followed by the number in four bytes, the most significant first, and then by the
+/// number.
 #[derive(Drop)]
 pub struct RoundRobin<H: Hasher = Sha256> {
     seed: Option<Vec<u8>>,

@@ -7,8 +7,8 @@ use simplex_base::positions::{TermLength, ViewDelta};
 use std::marker::Model;
 use std::time::Duration;
 
-/// The structure of terms: the number of views of a term, with the time after which a node gives a term up and the number
-/// of views that it may run ahead within one. Both are there only where terms have several views.
+/// The structure of terms: the number of views of a term, with the time after which a node gives a term up and
+/// the number of views that it may run ahead within one. Both are there only where terms have several views.
 #[derive(Clone, Copy, Debug, PartialEq, Eq)]
 pub struct Terms {
     term_length: TermLength,
@@ -47,8 +47,9 @@ impl Terms {
         }
     }
 
-    /// Terms of several views with one leader each. A node gives a term up once a view of it has stalled for this time,
-    /// and runs at most so many views ahead within it. [`can_be_stable`] tells whether there are such terms.
+    /// Terms of several views with one leader each. A node gives a term up once a view of it has stalled for
+    /// this time, and runs at most so many views ahead within it. [`can_be_stable`] tells whether there are
+    /// such terms.
     pub fn stable(
         term_length: TermLength,
         stall_timeout: Duration,
@@ -71,7 +72,8 @@ impl Terms {
         self.term_length
     }
 
-    /// The time after which a node gives a term up, never zero. It is there exactly where terms have several views.
+    /// The time after which a node gives a term up, never zero. It is there exactly where terms have several
+    /// views.
     pub fn stall_timeout(&self) -> Option<Duration>
         ensures value { result ≡ self.now.stall_timeout }
         ensures stable { IsSome result ↔ (1 < self.now.term_length) }

@@ -1,0 +1,375 @@
+//! Who leads.
+
+ghost use Rattle.std.specs.Prelude.{◌≡◌, ◌≤◌, ◌-◌, ◌∷◌, [], refl};
+ghost use Rattle.std.specs.List.{fold};
+ghost use Rattle.simplex_base.specs.Positions as positions;
+ghost use Rattle.simplex_lead.specs.Structure as structure;
+ghost use Rattle.simplex_lead.specs.declared.elector.modes.Mode.TheVariants.{Dynamic};
+
+use crate::elector::{Config, Elector, Mode, RoundRobin, RoundRobinElector, Terms, can_be_stable};
+use sha2::Digest as _;
+use simplex_base::codec::Fixed;
+use simplex_base::codec::fixed_bytes::FixedBytes;
+use simplex_base::positions::{Epoch, Participant, Round, TermLength, View, ViewDelta};
+use simplex_scheme::hash::{Hasher, Sha256};
+use simplex_scheme::marked::{Marked, MarkedDigest, MarkedDigestRole};
+use simplex_scheme::scheme::CertificateScheme;
+use simplex_scheme::set::Set;
+use std::alloc::{AllocError, Global};
+use std::process::Abort;
+use std::test::Fail;
+use std::time::Duration;
+
+/// A hash that is the same for everything.
+struct Same;
+
+impl Hasher for Same {
+    type Digest = FixedBytes<MarkedDigestRole, 1>;
+
+    ghost digest_of = { λ _. 0 ∷ [] };
+
+    fn hash(_parts: &[&[u8]]) -> MarkedDigest {
+        MarkedDigest::from_bytes(&[0])
+    }
+}
+
+/// A hash that falls as the last byte rises: 255 less that byte.
+struct Falling;
+
+impl Hasher for Falling {
+    type Digest = FixedBytes<MarkedDigestRole, 1>;
+
+    ghost digest_of = { λ bytes. (255 - fold (λ _ byte. byte) 0 bytes) ∷ [] };
+
+    fn hash(parts: &[&[u8]]) -> MarkedDigest {
+        let mut last = 0;
+        for part in parts {
+            last = last_of(part, last);
+        }
+        MarkedDigest::from_bytes(&[255 - last])
+    }
+}
+
+/// The last of the bytes, or what is given where there is none.
+fn last_of(bytes: &[u8], none: u8) -> u8
+    ensures { result ≡ fold (λ _ byte. byte) none bytes.now }
+{
+    bytes.iter().fold(none, |_, byte| *byte)
+}
+
+/// What makes electors by which participant 0 leads always, whatever the certificate.
+#[derive(Clone, Drop)]
+struct FirstAlways(Terms);
+
+/// An elector by which participant 0 leads always.
+#[derive(Clone, Copy)]
+struct First {
+    terms: Terms,
+    participants: u32,
+    ghost some: { 1 ≤ participants },
+}
+
+impl<S: CertificateScheme> Config<S> for FirstAlways {
+    type Elector = First;
+
+    fn build(self, _alloc: Global, participants: &Set<S::PublicKey>) -> Result<First, AllocError> {
+        Ok(First {
+            terms: self.0,
+            participants: participants.len() as u32,
+        })
+    }
+}
+
+impl<S: CertificateScheme> Elector<S> for First {
+    ghost mode_of = { λ _. Dynamic };
+
+    ghost terms_of = { λ elector. elector.terms };
+
+    ghost participants_of = { λ elector. elector.participants };
+
+    ghost leader_of = { λ _ _ _. 0 };
+
+    fn mode(&self) -> Mode {
+        Mode::Dynamic
+    }
+
+    fn terms(&self) -> Terms {
+        self.terms
+    }
+
+    fn elect(&self, _round: Round, _certificate: Option<&S::Certificate>) -> Participant {
+        Participant::new(0)
+    }
+
+    ghost ignores = { λ _ _ _ _ _. refl };
+
+    ghost one_a_term = { λ _ _ _ _ _ _ _ _. refl };
+}
+
+/// The elector of so many participants.
+fn built<C: Config<Marked>>(
+    rt: &impl Abort,
+    alloc: Global,
+    config: C,
+    participants: u32,
+) -> Result<C::Elector, Fail> {
+    assert!(rt; participants > 0);
+    let committee = Marked::new(alloc, participants, None)?;
+    Ok(config.build(alloc, committee.participants())?)
+}
+
+/// Who leads a view of an epoch.
+fn leader<E: Elector<Marked>>(elector: &E, epoch: u64, view: u64) -> u32 {
+    let round = Round::new(Epoch::new(epoch), View::new(view));
+    elector.elect(round, None).get()
+}
+
+/// Who leads the first so many views of an epoch, from view 0 on.
+fn leaders<E: Elector<Marked>>(
+    alloc: Global,
+    elector: &E,
+    epoch: u64,
+    views: u64,
+) -> Result<Vec<u32>, AllocError> {
+    let mut leaders = Vec::new(alloc);
+    for view in 0..views {
+        leaders.push(leader(elector, epoch, view))?;
+    }
+    Ok(leaders)
+}
+
+/// A rotation by the numbers, in terms of so many views.
+fn rotation(length: u32) -> RoundRobin {
+    let config: RoundRobin = RoundRobin::default();
+    let stall = Duration::from_secs(10);
+    if length == 0 || !can_be_stable(TermLength::new(length), stall) {
+        return config;
+    }
+    config.with_term(TermLength::new(length), stall, ViewDelta::new(0))
+}
+
+/// The leaders of views of an epoch, where so many participants lead terms of so many views in the order of
+/// their numbers.
+struct Row {
+    participants: u32,
+    length: u32,
+    epoch: u64,
+    leaders: &'static [(u64, u32)],
+}
+
+const ROWS: [Row; 14] = [
+    Row {
+        participants: 5,
+        length: 1,
+        epoch: 0,
+        leaders: &[(1, 1), (2, 2), (3, 3), (4, 4), (5, 0)],
+    },
+    Row {
+        participants: 4,
+        length: 3,
+        epoch: 0,
+        leaders: &[(1, 1), (2, 1), (3, 1), (4, 2), (5, 2), (6, 2)],
+    },
+    Row {
+        participants: 4,
+        length: 3,
+        epoch: 1,
+        leaders: &[(1, 2), (3, 2)],
+    },
+    Row {
+        participants: 4,
+        length: 3,
+        epoch: 2,
+        leaders: &[(1, 3), (2, 3)],
+    },
+    Row {
+        participants: 5,
+        length: 1,
+        epoch: 4294967295,
+        leaders: &[(1, 1)],
+    },
+    Row {
+        participants: 5,
+        length: 5,
+        epoch: u64::MAX - 1,
+        leaders: &[(1, 0), (6, 0), (11, 1)],
+    },
+    Row {
+        participants: 5,
+        length: 1,
+        epoch: u64::MAX,
+        leaders: &[(0, 0), (1, 0), (2, 1)],
+    },
+    Row {
+        participants: 4,
+        length: 1,
+        epoch: 0,
+        leaders: &[(0, 0), (4, 0), (5, 1), (7, 3), (8, 0), (11, 3), (12, 0)],
+    },
+    Row {
+        participants: 5,
+        length: 1,
+        epoch: 1,
+        leaders: &[(1, 2)],
+    },
+    Row {
+        participants: 5,
+        length: 1,
+        epoch: 2,
+        leaders: &[(1, 3)],
+    },
+    Row {
+        participants: 5,
+        length: 1,
+        epoch: 3,
+        leaders: &[(1, 4)],
+    },
+    Row {
+        participants: 5,
+        length: 1,
+        epoch: 4,
+        leaders: &[(1, 0)],
+    },
+    Row {
+        participants: 1,
+        length: 1,
+        epoch: 7,
+        leaders: &[(0, 0), (1, 0), (u64::MAX, 0)],
+    },
+    Row {
+        participants: 1,
+        length: 9,
+        epoch: u64::MAX,
+        leaders: &[(0, 0), (9, 0), (u64::MAX, 0)],
+    },
+];
+
+#[test]
+fn participants_take_turns(rt: HostRuntime) -> Result<(), Fail> {
+    for row in &ROWS {
+        let elector = built(&rt, rt.alloc(), rotation(row.length), row.participants)?;
+        for (view, expected) in row.leaders {
+            let found = leader(&elector, row.epoch, *view);
+            assert_eq!(rt; found, *expected, "of view {view} in epoch {}", row.epoch);
+        }
+    }
+    Ok(())
+}
+
+#[test]
+fn ties_are_broken_by_the_number(rt: HostRuntime) -> Result<(), Fail> {
+    let same: RoundRobin<Same> = RoundRobin::shuffled(rt.alloc(), b"s")?;
+    let elector = built(&rt, rt.alloc(), same, 5)?;
+    let found = leaders(rt.alloc(), &elector, 0, 6)?;
+    assert_eq!(rt; found.as_slice(), [0, 1, 2, 3, 4, 0].as_slice());
+    Ok(())
+}
+
+#[test]
+fn a_lower_hash_leads_earlier(rt: HostRuntime) -> Result<(), Fail> {
+    let falling: RoundRobin<Falling> = RoundRobin::shuffled(rt.alloc(), b"s")?;
+    let copy = falling.clone()?;
+    for config in [falling, copy] {
+        let elector = built(&rt, rt.alloc(), config, 5)?;
+        let found = leaders(rt.alloc(), &elector, 0, 6)?;
+        assert_eq!(rt; found.as_slice(), [4, 3, 2, 1, 0, 4].as_slice());
+    }
+    Ok(())
+}
+
+/// The participants by their SHA-256 with a seed.
+fn by_digest(alloc: Global, seed: &[u8], participants: u32) -> Result<Vec<u32>, AllocError> {
+    let mut digests = Vec::new(alloc);
+    for number in 0..participants {
+        let mut bytes = seed.to_vec(alloc)?;
+        bytes.extend_from_slice(&number.to_be_bytes())?;
+        digests.push((sha2::Sha256::digest(&bytes), number))?;
+    }
+    digests.sort_unstable();
+    let mut numbers = Vec::new(alloc);
+    for (_, number) in &digests {
+        numbers.push(*number)?;
+    }
+    Ok(numbers)
+}
+
+#[test]
+fn seeds_order_by_sha_256(rt: HostRuntime) -> Result<(), Fail> {
+    let seeds: [&[u8]; 2] = [b"seed1", b"seed2"];
+    for seed in seeds {
+        let shuffled: RoundRobin = RoundRobin::shuffled(rt.alloc(), seed)?;
+        let elector = built(&rt, rt.alloc(), shuffled, 5)?;
+        let copy = elector.clone()?;
+        let order = by_digest(rt.alloc(), seed, 5)?;
+        assert_eq!(rt; leaders(rt.alloc(), &elector, 0, 5)?, order);
+        assert_eq!(rt; leaders(rt.alloc(), &copy, 0, 5)?, order);
+    }
+    Ok(())
+}
+
+#[test]
+fn one_participant_leads_always(rt: HostRuntime) -> Result<(), Fail> {
+    let seeds: [&[u8]; 3] = [b"", b"s", b"seed1"];
+    for seed in seeds {
+        let shuffled: RoundRobin = RoundRobin::shuffled(rt.alloc(), seed)?;
+        let elector = built(&rt, rt.alloc(), shuffled, 1)?;
+        for (epoch, view) in [(0, 0), (0, 1), (7, 9), (u64::MAX, u64::MAX)] {
+            assert_eq!(rt; leader(&elector, epoch, view), 0, "of {view} in {epoch}");
+        }
+    }
+    Ok(())
+}
+
+#[test]
+fn another_elector_has_one_leader(rt: HostRuntime) -> Result<(), Fail> {
+    let terms = Terms::stable(
+        TermLength::new(3),
+        Duration::from_secs(10),
+        ViewDelta::new(1),
+    );
+    let elector = built(&rt, rt.alloc(), FirstAlways(terms), 4)?;
+    assert_eq!(rt;
+        leaders(rt.alloc(), &elector, 5, 4)?.as_slice(),
+        [0; 4].as_slice()
+    );
+    assert_eq!(rt; mode_and_terms(&elector), (Mode::Dynamic, terms));
+    let elector = built(&rt, rt.alloc(), rotation(1), 4)?;
+    assert_eq!(rt;
+        mode_and_terms(&elector),
+        (Mode::Scheduled, Terms::rotating())
+    );
+    Ok(())
+}
+
+/// How an elector goes by certificates and terms.
+fn mode_and_terms<E: Elector<Marked>>(elector: &E) -> (Mode, Terms) {
+    (elector.mode(), elector.terms())
+}
+
+#[test]
+fn modes_pass_certificates_on(rt: HostRuntime) {
+    let certificate = 5u8;
+    assert_eq!(rt; Mode::Scheduled.input(Some(&certificate)), None);
+    assert_eq!(rt; Mode::Dynamic.input(Some(&certificate)), Some(&certificate));
+    assert_eq!(rt; Mode::Dynamic.input::<u8>(None), None);
+    assert_eq!(rt; Mode::Scheduled.early::<u8>(), Some(None));
+    assert_eq!(rt; Mode::Dynamic.early::<u8>(), None);
+}
+
+#[test]
+fn terms_are_rotating_or_stable(rt: HostRuntime) {
+    let second = Duration::from_secs(1);
+    assert!(rt; !can_be_stable(TermLength::ONE, second));
+    assert!(rt; !can_be_stable(TermLength::new(2), Duration::ZERO));
+    assert!(rt; can_be_stable(TermLength::new(2), Duration::from_nanos(1)));
+    assert_eq!(rt; Terms::default(), Terms::rotating());
+    assert_eq!(rt; Terms::rotating().length(), TermLength::ONE);
+    assert_eq!(rt; Terms::rotating().stall_timeout(), None);
+    assert_eq!(rt; Terms::rotating().optimistic_views(), ViewDelta::new(0));
+    for views in [0, 3, 4, 5, 6, u64::MAX] {
+        let terms = Terms::stable(TermLength::new(5), second, ViewDelta::new(views));
+        assert_eq!(rt; terms.length(), TermLength::new(5));
+        assert_eq!(rt; terms.stall_timeout(), Some(second));
+        assert_eq!(rt; terms.optimistic_views(), ViewDelta::new(views));
+    }
+}
