@@ -1,2 +1,3 @@
 pub mod Votes
 pub mod Spellings
+pub mod Assembly

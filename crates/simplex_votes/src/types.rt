@@ -1,5 +1,6 @@
 //! The votes and certificates of the protocol.
 
+mod assembly;
 pub mod certificates;
 pub mod votes;
 
