@@ -1,6 +1,6 @@
 //! Certificates that list their attestations.
 
-ghost use Rattle.std.specs.Prelude.{◌≡◌, ◌<◌, ◌^◌, IfOk, length, true, false};
+ghost use Rattle.std.specs.Prelude.{◌≡◌, ◌+◌, ◌*◌, ◌<◌, ◌≤◌, ◌^◌, IfOk, length, true, false};
 ghost use Rattle.std.specs.Hash as fed;
 ghost use Rattle.std.specs.Cmp.Lexicographic.{pointwise, lists_per};
 ghost use Rattle.std.specs.Cmp.Rules.{comparing, hashing};
@@ -142,6 +142,15 @@ impl<S: SchemeTypes> Read for Listed<S> {
     ghost lawful = { λ bound. listed_lawful (fixed S.Signature.SIZE S.Signature.bytes_of S.Signature.of_bytes) bound (fixed_lawful S.Signature.SIZE S.Signature.bytes_of S.Signature.of_bytes S.Signature.back S.Signature.forth) };
 }
 
+/// How many attestations the bytes can hold, but no more than the count. Each takes a byte at least, and its
+/// signature's.
+fn room_for<S: SchemeTypes>(bytes: &[u8], count: u32) -> usize
+    ensures held { result * (1 + S.Signature.SIZE) ≤ length bytes.now }
+    ensures counted { result ≤ count }
+{
+    (bytes.len() / (1 + S::Signature::SIZE)).min(count as usize)
+}
+
 /// Reads so many attestations with ascending signers below the bound.
 fn read_attestations<S: SchemeTypes>(
     alloc: Global,
@@ -153,8 +162,8 @@ fn read_attestations<S: SchemeTypes>(
     ensures { Gives true result input.old.now input.new.now (attestations_at (fixed S.Signature.SIZE S.Signature.bytes_of S.Signature.of_bytes) bound 0 count input.old.now) }
 {
     let mut rest: &[u8] = known_bytes(*input);
-    let room = rest.len() / (1 + S::Signature::SIZE);
-    let Ok(mut attestations) = Vec::with_capacity(alloc, room.min(count as usize)) else {
+    let room = room_for::<S>(rest, count);
+    let Ok(mut attestations) = Vec::with_capacity(alloc, room) else {
         return Err(Error::OutOfMemory);
     };
     let mut least = 0;
