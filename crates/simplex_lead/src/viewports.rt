@@ -40,7 +40,7 @@ impl Viewport {
         requires { FitsWindow self.now.lookahead.term_length self.now.current }
         ensures { IsTrue result ↔ (IsRetained self.now.finalized self.now.view_retention pending × IsAdmitted self.now.lookahead.term_length self.now.lookahead.optimistic_views self.now.current pending) }
     {
-        self.retains(pending) && self.lookahead.admits(self.current, pending)
+        self.lookahead.admits(self.current, pending) && self.retains(pending)
     }
 
     /// Whether certificates of the view are taken: it is kept, however late it is.

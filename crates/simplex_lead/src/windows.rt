@@ -1,6 +1,6 @@
 //! Which views a node takes votes of, sends messages of and keeps.
 
-ghost use Rattle.std.specs.Prelude.{◌≡◌, ℕ, ◌+◌, ◌-◌, ◌*◌, ◌<◌, ◌≤◌, ◌^◌, ◌↔◌, ◌⊎◌, IsTrue, IfSome, MatchOption, min};
+ghost use Rattle.std.specs.Prelude.{◌≡◌, ℕ, ◌+◌, ◌-◌, ◌<◌, ◌≤◌, ◌^◌, ◌↔◌, ◌⊎◌, IsTrue, IfSome, MatchOption};
 ghost use Rattle.simplex_base.specs.Terms.{term_start, term_end};
 ghost use Rattle.simplex_lead.specs.Counting.{NumberExactly};
 ghost use Rattle.simplex_lead.specs.Windows.{FitsWindow, next_start, own_limit, next_limit, IsAdmitted, admitted_above, Leads, IsOutbound, views_between};

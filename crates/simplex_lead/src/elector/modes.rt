@@ -1,6 +1,6 @@
 //! What electors go by.
 
-ghost use Rattle.std.specs.Prelude.{◌≡◌, Some, None};
+ghost use Rattle.std.specs.Prelude.{◌≡◌};
 ghost use Rattle.std.specs.Option.{option_copied};
 
 /// How an elector uses the certificate that leads to a view.

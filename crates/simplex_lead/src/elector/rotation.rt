@@ -1,6 +1,6 @@
 //! Electors that go round the participants, term after term.
 
-ghost use Rattle.std.specs.Prelude.{◌≡◌, ℕ, ◌+◌, ◌<◌, ◌≤◌, ◌^◌, ◌++◌, List, Option, Some, None, length, IfOk, OnOk, IsPermutation};
+ghost use Rattle.std.specs.Prelude.{◌≡◌, ℕ, ◌+◌, ◌<◌, ◌≤◌, ◌^◌, ◌++◌, List, None, length, IfOk, OnOk, IsPermutation};
 ghost use Rattle.std.specs.List.{range_with_len};
 ghost use Rattle.std.specs.List.Sorted.{IsSortedByKey};
 ghost use Rattle.std.specs.Int.{to_be_bytes, w32};
@@ -8,7 +8,7 @@ ghost use Rattle.std.specs.Option.{option_copied};
 ghost use Rattle.simplex_base.specs.Positions as positions;
 ghost use Rattle.simplex_base.specs.Terms.{HoldsView};
 ghost use Rattle.simplex_lead.specs.Structure.{CanBeStable, rotating};
-ghost use Rattle.simplex_lead.specs.Rotation.{IsOrder, leader, leader_of_round, EachLeadsOnce};
+ghost use Rattle.simplex_lead.specs.Rotation.{IsOrder, leader_of_round, EachLeadsOnce};
 
 use crate::elector::electing::{Config, Elector};
 use crate::elector::modes::Mode;
@@ -212,10 +212,7 @@ impl<S: CertificateScheme> RoundRobinElector<S> {
 }
 
 impl<S: CertificateScheme> Elector<S> for RoundRobinElector<S> {
-    ghost use Rattle.std.proofs.Common.{ap, refl};
-    ghost use Rattle.std.specs.Prelude.{length};
-    ghost use Rattle.simplex_base.specs.TermLaws.{same_term};
-    ghost use Rattle.simplex_lead.specs.Rotation.{leader_of_round};
+    ghost use Rattle.std.proofs.Common.{refl};
     ghost use Rattle.simplex_lead.specs.RotationLaws.{same_leader};
     ghost use Rattle.simplex_lead.specs.declared.elector.modes.Mode.TheVariants.{Scheduled};
 

@@ -1,6 +1,6 @@
 //! How views make up terms.
 
-ghost use Rattle.std.specs.Prelude.{◌≡◌, ◌<◌, ◌↔◌, IsTrue, IsSome, Some};
+ghost use Rattle.std.specs.Prelude.{◌≡◌, ◌<◌, ◌↔◌, IsTrue, IsSome};
 ghost use Rattle.simplex_lead.specs.Structure.{CanBeStable, rotating};
 
 use simplex_base::positions::{TermLength, ViewDelta};
