@@ -1,3 +1,5 @@
 pub mod Contradiction
 pub mod Conflict
 pub mod Activity
+pub mod VoteMap
+pub mod Gap
