@@ -1,0 +1,266 @@
+use super::AttributableMap;
+use super::slots::SlotMap;
+use simplex_base::positions::Participant;
+use simplex_votes::types::Attributable;
+use std::alloc::{AllocError, Global};
+use std::process::Abort;
+use std::test::Fail;
+
+/// An item whose number tells it from others of its signer.
+#[derive(Clone, Copy, Debug, PartialEq, Eq)]
+struct Ballot {
+    signer: u32,
+    number: u32,
+}
+
+impl Ballot {
+    fn of(signer: u32) -> Self {
+        Ballot { signer, number: 0 }
+    }
+}
+
+impl Attributable for Ballot {
+    ghost signer_of = { λ ballot. ballot.signer };
+
+    fn signer(&self) -> Participant {
+        Participant::new(self.signer)
+    }
+}
+
+/// Numbers that look random, the same in every run: Knuth's 64-bit linear congruence.
+#[derive(Drop)]
+struct Numbers(u64);
+
+impl Numbers {
+    fn below(&mut self, end: u32) -> u32 {
+        self.0 = self
+            .0
+            .wrapping_mul(6_364_136_223_846_793_005)
+            .wrapping_add(1_442_695_040_888_963_407);
+        let high = (self.0 >> 32) as u32;
+        high.checked_rem(end).unwrap_or(0)
+    }
+}
+
+/// The items of a map, by `collect`.
+fn walk<T: Attributable>(alloc: Global, map: &AttributableMap<T>) -> Result<Vec<&T>, AllocError> {
+    map.iter().collect(alloc)
+}
+
+/// The signers of a map's items, by a loop.
+fn signers<T: Attributable>(
+    alloc: Global,
+    map: &AttributableMap<T>,
+) -> Result<Vec<u32>, AllocError> {
+    let mut signers = Vec::new(alloc);
+    for item in map.iter() {
+        signers.push(item.signer().get())?;
+    }
+    Ok(signers)
+}
+
+/// Inserts of signers, what each answers, and the signers of the walk after them.
+struct Row {
+    participants: usize,
+    inserts: &'static [(u32, bool)],
+    walk: &'static [u32],
+}
+
+const ROWS: [Row; 5] = [
+    Row {
+        participants: 5,
+        inserts: &[(3, true), (1, true), (3, false), (5, false), (100, false)],
+        walk: &[1, 3],
+    },
+    Row {
+        participants: 5,
+        inserts: &[(4, true), (0, true), (2, true)],
+        walk: &[0, 2, 4],
+    },
+    Row {
+        participants: 5,
+        inserts: &[
+            (4, true),
+            (0, true),
+            (4, false),
+            (2, true),
+            (1, true),
+            (3, true),
+            (0, false),
+        ],
+        walk: &[0, 1, 2, 3, 4],
+    },
+    Row {
+        participants: 0,
+        inserts: &[(0, false), (1, false), (u32::MAX, false)],
+        walk: &[],
+    },
+    Row {
+        participants: 1,
+        inserts: &[(1, false), (0, true), (0, false)],
+        walk: &[0],
+    },
+];
+
+#[test]
+fn ample_rows(rt: HostRuntime) -> Result<(), Fail> {
+    for row in &ROWS {
+        let mut map = AttributableMap::new(rt.alloc(), row.participants);
+        for (signer, kept) in row.inserts {
+            assert_eq!(rt; map.insert(Ballot::of(*signer))?, *kept, "of {signer}");
+        }
+        assert_eq!(rt; signers(rt.alloc(), &map)?.as_slice(), row.walk);
+        assert_eq!(rt; map.len(), row.walk.len());
+        assert_eq!(rt; map.is_empty(), row.walk.is_empty());
+    }
+    Ok(())
+}
+
+/// The walk of a map of 5 participants, and who of them has an item.
+fn assert_signers(
+    rt: &impl Abort,
+    alloc: Global,
+    map: &AttributableMap<Ballot>,
+    wanted: &[u32],
+) -> Result<(), Fail> {
+    assert_eq!(rt; signers(alloc, map)?.as_slice(), wanted);
+    assert_eq!(rt;
+        (map.len(), map.is_empty()),
+        (wanted.len(), wanted.is_empty())
+    );
+    for signer in 0..7 {
+        let found = map.get(Participant::new(signer)).map(|item| item.signer);
+        assert_eq!(rt; found.is_some(), wanted.contains(&signer), "of {signer}");
+        assert_eq!(rt; found.unwrap_or(signer), signer);
+    }
+    Ok(())
+}
+
+#[test]
+fn ample_calls_in_turn(rt: HostRuntime) -> Result<(), Fail> {
+    let alloc = rt.alloc();
+    let mut map = AttributableMap::new(alloc, 5);
+    assert_signers(&rt, alloc, &map, &[])?;
+    let inserts: [(u32, bool, &[u32]); 5] = [
+        (3, true, &[3]),
+        (1, true, &[1, 3]),
+        (3, false, &[1, 3]),
+        (5, false, &[1, 3]),
+        (100, false, &[1, 3]),
+    ];
+    for (number, (signer, kept, wanted)) in inserts.into_iter().enumerate() {
+        let number = number as u32;
+        assert_eq!(rt; map.insert(Ballot { signer, number })?, kept, "of {signer}");
+        assert_signers(&rt, alloc, &map, wanted)?;
+    }
+    let first = Ballot {
+        signer: 3,
+        number: 0,
+    };
+    assert_eq!(rt; map.get(Participant::new(3)), Some(&first));
+    map.clear();
+    assert_signers(&rt, alloc, &map, &[])?;
+    assert!(rt; map.iter().next().is_none());
+    assert!(rt; map.insert(Ballot::of(2))?);
+    assert_signers(&rt, alloc, &map, &[2])
+}
+
+/// A map and its slots answer alike for each participant up to a number.
+fn assert_same(
+    rt: &impl Abort,
+    alloc: Global,
+    map: &AttributableMap<Ballot>,
+    slots: &SlotMap<Ballot>,
+    end: u32,
+) -> Result<(), Fail> {
+    assert_eq!(rt; walk(alloc, map)?, slots.walk()?);
+    assert_eq!(rt;
+        (map.len(), map.is_empty()),
+        (slots.len(), slots.is_empty())
+    );
+    for signer in 0..end {
+        let signer = Participant::new(signer);
+        assert_eq!(rt; map.get(signer), slots.get(signer), "of {signer:?}");
+    }
+    Ok(())
+}
+
+#[test]
+fn ample_random_calls(rt: HostRuntime) -> Result<(), Fail> {
+    let alloc = rt.alloc();
+    let mut numbers = Numbers(0);
+    for participants in [0, 1, 2, 5, 16] {
+        let mut map = AttributableMap::new(alloc, participants as usize);
+        let mut slots = SlotMap::new(alloc, participants as usize);
+        for number in 0..2000 {
+            // Numbers past the last participant come too, and one call in 32 is a clear.
+            let signer = numbers.below(participants + 2);
+            let item = Ballot { signer, number };
+            if numbers.below(32) == 0 {
+                map.clear();
+                slots.clear();
+            } else {
+                assert_eq!(rt; map.insert(item)?, slots.insert(item)?, "of {item:?}");
+            }
+            assert_same(&rt, alloc, &map, &slots, participants + 2)?;
+        }
+    }
+    Ok(())
+}
+
+/// A vector that grew has more room from then on, so the room is compared at the end.
+#[test]
+fn ample_million_inserts(rt: HostRuntime) -> Result<(), Fail> {
+    let mut map = AttributableMap::new(rt.alloc(), 1000);
+    let mut numbers = Numbers(0);
+    assert!(rt; map.insert(Ballot::of(numbers.below(1000)))?);
+    let room = map.items.capacity();
+    for _ in 1..1_000_000 {
+        map.insert(Ballot::of(numbers.below(1000)))?;
+    }
+    assert_eq!(rt; (map.len(), map.items.capacity(), room), (1000, 1000, 1000));
+    map.clear();
+    assert_eq!(rt; map.items.capacity(), 0);
+    Ok(())
+}
+
+/// Fills a map twice, with a clear between. Answers whether memory was refused; then the map was as before, and
+/// took the item when it came again.
+fn is_refused(rt: &(impl Abort + AllocGlobal)) -> bool {
+    let mut map = AttributableMap::new(rt.alloc(), 5);
+    let mut refused = false;
+    for _ in 0..2 {
+        assert!(rt; matches!(map.insert(Ballot::of(5)), Ok(false)));
+        if map.insert(Ballot::of(3)).is_err() {
+            refused = true;
+            assert!(rt; map.is_empty());
+            assert_eq!(rt; map.get(Participant::new(3)), None);
+            assert!(rt; matches!(map.insert(Ballot::of(3)), Ok(true)));
+        }
+        assert!(rt; matches!(map.insert(Ballot::of(3)), Ok(false)));
+        assert!(rt; matches!(map.insert(Ballot::of(1)), Ok(true)));
+        assert_eq!(rt; map.len(), 2);
+        map.clear();
+    }
+    refused
+}
+
+#[test]
+fn ample(rt: HostRuntime) {
+    assert!(rt; !is_refused(&rt));
+}
+
+/// Where the room is refused the map is as before.
+#[test]
+fn refused(rt: HostRuntime) {
+    let _ = is_refused(&rt);
+}
+
+/// No memory has room for so many participants.
+#[test]
+fn too_many_participants(rt: HostRuntime) {
+    let mut map = AttributableMap::new(rt.alloc(), usize::MAX);
+    assert!(rt; map.insert(Ballot::of(3)).is_err());
+    assert!(rt; map.is_empty());
+    assert!(rt; map.insert(Ballot::of(3)).is_err());
+}
