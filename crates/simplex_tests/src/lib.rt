@@ -15,3 +15,5 @@ mod signing;
 mod spelling;
 #[cfg(test)]
 mod streams;
+#[cfg(test)]
+mod vote_map;
