@@ -2,7 +2,6 @@
 
 ghost use Rattle.std.specs.Prelude.{◌≡◌, ◌↔◌, ◌<◌, ◌≤◌, IsTrue, IfOk, All, map, nat_eq};
 ghost use Rattle.std.specs.List.{IsDistinct, list_any};
-ghost use Rattle.simplex_scheme.specs.Committee.{quorum_of};
 ghost use Rattle.simplex_votes.specs.Assembly.{attestations_of};
 
 use crate::types::votes::{Attributable, Notarize};
@@ -11,14 +10,6 @@ use simplex_base::positions::Participant;
 use simplex_scheme::proposal::Proposal;
 use simplex_scheme::scheme::{Attestation, Digest, SchemeTypes};
 use std::alloc::{AllocError, Global};
-
-/// How many of this many participants are a quorum.
-pub fn quorum(participants: u32) -> u32
-    requires { 1 ≤ participants }
-    ensures { result ≡ quorum_of participants }
-{
-    participants - (participants - 1) / 3
-}
 
 /// Whether two proposals are the same.
 pub fn are_same<D: Digest>(one: &Proposal<D>, other: &Proposal<D>) -> bool

@@ -6,12 +6,13 @@ ghost use Rattle.simplex_base.specs.FormatLaws.{fixed_lawful};
 ghost use Rattle.simplex_scheme.specs.Committee.{quorum_of};
 ghost use Rattle.simplex_scheme.specs.Subject.{Notarizes};
 
-use crate::types::assembly::{are_distinct, are_for, attestations, quorum};
+use crate::types::assembly::{are_distinct, are_for, attestations};
 use crate::types::votes::Notarize;
 use simplex_base::codec::error::Error;
 use simplex_base::codec::parts::write_both;
 use simplex_base::codec::{EncodeSize, Fixed, FixedSize, MaxEncodeSize, Read, Spell, Write};
 use simplex_base::positions::{Epoch, Epochable, Round, View, Viewable};
+use simplex_scheme::faults::quorum;
 use simplex_scheme::proposal::{Proposal, Subject};
 use simplex_scheme::scheme::{
     AssemblyError, CertificateScheme, CertificateVerifier, Digest, Scheme,
