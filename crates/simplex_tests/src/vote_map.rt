@@ -15,7 +15,7 @@ use std::test::Fail;
 type Vote = Notarize<Marked, MarkedDigest>;
 
 fn vote(signer: u32, payload: u8) -> Vote {
-    let round = Round::new(Epoch::new(0), View::new(10));
+    let round = Round::new(Epoch::new(1), View::new(8));
     Notarize {
         proposal: Proposal::new(round, View::new(5), MarkedDigest::from_bytes(&[payload])),
         attestation: Attestation {
