@@ -89,3 +89,6 @@ pub(crate) fn assembled<S: CertificateScheme>(
     sort_by_signers(&mut attestations);
     Ok(Listed::from_ascending(attestations))
 }
+
+#[cfg(test)]
+mod tests;
