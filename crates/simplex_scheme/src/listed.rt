@@ -22,7 +22,8 @@ use std::alloc::{AllocError, Global};
 use std::hash::{Hash, Hasher};
 use std::marker::Model;
 
-/// From 1 to 2^32 - 1 attestations with strictly ascending signers.
+/// From 1 to 2^32 - 1 attestations with strictly ascending signers, spelled as their count, 1 to 5 bytes, and the
+/// attestations one after another.
 #[derive(Drop)]
 pub struct Listed<S: SchemeTypes> {
     attestations: Vec<Attestation<S>>,
@@ -42,7 +43,7 @@ impl<S: SchemeTypes> Model for Listed<S> {
 }
 
 impl<S: SchemeTypes> Listed<S> {
-    /// The certificate of these attestations, which are listable already.
+    /// The certificate of these attestations, without memory.
     pub(crate) fn from_ascending(attestations: Vec<Attestation<S>>) -> Listed<S>
         requires { AreListed attestations.items }
         ensures { result ≡ attestations.items }
@@ -112,8 +113,10 @@ impl<S: SchemeTypes> EncodeSize for Listed<S> {
     }
 }
 
-/// The bound is the number of participants: it bounds the count, and each signer is below it. As many attestations
-/// are reserved as the bytes behind the count can hold, and no more than the count.
+/// A certificate is read under a bound, the number of participants. `Invalid` comes at once where the count is 0 or
+/// above the bound, and behind an attestation whose signer is at or past the bound or not above the one before it.
+/// `OutOfMemory` comes where no room for the attestations was given: for as many as the bytes behind the count can
+/// hold, and for no more than the count.
 impl<S: SchemeTypes> Read for Listed<S> {
     type Cfg = u32;
 
