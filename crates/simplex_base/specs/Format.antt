@@ -1,6 +1,6 @@
 -- Formats: which values there are, how each is spelled, and how it is read.
-use Rattle.std.specs.Prelude.{◌≡◌, ◌++◌, ℕ, List, Ok, Err, nat_lt, take, drop, length, if◌then◌else◌}
-use Rattle.simplex_base.specs.Reading.{Reading, ◌>>=◌, IsBytes, end_of_buffer}
+use Rattle.std.specs.Prelude.{◌≡◌, ◌++◌, ◌∷◌, [], ◌==◌, ⊤, ℕ, Bool, true, false, IsTrue, List, Ok, Err, nat_lt, take, drop, length, if◌then◌else◌}
+use Rattle.simplex_base.specs.Reading.{Reading, Refusal, ◌>>=◌, IsBytes, end_of_buffer, invalid_bool}
 
 -- x is a value, and its spelling stands in front of the rest
 pub record Spelled {T : Type 0} (is_value : T → Type 0) (spelling : T → List ℕ) (bytes : List ℕ) (x : T) (rest : List ℕ) : Type 0 where
@@ -56,3 +56,23 @@ fixed_at size of_bytes bytes = if nat_lt (length bytes) size then Err end_of_buf
 
 abbrev pub fixed : {T : Type 0} → ℕ → (T → List ℕ) → (List ℕ → T) → Format T
 fixed size bytes_of of_bytes = record { is_value = λ x. IsFixed size (bytes_of x); spelling = bytes_of; reading = fixed_at size of_bytes }
+
+-- ---- a value that meets a condition, which is tested after its last part
+
+abbrev pub tested_at : {T : Type 0} → (T → Bool) → Refusal → (List ℕ → Reading T) → List ℕ → Reading T
+tested_at test refusal read bytes = read bytes >>= λ x. if test x.0 then Ok x else Err refusal
+
+abbrev pub tested : {T : Type 0} → (T → Bool) → Refusal → Format T → Format T
+tested test refusal f = record { is_value = λ x. f.is_value x × IsTrue (test x); spelling = f.spelling; reading = tested_at test refusal f.reading }
+
+-- ---- a truth value: 0 for false, 1 for true
+
+abbrev pub truth_spelling : Bool → List ℕ
+truth_spelling b = (if b then 1 else 0) ∷ []
+
+abbrev pub truth_at : List ℕ → Reading Bool
+truth_at [] = Err end_of_buffer
+truth_at (b ∷ bytes) = if b == 0 then Ok (false, bytes) else (if b == 1 then Ok (true, bytes) else Err invalid_bool)
+
+abbrev pub truth : Format Bool
+truth = record { is_value = λ b. ⊤; spelling = truth_spelling; reading = truth_at }

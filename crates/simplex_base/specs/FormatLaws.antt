@@ -1,11 +1,11 @@
 -- Formats put together are lawful where their parts are, and what follows from being lawful.
-use Rattle.std.specs.Prelude.{IfOk}
+use Rattle.std.specs.Prelude.{IfOk, IsTrue, ⊤}
 use Rattle.std.proofs.Common.{append-nil, ◌≡◌, ◌==◌, if◌then◌else◌, length, ℕ, suc, List, [], ◌∷◌, ◌++◌, Result, Ok, Err, refl, Bool, true, false, cond, nat_lt, take, drop, inl, inr, ◌≤◌, sym, ◌∙◌, ap, subst, append_assoc, arith}
 use Rattle.std.proofs.lemmas.Bool.{eqb-true, cases_lt, le-ltb, ltb-false}
 use Rattle.std.proofs.lemmas.List.{take_at, drop_at, take-append-drop, length-append, length-take, get_or-take, get_or_past}
 use Rattle.simplex_base.specs.declared.codec.error.Error.{Error}
-use Rattle.simplex_base.specs.Reading.{Reading, Refusal, end_of_buffer, extra_data, ◌>>=◌, IsBytes, GivesAll, all_of}
-use Rattle.simplex_base.specs.Format.{Spelled, Lawful, BothAre, both_spelled, both_at, made_at, IsFixed, fixed_at}
+use Rattle.simplex_base.specs.Reading.{Reading, Refusal, end_of_buffer, invalid_bool, extra_data, ◌>>=◌, IsBytes, GivesAll, all_of}
+use Rattle.simplex_base.specs.Format.{Spelled, Lawful, IsLawful, BothAre, both_spelled, both_at, made_at, IsFixed, fixed_at, tested_at, truth, truth_spelling, truth_at}
 
 -- the value of a step that did not fail
 pub bind_ok : {A B : Type 0} (r : Result A Refusal) (f : A → Result B Refusal) (y : B) → (r >>= f) ≡ Ok y → (x : A) × (r ≡ Ok x) × (f x ≡ Ok y)
@@ -44,6 +44,42 @@ made_lawful {A} {B} {is_a} {s} {read_a} make parts mp pm la = record {
       (record { value = rw (pm p.0.0) first.value; parts = rw (pm p.0.0) first.parts });
   again = λ x rest v. rw (la.again (parts x) rest v, mp x) refl;
 }
+
+-- which way a test went
+passed_test : {A : Type 0} (b : Bool) (y z : A) (refusal : Refusal) → ◌≡◌ {A = Result A Refusal} (cond b (Ok y) (Err refusal)) (Ok z) → (b ≡ true) × (y ≡ z)
+passed_test true y z refusal e = (refl, cc)
+passed_test false y z refusal e = absurd cc
+
+pub tested_lawful : {T : Type 0} {is_value : T → Type 0} {spelling : T → List ℕ} {read : List ℕ → Reading T} (test : T → Bool) (refusal : Refusal) → Lawful is_value spelling read → Lawful (λ x. is_value x × IsTrue (test x)) spelling (tested_at test refusal read)
+tested_lawful {T} {is_value} {spelling} {read} test refusal law = record {
+  takes = λ bytes x rest fit e.
+      let p = bind_ok (read bytes) (λ x. if test x.0 then Ok x else Err refusal) (x, rest) e in
+      let q = passed_test (test p.0.0) p.0 (x, rest) refusal p.2 in
+      let first = law.takes bytes p.0.0 p.0.1 fit p.1 in
+      subst (λ (r : T × List ℕ). Spelled (λ x. is_value x × IsTrue (test x)) spelling bytes r.0 r.1) q.1
+      (record { value = (first.value, q.0); parts = first.parts });
+  again = λ x rest v. rw (law.again x rest v.0, v.1) refl;
+}
+
+pub truth_lawful : IsLawful truth
+truth_lawful = record { takes = taken; again = again }
+  where
+    go : (b : ℕ) (bytes : List ℕ) (s t : Bool) (x : Bool) (rest : List ℕ) → (b == 0) ≡ s → (b == 1) ≡ t → cond {A = Reading Bool} s (Ok (false, bytes)) (cond {A = Reading Bool} t (Ok (true, bytes)) (Err invalid_bool)) ≡ Ok (x, rest) → Spelled (λ b. ⊤) truth_spelling (b ∷ bytes) x rest
+    go b bytes true t x rest h k e =
+        let same : ◌≡◌ {A = Bool × List ℕ} (false, bytes) (x, rest) = cc in
+        subst (λ (r : Bool × List ℕ). Spelled (λ b. ⊤) truth_spelling (b ∷ bytes) r.0 r.1) same (record { value = tt; parts = rw (eqb-true b 0 h) refl })
+    go b bytes false true x rest h k e =
+        let same : ◌≡◌ {A = Bool × List ℕ} (true, bytes) (x, rest) = cc in
+        subst (λ (r : Bool × List ℕ). Spelled (λ b. ⊤) truth_spelling (b ∷ bytes) r.0 r.1) same (record { value = tt; parts = rw (eqb-true b 1 k) refl })
+    go b bytes false false x rest h k e = absurd cc
+
+    taken : (bytes : List ℕ) (x : Bool) (rest : List ℕ) → IsBytes bytes → truth_at bytes ≡ Ok (x, rest) → Spelled (λ b. ⊤) truth_spelling bytes x rest
+    taken [] x rest fit e = absurd cc
+    taken (b ∷ bytes) x rest fit e = go b bytes (b == 0) (b == 1) x rest refl refl e
+
+    again : (x : Bool) (rest : List ℕ) → ⊤ → truth_at (truth_spelling x ++ rest) ≡ Ok (x, rest)
+    again true rest v = refl
+    again false rest v = refl
 
 rest_none : {A : Type 0} (xs : List A) → (length xs == 0) ≡ true → xs ≡ []
 rest_none [] e = refl

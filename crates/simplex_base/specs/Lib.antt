@@ -4,6 +4,7 @@ pub mod FormatLaws
 pub mod Union
 pub mod Varint
 pub mod VarintLaws
+pub mod Sizes
 pub mod Positions
 pub mod Terms
 pub mod TermLaws

@@ -10,6 +10,7 @@ pub mod counted;
 pub mod error;
 pub mod fixed_bytes;
 pub mod parts;
+pub mod truth;
 pub mod varint;
 
 use bytes::Bytes;

@@ -1,0 +1,84 @@
+//! Truth values.
+
+ghost use Rattle.std.specs.Prelude.{false};
+ghost use Rattle.simplex_base.specs.Format.{truth};
+ghost use Rattle.simplex_base.specs.FormatLaws.{truth_lawful};
+
+use crate::codec::error::Error;
+use crate::codec::{EncodeSize, Read, Spell, Write};
+use std::alloc::{AllocError, Global};
+
+/// One byte: `00` is false, `01` is true, and another is refused by `InvalidBool`.
+impl Spell for bool {
+    ghost is_value = { truth.is_value };
+
+    ghost spelling = { truth.spelling };
+}
+
+impl Write for bool {
+    fn write(&self, buf: &mut Vec<u8>) -> Result<(), AllocError> {
+        buf.push(u8::from(*self))?;
+        Ok(())
+    }
+}
+
+impl EncodeSize for bool {
+    ghost limit = { 1 };
+
+    fn encode_size(&self) -> usize {
+        1
+    }
+}
+
+impl Read for bool {
+    type Cfg = ();
+
+    ghost fits = { λ _. truth.is_value };
+
+    ghost reading = { λ _. truth.reading };
+
+    ghost takes_memory = { false };
+
+    fn read_cfg(_alloc: Global, input: &mut &[u8], _cfg: &()) -> Result<Self, Error> {
+        let bytes: &[u8] = *input;
+        let [byte, rest @ ..] = bytes else {
+            return Err(Error::EndOfBuffer);
+        };
+        let value = match *byte {
+            0 => false,
+            1 => true,
+            _ => return Err(Error::InvalidBool),
+        };
+        *input = rest;
+        Ok(value)
+    }
+
+    ghost lawful = { λ _. truth_lawful };
+}
+
+#[cfg(test)]
+mod tests {
+    use super::*;
+    use crate::codec::{Encode, decode};
+    use std::test::Fail;
+
+    #[test]
+    fn truth_values_are_one_byte(rt: HostRuntime) -> Result<(), Fail> {
+        let alloc = rt.alloc();
+        let rows: [(bool, &[u8]); 2] = [(false, &[0]), (true, &[1])];
+        for (value, spelling) in rows {
+            assert_eq!(rt; value.encode(alloc)?.as_slice(), spelling);
+            assert_eq!(rt; value.encode_size(), 1);
+            assert_eq!(rt; decode::<bool>(alloc, spelling), Ok(value));
+        }
+        let refused: [(&[u8], Error); 3] = [
+            (&[], Error::EndOfBuffer),
+            (&[2], Error::InvalidBool),
+            (&[1, 0], Error::ExtraData),
+        ];
+        for (bytes, error) in refused {
+            assert_eq!(rt; decode::<bool>(alloc, bytes), Err(error), "of {bytes:?}");
+        }
+        Ok(())
+    }
+}
