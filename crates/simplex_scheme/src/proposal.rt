@@ -9,7 +9,7 @@ use crate::scheme::Digest;
 use bytes::Bytes;
 use simplex_base::codec::error::Error;
 use simplex_base::codec::parts::write_both;
-use simplex_base::codec::{Encode, EncodeSize, Read, Spell, Write};
+use simplex_base::codec::{Encode, EncodeSize, FixedSize, MaxEncodeSize, Read, Spell, Write};
 use simplex_base::positions::{Epoch, Epochable, Round, View, Viewable};
 use std::alloc::{AllocError, Global};
 
@@ -83,6 +83,21 @@ impl<D: Digest> EncodeSize for Proposal<D> {
     fn encode_size(&self) -> usize {
         self.round.encode_size() + self.parent.encode_size() + self.payload.encode_size()
     }
+}
+
+impl<D: Digest> MaxEncodeSize for Proposal<D> {
+    ghost use Rattle.simplex_base.specs.Sizes.{fixed_within, fixed_longest};
+    ghost use Rattle.simplex_scheme.specs.Proposal.{proposal_within, proposal_longest};
+
+    ghost max_size = { 30 + D.SIZE };
+
+    fn max_encode_size() -> usize {
+        Round::max_encode_size() + View::max_encode_size() + D::SIZE
+    }
+
+    ghost within = { proposal_within (fixed D.SIZE D.bytes_of D.of_bytes) D.SIZE (fixed_within D.SIZE D.bytes_of D.of_bytes) };
+
+    ghost reached = { proposal_longest (fixed D.SIZE D.bytes_of D.of_bytes) D.SIZE (fixed_longest D.SIZE D.bytes_of D.of_bytes D.back) };
 }
 
 impl<D: Digest> Read for Proposal<D> {

@@ -11,7 +11,7 @@ use crate::proposal::Subject;
 use crate::set::Set;
 use simplex_base::codec::error::Error;
 use simplex_base::codec::parts::write_both;
-use simplex_base::codec::{EncodeSize, Fixed, Read, Spell, Write};
+use simplex_base::codec::{EncodeSize, Fixed, FixedSize, MaxEncodeSize, Read, Spell, Write};
 use simplex_base::positions::Participant;
 use std::alloc::{AllocError, Global};
 use std::hash::Hash;
@@ -229,6 +229,21 @@ impl<S: SchemeTypes> EncodeSize for Attestation<S> {
     fn encode_size(&self) -> usize {
         self.signer.encode_size() + self.signature.encode_size()
     }
+}
+
+impl<S: SchemeTypes> MaxEncodeSize for Attestation<S> {
+    ghost use Rattle.simplex_base.specs.Sizes.{fixed_within, fixed_longest};
+    ghost use Rattle.simplex_scheme.specs.Attestation.{attestation_within, attestation_longest};
+
+    ghost max_size = { 5 + S.Signature.SIZE };
+
+    fn max_encode_size() -> usize {
+        Participant::max_encode_size() + S::Signature::SIZE
+    }
+
+    ghost within = { attestation_within (fixed S.Signature.SIZE S.Signature.bytes_of S.Signature.of_bytes) S.Signature.SIZE (fixed_within S.Signature.SIZE S.Signature.bytes_of S.Signature.of_bytes) };
+
+    ghost reached = { attestation_longest (fixed S.Signature.SIZE S.Signature.bytes_of S.Signature.of_bytes) S.Signature.SIZE (fixed_longest S.Signature.SIZE S.Signature.bytes_of S.Signature.of_bytes S.Signature.back) };
 }
 
 impl<S: SchemeTypes> Read for Attestation<S> {
