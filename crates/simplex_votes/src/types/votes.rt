@@ -7,7 +7,7 @@ ghost use Rattle.simplex_scheme.specs.Subject.{Notarizes};
 
 use simplex_base::codec::error::Error;
 use simplex_base::codec::parts::write_both;
-use simplex_base::codec::{EncodeSize, Fixed, Read, Spell, Write};
+use simplex_base::codec::{EncodeSize, Fixed, FixedSize, MaxEncodeSize, Read, Spell, Write};
 use simplex_base::positions::{Epoch, Epochable, Participant, Round, View, Viewable};
 use simplex_scheme::proposal::{Proposal, Subject};
 use simplex_scheme::scheme::{Attestation, Digest, Scheme, SchemeTypes};
@@ -142,6 +142,21 @@ impl<S: SchemeTypes, D: Digest> EncodeSize for Notarize<S, D> {
     fn encode_size(&self) -> usize {
         self.proposal.encode_size() + self.attestation.encode_size()
     }
+}
+
+impl<S: SchemeTypes, D: Digest> MaxEncodeSize for Notarize<S, D> {
+    ghost use Rattle.simplex_base.specs.Sizes.{fixed_within, fixed_longest};
+    ghost use Rattle.simplex_votes.specs.Spellings.{notarize_within, notarize_longest};
+
+    ghost max_size = { 35 + D.SIZE + S.Signature.SIZE };
+
+    fn max_encode_size() -> usize {
+        Proposal::<D>::max_encode_size() + Attestation::<S>::max_encode_size()
+    }
+
+    ghost within = { notarize_within (fixed D.SIZE D.bytes_of D.of_bytes) (fixed S.Signature.SIZE S.Signature.bytes_of S.Signature.of_bytes) D.SIZE S.Signature.SIZE (fixed_within D.SIZE D.bytes_of D.of_bytes) (fixed_within S.Signature.SIZE S.Signature.bytes_of S.Signature.of_bytes) };
+
+    ghost reached = { notarize_longest (fixed D.SIZE D.bytes_of D.of_bytes) (fixed S.Signature.SIZE S.Signature.bytes_of S.Signature.of_bytes) D.SIZE S.Signature.SIZE (fixed_longest D.SIZE D.bytes_of D.of_bytes D.back) (fixed_longest S.Signature.SIZE S.Signature.bytes_of S.Signature.of_bytes S.Signature.back) };
 }
 
 impl<S: SchemeTypes, D: Digest> Read for Notarize<S, D> {
