@@ -11,6 +11,8 @@ use Rattle.simplex_votes.specs.declared.types.votes.Notarize.{Notarize}
 use Rattle.simplex_votes.specs.declared.types.nullifies.Nullify.{Nullify}
 use Rattle.simplex_votes.specs.declared.types.finalizes.Finalize.{Finalize}
 use Rattle.simplex_votes.specs.declared.types.certificates.Notarization.{Notarization}
+use Rattle.simplex_votes.specs.declared.types.nullifications.Nullification.{Nullification}
+use Rattle.simplex_votes.specs.declared.types.finalizations.Finalization.{Finalization}
 
 -- the proposal, and then the attestation
 abbrev pub notarize_format : {S D P G : Type 0} → Format D → Format G → Format (Notarize S D P G)
@@ -40,6 +42,26 @@ IsNotarization payload is_certificate n = (proposal_format payload).is_value n.p
 abbrev pub notarization_spelling : {S D C P G : Type 0} → Format D → (C → List ℕ) → Notarization S D C P G → List ℕ
 notarization_spelling payload certificate n = (proposal_format payload).spelling n.proposal ++ certificate n.certificate
 
+-- the round, and then the certificate
+abbrev pub nullification_format : {S C P G : Type 0} → Format C → Format (Nullification S C P G)
+nullification_format certificate = made (λ p. record { round = p.0; certificate = p.1 }) (λ n. (n.round, n.certificate)) (both round_format certificate)
+
+abbrev pub IsNullification : {S C P G : Type 0} → (C → Type 0) → Nullification S C P G → Type 0
+IsNullification is_certificate n = round_format.is_value n.round × is_certificate n.certificate
+
+abbrev pub nullification_spelling : {S C P G : Type 0} → (C → List ℕ) → Nullification S C P G → List ℕ
+nullification_spelling certificate n = round_format.spelling n.round ++ certificate n.certificate
+
+-- the proposal, and then the certificate
+abbrev pub finalization_format : {S D C P G : Type 0} → Format D → Format C → Format (Finalization S D C P G)
+finalization_format payload certificate = made (λ p. record { proposal = p.0; certificate = p.1 }) (λ n. (n.proposal, n.certificate)) (both (proposal_format payload) certificate)
+
+abbrev pub IsFinalization : {S D C P G : Type 0} → Format D → (C → Type 0) → Finalization S D C P G → Type 0
+IsFinalization payload is_certificate n = (proposal_format payload).is_value n.proposal × is_certificate n.certificate
+
+abbrev pub finalization_spelling : {S D C P G : Type 0} → Format D → (C → List ℕ) → Finalization S D C P G → List ℕ
+finalization_spelling payload certificate n = (proposal_format payload).spelling n.proposal ++ certificate n.certificate
+
 -- ---- laws of the formats
 
 pub notarize_lawful : {S D P G : Type 0} (payload : Format D) (signature : Format G) → IsLawful payload → IsLawful signature → IsLawful (notarize_format {S = S} {P = P} payload signature)
@@ -53,6 +75,12 @@ finalize_lawful payload signature payloads signatures = made_lawful _ _ (λ v. r
 
 pub notarization_lawful : {S D C P G : Type 0} (payload : Format D) (certificate : Format C) → IsLawful payload → IsLawful certificate → IsLawful (notarization_format {S = S} {P = P} {G = G} payload certificate)
 notarization_lawful payload certificate payloads certificates = made_lawful _ _ (λ n. refl) (λ p. refl) (both_lawful (proposal_lawful payload payloads) certificates)
+
+pub nullification_lawful : {S C P G : Type 0} (certificate : Format C) → IsLawful certificate → IsLawful (nullification_format {S = S} {P = P} {G = G} certificate)
+nullification_lawful certificate certificates = made_lawful _ _ (λ n. refl) (λ p. refl) (both_lawful round_lawful certificates)
+
+pub finalization_lawful : {S D C P G : Type 0} (payload : Format D) (certificate : Format C) → IsLawful payload → IsLawful certificate → IsLawful (finalization_format {S = S} {P = P} {G = G} payload certificate)
+finalization_lawful payload certificate payloads certificates = made_lawful _ _ (λ n. refl) (λ p. refl) (both_lawful (proposal_lawful payload payloads) certificates)
 
 -- ---- greatest sizes, with a payload of m bytes and a signature of n bytes at most
 

@@ -1,0 +1,134 @@
+//! Certificates that a proposal is finalized.
+
+ghost use Rattle.std.specs.Prelude.{◌≡◌, ◌+◌, ◌≤◌, ◌^◌, IfOk, length};
+ghost use Rattle.simplex_base.specs.Format.{fixed};
+ghost use Rattle.simplex_base.specs.FormatLaws.{fixed_lawful};
+ghost use Rattle.simplex_scheme.specs.Subject.{Finalizes};
+
+use simplex_base::codec::error::Error;
+use simplex_base::codec::parts::write_both;
+use simplex_base::codec::{EncodeSize, Fixed, FixedSize, MaxEncodeSize, Read, Spell, Write};
+use simplex_base::positions::{Epoch, Epochable, Round, View, Viewable};
+use simplex_scheme::proposal::{Proposal, Subject};
+use simplex_scheme::scheme::{CertificateScheme, CertificateVerifier, Digest};
+use std::alloc::{AllocError, Global};
+
+/// A proposal with a certificate of votes to finalize it, spelled in that order. It is read under the
+/// committee's bound.
+#[derive(Drop)]
+#[derive_where(PartialEq, Eq, Hash)]
+pub struct Finalization<S: CertificateScheme, D: Digest> {
+    pub proposal: Proposal<D>,
+    pub certificate: S::Certificate,
+}
+
+impl<S: CertificateScheme, D: Digest> Finalization<S, D> {
+    ghost use Rattle.simplex_votes.specs.Spellings.{IsFinalization, finalization_spelling};
+
+    /// The round of the proposal.
+    pub fn round(&self) -> Round
+        ensures { result ≡ self.now.proposal.round }
+    {
+        self.proposal.round
+    }
+
+    /// The same proposal with a clone of the certificate.
+    pub fn clone(&self) -> Result<Self, AllocError>
+        ensures parts { IfOk result (λ copy. (copy.proposal ≡ self.now.proposal) × S.Certificate.is_clone self.now.certificate copy.certificate) }
+        // Where a certificate's clone is the certificate, this one's is this finalization.
+        ensures same { ((copy : S.Certificate) → S.Certificate.is_clone self.now.certificate copy → copy ≡ self.now.certificate) →
+            IfOk result (λ copy. copy ≡ self.now) }
+    {
+        let certificate = self.certificate.clone()?;
+        Ok(Finalization {
+            proposal: self.proposal,
+            certificate,
+        })
+    }
+
+    /// The greatest number of bytes of a finalization that is read under this bound: 30 and those of the digest
+    /// and of the greatest certificate.
+    pub fn max_encode_size(participants: u32) -> usize
+        ensures size { result ≡ 30 + D.SIZE + S.max_size participants }
+        ensures within { (n : Finalization S D S.Certificate S.PublicKey S.Signature) →
+            IsFinalization (fixed D.SIZE D.bytes_of D.of_bytes) (S.Certificate.fits participants) n →
+            length (finalization_spelling (fixed D.SIZE D.bytes_of D.of_bytes) S.Certificate.spelling n) ≤ result }
+    {
+        let proposal = Round::max_encode_size() + View::max_encode_size() + D::SIZE;
+        proposal + S::max_certificate_size(participants)
+    }
+}
+
+impl<S: CertificateVerifier<D>, D: Digest> Finalization<S, D> {
+    /// Whether the certificate certifies that the proposal is finalized.
+    pub fn verify(&self, scheme: &S) -> bool
+        ensures { result ≡ S.certified scheme.now (Finalizes self.now.proposal) self.now.certificate }
+    {
+        let subject = Subject::Finalize {
+            proposal: &self.proposal,
+        };
+        scheme.verify_certificate(subject, &self.certificate)
+    }
+}
+
+impl<S: CertificateScheme, D: Digest> Epochable for Finalization<S, D> {
+    ghost epoch_of = { λ finalization. finalization.proposal.round.epoch };
+
+    fn epoch(&self) -> Epoch {
+        self.proposal.round.epoch()
+    }
+}
+
+impl<S: CertificateScheme, D: Digest> Viewable for Finalization<S, D> {
+    ghost view_of = { λ finalization. finalization.proposal.round.view };
+
+    fn view(&self) -> View {
+        self.proposal.round.view()
+    }
+}
+
+impl<S: CertificateScheme, D: Digest> Spell for Finalization<S, D> {
+    ghost use Rattle.simplex_votes.specs.Spellings.{IsFinalization, finalization_spelling};
+
+    ghost is_value = { IsFinalization (fixed D.SIZE D.bytes_of D.of_bytes) S.Certificate.is_value };
+
+    ghost spelling = { finalization_spelling (fixed D.SIZE D.bytes_of D.of_bytes) S.Certificate.spelling };
+}
+
+impl<S: CertificateScheme, D: Digest> Write for Finalization<S, D> {
+    fn write(&self, buf: &mut Vec<u8>) -> Result<(), AllocError> {
+        write_both(&self.proposal, &self.certificate, buf)
+    }
+}
+
+impl<S: CertificateScheme, D: Digest> EncodeSize for Finalization<S, D> {
+    ghost limit = { 30 + 65535 + 2 ^ 50 };
+
+    fn encode_size(&self) -> usize {
+        self.proposal.encode_size() + self.certificate.encode_size()
+    }
+}
+
+impl<S: CertificateScheme, D: Digest> Read for Finalization<S, D> {
+    ghost use Rattle.simplex_votes.specs.Spellings.{format_of, finalization_format, finalization_lawful};
+
+    type Cfg = u32;
+
+    ghost fits = { λ bound. (finalization_format (fixed D.SIZE D.bytes_of D.of_bytes) (format_of (S.Certificate.fits bound) S.Certificate.spelling (S.Certificate.reading bound))).is_value };
+
+    ghost reading = { λ bound. (finalization_format (fixed D.SIZE D.bytes_of D.of_bytes) (format_of (S.Certificate.fits bound) S.Certificate.spelling (S.Certificate.reading bound))).reading };
+
+    ghost takes_memory = { S.Certificate.takes_memory };
+
+    fn read_cfg(alloc: Global, input: &mut &[u8], bound: &u32) -> Result<Self, Error> {
+        match <(Proposal<D>, S::Certificate)>::read_cfg(alloc, input, bound) {
+            Ok((proposal, certificate)) => Ok(Finalization {
+                proposal,
+                certificate,
+            }),
+            Err(error) => Err(error),
+        }
+    }
+
+    ghost lawful = { λ bound. finalization_lawful _ _ (fixed_lawful D.SIZE D.bytes_of D.of_bytes D.back D.forth) (S.Certificate.lawful bound) };
+}
