@@ -36,13 +36,14 @@ IsOutbound l k c q =
 abbrev pub admitted_above : ℕ → ℕ → ℕ → ℕ
 admitted_above l k c = min (2 * k + 1) (term_end l c - c) + 2 + min (max k 1) l
 
--- view q is in reach of v: a node in v may have got to it on its own
+-- view q is in reach of v: a node in view v may vote in it
 abbrev pub IsInReach : ℕ → ℕ → ℕ → ℕ → Type 0
 IsInReach l k v q =
     (q ≤ v) ⊎ (q ≤ min (v + k) (term_end l v))
     ⊎ ((q ≡ next_start l v) × (q ≤ v + k + 1))
 
--- a view p in reach of c, of c's term or any where terms have one view, leads to q: q is in reach of the view after p
+-- view p leads from c to q: p is in reach of c, and of c's term or any where terms have one view, and q is in reach of
+-- the view after p
 abbrev pub Leads : ℕ → ℕ → ℕ → ℕ → ℕ → Type 0
 Leads l k c p q = IsInReach l k c p × ((p ≤ term_end l c) ⊎ (l ≡ 1)) × IsInReach l k (p + 1) q
 

@@ -65,12 +65,13 @@ impl Lookahead {
     pub fn admits(&self, current: View, pending: View) -> bool
         requires { FitsWindow self.now.term_length current }
         ensures admitted { IsTrue result ↔ IsAdmitted self.now.term_length self.now.optimistic_views current pending }
-        // What a node may have to hold is bounded.
+        // So many later views are admitted, and no more.
         ensures number { NumberExactly (λ q. (current < q) × IsAdmitted self.now.term_length self.now.optimistic_views current q) (admitted_above self.now.term_length self.now.optimistic_views current) }
+        // All of them are 64-bit numbers.
         ensures views { (q : ℕ) → IsAdmitted self.now.term_length self.now.optimistic_views current q → q < 2 ^ 64 }
-        // Whom a node in `current` hears of may be ahead of a view that it can reach, and is admitted then.
+        // A view to which some view in reach of `current` leads is admitted,
         ensures lead { (p : ℕ) → Leads self.now.term_length self.now.optimistic_views current p pending → IsTrue result }
-        // Nothing more of the term of `current` is admitted.
+        // and no other later view of the term of `current` is.
         ensures led { IsTrue result → current < pending → pending ≤ term_end self.now.term_length current → (p : ℕ) × Leads self.now.term_length self.now.optimistic_views current p pending }
     {
         let past = self

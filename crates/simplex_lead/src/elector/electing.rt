@@ -21,7 +21,8 @@ pub trait Config<S: CertificateScheme>: Clone {
     /// The elector that is made.
     type Elector: Elector<S>;
 
-    /// The elector of a committee of 1 to 2^32 - 1 participants. `AllocError` comes where it found no memory.
+    /// The elector of a committee of 1 to 2^32 - 1 participants, as [`Set::len`] tells, each leader being one of
+    /// them. `AllocError` comes where it found no memory.
     fn build(
         self,
         alloc: Global,

@@ -298,11 +298,13 @@ fn seeds_order_by_sha_256(rt: HostRuntime) -> Result<(), Fail> {
     let seeds: [&[u8]; 2] = [b"seed1", b"seed2"];
     for seed in seeds {
         let shuffled: RoundRobin = RoundRobin::shuffled(rt.alloc(), seed)?;
+        let equal: RoundRobin = RoundRobin::shuffled(rt.alloc(), seed)?;
         let elector = built(&rt, rt.alloc(), shuffled, 5)?;
         let copy = elector.clone()?;
         let order = by_digest(rt.alloc(), seed, 5)?;
-        assert_eq!(rt; leaders(rt.alloc(), &elector, 0, 5)?, order);
-        assert_eq!(rt; leaders(rt.alloc(), &copy, 0, 5)?, order);
+        for one in [elector, copy, built(&rt, rt.alloc(), equal, 5)?] {
+            assert_eq!(rt; leaders(rt.alloc(), &one, 0, 5)?, order);
+        }
     }
     Ok(())
 }
