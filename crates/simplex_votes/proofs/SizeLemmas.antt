@@ -1,7 +1,13 @@
 -- How long certificate messages are at most.
 use Rattle.std.proofs.Common.{ℕ, List, ◌+◌, ◌≤◌, ◌++◌, length, arith, length-append}
-use Rattle.simplex_base.specs.Format.{Format}
-use Rattle.simplex_base.specs.Sizes.{IsWithin}
+use Rattle.simplex_base.specs.Format.{Format, fixed}
+use Rattle.simplex_base.specs.Positions.{round_format, round_within}
+use Rattle.simplex_base.specs.Sizes.{IsWithin, fixed_within}
+use Rattle.simplex_scheme.specs.declared.proposal.Proposal.{Proposal}
+use Rattle.simplex_scheme.specs.Proposal.{proposal_format, proposal_within}
+use Rattle.simplex_votes.specs.Unions.{IsCertificate, certificate_spelling}
+use Rattle.simplex_votes.specs.declared.types.any_certificates.Certificate.{Certificate}
+use Rattle.simplex_votes.specs.declared.types.any_certificates.Certificate.TheVariants as certificate
 
 -- a message has what it certifies and a certificate
 pub certified_within : {A C : Type 0} (f : Format A) (m most : ℕ) (fits : C → Type 0) (spelling : C → List ℕ) → IsWithin f m → ((c : C) → fits c → length (spelling c) ≤ most) → (a : A) (c : C) → f.is_value a → fits c → length (f.spelling a ++ spelling c) ≤ m + most
@@ -9,3 +15,14 @@ certified_within f m most fits spelling within certificates a c v h =
     let first = within a v in
     let second = certificates c h in
     omega (arith, length-append (f.spelling a) (spelling c))
+
+-- a proposal and a certificate
+pub proposed_within : {D C : Type 0} (size most : ℕ) (bytes_of : D → List ℕ) (of_bytes : List ℕ → D) (fits : C → Type 0) (spelling : C → List ℕ) → ((c : C) → fits c → length (spelling c) ≤ most) → (p : Proposal D) (c : C) → (proposal_format (fixed size bytes_of of_bytes)).is_value p → fits c → length ((proposal_format (fixed size bytes_of of_bytes)).spelling p ++ spelling c) ≤ 30 + size + most
+proposed_within size most bytes_of of_bytes fits spelling certificates =
+    certified_within (proposal_format (fixed size bytes_of of_bytes)) (30 + size) most fits spelling (proposal_within (fixed size bytes_of of_bytes) size (fixed_within size bytes_of of_bytes)) certificates
+
+-- a certificate message is longest with a proposal
+pub certificate_within : {S D C P G : Type 0} (size most : ℕ) (bytes_of : D → List ℕ) (of_bytes : List ℕ → D) (fits : C → Type 0) (spelling : C → List ℕ) → ((c : C) → fits c → length (spelling c) ≤ most) → (m : Certificate S D C P G) → IsCertificate (fixed size bytes_of of_bytes) fits m → length (certificate_spelling (fixed size bytes_of of_bytes) spelling m) ≤ 31 + size + most
+certificate_within size most bytes_of of_bytes fits spelling certificates (certificate.Notarization n) h = let l = proposed_within size most bytes_of of_bytes fits spelling certificates n.proposal n.certificate h.0 h.1 in omega (arith, l)
+certificate_within size most bytes_of of_bytes fits spelling certificates (certificate.Nullification n) h = let l = certified_within round_format 20 most fits spelling round_within certificates n.round n.certificate h.0 h.1 in omega (arith, l)
+certificate_within size most bytes_of of_bytes fits spelling certificates (certificate.Finalization n) h = let l = proposed_within size most bytes_of of_bytes fits spelling certificates n.proposal n.certificate h.0 h.1 in omega (arith, l)

@@ -1,0 +1,128 @@
+-- The union of what a node stores: votes, certificate messages and what it certified.
+use Rattle.std.proofs.Common.{◌≡◌, ℕ, Bool, List, ◌∷◌, ◌++◌, refl, Ok}
+use Rattle.std.specs.Prelude.{codes, ⊤}
+use Rattle.simplex_base.specs.Reading.{Refusal, invalid, Reading}
+use Rattle.simplex_base.specs.Format.{Format, IsLawful, both, truth}
+use Rattle.simplex_base.specs.FormatLaws.{both_lawful, truth_lawful}
+use Rattle.simplex_base.specs.Union.{union_at, branch_at, no_branch, branch_takes, no_branch_takes, union_lawful}
+use Rattle.simplex_base.specs.Positions.{Round, round_format, round_lawful}
+use Rattle.simplex_votes.specs.Spellings.{notarize_format, notarize_lawful, nullify_format, nullify_lawful, finalize_format, finalize_lawful, notarization_format, IsNotarization, notarization_spelling, notarization_lawful, nullification_format, IsNullification, nullification_spelling, nullification_lawful, finalization_format, IsFinalization, finalization_spelling, finalization_lawful}
+use Rattle.simplex_votes.specs.declared.types.any_votes.Vote.{Vote}
+use Rattle.simplex_votes.specs.declared.types.any_votes.Vote.TheVariants as vote
+use Rattle.simplex_votes.specs.declared.types.any_certificates.Certificate.{Certificate}
+use Rattle.simplex_votes.specs.declared.types.any_certificates.Certificate.TheVariants as certificate
+use Rattle.simplex_votes.specs.declared.types.artifacts.Artifact.{Artifact}
+use Rattle.simplex_votes.specs.declared.types.artifacts.Artifact.TheVariants as artifact
+
+-- a vote, as an artifact
+abbrev pub vote_artifact : {S D C P G : Type 0} → Vote S D P G → Artifact S D C P G
+vote_artifact (vote.Notarize v) = artifact.Notarize v
+vote_artifact (vote.Nullify v) = artifact.Nullify v
+vote_artifact (vote.Finalize v) = artifact.Finalize v
+
+-- a certificate message, as an artifact
+abbrev pub certificate_artifact : {S D C P G : Type 0} → Certificate S D C P G → Artifact S D C P G
+certificate_artifact (certificate.Notarization n) = artifact.Notarization n
+certificate_artifact (certificate.Nullification n) = artifact.Nullification n
+certificate_artifact (certificate.Finalization n) = artifact.Finalization n
+
+-- the round that an artifact is of
+abbrev pub artifact_round : {S D C P G : Type 0} → Artifact S D C P G → Round
+artifact_round (artifact.Notarize v) = v.proposal.round
+artifact_round (artifact.Notarization n) = n.proposal.round
+artifact_round (artifact.Certification round certified) = round
+artifact_round (artifact.Nullify v) = v.round
+artifact_round (artifact.Nullification n) = n.round
+artifact_round (artifact.Finalize v) = v.proposal.round
+artifact_round (artifact.Finalization n) = n.proposal.round
+
+-- an artifact with a clone of the other's certificate and the other's parts besides
+abbrev pub IsArtifactClone : {S D C P G : Type 0} → (C → C → Type 0) → Artifact S D C P G → Artifact S D C P G → Type 0
+IsArtifactClone is_clone (artifact.Notarization n) (artifact.Notarization copy) = (copy.proposal ≡ n.proposal) × is_clone n.certificate copy.certificate
+IsArtifactClone is_clone (artifact.Nullification n) (artifact.Nullification copy) = (copy.round ≡ n.round) × is_clone n.certificate copy.certificate
+IsArtifactClone is_clone (artifact.Finalization n) (artifact.Finalization copy) = (copy.proposal ≡ n.proposal) × is_clone n.certificate copy.certificate
+IsArtifactClone is_clone a copy = copy ≡ a
+
+-- a clone of the certificate in it, if there is one, is that certificate
+abbrev pub ClonesCertificate : {S D C P G : Type 0} → (C → C → Type 0) → Artifact S D C P G → Type 0
+ClonesCertificate {C = C} is_clone (artifact.Notarization n) = (copy : C) → is_clone n.certificate copy → copy ≡ n.certificate
+ClonesCertificate {C = C} is_clone (artifact.Nullification n) = (copy : C) → is_clone n.certificate copy → copy ≡ n.certificate
+ClonesCertificate {C = C} is_clone (artifact.Finalization n) = (copy : C) → is_clone n.certificate copy → copy ≡ n.certificate
+ClonesCertificate is_clone _ = ⊤
+
+-- the refusal of a tag that no artifact has
+abbrev pub unknown_artifact : Refusal
+unknown_artifact = invalid (codes "consensus::simplex::Artifact") (codes "Invalid type")
+
+abbrev pub IsArtifact : {S D C P G : Type 0} → Format D → (C → Type 0) → Format G → Artifact S D C P G → Type 0
+IsArtifact payload is_certificate signature (artifact.Notarize v) = (notarize_format payload signature).is_value v
+IsArtifact payload is_certificate signature (artifact.Notarization n) = IsNotarization payload is_certificate n
+IsArtifact payload is_certificate signature (artifact.Certification round certified) = (both round_format truth).is_value (round, certified)
+IsArtifact payload is_certificate signature (artifact.Nullify v) = (nullify_format signature).is_value v
+IsArtifact payload is_certificate signature (artifact.Nullification n) = IsNullification is_certificate n
+IsArtifact payload is_certificate signature (artifact.Finalize v) = (finalize_format payload signature).is_value v
+IsArtifact payload is_certificate signature (artifact.Finalization n) = IsFinalization payload is_certificate n
+
+abbrev pub artifact_tag : {S D C P G : Type 0} → Artifact S D C P G → ℕ
+artifact_tag (artifact.Notarize v) = 0
+artifact_tag (artifact.Notarization n) = 1
+artifact_tag (artifact.Certification round certified) = 2
+artifact_tag (artifact.Nullify v) = 3
+artifact_tag (artifact.Nullification n) = 4
+artifact_tag (artifact.Finalize v) = 5
+artifact_tag (artifact.Finalization n) = 6
+
+-- the spelling after the tag
+abbrev pub artifact_body : {S D C P G : Type 0} → Format D → (C → List ℕ) → Format G → Artifact S D C P G → List ℕ
+artifact_body payload spelling signature (artifact.Notarize v) = (notarize_format payload signature).spelling v
+artifact_body payload spelling signature (artifact.Notarization n) = notarization_spelling payload spelling n
+artifact_body payload spelling signature (artifact.Certification round certified) = (both round_format truth).spelling (round, certified)
+artifact_body payload spelling signature (artifact.Nullify v) = (nullify_format signature).spelling v
+artifact_body payload spelling signature (artifact.Nullification n) = nullification_spelling spelling n
+artifact_body payload spelling signature (artifact.Finalize v) = (finalize_format payload signature).spelling v
+artifact_body payload spelling signature (artifact.Finalization n) = finalization_spelling payload spelling n
+
+-- the tag, and then the spelling after it
+abbrev pub artifact_spelling : {S D C P G : Type 0} → Format D → (C → List ℕ) → Format G → Artifact S D C P G → List ℕ
+artifact_spelling payload spelling signature a = artifact_tag a ∷ artifact_body payload spelling signature a
+
+abbrev pub artifact_branches : {S D C P G : Type 0} → Format D → Format C → Format G → ℕ → List ℕ → Reading (Artifact S D C P G)
+artifact_branches payload inner signature =
+    branch_at 0 (λ v. artifact.Notarize v) (notarize_format payload signature).reading (
+    branch_at 1 (λ n. artifact.Notarization n) (notarization_format payload inner).reading (
+    branch_at 2 (λ p. artifact.Certification p.0 p.1) (both round_format truth).reading (
+    branch_at 3 (λ v. artifact.Nullify v) (nullify_format signature).reading (
+    branch_at 4 (λ n. artifact.Nullification n) (nullification_format inner).reading (
+    branch_at 5 (λ v. artifact.Finalize v) (finalize_format payload signature).reading (
+    branch_at 6 (λ n. artifact.Finalization n) (finalization_format payload inner).reading (
+    no_branch unknown_artifact)))))))
+
+-- a tag, and then the parts of the member with that tag, where `inner` is the format of certificates under a bound
+abbrev pub artifact_format : {S D C P G : Type 0} → Format D → Format C → Format G → Format (Artifact S D C P G)
+artifact_format payload inner signature = record {
+  is_value = IsArtifact payload inner.is_value signature;
+  spelling = artifact_spelling payload inner.spelling signature;
+  reading = union_at (artifact_branches payload inner signature);
+}
+
+pub artifact_lawful : {S D C P G : Type 0} (payload : Format D) (inner : Format C) (signature : Format G) → IsLawful payload → IsLawful inner → IsLawful signature → IsLawful (artifact_format {S = S} {P = P} payload inner signature)
+artifact_lawful {S} {D} {C} {P} {G} payload inner signature payloads inners signatures =
+    union_lawful
+    (branch_takes (IsArtifact {S = S} {P = P} payload inner.is_value signature) artifact_tag (artifact_body payload inner.spelling signature) 0 (λ v. artifact.Notarize v) _ (notarize_lawful payload signature payloads signatures) (λ v. refl) (λ v. refl) (λ v h. h)
+    (branch_takes (IsArtifact {S = S} {P = P} payload inner.is_value signature) artifact_tag (artifact_body payload inner.spelling signature) 1 (λ n. artifact.Notarization n) _ (notarization_lawful payload inner payloads inners) (λ n. refl) (λ n. refl) (λ n h. h)
+    (branch_takes (IsArtifact {S = S} {P = P} payload inner.is_value signature) artifact_tag (artifact_body payload inner.spelling signature) 2 (λ p. artifact.Certification p.0 p.1) _ (both_lawful round_lawful truth_lawful) (λ p. refl) (λ p. refl) (λ p h. h)
+    (branch_takes (IsArtifact {S = S} {P = P} payload inner.is_value signature) artifact_tag (artifact_body payload inner.spelling signature) 3 (λ v. artifact.Nullify v) _ (nullify_lawful signature signatures) (λ v. refl) (λ v. refl) (λ v h. h)
+    (branch_takes (IsArtifact {S = S} {P = P} payload inner.is_value signature) artifact_tag (artifact_body payload inner.spelling signature) 4 (λ n. artifact.Nullification n) _ (nullification_lawful inner inners) (λ n. refl) (λ n. refl) (λ n h. h)
+    (branch_takes (IsArtifact {S = S} {P = P} payload inner.is_value signature) artifact_tag (artifact_body payload inner.spelling signature) 5 (λ v. artifact.Finalize v) _ (finalize_lawful payload signature payloads signatures) (λ v. refl) (λ v. refl) (λ v h. h)
+    (branch_takes (IsArtifact {S = S} {P = P} payload inner.is_value signature) artifact_tag (artifact_body payload inner.spelling signature) 6 (λ n. artifact.Finalization n) _ (finalization_lawful payload inner payloads inners) (λ n. refl) (λ n. refl) (λ n h. h)
+    (no_branch_takes unknown_artifact))))))))
+    again
+  where
+    again : (a : Artifact S D C P G) (rest : List ℕ) → IsArtifact payload inner.is_value signature a → artifact_branches payload inner signature (artifact_tag a) (artifact_body payload inner.spelling signature a ++ rest) ≡ Ok (a, rest)
+    again (artifact.Notarize v) rest h = rw ((notarize_lawful payload signature payloads signatures).again v rest h) refl
+    again (artifact.Notarization n) rest h = rw ((notarization_lawful {S = S} {P = P} {G = G} payload inner payloads inners).again n rest h) refl
+    again (artifact.Certification round certified) rest h = rw ((both_lawful round_lawful truth_lawful).again (round, certified) rest h) refl
+    again (artifact.Nullify v) rest h = rw ((nullify_lawful {S = S} {P = P} signature signatures).again v rest h) refl
+    again (artifact.Nullification n) rest h = rw ((nullification_lawful {S = S} {P = P} {G = G} inner inners).again n rest h) refl
+    again (artifact.Finalize v) rest h = rw ((finalize_lawful payload signature payloads signatures).again v rest h) refl
+    again (artifact.Finalization n) rest h = rw ((finalization_lawful {S = S} {P = P} {G = G} payload inner payloads inners).again n rest h) refl

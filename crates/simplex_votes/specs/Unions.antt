@@ -1,0 +1,177 @@
+-- The unions of votes and of certificate messages: what each member is about, and how it is spelled.
+use Rattle.std.proofs.Common.{◌≡◌, ℕ, List, ◌∷◌, ◌++◌, ◌+◌, ◌≤◌, length, refl, Ok, arith}
+use Rattle.std.specs.Prelude.{codes}
+use Rattle.simplex_base.specs.Reading.{Refusal, invalid, Reading}
+use Rattle.simplex_base.specs.Format.{Format, IsLawful}
+use Rattle.simplex_base.specs.Sizes.{IsWithin, Longest}
+use Rattle.simplex_base.specs.Union.{union_at, branch_at, no_branch, branch_takes, no_branch_takes, union_lawful}
+use Rattle.simplex_base.specs.Positions.{Round}
+use Rattle.simplex_scheme.specs.declared.scheme.Attestation.{Attestation}
+use Rattle.simplex_scheme.specs.Subject.{SubjectValue, Notarizes, Nullifies, Finalizes}
+use Rattle.simplex_votes.specs.Spellings.{notarize_format, notarize_lawful, notarize_within, notarize_longest, nullify_format, nullify_lawful, nullify_within, finalize_format, finalize_lawful, finalize_within, notarization_format, IsNotarization, notarization_spelling, notarization_lawful, nullification_format, IsNullification, nullification_spelling, nullification_lawful, finalization_format, IsFinalization, finalization_spelling, finalization_lawful}
+use Rattle.simplex_votes.specs.declared.types.any_votes.Vote.{Vote}
+use Rattle.simplex_votes.specs.declared.types.any_votes.Vote.TheVariants as vote
+use Rattle.simplex_votes.specs.declared.types.any_certificates.Kind.{Kind}
+use Rattle.simplex_votes.specs.declared.types.any_certificates.Kind.TheVariants as kind
+use Rattle.simplex_votes.specs.declared.types.any_certificates.Certificate.{Certificate}
+use Rattle.simplex_votes.specs.declared.types.any_certificates.Certificate.TheVariants as certificate
+
+-- ---- votes
+
+-- the round that a vote is of
+abbrev pub vote_round : {S D P G : Type 0} → Vote S D P G → Round
+vote_round (vote.Notarize v) = v.proposal.round
+vote_round (vote.Nullify v) = v.round
+vote_round (vote.Finalize v) = v.proposal.round
+
+-- its signer and signature
+abbrev pub vote_attestation : {S D P G : Type 0} → Vote S D P G → Attestation S P G
+vote_attestation (vote.Notarize v) = v.attestation
+vote_attestation (vote.Nullify v) = v.attestation
+vote_attestation (vote.Finalize v) = v.attestation
+
+-- the refusal of a tag that no vote has
+abbrev pub unknown_vote : Refusal
+unknown_vote = invalid (codes "consensus::simplex::Vote") (codes "Invalid type")
+
+abbrev pub IsVote : {S D P G : Type 0} → Format D → Format G → Vote S D P G → Type 0
+IsVote payload signature (vote.Notarize v) = (notarize_format payload signature).is_value v
+IsVote payload signature (vote.Nullify v) = (nullify_format signature).is_value v
+IsVote payload signature (vote.Finalize v) = (finalize_format payload signature).is_value v
+
+abbrev pub vote_tag : {S D P G : Type 0} → Vote S D P G → ℕ
+vote_tag (vote.Notarize v) = 0
+vote_tag (vote.Nullify v) = 1
+vote_tag (vote.Finalize v) = 2
+
+-- the spelling after the tag
+abbrev pub vote_body : {S D P G : Type 0} → Format D → Format G → Vote S D P G → List ℕ
+vote_body payload signature (vote.Notarize v) = (notarize_format payload signature).spelling v
+vote_body payload signature (vote.Nullify v) = (nullify_format signature).spelling v
+vote_body payload signature (vote.Finalize v) = (finalize_format payload signature).spelling v
+
+abbrev pub vote_branches : {S D P G : Type 0} → Format D → Format G → ℕ → List ℕ → Reading (Vote S D P G)
+vote_branches payload signature =
+    branch_at 0 (λ v. vote.Notarize v) (notarize_format payload signature).reading (
+    branch_at 1 (λ v. vote.Nullify v) (nullify_format signature).reading (
+    branch_at 2 (λ v. vote.Finalize v) (finalize_format payload signature).reading (
+    no_branch unknown_vote)))
+
+-- a tag, and then the parts of the vote with that tag
+abbrev pub vote_format : {S D P G : Type 0} → Format D → Format G → Format (Vote S D P G)
+vote_format payload signature = record {
+  is_value = IsVote payload signature;
+  spelling = λ v. vote_tag v ∷ vote_body payload signature v;
+  reading = union_at (vote_branches payload signature);
+}
+
+pub vote_lawful : {S D P G : Type 0} (payload : Format D) (signature : Format G) → IsLawful payload → IsLawful signature → IsLawful (vote_format {S = S} {P = P} payload signature)
+vote_lawful {S} {D} {P} {G} payload signature payloads signatures =
+    union_lawful
+    (branch_takes (IsVote {S = S} {P = P} payload signature) vote_tag (vote_body payload signature) 0 (λ v. vote.Notarize v) _ (notarize_lawful payload signature payloads signatures) (λ v. refl) (λ v. refl) (λ v h. h)
+    (branch_takes (IsVote {S = S} {P = P} payload signature) vote_tag (vote_body payload signature) 1 (λ v. vote.Nullify v) _ (nullify_lawful signature signatures) (λ v. refl) (λ v. refl) (λ v h. h)
+    (branch_takes (IsVote {S = S} {P = P} payload signature) vote_tag (vote_body payload signature) 2 (λ v. vote.Finalize v) _ (finalize_lawful payload signature payloads signatures) (λ v. refl) (λ v. refl) (λ v h. h)
+    (no_branch_takes unknown_vote))))
+    again
+  where
+    again : (v : Vote S D P G) (rest : List ℕ) → IsVote payload signature v → vote_branches payload signature (vote_tag v) (vote_body payload signature v ++ rest) ≡ Ok (v, rest)
+    again (vote.Notarize v) rest h = rw ((notarize_lawful payload signature payloads signatures).again v rest h) refl
+    again (vote.Nullify v) rest h = rw ((nullify_lawful {S = S} {P = P} signature signatures).again v rest h) refl
+    again (vote.Finalize v) rest h = rw ((finalize_lawful payload signature payloads signatures).again v rest h) refl
+
+-- with a payload of m bytes and a signature of n bytes at most, a vote is longest with a proposal
+pub vote_within : {S D P G : Type 0} (payload : Format D) (signature : Format G) (m n : ℕ) → IsWithin payload m → IsWithin signature n → IsWithin (vote_format {S = S} {P = P} payload signature) (36 + m + n)
+vote_within payload signature m n payloads signatures (vote.Notarize v) h = let most = notarize_within payload signature m n payloads signatures v h in omega (arith, most)
+vote_within payload signature m n payloads signatures (vote.Nullify v) h = let most = nullify_within signature n signatures v h in omega (arith, most)
+vote_within payload signature m n payloads signatures (vote.Finalize v) h = let most = finalize_within payload signature m n payloads signatures v h in omega (arith, most)
+
+pub vote_longest : {S D P G : Type 0} (payload : Format D) (signature : Format G) (m n : ℕ) → Longest payload m → Longest signature n → Longest (vote_format {S = S} {P = P} payload signature) (36 + m + n)
+vote_longest {S} {D} {P} {G} payload signature m n payloads signatures =
+    let longest = notarize_longest {S = S} {P = P} payload signature m n payloads signatures in
+    let most = longest.2 in
+    (vote.Notarize longest.0, longest.1, omega (arith, most))
+
+-- ---- certificate messages
+
+-- the kind of a certificate message
+abbrev pub certificate_kind : {S D C P G : Type 0} → Certificate S D C P G → Kind
+certificate_kind (certificate.Notarization n) = kind.Notarization
+certificate_kind (certificate.Nullification n) = kind.Nullification
+certificate_kind (certificate.Finalization n) = kind.Finalization
+
+-- the word of a kind
+abbrev pub kind_word : Kind → List ℕ
+kind_word kind.Notarization = codes "notarization"
+kind_word kind.Nullification = codes "nullification"
+kind_word kind.Finalization = codes "finalization"
+
+-- the round that a certificate message is of
+abbrev pub certificate_round : {S D C P G : Type 0} → Certificate S D C P G → Round
+certificate_round (certificate.Notarization n) = n.proposal.round
+certificate_round (certificate.Nullification n) = n.round
+certificate_round (certificate.Finalization n) = n.proposal.round
+
+-- what the certificate is to certify
+abbrev pub certificate_subject : {S D C P G : Type 0} → Certificate S D C P G → SubjectValue D
+certificate_subject (certificate.Notarization n) = Notarizes n.proposal
+certificate_subject (certificate.Nullification n) = Nullifies n.round
+certificate_subject (certificate.Finalization n) = Finalizes n.proposal
+
+-- the certificate itself
+abbrev pub certificate_in : {S D C P G : Type 0} → Certificate S D C P G → C
+certificate_in (certificate.Notarization n) = n.certificate
+certificate_in (certificate.Nullification n) = n.certificate
+certificate_in (certificate.Finalization n) = n.certificate
+
+-- the refusal of a tag that no certificate message has
+abbrev pub unknown_certificate : Refusal
+unknown_certificate = invalid (codes "consensus::simplex::Certificate") (codes "Invalid type")
+
+abbrev pub IsCertificate : {S D C P G : Type 0} → Format D → (C → Type 0) → Certificate S D C P G → Type 0
+IsCertificate payload is_certificate (certificate.Notarization n) = IsNotarization payload is_certificate n
+IsCertificate payload is_certificate (certificate.Nullification n) = IsNullification is_certificate n
+IsCertificate payload is_certificate (certificate.Finalization n) = IsFinalization payload is_certificate n
+
+abbrev pub certificate_tag : {S D C P G : Type 0} → Certificate S D C P G → ℕ
+certificate_tag (certificate.Notarization n) = 0
+certificate_tag (certificate.Nullification n) = 1
+certificate_tag (certificate.Finalization n) = 2
+
+-- the spelling after the tag
+abbrev pub certificate_body : {S D C P G : Type 0} → Format D → (C → List ℕ) → Certificate S D C P G → List ℕ
+certificate_body payload spelling (certificate.Notarization n) = notarization_spelling payload spelling n
+certificate_body payload spelling (certificate.Nullification n) = nullification_spelling spelling n
+certificate_body payload spelling (certificate.Finalization n) = finalization_spelling payload spelling n
+
+-- the tag, and then the spelling after it
+abbrev pub certificate_spelling : {S D C P G : Type 0} → Format D → (C → List ℕ) → Certificate S D C P G → List ℕ
+certificate_spelling payload spelling c = certificate_tag c ∷ certificate_body payload spelling c
+
+abbrev pub certificate_branches : {S D C P G : Type 0} → Format D → Format C → ℕ → List ℕ → Reading (Certificate S D C P G)
+certificate_branches payload inner =
+    branch_at 0 (λ n. certificate.Notarization n) (notarization_format payload inner).reading (
+    branch_at 1 (λ n. certificate.Nullification n) (nullification_format inner).reading (
+    branch_at 2 (λ n. certificate.Finalization n) (finalization_format payload inner).reading (
+    no_branch unknown_certificate)))
+
+-- a tag, and then the parts of the message with that tag, where `inner` is the format of certificates under a bound
+abbrev pub certificate_format : {S D C P G : Type 0} → Format D → Format C → Format (Certificate S D C P G)
+certificate_format payload inner = record {
+  is_value = IsCertificate payload inner.is_value;
+  spelling = certificate_spelling payload inner.spelling;
+  reading = union_at (certificate_branches payload inner);
+}
+
+pub certificate_lawful : {S D C P G : Type 0} (payload : Format D) (inner : Format C) → IsLawful payload → IsLawful inner → IsLawful (certificate_format {S = S} {P = P} {G = G} payload inner)
+certificate_lawful {S} {D} {C} {P} {G} payload inner payloads inners =
+    union_lawful
+    (branch_takes (IsCertificate {S = S} {P = P} {G = G} payload inner.is_value) certificate_tag (certificate_body payload inner.spelling) 0 (λ n. certificate.Notarization n) _ (notarization_lawful payload inner payloads inners) (λ n. refl) (λ n. refl) (λ n h. h)
+    (branch_takes (IsCertificate {S = S} {P = P} {G = G} payload inner.is_value) certificate_tag (certificate_body payload inner.spelling) 1 (λ n. certificate.Nullification n) _ (nullification_lawful inner inners) (λ n. refl) (λ n. refl) (λ n h. h)
+    (branch_takes (IsCertificate {S = S} {P = P} {G = G} payload inner.is_value) certificate_tag (certificate_body payload inner.spelling) 2 (λ n. certificate.Finalization n) _ (finalization_lawful payload inner payloads inners) (λ n. refl) (λ n. refl) (λ n h. h)
+    (no_branch_takes unknown_certificate))))
+    again
+  where
+    again : (c : Certificate S D C P G) (rest : List ℕ) → IsCertificate payload inner.is_value c → certificate_branches payload inner (certificate_tag c) (certificate_body payload inner.spelling c ++ rest) ≡ Ok (c, rest)
+    again (certificate.Notarization n) rest h = rw ((notarization_lawful {S = S} {P = P} {G = G} payload inner payloads inners).again n rest h) refl
+    again (certificate.Nullification n) rest h = rw ((nullification_lawful {S = S} {P = P} {G = G} inner inners).again n rest h) refl
+    again (certificate.Finalization n) rest h = rw ((finalization_lawful {S = S} {P = P} {G = G} payload inner payloads inners).again n rest h) refl

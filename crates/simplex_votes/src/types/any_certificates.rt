@@ -1,0 +1,250 @@
+//! The union of certificate messages.
+
+ghost use Rattle.std.specs.Prelude.{◌≡◌, ◌+◌, ◌≤◌, ◌^◌, IfOk, Some, length};
+ghost use Rattle.simplex_base.specs.Format.{fixed};
+ghost use Rattle.simplex_base.specs.FormatLaws.{fixed_lawful};
+ghost use Rattle.simplex_base.specs.Reading.{Gives};
+ghost use Rattle.simplex_votes.specs.Spellings.{format_of};
+ghost use Rattle.simplex_votes.specs.Unions.{certificate_branches};
+
+use crate::types::certificates::Notarization;
+use crate::types::finalizations::Finalization;
+use crate::types::nullifications::Nullification;
+use simplex_base::codec::error::Error;
+use simplex_base::codec::parts::write_tagged;
+use simplex_base::codec::{EncodeSize, Fixed, FixedSize, MaxEncodeSize, Read, Spell, Write};
+use simplex_base::positions::{Epoch, Epochable, View, Viewable};
+use simplex_scheme::proposal::Proposal;
+use simplex_scheme::scheme::{CertificateScheme, CertificateVerifier, Digest};
+use std::alloc::{AllocError, Global};
+use std::fmt;
+
+/// The kinds of certificate messages. They print as `notarization`, `nullification` and `finalization`.
+#[derive(Clone, Copy, Debug, PartialEq, Eq)]
+pub enum Kind {
+    Notarization,
+    Nullification,
+    Finalization,
+}
+
+impl Kind {
+    ghost use Rattle.simplex_votes.specs.Unions.{kind_word};
+
+    /// The word of the kind.
+    pub fn as_str(self) -> &'static str
+        ensures { result.now ≡ kind_word self }
+    {
+        match self {
+            Kind::Notarization => "notarization",
+            Kind::Nullification => "nullification",
+            Kind::Finalization => "finalization",
+        }
+    }
+}
+
+impl fmt::Display for Kind {
+    ghost use Rattle.simplex_votes.specs.Unions.{kind_word};
+
+    ghost output = { λ kind. Some (kind_word kind) };
+
+    fn fmt<W: fmt::Write>(&self, f: &mut fmt::Formatter<W>) -> fmt::Result {
+        f.write_str(self.as_str())
+    }
+}
+
+/// A certificate message: one byte of tag, and then the parts of the message with that tag. It is read under the
+/// committee's bound.
+#[derive(Drop)]
+#[derive_where(PartialEq, Eq)]
+pub enum Certificate<S: CertificateScheme, D: Digest> {
+    /// Tag 0.
+    Notarization(Notarization<S, D>),
+    /// Tag 1.
+    Nullification(Nullification<S>),
+    /// Tag 2.
+    Finalization(Finalization<S, D>),
+}
+
+impl<S: CertificateScheme, D: Digest> Certificate<S, D> {
+    ghost use Rattle.simplex_votes.specs.Unions.{certificate_kind, certificate_subject, certificate_in, IsCertificate, certificate_spelling};
+
+    /// The kind of the message.
+    pub fn kind(&self) -> Kind
+        ensures { result ≡ certificate_kind self.now }
+    {
+        match self {
+            Certificate::Notarization(_) => Kind::Notarization,
+            Certificate::Nullification(_) => Kind::Nullification,
+            Certificate::Finalization(_) => Kind::Finalization,
+        }
+    }
+
+    /// The same message with a clone of the certificate.
+    pub fn clone(&self) -> Result<Self, AllocError>
+        ensures parts { IfOk result (λ copy. (certificate_subject copy ≡ certificate_subject self.now) ×
+            S.Certificate.is_clone (certificate_in self.now) (certificate_in copy)) }
+        // Where a certificate's clone is the certificate, this one's is this message.
+        ensures same { ((copy : S.Certificate) → S.Certificate.is_clone (certificate_in self.now) copy → copy ≡ certificate_in self.now) →
+            IfOk result (λ copy. copy ≡ self.now) }
+    {
+        match self {
+            Certificate::Notarization(message) => match message.clone() {
+                Ok(copy) => Ok(Certificate::Notarization(copy)),
+                Err(error) => Err(error),
+            },
+            Certificate::Nullification(message) => match message.clone() {
+                Ok(copy) => Ok(Certificate::Nullification(copy)),
+                Err(error) => Err(error),
+            },
+            Certificate::Finalization(message) => match message.clone() {
+                Ok(copy) => Ok(Certificate::Finalization(copy)),
+                Err(error) => Err(error),
+            },
+        }
+    }
+
+    /// The greatest number of bytes of a certificate message that is read under this bound: 31 and those of the
+    /// digest and of the greatest certificate.
+    pub fn max_encode_size(participants: u32) -> usize
+        ensures size { result ≡ 31 + D.SIZE + S.max_size participants }
+        ensures within { (c : Certificate S D S.Certificate S.PublicKey S.Signature) →
+            IsCertificate (fixed D.SIZE D.bytes_of D.of_bytes) (S.Certificate.fits participants) c →
+            length (certificate_spelling (fixed D.SIZE D.bytes_of D.of_bytes) S.Certificate.spelling c) ≤ result }
+    {
+        let proposal = Proposal::<D>::max_encode_size();
+        1 + proposal + S::max_certificate_size(participants)
+    }
+}
+
+impl<S: CertificateVerifier<D>, D: Digest> Certificate<S, D> {
+    ghost use Rattle.simplex_votes.specs.Unions.{certificate_subject, certificate_in};
+
+    /// Whether the certificate certifies what the message says.
+    pub fn verify(&self, scheme: &S) -> bool
+        ensures { result ≡ S.certified scheme.now (certificate_subject self.now) (certificate_in self.now) }
+    {
+        match self {
+            Certificate::Notarization(message) => message.verify(scheme),
+            Certificate::Nullification(message) => message.verify(scheme),
+            Certificate::Finalization(message) => message.verify(scheme),
+        }
+    }
+}
+
+impl<S: CertificateScheme, D: Digest> Epochable for Certificate<S, D> {
+    ghost use Rattle.simplex_votes.specs.Unions.{certificate_round};
+
+    ghost epoch_of = { λ message. (certificate_round message).epoch };
+
+    fn epoch(&self) -> Epoch {
+        match self {
+            Certificate::Notarization(message) => message.epoch(),
+            Certificate::Nullification(message) => message.epoch(),
+            Certificate::Finalization(message) => message.epoch(),
+        }
+    }
+}
+
+impl<S: CertificateScheme, D: Digest> Viewable for Certificate<S, D> {
+    ghost use Rattle.simplex_votes.specs.Unions.{certificate_round};
+
+    ghost view_of = { λ message. (certificate_round message).view };
+
+    fn view(&self) -> View {
+        match self {
+            Certificate::Notarization(message) => message.view(),
+            Certificate::Nullification(message) => message.view(),
+            Certificate::Finalization(message) => message.view(),
+        }
+    }
+}
+
+impl<S: CertificateScheme, D: Digest> Spell for Certificate<S, D> {
+    ghost use Rattle.simplex_votes.specs.Unions.{IsCertificate, certificate_spelling};
+
+    ghost is_value = { IsCertificate (fixed D.SIZE D.bytes_of D.of_bytes) S.Certificate.is_value };
+
+    ghost spelling = { certificate_spelling (fixed D.SIZE D.bytes_of D.of_bytes) S.Certificate.spelling };
+}
+
+impl<S: CertificateScheme, D: Digest> Write for Certificate<S, D> {
+    fn write(&self, buf: &mut Vec<u8>) -> Result<(), AllocError> {
+        match self {
+            Certificate::Notarization(message) => write_tagged(0, message, buf),
+            Certificate::Nullification(message) => write_tagged(1, message, buf),
+            Certificate::Finalization(message) => write_tagged(2, message, buf),
+        }
+    }
+}
+
+impl<S: CertificateScheme, D: Digest> EncodeSize for Certificate<S, D> {
+    ghost limit = { 31 + 65535 + 2 ^ 50 };
+
+    fn encode_size(&self) -> usize {
+        match self {
+            Certificate::Notarization(message) => 1 + message.encode_size(),
+            Certificate::Nullification(message) => 1 + message.encode_size(),
+            Certificate::Finalization(message) => 1 + message.encode_size(),
+        }
+    }
+}
+
+impl<S: CertificateScheme, D: Digest> Read for Certificate<S, D> {
+    ghost use Rattle.simplex_votes.specs.Spellings.{format_of};
+    ghost use Rattle.simplex_votes.specs.Unions.{certificate_format, certificate_lawful};
+
+    type Cfg = u32;
+
+    ghost fits = { λ bound. (certificate_format (fixed D.SIZE D.bytes_of D.of_bytes) (format_of (S.Certificate.fits bound) S.Certificate.spelling (S.Certificate.reading bound))).is_value };
+
+    ghost reading = { λ bound. (certificate_format (fixed D.SIZE D.bytes_of D.of_bytes) (format_of (S.Certificate.fits bound) S.Certificate.spelling (S.Certificate.reading bound))).reading };
+
+    ghost takes_memory = { S.Certificate.takes_memory };
+
+    fn read_cfg(alloc: Global, input: &mut &[u8], bound: &u32) -> Result<Self, Error> {
+        let bytes: &[u8] = *input;
+        let [tag, body @ ..] = bytes else {
+            return Err(Error::EndOfBuffer);
+        };
+        let mut rest: &[u8] = body;
+        match read_body(alloc, *tag, &mut rest, bound) {
+            Ok(message) => {
+                *input = rest;
+                Ok(message)
+            }
+            Err(error) => Err(error),
+        }
+    }
+
+    ghost lawful = { λ bound. certificate_lawful _ _ (fixed_lawful D.SIZE D.bytes_of D.of_bytes D.back D.forth) (S.Certificate.lawful bound) };
+}
+
+/// Reads the parts of the certificate message with this tag.
+fn read_body<S: CertificateScheme, D: Digest>(
+    alloc: Global,
+    tag: u8,
+    input: &mut &[u8],
+    bound: &u32,
+) -> Result<Certificate<S, D>, Error>
+    ensures { Gives S.Certificate.takes_memory result input.old.now input.new.now (certificate_branches (fixed D.SIZE D.bytes_of D.of_bytes)
+        (format_of (S.Certificate.fits bound.now) S.Certificate.spelling (S.Certificate.reading bound.now)) tag input.old.now) }
+{
+    match tag {
+        0 => match Notarization::read_cfg(alloc, input, bound) {
+            Ok(message) => Ok(Certificate::Notarization(message)),
+            Err(error) => Err(error),
+        },
+        1 => match Nullification::read_cfg(alloc, input, bound) {
+            Ok(message) => Ok(Certificate::Nullification(message)),
+            Err(error) => Err(error),
+        },
+        2 => match Finalization::read_cfg(alloc, input, bound) {
+            Ok(message) => Ok(Certificate::Finalization(message)),
+            Err(error) => Err(error),
+        },
+        _ => Err(Error::Invalid(
+            "consensus::simplex::Certificate",
+            "Invalid type",
+        )),
+    }
+}

@@ -1,0 +1,184 @@
+//! The union of votes.
+
+ghost use Rattle.std.specs.Prelude.{◌≡◌, ⊤, ◌+◌, false};
+ghost use Rattle.simplex_base.specs.Format.{fixed};
+ghost use Rattle.simplex_base.specs.FormatLaws.{fixed_lawful};
+ghost use Rattle.simplex_base.specs.Reading.{Gives};
+ghost use Rattle.simplex_votes.specs.Unions.{vote_branches};
+
+use crate::types::finalizes::Finalize;
+use crate::types::nullifies::Nullify;
+use crate::types::votes::{Attributable, Notarize};
+use simplex_base::codec::error::Error;
+use simplex_base::codec::parts::write_tagged;
+use simplex_base::codec::{EncodeSize, Fixed, FixedSize, MaxEncodeSize, Read, Spell, Write};
+use simplex_base::positions::{Epoch, Epochable, Participant, View, Viewable};
+use simplex_scheme::scheme::{Digest, SchemeTypes};
+use std::alloc::{AllocError, Global};
+
+/// A vote: one byte of tag, and then the parts of the vote with that tag.
+#[derive(Drop)]
+#[derive_where(PartialEq, Eq)]
+pub enum Vote<S: SchemeTypes, D: Digest> {
+    /// Tag 0.
+    Notarize(Notarize<S, D>),
+    /// Tag 1.
+    Nullify(Nullify<S>),
+    /// Tag 2.
+    Finalize(Finalize<S, D>),
+}
+
+impl<S: SchemeTypes, D: Digest> Clone for Vote<S, D> {
+    ghost is_clone = { λ vote copy. copy ≡ vote };
+
+    ghost is_infallible = { λ _. ⊤ };
+
+    fn clone(&self) -> Result<Self, AllocError> {
+        Ok(match self {
+            Vote::Notarize(vote) => Vote::Notarize(vote.copy()),
+            Vote::Nullify(vote) => Vote::Nullify(vote.copy()),
+            Vote::Finalize(vote) => Vote::Finalize(vote.copy()),
+        })
+    }
+}
+
+impl<S: SchemeTypes, D: Digest> Attributable for Vote<S, D> {
+    ghost use Rattle.simplex_votes.specs.Unions.{vote_attestation};
+
+    ghost signer_of = { λ vote. (vote_attestation vote).signer };
+
+    fn signer(&self) -> Participant {
+        match self {
+            Vote::Notarize(vote) => vote.signer(),
+            Vote::Nullify(vote) => vote.signer(),
+            Vote::Finalize(vote) => vote.signer(),
+        }
+    }
+}
+
+impl<S: SchemeTypes, D: Digest> Epochable for Vote<S, D> {
+    ghost use Rattle.simplex_votes.specs.Unions.{vote_round};
+
+    ghost epoch_of = { λ vote. (vote_round vote).epoch };
+
+    fn epoch(&self) -> Epoch {
+        match self {
+            Vote::Notarize(vote) => vote.epoch(),
+            Vote::Nullify(vote) => vote.epoch(),
+            Vote::Finalize(vote) => vote.epoch(),
+        }
+    }
+}
+
+impl<S: SchemeTypes, D: Digest> Viewable for Vote<S, D> {
+    ghost use Rattle.simplex_votes.specs.Unions.{vote_round};
+
+    ghost view_of = { λ vote. (vote_round vote).view };
+
+    fn view(&self) -> View {
+        match self {
+            Vote::Notarize(vote) => vote.view(),
+            Vote::Nullify(vote) => vote.view(),
+            Vote::Finalize(vote) => vote.view(),
+        }
+    }
+}
+
+impl<S: SchemeTypes, D: Digest> Spell for Vote<S, D> {
+    ghost use Rattle.simplex_votes.specs.Unions.{vote_format};
+
+    ghost is_value = { (vote_format (fixed D.SIZE D.bytes_of D.of_bytes) (fixed S.Signature.SIZE S.Signature.bytes_of S.Signature.of_bytes)).is_value };
+
+    ghost spelling = { (vote_format (fixed D.SIZE D.bytes_of D.of_bytes) (fixed S.Signature.SIZE S.Signature.bytes_of S.Signature.of_bytes)).spelling };
+}
+
+impl<S: SchemeTypes, D: Digest> Write for Vote<S, D> {
+    fn write(&self, buf: &mut Vec<u8>) -> Result<(), AllocError> {
+        match self {
+            Vote::Notarize(vote) => write_tagged(0, vote, buf),
+            Vote::Nullify(vote) => write_tagged(1, vote, buf),
+            Vote::Finalize(vote) => write_tagged(2, vote, buf),
+        }
+    }
+}
+
+impl<S: SchemeTypes, D: Digest> EncodeSize for Vote<S, D> {
+    ghost limit = { 36 + 65535 + 65535 };
+
+    fn encode_size(&self) -> usize {
+        match self {
+            Vote::Notarize(vote) => 1 + vote.encode_size(),
+            Vote::Nullify(vote) => 1 + vote.encode_size(),
+            Vote::Finalize(vote) => 1 + vote.encode_size(),
+        }
+    }
+}
+
+impl<S: SchemeTypes, D: Digest> MaxEncodeSize for Vote<S, D> {
+    ghost use Rattle.simplex_base.specs.Sizes.{fixed_within, fixed_longest};
+    ghost use Rattle.simplex_votes.specs.Unions.{vote_within, vote_longest};
+
+    ghost max_size = { 36 + D.SIZE + S.Signature.SIZE };
+
+    fn max_encode_size() -> usize {
+        1 + Notarize::<S, D>::max_encode_size()
+    }
+
+    ghost within = { vote_within (fixed D.SIZE D.bytes_of D.of_bytes) (fixed S.Signature.SIZE S.Signature.bytes_of S.Signature.of_bytes) D.SIZE S.Signature.SIZE (fixed_within D.SIZE D.bytes_of D.of_bytes) (fixed_within S.Signature.SIZE S.Signature.bytes_of S.Signature.of_bytes) };
+
+    ghost reached = { vote_longest (fixed D.SIZE D.bytes_of D.of_bytes) (fixed S.Signature.SIZE S.Signature.bytes_of S.Signature.of_bytes) D.SIZE S.Signature.SIZE (fixed_longest D.SIZE D.bytes_of D.of_bytes D.back) (fixed_longest S.Signature.SIZE S.Signature.bytes_of S.Signature.of_bytes S.Signature.back) };
+}
+
+impl<S: SchemeTypes, D: Digest> Read for Vote<S, D> {
+    ghost use Rattle.simplex_votes.specs.Unions.{vote_format, vote_lawful};
+
+    type Cfg = ();
+
+    ghost fits = { λ _. (vote_format (fixed D.SIZE D.bytes_of D.of_bytes) (fixed S.Signature.SIZE S.Signature.bytes_of S.Signature.of_bytes)).is_value };
+
+    ghost reading = { λ _. (vote_format (fixed D.SIZE D.bytes_of D.of_bytes) (fixed S.Signature.SIZE S.Signature.bytes_of S.Signature.of_bytes)).reading };
+
+    ghost takes_memory = { false };
+
+    fn read_cfg(alloc: Global, input: &mut &[u8], _cfg: &()) -> Result<Self, Error> {
+        let bytes: &[u8] = *input;
+        let [tag, body @ ..] = bytes else {
+            return Err(Error::EndOfBuffer);
+        };
+        let mut rest: &[u8] = body;
+        match read_body(alloc, *tag, &mut rest) {
+            Ok(vote) => {
+                *input = rest;
+                Ok(vote)
+            }
+            Err(error) => Err(error),
+        }
+    }
+
+    ghost lawful = { λ _. vote_lawful _ _ (fixed_lawful D.SIZE D.bytes_of D.of_bytes D.back D.forth) (fixed_lawful S.Signature.SIZE S.Signature.bytes_of S.Signature.of_bytes S.Signature.back S.Signature.forth) };
+}
+
+/// Reads the parts of the vote with this tag.
+fn read_body<S: SchemeTypes, D: Digest>(
+    alloc: Global,
+    tag: u8,
+    input: &mut &[u8],
+) -> Result<Vote<S, D>, Error>
+    ensures { Gives false result input.old.now input.new.now (vote_branches (fixed D.SIZE D.bytes_of D.of_bytes) (fixed S.Signature.SIZE S.Signature.bytes_of S.Signature.of_bytes) tag input.old.now) }
+{
+    match tag {
+        0 => match Notarize::read_cfg(alloc, input, &()) {
+            Ok(vote) => Ok(Vote::Notarize(vote)),
+            Err(error) => Err(error),
+        },
+        1 => match Nullify::read_cfg(alloc, input, &()) {
+            Ok(vote) => Ok(Vote::Nullify(vote)),
+            Err(error) => Err(error),
+        },
+        2 => match Finalize::read_cfg(alloc, input, &()) {
+            Ok(vote) => Ok(Vote::Finalize(vote)),
+            Err(error) => Err(error),
+        },
+        _ => Err(Error::Invalid("consensus::simplex::Vote", "Invalid type")),
+    }
+}

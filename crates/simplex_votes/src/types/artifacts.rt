@@ -1,0 +1,255 @@
+//! The union of what a node stores.
+
+ghost use Rattle.std.specs.Prelude.{◌≡◌, ◌+◌, ◌^◌, IfOk};
+ghost use Rattle.simplex_base.specs.Format.{fixed};
+ghost use Rattle.simplex_base.specs.FormatLaws.{fixed_lawful};
+ghost use Rattle.simplex_base.specs.Reading.{Gives};
+ghost use Rattle.simplex_votes.specs.Spellings.{format_of};
+ghost use Rattle.simplex_votes.specs.Artifact.{artifact_branches};
+
+use crate::types::any_certificates::Certificate;
+use crate::types::any_votes::Vote;
+use crate::types::certificates::Notarization;
+use crate::types::finalizations::Finalization;
+use crate::types::finalizes::Finalize;
+use crate::types::nullifications::Nullification;
+use crate::types::nullifies::Nullify;
+use crate::types::votes::Notarize;
+use simplex_base::codec::error::Error;
+use simplex_base::codec::parts::write_tagged;
+use simplex_base::codec::{EncodeSize, Fixed, Read, Spell, Write};
+use simplex_base::positions::{Epoch, Epochable, Round, View, Viewable};
+use simplex_scheme::scheme::{CertificateScheme, Digest};
+use std::alloc::{AllocError, Global};
+
+/// A vote, a certificate message, or whether a round was certified: one byte of tag, and then the parts of the
+/// member with that tag. It is read under the committee's bound.
+#[derive(Drop)]
+#[derive_where(PartialEq, Eq)]
+pub enum Artifact<S: CertificateScheme, D: Digest> {
+    /// Tag 0.
+    Notarize(Notarize<S, D>),
+    /// Tag 1.
+    Notarization(Notarization<S, D>),
+    /// Tag 2: the round, and whether its proposal was certified.
+    Certification(Round, bool),
+    /// Tag 3.
+    Nullify(Nullify<S>),
+    /// Tag 4.
+    Nullification(Nullification<S>),
+    /// Tag 5.
+    Finalize(Finalize<S, D>),
+    /// Tag 6.
+    Finalization(Finalization<S, D>),
+}
+
+impl<S: CertificateScheme, D: Digest> Artifact<S, D> {
+    ghost use Rattle.simplex_votes.specs.Artifact.{IsArtifactClone, ClonesCertificate};
+
+    /// The same artifact, with a clone of the certificate where it has one.
+    pub fn clone(&self) -> Result<Self, AllocError>
+        ensures parts { IfOk result (λ copy. IsArtifactClone S.Certificate.is_clone self.now copy) }
+        // Where a certificate's clone is the certificate, this one's is this artifact.
+        ensures same { ClonesCertificate S.Certificate.is_clone self.now → IfOk result (λ copy. copy ≡ self.now) }
+    {
+        match self {
+            Artifact::Notarize(vote) => Ok(Artifact::Notarize(vote.copy())),
+            Artifact::Notarization(message) => match message.clone() {
+                Ok(copy) => Ok(Artifact::Notarization(copy)),
+                Err(error) => Err(error),
+            },
+            Artifact::Certification(round, certified) => {
+                Ok(Artifact::Certification(*round, *certified))
+            }
+            Artifact::Nullify(vote) => Ok(Artifact::Nullify(vote.copy())),
+            Artifact::Nullification(message) => match message.clone() {
+                Ok(copy) => Ok(Artifact::Nullification(copy)),
+                Err(error) => Err(error),
+            },
+            Artifact::Finalize(vote) => Ok(Artifact::Finalize(vote.copy())),
+            Artifact::Finalization(message) => match message.clone() {
+                Ok(copy) => Ok(Artifact::Finalization(copy)),
+                Err(error) => Err(error),
+            },
+        }
+    }
+}
+
+impl<S: CertificateScheme, D: Digest> From<Vote<S, D>> for Artifact<S, D> {
+    ghost use Rattle.simplex_votes.specs.Artifact.{vote_artifact};
+
+    ghost from_gives = { λ vote artifact. artifact ≡ vote_artifact vote };
+
+    fn from(vote: Vote<S, D>) -> Self {
+        match vote {
+            Vote::Notarize(vote) => Artifact::Notarize(vote),
+            Vote::Nullify(vote) => Artifact::Nullify(vote),
+            Vote::Finalize(vote) => Artifact::Finalize(vote),
+        }
+    }
+}
+
+impl<S: CertificateScheme, D: Digest> From<Certificate<S, D>> for Artifact<S, D> {
+    ghost use Rattle.simplex_votes.specs.Artifact.{certificate_artifact};
+
+    ghost from_gives = { λ message artifact. artifact ≡ certificate_artifact message };
+
+    fn from(message: Certificate<S, D>) -> Self {
+        match message {
+            Certificate::Notarization(message) => Artifact::Notarization(message),
+            Certificate::Nullification(message) => Artifact::Nullification(message),
+            Certificate::Finalization(message) => Artifact::Finalization(message),
+        }
+    }
+}
+
+impl<S: CertificateScheme, D: Digest> Epochable for Artifact<S, D> {
+    ghost use Rattle.simplex_votes.specs.Artifact.{artifact_round};
+
+    ghost epoch_of = { λ artifact. (artifact_round artifact).epoch };
+
+    fn epoch(&self) -> Epoch {
+        match self {
+            Artifact::Notarize(vote) => vote.epoch(),
+            Artifact::Notarization(message) => message.epoch(),
+            Artifact::Certification(round, _) => round.epoch(),
+            Artifact::Nullify(vote) => vote.epoch(),
+            Artifact::Nullification(message) => message.epoch(),
+            Artifact::Finalize(vote) => vote.epoch(),
+            Artifact::Finalization(message) => message.epoch(),
+        }
+    }
+}
+
+impl<S: CertificateScheme, D: Digest> Viewable for Artifact<S, D> {
+    ghost use Rattle.simplex_votes.specs.Artifact.{artifact_round};
+
+    ghost view_of = { λ artifact. (artifact_round artifact).view };
+
+    fn view(&self) -> View {
+        match self {
+            Artifact::Notarize(vote) => vote.view(),
+            Artifact::Notarization(message) => message.view(),
+            Artifact::Certification(round, _) => round.view(),
+            Artifact::Nullify(vote) => vote.view(),
+            Artifact::Nullification(message) => message.view(),
+            Artifact::Finalize(vote) => vote.view(),
+            Artifact::Finalization(message) => message.view(),
+        }
+    }
+}
+
+impl<S: CertificateScheme, D: Digest> Spell for Artifact<S, D> {
+    ghost use Rattle.simplex_votes.specs.Artifact.{IsArtifact, artifact_spelling};
+
+    ghost is_value = { IsArtifact (fixed D.SIZE D.bytes_of D.of_bytes) S.Certificate.is_value (fixed S.Signature.SIZE S.Signature.bytes_of S.Signature.of_bytes) };
+
+    ghost spelling = { artifact_spelling (fixed D.SIZE D.bytes_of D.of_bytes) S.Certificate.spelling (fixed S.Signature.SIZE S.Signature.bytes_of S.Signature.of_bytes) };
+}
+
+impl<S: CertificateScheme, D: Digest> Write for Artifact<S, D> {
+    fn write(&self, buf: &mut Vec<u8>) -> Result<(), AllocError> {
+        match self {
+            Artifact::Notarize(vote) => write_tagged(0, vote, buf),
+            Artifact::Notarization(message) => write_tagged(1, message, buf),
+            Artifact::Certification(round, certified) => {
+                write_tagged(2, &(*round, *certified), buf)
+            }
+            Artifact::Nullify(vote) => write_tagged(3, vote, buf),
+            Artifact::Nullification(message) => write_tagged(4, message, buf),
+            Artifact::Finalize(vote) => write_tagged(5, vote, buf),
+            Artifact::Finalization(message) => write_tagged(6, message, buf),
+        }
+    }
+}
+
+impl<S: CertificateScheme, D: Digest> EncodeSize for Artifact<S, D> {
+    ghost limit = { 36 + 65535 + 2 ^ 50 };
+
+    fn encode_size(&self) -> usize {
+        match self {
+            Artifact::Notarize(vote) => 1 + vote.encode_size(),
+            Artifact::Notarization(message) => 1 + message.encode_size(),
+            Artifact::Certification(round, certified) => {
+                1 + round.encode_size() + certified.encode_size()
+            }
+            Artifact::Nullify(vote) => 1 + vote.encode_size(),
+            Artifact::Nullification(message) => 1 + message.encode_size(),
+            Artifact::Finalize(vote) => 1 + vote.encode_size(),
+            Artifact::Finalization(message) => 1 + message.encode_size(),
+        }
+    }
+}
+
+impl<S: CertificateScheme, D: Digest> Read for Artifact<S, D> {
+    ghost use Rattle.simplex_votes.specs.Artifact.{artifact_format, artifact_lawful};
+
+    type Cfg = u32;
+
+    ghost fits = { λ bound. (artifact_format (fixed D.SIZE D.bytes_of D.of_bytes) (format_of (S.Certificate.fits bound) S.Certificate.spelling (S.Certificate.reading bound)) (fixed S.Signature.SIZE S.Signature.bytes_of S.Signature.of_bytes)).is_value };
+
+    ghost reading = { λ bound. (artifact_format (fixed D.SIZE D.bytes_of D.of_bytes) (format_of (S.Certificate.fits bound) S.Certificate.spelling (S.Certificate.reading bound)) (fixed S.Signature.SIZE S.Signature.bytes_of S.Signature.of_bytes)).reading };
+
+    ghost takes_memory = { S.Certificate.takes_memory };
+
+    fn read_cfg(alloc: Global, input: &mut &[u8], bound: &u32) -> Result<Self, Error> {
+        let bytes: &[u8] = *input;
+        let [tag, body @ ..] = bytes else {
+            return Err(Error::EndOfBuffer);
+        };
+        let mut rest: &[u8] = body;
+        match read_body(alloc, *tag, &mut rest, bound) {
+            Ok(artifact) => {
+                *input = rest;
+                Ok(artifact)
+            }
+            Err(error) => Err(error),
+        }
+    }
+
+    ghost lawful = { λ bound. artifact_lawful _ _ _ (fixed_lawful D.SIZE D.bytes_of D.of_bytes D.back D.forth) (S.Certificate.lawful bound) (fixed_lawful S.Signature.SIZE S.Signature.bytes_of S.Signature.of_bytes S.Signature.back S.Signature.forth) };
+}
+
+/// Reads the parts of the artifact with this tag.
+fn read_body<S: CertificateScheme, D: Digest>(
+    alloc: Global,
+    tag: u8,
+    input: &mut &[u8],
+    bound: &u32,
+) -> Result<Artifact<S, D>, Error>
+    ensures { Gives S.Certificate.takes_memory result input.old.now input.new.now (artifact_branches (fixed D.SIZE D.bytes_of D.of_bytes)
+        (format_of (S.Certificate.fits bound.now) S.Certificate.spelling (S.Certificate.reading bound.now))
+        (fixed S.Signature.SIZE S.Signature.bytes_of S.Signature.of_bytes) tag input.old.now) }
+{
+    match tag {
+        0 => match Notarize::read_cfg(alloc, input, &()) {
+            Ok(vote) => Ok(Artifact::Notarize(vote)),
+            Err(error) => Err(error),
+        },
+        1 => match Notarization::read_cfg(alloc, input, bound) {
+            Ok(message) => Ok(Artifact::Notarization(message)),
+            Err(error) => Err(error),
+        },
+        2 => match <(Round, bool)>::read_cfg(alloc, input, &()) {
+            Ok((round, certified)) => Ok(Artifact::Certification(round, certified)),
+            Err(error) => Err(error),
+        },
+        3 => match Nullify::read_cfg(alloc, input, &()) {
+            Ok(vote) => Ok(Artifact::Nullify(vote)),
+            Err(error) => Err(error),
+        },
+        4 => match Nullification::read_cfg(alloc, input, bound) {
+            Ok(message) => Ok(Artifact::Nullification(message)),
+            Err(error) => Err(error),
+        },
+        5 => match Finalize::read_cfg(alloc, input, &()) {
+            Ok(vote) => Ok(Artifact::Finalize(vote)),
+            Err(error) => Err(error),
+        },
+        6 => match Finalization::read_cfg(alloc, input, bound) {
+            Ok(message) => Ok(Artifact::Finalization(message)),
+            Err(error) => Err(error),
+        },
+        _ => Err(Error::Invalid("consensus::simplex::Artifact", "Invalid type")),
+    }
+}
