@@ -1,9 +1,11 @@
-//! The evidence types, the union of all messages, and the map of first items.
+//! The evidence types, the union of all messages, the map of first items, and many certificates verified at once.
 
 pub mod activities;
 pub mod attributable;
+pub mod bisection;
 pub mod conflicts;
 
 pub use activities::Activity;
 pub use attributable::{AttributableIter, AttributableMap};
+pub use bisection::verify_certificates;
 pub use conflicts::ConflictingNotarize;
