@@ -1,6 +1,6 @@
 //! Certificates that list their attestations.
 
-ghost use Rattle.std.specs.Prelude.{◌≡◌, ◌+◌, ◌*◌, ◌<◌, ◌≤◌, ◌^◌, IfOk, length, true, false};
+ghost use Rattle.std.specs.Prelude.{◌≡◌, ◌+◌, ◌*◌, ◌/◌, min, ◌<◌, ◌≤◌, ◌^◌, IfOk, length, true, false};
 ghost use Rattle.std.specs.Hash as fed;
 ghost use Rattle.std.specs.Cmp.Lexicographic.{pointwise, lists_per};
 ghost use Rattle.std.specs.Cmp.Rules.{comparing, hashing};
@@ -149,7 +149,7 @@ impl<S: SchemeTypes> Read for Listed<S> {
 /// signature's.
 fn room_for<S: SchemeTypes>(bytes: &[u8], count: u32) -> usize
     ensures held { result * (1 + S.Signature.SIZE) ≤ length bytes.now }
-    ensures counted { result ≤ count }
+    ensures all { result ≡ min (length bytes.now / (1 + S.Signature.SIZE)) count }
 {
     (bytes.len() / (1 + S::Signature::SIZE)).min(count as usize)
 }
