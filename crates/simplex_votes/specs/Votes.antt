@@ -5,6 +5,8 @@ use Rattle.simplex_scheme.specs.declared.proposal.Proposal.{Proposal}
 use Rattle.simplex_scheme.specs.Subject.{SubjectValue, Notarizes, Nullifies, Finalizes, round_of}
 use Rattle.simplex_scheme.specs.declared.scheme.Attestation.{Attestation}
 use Rattle.simplex_votes.specs.declared.types.votes.Notarize.{Notarize}
+use Rattle.simplex_votes.specs.declared.types.nullifies.Nullify.{Nullify}
+use Rattle.simplex_votes.specs.declared.types.finalizes.Finalize.{Finalize}
 use Rattle.simplex_votes.specs.declared.types.certificates.Notarization.{Notarization}
 
 -- what a participant says, signed. D is the type of payloads, G that of signatures
@@ -16,6 +18,14 @@ pub record Vote (D G : Type 0) : Type 0 where
 -- a notarize, as a vote
 abbrev pub notarize_vote : {S D P G : Type 0} → Notarize S D P G → Vote D G
 notarize_vote n = record { subject = Notarizes n.proposal; signer = n.attestation.signer; signature = n.attestation.signature }
+
+-- a nullify, as a vote
+abbrev pub nullify_vote : {S D P G : Type 0} → Nullify S P G → Vote D G
+nullify_vote n = record { subject = Nullifies n.round; signer = n.attestation.signer; signature = n.attestation.signature }
+
+-- a finalize, as a vote
+abbrev pub finalize_vote : {S D P G : Type 0} → Finalize S D P G → Vote D G
+finalize_vote f = record { subject = Finalizes f.proposal; signer = f.attestation.signer; signature = f.attestation.signature }
 
 -- the vote of an attestation to a proposal, as a notarize
 abbrev pub notarize_of : {S D P G : Type 0} → Proposal D → Attestation S P G → Vote D G

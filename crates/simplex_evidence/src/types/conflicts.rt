@@ -1,14 +1,19 @@
 //! Two votes that contradict.
 
-ghost use Rattle.std.specs.Prelude.{◌≡◌, ◌&&◌, ⊤, IsTrue};
+ghost use Rattle.std.specs.Prelude.{◌≡◌, ◌&&◌, ◌+◌, ◌*◌, ⊤, false, IsTrue};
+ghost use Rattle.simplex_base.specs.Format.{fixed};
+ghost use Rattle.simplex_base.specs.FormatLaws.{fixed_lawful};
 ghost use Rattle.simplex_scheme.specs.Subject.{Notarizes};
 ghost use Rattle.simplex_votes.specs.Votes.{notarize_vote};
 ghost use Rattle.simplex_evidence.specs.Contradiction.{contradicts, Conflicting_notarize};
 
+use simplex_base::codec::error::Error;
+use simplex_base::codec::parts::write_both;
+use simplex_base::codec::{EncodeSize, Fixed, Read, Spell, Write};
 use simplex_base::positions::{Epoch, Epochable, Participant, Round, View, Viewable};
 use simplex_scheme::scheme::{Digest, Scheme, SchemeTypes};
 use simplex_votes::types::{Attributable, Notarize};
-use std::alloc::AllocError;
+use std::alloc::{AllocError, Global};
 use std::marker::Model;
 
 /// Two notarizes of one signer and one round for different proposals. Swapping them gives an unequal value.
@@ -125,4 +130,57 @@ impl<S: SchemeTypes, D: Digest> Viewable for ConflictingNotarize<S, D> {
     fn view(&self) -> View {
         self.notarize_1.view()
     }
+}
+
+impl<S: SchemeTypes, D: Digest> Spell for ConflictingNotarize<S, D> {
+    ghost use Rattle.simplex_evidence.specs.Conflict.{conflicting_notarize_format};
+
+    ghost is_value = { (conflicting_notarize_format D.eq (fixed D.SIZE D.bytes_of D.of_bytes) (fixed S.Signature.SIZE S.Signature.bytes_of S.Signature.of_bytes)).is_value };
+
+    ghost spelling = { (conflicting_notarize_format D.eq (fixed D.SIZE D.bytes_of D.of_bytes) (fixed S.Signature.SIZE S.Signature.bytes_of S.Signature.of_bytes)).spelling };
+}
+
+impl<S: SchemeTypes, D: Digest> Write for ConflictingNotarize<S, D> {
+    fn write(&self, buf: &mut Vec<u8>) -> Result<(), AllocError> {
+        write_both(&self.notarize_1, &self.notarize_2, buf)
+    }
+}
+
+impl<S: SchemeTypes, D: Digest> EncodeSize for ConflictingNotarize<S, D> {
+    ghost limit = { 70 + 4 * 65535 };
+
+    fn encode_size(&self) -> usize {
+        self.notarize_1.encode_size() + self.notarize_2.encode_size()
+    }
+}
+
+impl<S: SchemeTypes, D: Digest> Read for ConflictingNotarize<S, D> {
+    ghost use Rattle.simplex_evidence.specs.Conflict.{conflicting_notarize_format, conflicting_notarize_lawful};
+
+    type Cfg = ();
+
+    ghost fits = { λ _. (conflicting_notarize_format D.eq (fixed D.SIZE D.bytes_of D.of_bytes) (fixed S.Signature.SIZE S.Signature.bytes_of S.Signature.of_bytes)).is_value };
+
+    ghost reading = { λ _. (conflicting_notarize_format D.eq (fixed D.SIZE D.bytes_of D.of_bytes) (fixed S.Signature.SIZE S.Signature.bytes_of S.Signature.of_bytes)).reading };
+
+    ghost takes_memory = { false };
+
+    fn read_cfg(alloc: Global, input: &mut &[u8], cfg: &()) -> Result<Self, Error> {
+        let mut rest: &[u8] = *input;
+        match <(Notarize<S, D>, Notarize<S, D>)>::read_cfg(alloc, &mut rest, cfg) {
+            Ok((notarize_1, notarize_2)) => {
+                if !Self::conflicts(&notarize_1, &notarize_2) {
+                    return Err(Error::Invalid(
+                        "consensus::simplex::ConflictingNotarize",
+                        "invalid conflicting notarize",
+                    ));
+                }
+                *input = rest;
+                Ok(Self::new(notarize_1, notarize_2))
+            }
+            Err(error) => Err(error),
+        }
+    }
+
+    ghost lawful = { λ _. conflicting_notarize_lawful D.eq _ _ (fixed_lawful D.SIZE D.bytes_of D.of_bytes D.back D.forth) (fixed_lawful S.Signature.SIZE S.Signature.bytes_of S.Signature.of_bytes S.Signature.back S.Signature.forth) };
 }
