@@ -9,9 +9,9 @@ use std::alloc::{AllocError, Global};
 
 /// Whether each certificate certifies its subject: item by item what `verify_certificate` answers.
 ///
-/// The scheme is asked about all items together. Where it refuses them they are cut in the middle and it is asked about each
-/// half, down to parts of one item. So where every certificate is good it is asked once, and about an empty list
-/// it is not asked. Of n items the cuts are at most log2 n, rounded up, deep.
+/// The scheme is asked about all items together. A part of them that it refuses is cut in the middle, and it is
+/// asked about both halves, down to single items. So it is asked once where every certificate is good, and never
+/// about an empty list. For n items the recursion is at most log2 n deep, rounded up.
 ///
 /// The answers take their memory before anything is verified; `AllocError` comes only where that is refused.
 pub fn verify_certificates<'a, S: CertificateVerifier<D>, D: Digest>(
@@ -50,3 +50,6 @@ fn bisect<'a, S: CertificateVerifier<D>, D: Digest>(
     bisect(scheme, first, first_answers);
     bisect(scheme, second, second_answers);
 }
+
+#[cfg(test)]
+mod tests;
