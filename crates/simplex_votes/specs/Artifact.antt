@@ -1,5 +1,5 @@
 -- The union of what a node stores: votes, certificate messages and what it certified.
-use Rattle.std.proofs.Common.{◌≡◌, ℕ, Bool, List, ◌∷◌, ◌++◌, refl, Ok}
+use Rattle.std.proofs.Common.{◌≡◌, ℕ, List, ◌∷◌, ◌++◌, refl, Ok}
 use Rattle.std.specs.Prelude.{codes, ⊤}
 use Rattle.simplex_base.specs.Reading.{Refusal, invalid, Reading}
 use Rattle.simplex_base.specs.Format.{Format, IsLawful, both, truth}

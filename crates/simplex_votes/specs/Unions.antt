@@ -1,5 +1,5 @@
 -- The unions of votes and of certificate messages: what each member is about, and how it is spelled.
-use Rattle.std.proofs.Common.{◌≡◌, ℕ, List, ◌∷◌, ◌++◌, ◌+◌, ◌≤◌, length, refl, Ok, arith}
+use Rattle.std.proofs.Common.{◌≡◌, ℕ, List, ◌∷◌, ◌++◌, ◌+◌, refl, Ok, arith}
 use Rattle.std.specs.Prelude.{codes}
 use Rattle.simplex_base.specs.Reading.{Refusal, invalid, Reading}
 use Rattle.simplex_base.specs.Format.{Format, IsLawful}

@@ -242,9 +242,6 @@ fn read_body<S: CertificateScheme, D: Digest>(
             Ok(message) => Ok(Certificate::Finalization(message)),
             Err(error) => Err(error),
         },
-        _ => Err(Error::Invalid(
-            "consensus::simplex::Certificate",
-            "Invalid type",
-        )),
+        _ => Err(Error::Invalid("consensus::simplex::Certificate", "Invalid type")),
     }
 }
