@@ -3,7 +3,7 @@
 ghost use Rattle.std.specs.Prelude.{◌≡◌, ℕ, ◌+◌, ◌*◌, ◌≤◌};
 ghost use Rattle.simplex_scheme.specs.Committee.{faults_of, quorum_of};
 
-/// How many of `n` participants may lie: the greatest f with 3f + 1 ≤ n, which is (n - 1) / 3.
+/// How many of `n` participants may lie: the greatest f with 3f + 1 ≤ n.
 pub fn max_faults(n: u32) -> u32
     requires { 1 ≤ n }
     ensures value { result ≡ faults_of n }

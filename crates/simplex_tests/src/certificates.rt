@@ -135,7 +135,10 @@ fn not_all_votes_stand_together(rt: HostRuntime) -> Result<(), Fail> {
                 marked(epoch, fourth, 0xaa),
             ],
         )?;
-        assert_eq!(rt; Notarization::can_assemble(&scheme, votes.as_slice()), wanted);
+        assert_eq!(rt;
+            Notarization::can_assemble(&scheme, votes.as_slice()),
+            wanted
+        );
     }
     let none: [Notarize<Marked, MarkedDigest>; 0] = [];
     assert!(rt; !Notarization::can_assemble(&scheme, &none));
@@ -150,7 +153,10 @@ fn plain(
     own: u8,
     second: u8,
 ) -> Result<Plain, Fail> {
-    let keys = [PlainKey::from_bytes(&[0; 32]), PlainKey::from_bytes(&[second; 32])];
+    let keys = [
+        PlainKey::from_bytes(&[0; 32]),
+        PlainKey::from_bytes(&[second; 32]),
+    ];
     let participants = Set::try_from_vec(Vec::from_array(alloc, keys)?)?;
     assert_eq!(rt; participants.len(), 2);
     let own = PlainKey::from_bytes(&[own; 32]);

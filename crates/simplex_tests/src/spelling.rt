@@ -164,7 +164,13 @@ fn notarizations_are_proposal_and_certificate(rt: HostRuntime) -> Result<(), Fai
         return Err("another message".into());
     };
     is_spelled(&rt, alloc, &notarization, &4, "000a0506 03 00aa 01aa 03aa")?;
-    is_spelled(&rt, alloc, &notarization.certificate, &4, "03 00aa 01aa 03aa")?;
+    is_spelled(
+        &rt,
+        alloc,
+        &notarization.certificate,
+        &4,
+        "03 00aa 01aa 03aa",
+    )?;
     assert!(rt; notarization.clone()? == notarization);
     assert!(rt; notarization.proposal == proposal(MarkedDigest::from_bytes(&[6])));
     assert_eq!(rt; notarization.round(), notarization.proposal.round);

@@ -162,10 +162,7 @@ fn listed_attestations_are_votes(rt: HostRuntime) -> Result<(), Fail> {
 #[test]
 fn certificates_are_read_under_the_committees_bound(rt: HostRuntime) -> Result<(), Fail> {
     let count = Error::Invalid("simplex_messages::Listed", "count out of range");
-    let signers = Error::Invalid(
-        "simplex_messages::Listed",
-        "signers out of order or range",
-    );
+    let signers = Error::Invalid("simplex_messages::Listed", "signers out of order or range");
     let rows: [(&'static str, Error); 7] = [
         ("01000a0506 00", count),
         ("01000a0506 05", count),

@@ -1,9 +1,9 @@
 //! The votes and certificates of the protocol.
 
-mod assembly;
 pub mod any_certificates;
 pub mod any_votes;
 pub mod artifacts;
+mod assembly;
 pub mod certificates;
 pub mod contexts;
 pub mod finalizations;
