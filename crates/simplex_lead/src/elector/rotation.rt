@@ -170,13 +170,13 @@ impl<S: CertificateScheme, H: Hasher> Config<S> for RoundRobin<H> {
 
 /// The elector that goes round the participants in one order, term after term.
 #[derive(Drop)]
-pub struct RoundRobinElector<S: CertificateScheme> {
+pub struct RoundRobinElector<S> {
     order: Vec<Participant>,
     terms: Terms,
     scheme: PhantomData<S>,
 }
 
-impl<S: CertificateScheme> Model for RoundRobinElector<S> {
+impl<S> Model for RoundRobinElector<S> {
     ghost use Rattle.std.specs.Prelude.{◌<◌, length};
     ghost use Rattle.simplex_lead.specs.Rotation.{Rotation, IsArrangement};
 
@@ -187,7 +187,7 @@ impl<S: CertificateScheme> Model for RoundRobinElector<S> {
     ghost invariant = { λ elector. IsArrangement (length elector.order.items) elector.order.items × (0 < length elector.order.items) };
 }
 
-impl<S: CertificateScheme> Clone for RoundRobinElector<S> {
+impl<S> Clone for RoundRobinElector<S> {
     ghost is_clone = { λ elector copy. copy ≡ elector };
 
     fn clone(&self) -> Result<Self, AllocError> {
@@ -199,7 +199,7 @@ impl<S: CertificateScheme> Clone for RoundRobinElector<S> {
     }
 }
 
-impl<S: CertificateScheme> RoundRobinElector<S> {
+impl<S> RoundRobinElector<S> {
     /// The entry of the order that leads a round.
     fn leader(&self, round: Round) -> Participant
         ensures leader { result ≡ leader_of_round self.now round }
