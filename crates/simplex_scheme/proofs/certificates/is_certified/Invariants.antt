@@ -1,4 +1,4 @@
-use Rattle.std.proofs.Common.{◌≡◌, true, length, take}
+use Rattle.std.proofs.Common.{◌≡◌, true, take}
 use Rattle.std.specs.List.{list_all}
 use Rattle.simplex_scheme.specs.Subject.{subject_value}
 use Rattle.simplex_scheme.proofs.certificates.is_certified.Given as goal
