@@ -150,20 +150,24 @@ fn votes_are_proposal_signer_and_signature(rt: HostRuntime) -> Result<(), Fail> 
     is_spelled(&rt, alloc, &last, &(), spelling)
 }
 
+/// The notarization of these bytes, which is spelled so.
+fn notarization(
+    rt: &impl Abort,
+    alloc: Global,
+    spelling: &str,
+) -> Result<Notarization<Marked, MarkedDigest>, Fail> {
+    let read = decode_cfg(alloc, bytes(alloc, spelling)?.as_slice(), &4);
+    let Ok(notarization) = read else {
+        return Err("no notarization".into());
+    };
+    is_spelled(rt, alloc, &notarization, &4, spelling)?;
+    Ok(notarization)
+}
+
 #[test]
 fn notarizations_are_proposal_and_certificate(rt: HostRuntime) -> Result<(), Fail> {
     let alloc = rt.alloc();
-    let spelling = "01 000a0506 03 00aa 01aa 03aa";
-    let message = decode_cfg::<Activity<Marked, MarkedDigest>>(
-        alloc,
-        bytes(alloc, spelling)?.as_slice(),
-        &4,
-    )?;
-    is_spelled(&rt, alloc, &message, &4, spelling)?;
-    let Activity::Notarization(notarization) = message else {
-        return Err("another message".into());
-    };
-    is_spelled(&rt, alloc, &notarization, &4, "000a0506 03 00aa 01aa 03aa")?;
+    let notarization = notarization(&rt, alloc, "000a0506 03 00aa 01aa 03aa")?;
     is_spelled(
         &rt,
         alloc,
@@ -172,9 +176,15 @@ fn notarizations_are_proposal_and_certificate(rt: HostRuntime) -> Result<(), Fai
         "03 00aa 01aa 03aa",
     )?;
     assert!(rt; notarization.clone()? == notarization);
-    assert!(rt; notarization.proposal == proposal(MarkedDigest::from_bytes(&[6])));
-    assert_eq!(rt; notarization.round(), notarization.proposal.round);
-    Ok(())
+    assert!(rt; notarization.proposal == marked_notarize().proposal);
+    assert!(rt; notarization.round() == notarization.proposal.round);
+    is_spelled(
+        &rt,
+        alloc,
+        &Activity::Notarization(notarization),
+        &4,
+        "01 000a0506 03 00aa 01aa 03aa",
+    )
 }
 
 #[test]
