@@ -4,6 +4,8 @@
 #[cfg(test)]
 mod against_model;
 #[cfg(test)]
+mod bisection;
+#[cfg(test)]
 mod certificates;
 #[cfg(test)]
 mod evidence;
