@@ -20,4 +20,6 @@ mod spelling;
 #[cfg(test)]
 mod streams;
 #[cfg(test)]
+mod unions;
+#[cfg(test)]
 mod vote_map;

@@ -38,7 +38,7 @@ fn marked_notarize() -> Notarize<Marked, MarkedDigest> {
 }
 
 /// A value is written so, and nothing else is read so.
-fn is_spelled<T: Encode + Read + PartialEq + Drop>(
+pub(crate) fn is_spelled<T: Encode + Read + PartialEq + Drop>(
     rt: &impl Abort,
     alloc: Global,
     value: &T,
