@@ -5,8 +5,8 @@
 run:
 	cd crates/audit && rt run -- $$(cat args) < stdin
 
-# Refuses each growth of the program and of the vote map in turn, and then proves everything from nothing, tries
-# the wrong bodies, and runs the tests and the program.
+# Refuses each growth of the program, of the vote map and of verify_certificates in turn, and then proves
+# everything from nothing, tries the wrong bodies, and runs the tests and the program.
 test:
 	.ci/refusals audit
 	.ci/refusals simplex_evidence
