@@ -1,5 +1,5 @@
 use Rattle.std.proofs.Common.{arith, refl}
-use Rattle.simplex_votes.proofs.UnionLemmas.{union_fails}
+use Rattle.simplex_base.specs.UnionLaws.{union_fails}
 use Rattle.simplex_votes.proofs.types.artifacts.ArtifactRead.read_cfg.Goals as goal
 
 pub returns-in-Err : goal.returns-in-Err
