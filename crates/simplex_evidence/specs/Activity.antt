@@ -1,75 +1,203 @@
--- How messages are spelled, and the votes that one holds.
-use Rattle.std.proofs.Common.{◌≡◌, ℕ, List, [], ◌∷◌, ◌++◌, refl, Ok}
-use Rattle.std.specs.Prelude.{codes}
+-- The union of all messages: how they are spelled, the votes that one holds, and what makes one good.
+use Rattle.std.proofs.Common.{◌≡◌, ℕ, Bool, true, false, List, [], ◌∷◌, ◌++◌, refl, Ok}
+use Rattle.std.specs.Prelude.{codes, map, ◌&&◌, ⊤}
 use Rattle.simplex_base.specs.Reading.{Refusal, invalid, Reading}
 use Rattle.simplex_base.specs.Format.{Format, IsLawful}
-use Rattle.simplex_base.specs.Union.{union_at, branch_at, no_branch, Takes, branch_takes, no_branch_takes, union_lawful}
+use Rattle.simplex_base.specs.Union.{union_at, branch_at, no_branch, branch_takes, no_branch_takes, union_lawful}
 use Rattle.simplex_base.specs.Positions.{Round}
 use Rattle.simplex_scheme.specs.declared.scheme.Attestation.{Attestation}
-use Rattle.simplex_votes.specs.Votes.{Vote, notarize_vote, notarization_votes}
-use Rattle.simplex_votes.specs.Spellings.{notarize_format, notarize_lawful, notarization_format, IsNotarization, notarization_spelling, notarization_lawful}
+use Rattle.simplex_scheme.specs.declared.proposal.Proposal.{Proposal}
+use Rattle.simplex_scheme.specs.Subject.{SubjectValue, Notarizes, Nullifies, Finalizes}
+use Rattle.simplex_votes.specs.declared.types.nullifications.Nullification.{Nullification}
+use Rattle.simplex_votes.specs.declared.types.finalizations.Finalization.{Finalization}
+use Rattle.simplex_votes.specs.Votes.{Vote, notarize_vote, nullify_vote, finalize_vote, notarization_votes}
+use Rattle.simplex_votes.specs.Spellings.{notarize_format, notarize_lawful, nullify_format, nullify_lawful, finalize_format, finalize_lawful, notarization_format, IsNotarization, notarization_spelling, notarization_lawful, nullification_format, IsNullification, nullification_spelling, nullification_lawful, finalization_format, IsFinalization, finalization_spelling, finalization_lawful}
+use Rattle.simplex_evidence.specs.Conflict.{conflicting_notarize_format, conflicting_notarize_lawful, conflicting_finalize_format, conflicting_finalize_lawful, nullify_finalize_format, nullify_finalize_lawful}
 use Rattle.simplex_evidence.specs.declared.types.activities.Activity.{Activity}
 use Rattle.simplex_evidence.specs.declared.types.activities.Activity.TheVariants as activity
+
+-- the round that a message is of
+abbrev pub activity_round : {S D C P G : Type 0} → Activity S D C P G → Round
+activity_round (activity.Notarize v) = v.proposal.round
+activity_round (activity.Notarization n) = n.proposal.round
+activity_round (activity.Certification n) = n.proposal.round
+activity_round (activity.Nullify v) = v.round
+activity_round (activity.Nullification n) = n.round
+activity_round (activity.Finalize v) = v.proposal.round
+activity_round (activity.Finalization n) = n.proposal.round
+activity_round (activity.ConflictingNotarize c) = c.first.proposal.round
+activity_round (activity.ConflictingFinalize c) = c.first.proposal.round
+activity_round (activity.NullifyFinalize c) = c.first.round
+
+-- ---- the votes that a message holds
+
+-- the vote of an attestation to a round, as a nullify
+abbrev pub nullify_of : {S D P G : Type 0} → Round → Attestation S P G → Vote D G
+nullify_of r a = record { subject = Nullifies r; signer = a.signer; signature = a.signature }
+
+-- the votes of a nullification: the attestations that its certificate lists, each as a nullify of its round
+abbrev pub nullification_votes : {S D C P G : Type 0} → (C → List (Attestation S P G)) → Nullification S C P G → List (Vote D G)
+nullification_votes listed n = map (nullify_of n.round) (listed n.certificate)
+
+-- the vote of an attestation to a proposal, as a finalize
+abbrev pub finalize_of : {S D P G : Type 0} → Proposal D → Attestation S P G → Vote D G
+finalize_of p a = record { subject = Finalizes p; signer = a.signer; signature = a.signature }
+
+-- the votes of a finalization: the attestations that its certificate lists, each as a finalize of its proposal
+abbrev pub finalization_votes : {S D C P G : Type 0} → (C → List (Attestation S P G)) → Finalization S D C P G → List (Vote D G)
+finalization_votes listed n = map (finalize_of n.proposal) (listed n.certificate)
+
+-- the votes that a message holds, in its order: `listed` gives the attestations that a certificate lists
+abbrev pub votes_in : {S D C P G : Type 0} → (C → List (Attestation S P G)) → Activity S D C P G → List (Vote D G)
+votes_in listed (activity.Notarize v) = notarize_vote v ∷ []
+votes_in listed (activity.Notarization n) = notarization_votes listed n
+votes_in listed (activity.Certification n) = notarization_votes listed n
+votes_in listed (activity.Nullify v) = nullify_vote v ∷ []
+votes_in listed (activity.Nullification n) = nullification_votes listed n
+votes_in listed (activity.Finalize v) = finalize_vote v ∷ []
+votes_in listed (activity.Finalization n) = finalization_votes listed n
+votes_in listed (activity.ConflictingNotarize c) = notarize_vote c.first ∷ notarize_vote c.second ∷ []
+votes_in listed (activity.ConflictingFinalize c) = finalize_vote c.first ∷ finalize_vote c.second ∷ []
+votes_in listed (activity.NullifyFinalize c) = nullify_vote c.first ∷ finalize_vote c.second ∷ []
+
+-- ---- what makes a message good
+
+-- a vote's signature is one of its signer for its subject
+abbrev pub vote_verifies : {D G : Type 0} → (SubjectValue D → ℕ → G → Bool) → Vote D G → Bool
+vote_verifies good v = good v.subject v.signer v.signature
+
+-- a vote by its signature, a certificate message by its certificate, and evidence by both of its signatures
+abbrev pub activity_verifies : {S D C P G : Type 0} → (SubjectValue D → ℕ → G → Bool) → (SubjectValue D → C → Bool) → Activity S D C P G → Bool
+activity_verifies good certified (activity.Notarize v) = vote_verifies good (notarize_vote v)
+activity_verifies good certified (activity.Notarization n) = certified (Notarizes n.proposal) n.certificate
+activity_verifies good certified (activity.Certification n) = certified (Notarizes n.proposal) n.certificate
+activity_verifies good certified (activity.Nullify v) = vote_verifies good (nullify_vote v)
+activity_verifies good certified (activity.Nullification n) = certified (Nullifies n.round) n.certificate
+activity_verifies good certified (activity.Finalize v) = vote_verifies good (finalize_vote v)
+activity_verifies good certified (activity.Finalization n) = certified (Finalizes n.proposal) n.certificate
+activity_verifies good certified (activity.ConflictingNotarize c) = vote_verifies good (notarize_vote c.first) && vote_verifies good (notarize_vote c.second)
+activity_verifies good certified (activity.ConflictingFinalize c) = vote_verifies good (finalize_vote c.first) && vote_verifies good (finalize_vote c.second)
+activity_verifies good certified (activity.NullifyFinalize c) = vote_verifies good (nullify_vote c.first) && vote_verifies good (finalize_vote c.second)
+
+-- whether a message has a certificate
+abbrev pub has_certificate : {S D C P G : Type 0} → Activity S D C P G → Bool
+has_certificate (activity.Notarization n) = true
+has_certificate (activity.Certification n) = true
+has_certificate (activity.Nullification n) = true
+has_certificate (activity.Finalization n) = true
+has_certificate _ = false
+
+-- ---- clones
+
+-- a message with a clone of the other's certificate and the other's parts besides
+abbrev pub IsActivityClone : {S D C P G : Type 0} → (C → C → Type 0) → Activity S D C P G → Activity S D C P G → Type 0
+IsActivityClone is_clone (activity.Notarization n) (activity.Notarization copy) = (copy.proposal ≡ n.proposal) × is_clone n.certificate copy.certificate
+IsActivityClone is_clone (activity.Certification n) (activity.Certification copy) = (copy.proposal ≡ n.proposal) × is_clone n.certificate copy.certificate
+IsActivityClone is_clone (activity.Nullification n) (activity.Nullification copy) = (copy.round ≡ n.round) × is_clone n.certificate copy.certificate
+IsActivityClone is_clone (activity.Finalization n) (activity.Finalization copy) = (copy.proposal ≡ n.proposal) × is_clone n.certificate copy.certificate
+IsActivityClone is_clone m copy = copy ≡ m
+
+-- a clone of the certificate in it, if there is one, is that certificate
+abbrev pub ClonesCertificate : {S D C P G : Type 0} → (C → C → Type 0) → Activity S D C P G → Type 0
+ClonesCertificate {C = C} is_clone (activity.Notarization n) = (copy : C) → is_clone n.certificate copy → copy ≡ n.certificate
+ClonesCertificate {C = C} is_clone (activity.Certification n) = (copy : C) → is_clone n.certificate copy → copy ≡ n.certificate
+ClonesCertificate {C = C} is_clone (activity.Nullification n) = (copy : C) → is_clone n.certificate copy → copy ≡ n.certificate
+ClonesCertificate {C = C} is_clone (activity.Finalization n) = (copy : C) → is_clone n.certificate copy → copy ≡ n.certificate
+ClonesCertificate is_clone _ = ⊤
+
+-- ---- how messages are spelled; `eq` compares payloads
 
 -- the refusal of a tag that no message has
 abbrev pub unknown_activity : Refusal
 unknown_activity = invalid (codes "consensus::simplex::Activity") (codes "Invalid type")
 
-abbrev pub IsActivity : {S D C P G : Type 0} → Format D → (C → Type 0) → Format G → Activity S D C P G → Type 0
-IsActivity payload is_certificate signature (activity.Notarize vote) = (notarize_format payload signature).is_value vote
-IsActivity payload is_certificate signature (activity.Notarization n) = IsNotarization payload is_certificate n
+abbrev pub IsActivity : {S D C P G : Type 0} → (D → D → Bool) → Format D → (C → Type 0) → Format G → Activity S D C P G → Type 0
+IsActivity eq payload is_certificate signature (activity.Notarize v) = (notarize_format payload signature).is_value v
+IsActivity eq payload is_certificate signature (activity.Notarization n) = IsNotarization payload is_certificate n
+IsActivity eq payload is_certificate signature (activity.Certification n) = IsNotarization payload is_certificate n
+IsActivity eq payload is_certificate signature (activity.Nullify v) = (nullify_format signature).is_value v
+IsActivity eq payload is_certificate signature (activity.Nullification n) = IsNullification is_certificate n
+IsActivity eq payload is_certificate signature (activity.Finalize v) = (finalize_format payload signature).is_value v
+IsActivity eq payload is_certificate signature (activity.Finalization n) = IsFinalization payload is_certificate n
+IsActivity eq payload is_certificate signature (activity.ConflictingNotarize c) = (conflicting_notarize_format eq payload signature).is_value c
+IsActivity eq payload is_certificate signature (activity.ConflictingFinalize c) = (conflicting_finalize_format eq payload signature).is_value c
+IsActivity eq payload is_certificate signature (activity.NullifyFinalize c) = (nullify_finalize_format eq payload signature).is_value c
 
 abbrev pub activity_tag : {S D C P G : Type 0} → Activity S D C P G → ℕ
-activity_tag (activity.Notarize vote) = 0
+activity_tag (activity.Notarize v) = 0
 activity_tag (activity.Notarization n) = 1
+activity_tag (activity.Certification n) = 2
+activity_tag (activity.Nullify v) = 3
+activity_tag (activity.Nullification n) = 4
+activity_tag (activity.Finalize v) = 5
+activity_tag (activity.Finalization n) = 6
+activity_tag (activity.ConflictingNotarize c) = 7
+activity_tag (activity.ConflictingFinalize c) = 8
+activity_tag (activity.NullifyFinalize c) = 9
 
 -- the spelling after the tag
-abbrev pub activity_body : {S D C P G : Type 0} → Format D → (C → List ℕ) → Format G → Activity S D C P G → List ℕ
-activity_body payload certificate signature (activity.Notarize vote) = (notarize_format payload signature).spelling vote
-activity_body payload certificate signature (activity.Notarization n) = notarization_spelling payload certificate n
+abbrev pub activity_body : {S D C P G : Type 0} → (D → D → Bool) → Format D → (C → List ℕ) → Format G → Activity S D C P G → List ℕ
+activity_body eq payload certificate signature (activity.Notarize v) = (notarize_format payload signature).spelling v
+activity_body eq payload certificate signature (activity.Notarization n) = notarization_spelling payload certificate n
+activity_body eq payload certificate signature (activity.Certification n) = notarization_spelling payload certificate n
+activity_body eq payload certificate signature (activity.Nullify v) = (nullify_format signature).spelling v
+activity_body eq payload certificate signature (activity.Nullification n) = nullification_spelling certificate n
+activity_body eq payload certificate signature (activity.Finalize v) = (finalize_format payload signature).spelling v
+activity_body eq payload certificate signature (activity.Finalization n) = finalization_spelling payload certificate n
+activity_body eq payload certificate signature (activity.ConflictingNotarize c) = (conflicting_notarize_format eq payload signature).spelling c
+activity_body eq payload certificate signature (activity.ConflictingFinalize c) = (conflicting_finalize_format eq payload signature).spelling c
+activity_body eq payload certificate signature (activity.NullifyFinalize c) = (nullify_finalize_format eq payload signature).spelling c
 
 -- the tag, and then the spelling after it
-abbrev pub activity_spelling : {S D C P G : Type 0} → Format D → (C → List ℕ) → Format G → Activity S D C P G → List ℕ
-activity_spelling payload certificate signature m = activity_tag m ∷ activity_body payload certificate signature m
+abbrev pub activity_spelling : {S D C P G : Type 0} → (D → D → Bool) → Format D → (C → List ℕ) → Format G → Activity S D C P G → List ℕ
+activity_spelling eq payload certificate signature m = activity_tag m ∷ activity_body eq payload certificate signature m
 
-abbrev pub activity_branches : {S D C P G : Type 0} → Format D → Format C → Format G → ℕ → List ℕ → Reading (Activity S D C P G)
-activity_branches payload certificate signature =
-    branch_at 0 (λ vote. activity.Notarize vote) (notarize_format payload signature).reading (
+abbrev pub activity_branches : {S D C P G : Type 0} → (D → D → Bool) → Format D → Format C → Format G → ℕ → List ℕ → Reading (Activity S D C P G)
+activity_branches eq payload certificate signature =
+    branch_at 0 (λ v. activity.Notarize v) (notarize_format payload signature).reading (
     branch_at 1 (λ n. activity.Notarization n) (notarization_format payload certificate).reading (
-    no_branch unknown_activity))
+    branch_at 2 (λ n. activity.Certification n) (notarization_format payload certificate).reading (
+    branch_at 3 (λ v. activity.Nullify v) (nullify_format signature).reading (
+    branch_at 4 (λ n. activity.Nullification n) (nullification_format certificate).reading (
+    branch_at 5 (λ v. activity.Finalize v) (finalize_format payload signature).reading (
+    branch_at 6 (λ n. activity.Finalization n) (finalization_format payload certificate).reading (
+    branch_at 7 (λ c. activity.ConflictingNotarize c) (conflicting_notarize_format eq payload signature).reading (
+    branch_at 8 (λ c. activity.ConflictingFinalize c) (conflicting_finalize_format eq payload signature).reading (
+    branch_at 9 (λ c. activity.NullifyFinalize c) (nullify_finalize_format eq payload signature).reading (
+    no_branch unknown_activity))))))))))
 
 -- a tag, and then the parts of the member with that tag, where `certificate` is the format of certificates under a bound
-abbrev pub activity_format : {S D C P G : Type 0} → Format D → Format C → Format G → Format (Activity S D C P G)
-activity_format payload certificate signature = record {
-  is_value = IsActivity payload certificate.is_value signature;
-  spelling = activity_spelling payload certificate.spelling signature;
-  reading = union_at (activity_branches payload certificate signature);
+abbrev pub activity_format : {S D C P G : Type 0} → (D → D → Bool) → Format D → Format C → Format G → Format (Activity S D C P G)
+activity_format eq payload certificate signature = record {
+  is_value = IsActivity eq payload certificate.is_value signature;
+  spelling = activity_spelling eq payload certificate.spelling signature;
+  reading = union_at (activity_branches eq payload certificate signature);
 }
 
--- the votes that a message holds, in its order: `listed` gives the attestations that a certificate lists
-abbrev pub votes_in : {S D C P G : Type 0} → (C → List (Attestation S P G)) → Activity S D C P G → List (Vote D G)
-votes_in listed (activity.Notarize vote) = notarize_vote vote ∷ []
-votes_in listed (activity.Notarization n) = notarization_votes listed n
-
--- the round that a message is of
-abbrev pub activity_round : {S D C P G : Type 0} → Activity S D C P G → Round
-activity_round (activity.Notarize vote) = vote.proposal.round
-activity_round (activity.Notarization n) = n.proposal.round
-
--- ---- laws of the format
-
-notarizations_take : {S D C P G : Type 0} (payload : Format D) (certificate : Format C) (signature : Format G) → IsLawful payload → IsLawful certificate → Takes (IsActivity {S = S} {P = P} payload certificate.is_value signature) activity_tag (activity_body payload certificate.spelling signature) (branch_at 1 (λ n. activity.Notarization n) (notarization_format payload certificate).reading (no_branch unknown_activity))
-notarizations_take {S} {D} {C} {P} {G} payload certificate signature payloads certificates =
-    branch_takes (IsActivity {S = S} {P = P} payload certificate.is_value signature) activity_tag (activity_body payload certificate.spelling signature) 1 (λ n. activity.Notarization n) (no_branch unknown_activity) (notarization_lawful payload certificate payloads certificates) (λ n. refl) (λ n. refl) (λ n h. h)
-    (no_branch_takes unknown_activity)
-
-pub activity_lawful : {S D C P G : Type 0} (payload : Format D) (certificate : Format C) (signature : Format G) → IsLawful payload → IsLawful certificate → IsLawful signature → IsLawful (activity_format {S = S} {P = P} payload certificate signature)
-activity_lawful {S} {D} {C} {P} {G} payload certificate signature payloads certificates signatures =
+pub activity_lawful : {S D C P G : Type 0} (eq : D → D → Bool) (payload : Format D) (certificate : Format C) (signature : Format G) → IsLawful payload → IsLawful certificate → IsLawful signature → IsLawful (activity_format {S = S} {P = P} eq payload certificate signature)
+activity_lawful {S} {D} {C} {P} {G} eq payload certificate signature payloads certificates signatures =
     union_lawful
-    (branch_takes (IsActivity {S = S} {P = P} payload certificate.is_value signature) activity_tag (activity_body payload certificate.spelling signature) 0 (λ vote. activity.Notarize vote) _ (notarize_lawful payload signature payloads signatures) (λ vote. refl) (λ vote. refl) (λ vote h. h)
-    (notarizations_take payload certificate signature payloads certificates))
+    (branch_takes (IsActivity {S = S} {P = P} eq payload certificate.is_value signature) activity_tag (activity_body eq payload certificate.spelling signature) 0 (λ v. activity.Notarize v) _ (notarize_lawful payload signature payloads signatures) (λ v. refl) (λ v. refl) (λ v h. h)
+    (branch_takes (IsActivity {S = S} {P = P} eq payload certificate.is_value signature) activity_tag (activity_body eq payload certificate.spelling signature) 1 (λ n. activity.Notarization n) _ (notarization_lawful payload certificate payloads certificates) (λ n. refl) (λ n. refl) (λ n h. h)
+    (branch_takes (IsActivity {S = S} {P = P} eq payload certificate.is_value signature) activity_tag (activity_body eq payload certificate.spelling signature) 2 (λ n. activity.Certification n) _ (notarization_lawful payload certificate payloads certificates) (λ n. refl) (λ n. refl) (λ n h. h)
+    (branch_takes (IsActivity {S = S} {P = P} eq payload certificate.is_value signature) activity_tag (activity_body eq payload certificate.spelling signature) 3 (λ v. activity.Nullify v) _ (nullify_lawful signature signatures) (λ v. refl) (λ v. refl) (λ v h. h)
+    (branch_takes (IsActivity {S = S} {P = P} eq payload certificate.is_value signature) activity_tag (activity_body eq payload certificate.spelling signature) 4 (λ n. activity.Nullification n) _ (nullification_lawful certificate certificates) (λ n. refl) (λ n. refl) (λ n h. h)
+    (branch_takes (IsActivity {S = S} {P = P} eq payload certificate.is_value signature) activity_tag (activity_body eq payload certificate.spelling signature) 5 (λ v. activity.Finalize v) _ (finalize_lawful payload signature payloads signatures) (λ v. refl) (λ v. refl) (λ v h. h)
+    (branch_takes (IsActivity {S = S} {P = P} eq payload certificate.is_value signature) activity_tag (activity_body eq payload certificate.spelling signature) 6 (λ n. activity.Finalization n) _ (finalization_lawful payload certificate payloads certificates) (λ n. refl) (λ n. refl) (λ n h. h)
+    (branch_takes (IsActivity {S = S} {P = P} eq payload certificate.is_value signature) activity_tag (activity_body eq payload certificate.spelling signature) 7 (λ c. activity.ConflictingNotarize c) _ (conflicting_notarize_lawful eq payload signature payloads signatures) (λ c. refl) (λ c. refl) (λ c h. h)
+    (branch_takes (IsActivity {S = S} {P = P} eq payload certificate.is_value signature) activity_tag (activity_body eq payload certificate.spelling signature) 8 (λ c. activity.ConflictingFinalize c) _ (conflicting_finalize_lawful eq payload signature payloads signatures) (λ c. refl) (λ c. refl) (λ c h. h)
+    (branch_takes (IsActivity {S = S} {P = P} eq payload certificate.is_value signature) activity_tag (activity_body eq payload certificate.spelling signature) 9 (λ c. activity.NullifyFinalize c) _ (nullify_finalize_lawful eq payload signature payloads signatures) (λ c. refl) (λ c. refl) (λ c h. h)
+    (no_branch_takes unknown_activity)))))))))))
     again
   where
-    again : (m : Activity S D C P G) (rest : List ℕ) → IsActivity payload certificate.is_value signature m → activity_branches payload certificate signature (activity_tag m) (activity_body payload certificate.spelling signature m ++ rest) ≡ Ok (m, rest)
-    again (activity.Notarize vote) rest h = rw ((notarize_lawful payload signature payloads signatures).again vote rest h) refl
+    again : (m : Activity S D C P G) (rest : List ℕ) → IsActivity eq payload certificate.is_value signature m → activity_branches eq payload certificate signature (activity_tag m) (activity_body eq payload certificate.spelling signature m ++ rest) ≡ Ok (m, rest)
+    again (activity.Notarize v) rest h = rw ((notarize_lawful payload signature payloads signatures).again v rest h) refl
     again (activity.Notarization n) rest h = rw ((notarization_lawful {S = S} {P = P} {G = G} payload certificate payloads certificates).again n rest h) refl
+    again (activity.Certification n) rest h = rw ((notarization_lawful {S = S} {P = P} {G = G} payload certificate payloads certificates).again n rest h) refl
+    again (activity.Nullify v) rest h = rw ((nullify_lawful {S = S} {P = P} signature signatures).again v rest h) refl
+    again (activity.Nullification n) rest h = rw ((nullification_lawful {S = S} {P = P} {G = G} certificate certificates).again n rest h) refl
+    again (activity.Finalize v) rest h = rw ((finalize_lawful payload signature payloads signatures).again v rest h) refl
+    again (activity.Finalization n) rest h = rw ((finalization_lawful {S = S} {P = P} {G = G} payload certificate payloads certificates).again n rest h) refl
+    again (activity.ConflictingNotarize c) rest h = rw ((conflicting_notarize_lawful {S = S} {P = P} eq payload signature payloads signatures).again c rest h) refl
+    again (activity.ConflictingFinalize c) rest h = rw ((conflicting_finalize_lawful {S = S} {P = P} eq payload signature payloads signatures).again c rest h) refl
+    again (activity.NullifyFinalize c) rest h = rw ((nullify_finalize_lawful {S = S} {P = P} eq payload signature payloads signatures).again c rest h) refl

@@ -1,20 +1,27 @@
 //! The union of all messages.
 
-ghost use Rattle.std.specs.Prelude.{◌+◌, ◌^◌};
+ghost use Rattle.std.specs.Prelude.{◌≡◌, ◌+◌, ◌*◌, ◌^◌, IfOk, IfErr, IsTrue};
 ghost use Rattle.simplex_base.specs.Format.{fixed};
 ghost use Rattle.simplex_base.specs.FormatLaws.{fixed_lawful};
+ghost use Rattle.simplex_base.specs.Reading.{Gives};
 ghost use Rattle.simplex_votes.specs.Spellings.{format_of};
+ghost use Rattle.simplex_evidence.specs.Activity.{activity_branches};
 
+use crate::types::conflicting_finalizes::ConflictingFinalize;
+use crate::types::conflicts::ConflictingNotarize;
+use crate::types::nullify_finalizes::NullifyFinalize;
 use simplex_base::codec::error::Error;
 use simplex_base::codec::parts::write_tagged;
 use simplex_base::codec::{EncodeSize, Fixed, Read, Spell, Write};
 use simplex_base::positions::{Epoch, Epochable, View, Viewable};
-use simplex_scheme::scheme::{CertificateScheme, Digest};
-use simplex_votes::types::{Notarization, Notarize};
+use simplex_scheme::scheme::{CertificateScheme, Digest, Scheme};
+use simplex_votes::types::{
+    Finalization, Finalize, Notarization, Notarize, Nullification, Nullify,
+};
 use std::alloc::{AllocError, Global};
 
-/// A message: one byte of tag, and then the parts of the member with that tag. It is read under the
-/// committee's bound.
+/// A message: a vote, a certificate message, or evidence of two votes that contradict. It is spelled as one byte of
+/// tag, and then the parts of the member with that tag. It is read under the committee's bound.
 #[derive(Drop)]
 #[derive_where(PartialEq, Eq, Hash)]
 pub enum Activity<S: CertificateScheme, D: Digest> {
@@ -22,6 +29,105 @@ pub enum Activity<S: CertificateScheme, D: Digest> {
     Notarize(Notarize<S, D>),
     /// Tag 1.
     Notarization(Notarization<S, D>),
+    /// Tag 2: the notarization of a proposal that was certified.
+    Certification(Notarization<S, D>),
+    /// Tag 3.
+    Nullify(Nullify<S>),
+    /// Tag 4.
+    Nullification(Nullification<S>),
+    /// Tag 5.
+    Finalize(Finalize<S, D>),
+    /// Tag 6.
+    Finalization(Finalization<S, D>),
+    /// Tag 7.
+    ConflictingNotarize(ConflictingNotarize<S, D>),
+    /// Tag 8.
+    ConflictingFinalize(ConflictingFinalize<S, D>),
+    /// Tag 9.
+    NullifyFinalize(NullifyFinalize<S, D>),
+}
+
+impl<S: CertificateScheme, D: Digest> Activity<S, D> {
+    ghost use Rattle.simplex_evidence.specs.Activity.{has_certificate, IsActivityClone, ClonesCertificate};
+
+    /// Whether the message is of a kind that consensus verifies before it reports it: those with a certificate, and
+    /// no others. It looks at no signature; [`verify`](Activity::verify) does.
+    pub fn verified(&self) -> bool
+        ensures { result ≡ has_certificate self.now }
+    {
+        match self {
+            Activity::Notarization(_) => true,
+            Activity::Certification(_) => true,
+            Activity::Nullification(_) => true,
+            Activity::Finalization(_) => true,
+            _ => false,
+        }
+    }
+
+    /// The same message, with a clone of the certificate where it has one. Only that clone takes memory.
+    pub fn clone(&self) -> Result<Self, AllocError>
+        ensures parts { IfOk result (λ copy. IsActivityClone S.Certificate.is_clone self.now copy) }
+        // Where a certificate's clone is the certificate, this one's is this message.
+        ensures same { ClonesCertificate S.Certificate.is_clone self.now → IfOk result (λ copy. copy ≡ self.now) }
+        ensures refused { IfErr result (λ _. IsTrue (has_certificate self.now)) }
+    {
+        match self {
+            Activity::Notarize(vote) => Ok(Activity::Notarize(vote.copy())),
+            Activity::Notarization(message) => match message.clone() {
+                Ok(copy) => Ok(Activity::Notarization(copy)),
+                Err(error) => Err(error),
+            },
+            Activity::Certification(message) => match message.clone() {
+                Ok(copy) => Ok(Activity::Certification(copy)),
+                Err(error) => Err(error),
+            },
+            Activity::Nullify(vote) => Ok(Activity::Nullify(vote.copy())),
+            Activity::Nullification(message) => match message.clone() {
+                Ok(copy) => Ok(Activity::Nullification(copy)),
+                Err(error) => Err(error),
+            },
+            Activity::Finalize(vote) => Ok(Activity::Finalize(vote.copy())),
+            Activity::Finalization(message) => match message.clone() {
+                Ok(copy) => Ok(Activity::Finalization(copy)),
+                Err(error) => Err(error),
+            },
+            Activity::ConflictingNotarize(evidence) => match evidence.clone() {
+                Ok(copy) => Ok(Activity::ConflictingNotarize(copy)),
+                Err(error) => Err(error),
+            },
+            Activity::ConflictingFinalize(evidence) => match evidence.clone() {
+                Ok(copy) => Ok(Activity::ConflictingFinalize(copy)),
+                Err(error) => Err(error),
+            },
+            Activity::NullifyFinalize(evidence) => match evidence.clone() {
+                Ok(copy) => Ok(Activity::NullifyFinalize(copy)),
+                Err(error) => Err(error),
+            },
+        }
+    }
+}
+
+impl<S: Scheme<D>, D: Digest> Activity<S, D> {
+    ghost use Rattle.simplex_evidence.specs.Activity.{activity_verifies};
+
+    /// Whether the message is good: a vote by its signature, a certificate message by its certificate, and evidence
+    /// by both of its signatures. It verifies whatever [`verified`](Activity::verified) answers.
+    pub fn verify(&self, scheme: &S) -> bool
+        ensures { result ≡ activity_verifies (S.good scheme.now) (S.certified scheme.now) self.now }
+    {
+        match self {
+            Activity::Notarize(vote) => vote.verify(scheme),
+            Activity::Notarization(message) => message.verify(scheme),
+            Activity::Certification(message) => message.verify(scheme),
+            Activity::Nullify(vote) => vote.verify::<D>(scheme),
+            Activity::Nullification(message) => message.verify::<D>(scheme),
+            Activity::Finalize(vote) => vote.verify(scheme),
+            Activity::Finalization(message) => message.verify(scheme),
+            Activity::ConflictingNotarize(evidence) => evidence.verify(scheme),
+            Activity::ConflictingFinalize(evidence) => evidence.verify(scheme),
+            Activity::NullifyFinalize(evidence) => evidence.verify(scheme),
+        }
+    }
 }
 
 impl<S: CertificateScheme, D: Digest> Epochable for Activity<S, D> {
@@ -32,7 +138,15 @@ impl<S: CertificateScheme, D: Digest> Epochable for Activity<S, D> {
     fn epoch(&self) -> Epoch {
         match self {
             Activity::Notarize(vote) => vote.epoch(),
-            Activity::Notarization(notarization) => notarization.epoch(),
+            Activity::Notarization(message) => message.epoch(),
+            Activity::Certification(message) => message.epoch(),
+            Activity::Nullify(vote) => vote.epoch(),
+            Activity::Nullification(message) => message.epoch(),
+            Activity::Finalize(vote) => vote.epoch(),
+            Activity::Finalization(message) => message.epoch(),
+            Activity::ConflictingNotarize(evidence) => evidence.epoch(),
+            Activity::ConflictingFinalize(evidence) => evidence.epoch(),
+            Activity::NullifyFinalize(evidence) => evidence.epoch(),
         }
     }
 }
@@ -45,7 +159,15 @@ impl<S: CertificateScheme, D: Digest> Viewable for Activity<S, D> {
     fn view(&self) -> View {
         match self {
             Activity::Notarize(vote) => vote.view(),
-            Activity::Notarization(notarization) => notarization.view(),
+            Activity::Notarization(message) => message.view(),
+            Activity::Certification(message) => message.view(),
+            Activity::Nullify(vote) => vote.view(),
+            Activity::Nullification(message) => message.view(),
+            Activity::Finalize(vote) => vote.view(),
+            Activity::Finalization(message) => message.view(),
+            Activity::ConflictingNotarize(evidence) => evidence.view(),
+            Activity::ConflictingFinalize(evidence) => evidence.view(),
+            Activity::NullifyFinalize(evidence) => evidence.view(),
         }
     }
 }
@@ -53,39 +175,55 @@ impl<S: CertificateScheme, D: Digest> Viewable for Activity<S, D> {
 impl<S: CertificateScheme, D: Digest> Spell for Activity<S, D> {
     ghost use Rattle.simplex_evidence.specs.Activity.{IsActivity, activity_spelling};
 
-    ghost is_value = { IsActivity (fixed D.SIZE D.bytes_of D.of_bytes) S.Certificate.is_value (fixed S.Signature.SIZE S.Signature.bytes_of S.Signature.of_bytes) };
+    ghost is_value = { IsActivity D.eq (fixed D.SIZE D.bytes_of D.of_bytes) S.Certificate.is_value (fixed S.Signature.SIZE S.Signature.bytes_of S.Signature.of_bytes) };
 
-    ghost spelling = { activity_spelling (fixed D.SIZE D.bytes_of D.of_bytes) S.Certificate.spelling (fixed S.Signature.SIZE S.Signature.bytes_of S.Signature.of_bytes) };
+    ghost spelling = { activity_spelling D.eq (fixed D.SIZE D.bytes_of D.of_bytes) S.Certificate.spelling (fixed S.Signature.SIZE S.Signature.bytes_of S.Signature.of_bytes) };
 }
 
 impl<S: CertificateScheme, D: Digest> Write for Activity<S, D> {
     fn write(&self, buf: &mut Vec<u8>) -> Result<(), AllocError> {
         match self {
             Activity::Notarize(vote) => write_tagged(0, vote, buf),
-            Activity::Notarization(notarization) => write_tagged(1, notarization, buf),
+            Activity::Notarization(message) => write_tagged(1, message, buf),
+            Activity::Certification(message) => write_tagged(2, message, buf),
+            Activity::Nullify(vote) => write_tagged(3, vote, buf),
+            Activity::Nullification(message) => write_tagged(4, message, buf),
+            Activity::Finalize(vote) => write_tagged(5, vote, buf),
+            Activity::Finalization(message) => write_tagged(6, message, buf),
+            Activity::ConflictingNotarize(evidence) => write_tagged(7, evidence, buf),
+            Activity::ConflictingFinalize(evidence) => write_tagged(8, evidence, buf),
+            Activity::NullifyFinalize(evidence) => write_tagged(9, evidence, buf),
         }
     }
 }
 
 impl<S: CertificateScheme, D: Digest> EncodeSize for Activity<S, D> {
-    ghost limit = { 36 + 65535 + 2 ^ 50 };
+    ghost limit = { 71 + 4 * 65535 + 2 ^ 50 };
 
     fn encode_size(&self) -> usize {
         match self {
             Activity::Notarize(vote) => 1 + vote.encode_size(),
-            Activity::Notarization(notarization) => 1 + notarization.encode_size(),
+            Activity::Notarization(message) => 1 + message.encode_size(),
+            Activity::Certification(message) => 1 + message.encode_size(),
+            Activity::Nullify(vote) => 1 + vote.encode_size(),
+            Activity::Nullification(message) => 1 + message.encode_size(),
+            Activity::Finalize(vote) => 1 + vote.encode_size(),
+            Activity::Finalization(message) => 1 + message.encode_size(),
+            Activity::ConflictingNotarize(evidence) => 1 + evidence.encode_size(),
+            Activity::ConflictingFinalize(evidence) => 1 + evidence.encode_size(),
+            Activity::NullifyFinalize(evidence) => 1 + evidence.encode_size(),
         }
     }
 }
 
 impl<S: CertificateScheme, D: Digest> Read for Activity<S, D> {
-    type Cfg = u32;
-
     ghost use Rattle.simplex_evidence.specs.Activity.{activity_format, activity_lawful};
 
-    ghost fits = { λ bound. (activity_format (fixed D.SIZE D.bytes_of D.of_bytes) (format_of (S.Certificate.fits bound) S.Certificate.spelling (S.Certificate.reading bound)) (fixed S.Signature.SIZE S.Signature.bytes_of S.Signature.of_bytes)).is_value };
+    type Cfg = u32;
 
-    ghost reading = { λ bound. (activity_format (fixed D.SIZE D.bytes_of D.of_bytes) (format_of (S.Certificate.fits bound) S.Certificate.spelling (S.Certificate.reading bound)) (fixed S.Signature.SIZE S.Signature.bytes_of S.Signature.of_bytes)).reading };
+    ghost fits = { λ bound. (activity_format D.eq (fixed D.SIZE D.bytes_of D.of_bytes) (format_of (S.Certificate.fits bound) S.Certificate.spelling (S.Certificate.reading bound)) (fixed S.Signature.SIZE S.Signature.bytes_of S.Signature.of_bytes)).is_value };
+
+    ghost reading = { λ bound. (activity_format D.eq (fixed D.SIZE D.bytes_of D.of_bytes) (format_of (S.Certificate.fits bound) S.Certificate.spelling (S.Certificate.reading bound)) (fixed S.Signature.SIZE S.Signature.bytes_of S.Signature.of_bytes)).reading };
 
     ghost takes_memory = { S.Certificate.takes_memory };
 
@@ -95,24 +233,70 @@ impl<S: CertificateScheme, D: Digest> Read for Activity<S, D> {
             return Err(Error::EndOfBuffer);
         };
         let mut rest: &[u8] = body;
-        match *tag {
-            0 => match Notarize::read_cfg(alloc, &mut rest, &()) {
-                Ok(vote) => {
-                    *input = rest;
-                    Ok(Activity::Notarize(vote))
-                }
-                Err(error) => Err(error),
-            },
-            1 => match Notarization::read_cfg(alloc, &mut rest, bound) {
-                Ok(notarization) => {
-                    *input = rest;
-                    Ok(Activity::Notarization(notarization))
-                }
-                Err(error) => Err(error),
-            },
-            _ => Err(Error::Invalid("consensus::simplex::Activity", "Invalid type")),
+        match read_body(alloc, *tag, &mut rest, bound) {
+            Ok(message) => {
+                *input = rest;
+                Ok(message)
+            }
+            Err(error) => Err(error),
         }
     }
 
-    ghost lawful = { λ bound. activity_lawful _ _ _ (fixed_lawful D.SIZE D.bytes_of D.of_bytes D.back D.forth) (S.Certificate.lawful bound) (fixed_lawful S.Signature.SIZE S.Signature.bytes_of S.Signature.of_bytes S.Signature.back S.Signature.forth) };
+    ghost lawful = { λ bound. activity_lawful D.eq _ _ _ (fixed_lawful D.SIZE D.bytes_of D.of_bytes D.back D.forth) (S.Certificate.lawful bound) (fixed_lawful S.Signature.SIZE S.Signature.bytes_of S.Signature.of_bytes S.Signature.back S.Signature.forth) };
+}
+
+/// Reads the parts of the message with this tag.
+fn read_body<S: CertificateScheme, D: Digest>(
+    alloc: Global,
+    tag: u8,
+    input: &mut &[u8],
+    bound: &u32,
+) -> Result<Activity<S, D>, Error>
+    ensures { Gives S.Certificate.takes_memory result input.old.now input.new.now (activity_branches D.eq (fixed D.SIZE D.bytes_of D.of_bytes)
+        (format_of (S.Certificate.fits bound.now) S.Certificate.spelling (S.Certificate.reading bound.now))
+        (fixed S.Signature.SIZE S.Signature.bytes_of S.Signature.of_bytes) tag input.old.now) }
+{
+    match tag {
+        0 => match Notarize::read_cfg(alloc, input, &()) {
+            Ok(vote) => Ok(Activity::Notarize(vote)),
+            Err(error) => Err(error),
+        },
+        1 => match Notarization::read_cfg(alloc, input, bound) {
+            Ok(message) => Ok(Activity::Notarization(message)),
+            Err(error) => Err(error),
+        },
+        2 => match Notarization::read_cfg(alloc, input, bound) {
+            Ok(message) => Ok(Activity::Certification(message)),
+            Err(error) => Err(error),
+        },
+        3 => match Nullify::read_cfg(alloc, input, &()) {
+            Ok(vote) => Ok(Activity::Nullify(vote)),
+            Err(error) => Err(error),
+        },
+        4 => match Nullification::read_cfg(alloc, input, bound) {
+            Ok(message) => Ok(Activity::Nullification(message)),
+            Err(error) => Err(error),
+        },
+        5 => match Finalize::read_cfg(alloc, input, &()) {
+            Ok(vote) => Ok(Activity::Finalize(vote)),
+            Err(error) => Err(error),
+        },
+        6 => match Finalization::read_cfg(alloc, input, bound) {
+            Ok(message) => Ok(Activity::Finalization(message)),
+            Err(error) => Err(error),
+        },
+        7 => match ConflictingNotarize::read_cfg(alloc, input, &()) {
+            Ok(evidence) => Ok(Activity::ConflictingNotarize(evidence)),
+            Err(error) => Err(error),
+        },
+        8 => match ConflictingFinalize::read_cfg(alloc, input, &()) {
+            Ok(evidence) => Ok(Activity::ConflictingFinalize(evidence)),
+            Err(error) => Err(error),
+        },
+        9 => match NullifyFinalize::read_cfg(alloc, input, &()) {
+            Ok(evidence) => Ok(Activity::NullifyFinalize(evidence)),
+            Err(error) => Err(error),
+        },
+        _ => Err(Error::Invalid("consensus::simplex::Activity", "Invalid type")),
+    }
 }
