@@ -5,11 +5,9 @@ use Rattle.std.specs.List.{IsDistinct, AllPairs, AllByRecursion, list_any}
 use Rattle.std.proofs.lemmas.Bool.{false≢true, cases_Bool, eqb-true}
 use Rattle.std.proofs.lemmas.Simd.{map-map}
 use Rattle.std.proofs.lemmas.List.Elements.{All-nil, All-push, All-head, All-tail, All-weaker, All-map}
-use Rattle.simplex_scheme.specs.declared.proposal.Proposal.{Proposal}
 use Rattle.simplex_scheme.specs.declared.scheme.Attestation.{Attestation}
-use Rattle.simplex_scheme.specs.Subject.{SubjectValue, Notarizes}
-use Rattle.simplex_votes.specs.declared.types.votes.Notarize.{Notarize}
-use Rattle.simplex_votes.specs.Assembly.{attestations_of, CanAssemble}
+use Rattle.simplex_scheme.specs.Subject.{SubjectValue}
+use Rattle.simplex_votes.specs.Assembly.{CanAssemble}
 
 -- what is numbered has distinct numbers, each below n and below a limit
 pub record AreDistinctBelow {X : Type 0} (number : X → ℕ) (n limit : ℕ) (xs : List X) : Type 0 where
@@ -80,40 +78,39 @@ distinct_above number n limit xs x are member above =
 pub distinct_below : {X : Type 0} (number : X → ℕ) (n limit : ℕ) (xs : List X) (x : X) → AreDistinctBelow number n limit xs → number x < n → number x < limit → list_any (λ y. nat_eq (number y) (number x)) xs ≡ false → AreDistinctBelow number n limit (xs ++ x ∷ [])
 distinct_below number n limit xs x are member less own = distinct_more number n limit limit xs x are member (omega arith) less own
 
--- ---- votes and their attestations
+-- ---- votes, what they are for, and their attestations
 
--- votes of which each two are for one proposal are for the first one's
-pub all_for_first : {S D P G : Type 0} (votes : List (Notarize S D P G)) (d : Notarize S D P G) → AllPairs (λ v w. v.proposal ≡ w.proposal) votes → All (λ v. v.proposal ≡ (get_or votes 0 d).proposal) votes
-all_for_first [] d same k e lt = absurd (omega (arith, lt))
-all_for_first (v ∷ vs) d same zero e lt = refl
-all_for_first (v ∷ vs) d same (suc k) e lt = sym (same 0 (suc k) e (omega arith) lt)
+-- votes of which each two are for one subject are for the first one's
+pub all_for_first : {V X : Type 0} (subject : V → X) (votes : List V) (d : V) → AllPairs (λ v w. subject v ≡ subject w) votes → All (λ v. subject v ≡ subject (get_or votes 0 d)) votes
+all_for_first subject [] d same k e lt = absurd (omega (arith, lt))
+all_for_first subject (v ∷ vs) d same zero e lt = refl
+all_for_first subject (v ∷ vs) d same (suc k) e lt = sym (same 0 (suc k) e (omega arith) lt)
 
--- votes for one proposal are so by pairs
-pairs_for : {S D P G : Type 0} (votes : List (Notarize S D P G)) (p : Proposal D) → All (λ v. v.proposal ≡ p) votes → AllPairs (λ v w. v.proposal ≡ w.proposal) votes
-pairs_for votes p each i j d before lt = each i d (omega arith) ∙ sym (each j d lt)
+-- votes for one subject are so by pairs
+pairs_for : {V X : Type 0} (subject : V → X) (votes : List V) (x : X) → All (λ v. subject v ≡ x) votes → AllPairs (λ v w. subject v ≡ subject w) votes
+pairs_for subject votes x each i j d before lt = each i d (omega arith) ∙ sym (each j d lt)
 
 -- what holds of the attestations holds of the votes' own
-of_votes : {S D P G : Type 0} (Q : Attestation S P G → Type 0) (votes : List (Notarize S D P G)) → All Q (attestations_of votes) → All (λ v. Q v.attestation) votes
-of_votes Q [] each k d lt = absurd (omega (arith, lt))
-of_votes Q (v ∷ vs) each zero d lt = each zero d.attestation (omega arith)
-of_votes Q (v ∷ vs) each (suc k) d lt = of_votes Q vs (All-tail Q v.attestation (attestations_of vs) each) k d (omega (arith, lt))
+of_votes : {V A : Type 0} (Q : A → Type 0) (attestation : V → A) (votes : List V) → All Q (map attestation votes) → All (λ v. Q (attestation v)) votes
+of_votes Q attestation [] each k d lt = absurd (omega (arith, lt))
+of_votes Q attestation (v ∷ vs) each zero d lt = each zero (attestation d) (omega arith)
+of_votes Q attestation (v ∷ vs) each (suc k) d lt = of_votes Q attestation vs (All-tail Q (attestation v) (map attestation vs) each) k d (omega (arith, lt))
 
--- of votes for one proposal, with distinct signers out of n, a certificate can be made
-pub can_assemble_from : {S D P G : Type 0} (n : ℕ) (votes : List (Notarize S D P G)) (p : Proposal D) → 1 ≤ length votes → All (λ v. v.proposal ≡ p) votes → IsDistinct nat_eq (map (λ v. v.attestation.signer) votes) × All (λ v. v.attestation.signer < n) votes → CanAssemble n votes
-can_assemble_from n votes p some each (distinct, members) = record {
+-- of votes for one subject, with distinct signers out of n, a certificate can be made
+pub can_assemble_from : {V X S P G : Type 0} (subject : V → X) (attestation : V → Attestation S P G) (n : ℕ) (votes : List V) (x : X) → 1 ≤ length votes → All (λ v. subject v ≡ x) votes → IsDistinct nat_eq (map (λ v. (attestation v).signer) votes) × All (λ v. (attestation v).signer < n) votes → CanAssemble subject attestation n votes
+can_assemble_from subject attestation n votes x some each (distinct, members) = record {
   some = some;
-  same = pairs_for votes p each;
-  distinct = subst (IsDistinct nat_eq) (sym (map-map (λ a. a.signer) (λ v. v.attestation) votes)) distinct;
-  members = All-map (λ a. a.signer < n) (λ v. v.attestation) votes members;
+  same = pairs_for subject votes x each;
+  distinct = subst (IsDistinct nat_eq) (sym (map-map (λ a. a.signer) attestation votes)) distinct;
+  members = All-map (λ a. a.signer < n) attestation votes members;
 }
 
 -- and only of such
-pub distinct_from_can : {S D P G : Type 0} (n : ℕ) (votes : List (Notarize S D P G)) → CanAssemble n votes → IsDistinct nat_eq (map (λ v. v.attestation.signer) votes) × All (λ v. v.attestation.signer < n) votes
-distinct_from_can n votes can =
-    (subst (IsDistinct nat_eq) (map-map (λ a. a.signer) (λ v. v.attestation) votes) can.distinct, of_votes (λ a. a.signer < n) votes can.members)
+pub distinct_from_can : {V X S P G : Type 0} (subject : V → X) (attestation : V → Attestation S P G) (n : ℕ) (votes : List V) → CanAssemble subject attestation n votes → IsDistinct nat_eq (map (λ v. (attestation v).signer) votes) × All (λ v. (attestation v).signer < n) votes
+distinct_from_can subject attestation n votes can =
+    (subst (IsDistinct nat_eq) (map-map (λ a. a.signer) attestation votes) can.distinct, of_votes (λ a. a.signer < n) attestation votes can.members)
 
--- good votes for one proposal have attestations that are good for it
-pub good_for : {S D P G : Type 0} (good : SubjectValue D → ℕ → G → Bool) (votes : List (Notarize S D P G)) (p : Proposal D) → All (λ v. v.proposal ≡ p) votes → All (λ v. good (Notarizes v.proposal) v.attestation.signer v.attestation.signature ≡ true) votes → All (λ a. good (Notarizes p) a.signer a.signature ≡ true) (attestations_of votes)
-good_for good votes p same each =
-    All-map (λ a. good (Notarizes p) a.signer a.signature ≡ true) (λ v. v.attestation) votes
-    (λ k d lt. subst (λ q. good (Notarizes q) (get_or votes k d).attestation.signer (get_or votes k d).attestation.signature ≡ true) (same k d lt) (each k d lt))
+-- votes for one subject, each good for its own, are good for that one
+pub good_for : {V X S D P G : Type 0} (good : SubjectValue D → ℕ → G → Bool) (says : X → SubjectValue D) (subject : V → X) (attestation : V → Attestation S P G) (votes : List V) (x : X) → All (λ v. subject v ≡ x) votes → All (λ v. good (says (subject v)) (attestation v).signer (attestation v).signature ≡ true) votes → All (λ v. good (says x) (attestation v).signer (attestation v).signature ≡ true) votes
+good_for good says subject attestation votes x same each k d lt =
+    let vote = get_or votes k d in subst (λ y. good (says y) (attestation vote).signer (attestation vote).signature ≡ true) (same k d lt) (each k d lt)

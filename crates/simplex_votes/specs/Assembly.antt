@@ -4,14 +4,25 @@ use Rattle.std.specs.List.{IsDistinct, AllPairs}
 use Rattle.simplex_scheme.specs.declared.scheme.Attestation.{Attestation}
 use Rattle.simplex_scheme.specs.Committee.{signers_of}
 use Rattle.simplex_votes.specs.declared.types.votes.Notarize.{Notarize}
+use Rattle.simplex_votes.specs.declared.types.nullifies.Nullify.{Nullify}
+use Rattle.simplex_votes.specs.declared.types.finalizes.Finalize.{Finalize}
 
--- the attestations of notarizes
-abbrev pub attestations_of : {S D P G : Type 0} → List (Notarize S D P G) → List (Attestation S P G)
-attestations_of votes = map (λ v. v.attestation) votes
-
--- notarizes of which a certificate can be made: at least one, all of one proposal, and of distinct participants out of n
-pub record CanAssemble {S D P G : Type 0} (n : ℕ) (votes : List (Notarize S D P G)) : Type 0 where
+-- votes of which a certificate can be made: at least one, all of one subject, and of distinct participants out of n.
+-- V is the type of votes, X that of what they are for
+pub record CanAssemble {V X S P G : Type 0} (subject : V → X) (attestation : V → Attestation S P G) (n : ℕ) (votes : List V) : Type 0 where
   pub some : 1 ≤ length votes
-  pub same : AllPairs (λ v w. v.proposal ≡ w.proposal) votes
-  pub distinct : IsDistinct nat_eq (signers_of (attestations_of votes))
-  pub members : All (λ a. a.signer < n) (attestations_of votes)
+  pub same : AllPairs (λ v w. subject v ≡ subject w) votes
+  pub distinct : IsDistinct nat_eq (signers_of (map attestation votes))
+  pub members : All (λ a. a.signer < n) (map attestation votes)
+
+-- notarizes of which a notarization can be made: all are for one proposal
+abbrev pub CanNotarize : {S D P G : Type 0} → ℕ → List (Notarize S D P G) → Type 0
+CanNotarize n votes = CanAssemble (λ v. v.proposal) (λ v. v.attestation) n votes
+
+-- nullifies of which a nullification can be made: all are for one round
+abbrev pub CanNullify : {S P G : Type 0} → ℕ → List (Nullify S P G) → Type 0
+CanNullify n votes = CanAssemble (λ v. v.round) (λ v. v.attestation) n votes
+
+-- finalizes of which a finalization can be made: all are for one proposal
+abbrev pub CanFinalize : {S D P G : Type 0} → ℕ → List (Finalize S D P G) → Type 0
+CanFinalize n votes = CanAssemble (λ v. v.proposal) (λ v. v.attestation) n votes

@@ -1,18 +1,48 @@
 //! What certificates are made of.
 
-ghost use Rattle.std.specs.Prelude.{◌≡◌, ◌↔◌, ◌<◌, ◌≤◌, IsTrue, IfOk, All, map, nat_eq};
+ghost use Rattle.std.specs.Prelude.{◌≡◌, ◌↔◌, ◌<◌, ◌≤◌, true, Err, IsTrue, IfOk, IfErr, All, length, map, nat_eq, refl};
 ghost use Rattle.std.specs.List.{IsDistinct, list_any};
-ghost use Rattle.simplex_votes.specs.Assembly.{attestations_of};
+ghost use Rattle.simplex_scheme.specs.Committee.{quorum_of, signers_of};
+ghost use Rattle.simplex_scheme.specs.Subject.{SubjectValue};
+ghost use Rattle.simplex_votes.specs.Assembly.{CanAssemble};
 
+use crate::types::finalizes::Finalize;
+use crate::types::nullifies::Nullify;
 use crate::types::votes::{Attributable, Notarize};
 use simplex_base::codec::Fixed;
-use simplex_base::positions::Participant;
+use simplex_base::positions::{Participant, Round};
+use simplex_scheme::faults::quorum;
 use simplex_scheme::proposal::Proposal;
-use simplex_scheme::scheme::{Attestation, Digest, SchemeTypes};
+use simplex_scheme::scheme::{AssemblyError, Attestation, Digest, Scheme, SchemeTypes};
 use std::alloc::{AllocError, Global};
 
+/// What a participant attests: a vote for a proposal or a round.
+pub trait Attested<S: SchemeTypes>: Attributable {
+    ghost use Rattle.simplex_scheme.specs.declared.scheme.Attestation.{Attestation};
+
+    /// What votes of this kind are for.
+    type Subject;
+
+    /// What the vote is for.
+    ghost subject_of: { Self → Self.Subject };
+
+    /// The attestation of it.
+    ghost attestation_of: { Self → Attestation S S.PublicKey S.Signature };
+
+    /// The attestation.
+    fn attestation(&self) -> &Attestation<S>
+        ensures { result.now ≡ attestation_of self.now };
+
+    /// Whether another vote is for the same.
+    fn agrees_with(&self, other: &Self) -> bool
+        ensures { IsTrue result ↔ (subject_of self.now ≡ subject_of other.now) };
+
+    /// Who is held to it is the attestation's signer.
+    ghost attests: { (vote : Self) → Self.signer_of vote ≡ (attestation_of vote).signer };
+}
+
 /// Whether two proposals are the same.
-pub fn are_same<D: Digest>(one: &Proposal<D>, other: &Proposal<D>) -> bool
+fn are_same<D: Digest>(one: &Proposal<D>, other: &Proposal<D>) -> bool
     ensures { IsTrue result ↔ (one.now ≡ other.now) }
 {
     one.round == other.round
@@ -20,12 +50,66 @@ pub fn are_same<D: Digest>(one: &Proposal<D>, other: &Proposal<D>) -> bool
         && one.payload.as_bytes() == other.payload.as_bytes()
 }
 
-/// Whether all the votes are for a proposal.
-pub fn are_for<S: SchemeTypes, D: Digest>(votes: &[Notarize<S, D>], proposal: &Proposal<D>) -> bool
-    ensures { IsTrue result ↔ All (λ v. v.proposal ≡ proposal.now) votes.now }
+impl<S: SchemeTypes, D: Digest> Attested<S> for Notarize<S, D> {
+    type Subject = Proposal<D>;
+
+    ghost subject_of = { λ vote. vote.proposal };
+
+    ghost attestation_of = { λ vote. vote.attestation };
+
+    fn attestation(&self) -> &Attestation<S> {
+        &self.attestation
+    }
+
+    fn agrees_with(&self, other: &Self) -> bool {
+        are_same(&self.proposal, &other.proposal)
+    }
+
+    ghost attests = { λ _. refl };
+}
+
+impl<S: SchemeTypes> Attested<S> for Nullify<S> {
+    type Subject = Round;
+
+    ghost subject_of = { λ vote. vote.round };
+
+    ghost attestation_of = { λ vote. vote.attestation };
+
+    fn attestation(&self) -> &Attestation<S> {
+        &self.attestation
+    }
+
+    fn agrees_with(&self, other: &Self) -> bool {
+        self.round == other.round
+    }
+
+    ghost attests = { λ _. refl };
+}
+
+impl<S: SchemeTypes, D: Digest> Attested<S> for Finalize<S, D> {
+    type Subject = Proposal<D>;
+
+    ghost subject_of = { λ vote. vote.proposal };
+
+    ghost attestation_of = { λ vote. vote.attestation };
+
+    fn attestation(&self) -> &Attestation<S> {
+        &self.attestation
+    }
+
+    fn agrees_with(&self, other: &Self) -> bool {
+        are_same(&self.proposal, &other.proposal)
+    }
+
+    ghost attests = { λ _. refl };
+}
+
+/// Whether all the votes agree with this one.
+fn agree_with<S: SchemeTypes, V: Attested<S>>(votes: &[V], first: &V) -> bool
+    ensures { IsTrue result ↔ All (λ v. V.subject_of v ≡ V.subject_of first.now) votes.now }
 {
     'votes: for vote in votes {
-        if !are_same(&vote.proposal, proposal) {
+        if !vote.agrees_with(first) {
             return false;
         }
     }
@@ -41,7 +125,7 @@ fn has_signer<T: Attributable>(signed: &[T], signer: Participant) -> bool
 
 /// Whether the signers are distinct participants out of this many. No memory is taken for it: where signers
 /// ascend each is looked at once, and one that is below an earlier one is compared to all before it.
-pub fn are_distinct<T: Attributable>(signed: &[T], participants: usize) -> bool
+fn are_distinct<T: Attributable>(signed: &[T], participants: usize) -> bool
     ensures { IsTrue result ↔ (IsDistinct nat_eq (map T.signer_of signed.now) × All (λ one. T.signer_of one < participants) signed.now) }
 {
     let mut above = 0;
@@ -60,16 +144,61 @@ pub fn are_distinct<T: Attributable>(signed: &[T], participants: usize) -> bool
     true
 }
 
+/// Whether a certificate can be made of the votes by a committee of this many: there is at least one, all are for
+/// one subject, and the signers are distinct and in the committee.
+pub fn stand_together<S: SchemeTypes, V: Attested<S>>(votes: &[V], participants: usize) -> bool
+    ensures { IsTrue result ↔ CanAssemble V.subject_of V.attestation_of participants votes.now }
+{
+    match votes.first() {
+        Some(first) => agree_with(votes, first) && are_distinct(votes, participants),
+        None => false,
+    }
+}
+
 /// The attestations of votes.
-pub fn attestations<S: SchemeTypes, D: Digest>(
+fn attestations<S: SchemeTypes, V: Attested<S>>(
     alloc: Global,
-    votes: &[Notarize<S, D>],
+    votes: &[V],
 ) -> Result<Vec<Attestation<S>>, AllocError>
-    ensures { IfOk result (λ attestations. attestations.items ≡ attestations_of votes.now) }
+    ensures { IfOk result (λ attestations. attestations.items ≡ map V.attestation_of votes.now) }
 {
     let mut attestations = Vec::with_capacity(alloc, votes.len())?;
     'votes: for vote in votes {
-        attestations.push(vote.copy().attestation)?;
+        let attestation = vote.attestation();
+        attestations.push(Attestation {
+            signer: attestation.signer,
+            signature: attestation.signature,
+        })?;
     }
     Ok(attestations)
+}
+
+/// The certificate of votes whose signers are distinct and in the committee. Fewer than a quorum are refused by
+/// `InsufficientAttestations`, the quorum and their number, and then no memory is taken. From a quorum on there is
+/// a certificate, or memory was refused. It certifies whatever subject all the votes are good for.
+pub fn assemble<S: Scheme<D>, D: Digest, V: Attested<S>>(
+    alloc: Global,
+    scheme: &S,
+    votes: &[V],
+) -> Result<S::Certificate, AssemblyError>
+    requires distinct { IsDistinct nat_eq (signers_of (map V.attestation_of votes.now)) }
+    requires members { All (λ a. a.signer < length (S.keys scheme.now)) (map V.attestation_of votes.now) }
+    ensures below { length votes.now < quorum_of (length (S.keys scheme.now)) →
+        result ≡ Err (AssemblyError.InsufficientAttestations (quorum_of (length (S.keys scheme.now))) (length votes.now)) }
+    ensures enough { quorum_of (length (S.keys scheme.now)) ≤ length votes.now →
+        IfErr result (λ error. error ≡ AssemblyError.OutOfMemory) }
+    ensures made { IfOk result (λ certificate. S.made_of (map V.attestation_of votes.now) certificate) }
+    ensures certified { IfOk result (λ certificate. (subject : SubjectValue D) →
+        All (λ v. S.good scheme.now subject (V.attestation_of v).signer (V.attestation_of v).signature ≡ true) votes.now →
+        S.certified scheme.now subject certificate ≡ true) }
+{
+    let quorum = quorum(scheme.participants().len() as u32);
+    if votes.len() < quorum as usize {
+        let count = votes.len() as u32;
+        return Err(AssemblyError::InsufficientAttestations(quorum, count));
+    }
+    match attestations(alloc, votes) {
+        Ok(attestations) => scheme.assemble(alloc, attestations),
+        Err(_) => Err(AssemblyError::OutOfMemory),
+    }
 }

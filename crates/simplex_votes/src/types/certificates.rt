@@ -1,18 +1,17 @@
 //! The certificates of the protocol.
 
-ghost use Rattle.std.specs.Prelude.{◌≡◌, ◌↔◌, ◌+◌, ◌<◌, ◌≤◌, ◌^◌, true, Err, IsTrue, IfOk, IfErr, All, length};
+ghost use Rattle.std.specs.Prelude.{◌≡◌, ◌↔◌, ◌+◌, ◌<◌, ◌≤◌, ◌^◌, true, Err, IsTrue, IfOk, IfErr, All, length, map};
 ghost use Rattle.simplex_base.specs.Format.{fixed};
 ghost use Rattle.simplex_base.specs.FormatLaws.{fixed_lawful};
 ghost use Rattle.simplex_scheme.specs.Committee.{quorum_of};
 ghost use Rattle.simplex_scheme.specs.Subject.{Notarizes};
 
-use crate::types::assembly::{are_distinct, are_for, attestations};
+use crate::types::assembly::{assemble, stand_together};
 use crate::types::votes::Notarize;
 use simplex_base::codec::error::Error;
 use simplex_base::codec::parts::write_both;
 use simplex_base::codec::{EncodeSize, Fixed, FixedSize, MaxEncodeSize, Read, Spell, Write};
 use simplex_base::positions::{Epoch, Epochable, Round, View, Viewable};
-use simplex_scheme::faults::quorum;
 use simplex_scheme::proposal::{Proposal, Subject};
 use simplex_scheme::scheme::{
     AssemblyError, CertificateScheme, CertificateVerifier, Digest, Scheme,
@@ -78,19 +77,15 @@ impl<S: CertificateVerifier<D>, D: Digest> Notarization<S, D> {
 }
 
 impl<S: Scheme<D>, D: Digest> Notarization<S, D> {
-    ghost use Rattle.simplex_votes.specs.Assembly.{CanAssemble, attestations_of};
+    ghost use Rattle.simplex_votes.specs.Assembly.{CanNotarize};
 
     /// Whether a notarization can be made of the votes, a quorum of them provided: there is at least one, all are
     /// for one proposal, and the signers are distinct and in the committee. Votes whose signers ascend are looked
     /// at once each, and one that is out of order is compared to all before it; no memory is taken.
     pub fn can_assemble(scheme: &S, votes: &[Notarize<S, D>]) -> bool
-        ensures { IsTrue result ↔ CanAssemble (length (S.keys scheme.now)) votes.now }
+        ensures { IsTrue result ↔ CanNotarize (length (S.keys scheme.now)) votes.now }
     {
-        let participants = scheme.participants().len();
-        match votes.first() {
-            Some(first) => are_for(votes, &first.proposal) && are_distinct(votes, participants),
-            None => false,
-        }
+        stand_together(votes, scheme.participants().len())
     }
 
     /// Makes a notarization of votes, which [`can_assemble`](Notarization::can_assemble) has to allow. Fewer than a
@@ -101,26 +96,18 @@ impl<S: Scheme<D>, D: Digest> Notarization<S, D> {
         scheme: &S,
         votes: &[Notarize<S, D>],
     ) -> Result<Self, AssemblyError>
-        requires { CanAssemble (length (S.keys scheme.now)) votes.now }
+        requires { CanNotarize (length (S.keys scheme.now)) votes.now }
         ensures below { length votes.now < quorum_of (length (S.keys scheme.now)) →
             result ≡ Err (AssemblyError.InsufficientAttestations (quorum_of (length (S.keys scheme.now))) (length votes.now)) }
         ensures enough { quorum_of (length (S.keys scheme.now)) ≤ length votes.now →
             IfErr result (λ error. error ≡ AssemblyError.OutOfMemory) }
         ensures proposal { IfOk result (λ notarization. All (λ vote. vote.proposal ≡ notarization.proposal) votes.now) }
-        ensures made { IfOk result (λ notarization. S.made_of (attestations_of votes.now) notarization.certificate) }
+        ensures made { IfOk result (λ notarization. S.made_of (map (λ vote. vote.attestation) votes.now) notarization.certificate) }
         ensures certified { IfOk result (λ notarization.
             All (λ vote. S.good scheme.now (Notarizes vote.proposal) vote.attestation.signer vote.attestation.signature ≡ true) votes.now →
             S.certified scheme.now (Notarizes notarization.proposal) notarization.certificate ≡ true) }
     {
-        let quorum = quorum(scheme.participants().len() as u32);
-        if votes.len() < quorum as usize {
-            let count = votes.len() as u32;
-            return Err(AssemblyError::InsufficientAttestations(quorum, count));
-        }
-        let Ok(attestations) = attestations(alloc, votes) else {
-            return Err(AssemblyError::OutOfMemory);
-        };
-        match scheme.assemble(alloc, attestations) {
+        match assemble(alloc, scheme, votes) {
             Ok(certificate) => Ok(Notarization {
                 proposal: votes[0].proposal,
                 certificate,
@@ -135,13 +122,13 @@ impl<S: Scheme<D>, D: Digest> Notarization<S, D> {
         scheme: &S,
         votes: Vec<Notarize<S, D>>,
     ) -> Result<Self, AssemblyError>
-        requires { CanAssemble (length (S.keys scheme.now)) votes.items }
+        requires { CanNotarize (length (S.keys scheme.now)) votes.items }
         ensures below { length votes.items < quorum_of (length (S.keys scheme.now)) →
             result ≡ Err (AssemblyError.InsufficientAttestations (quorum_of (length (S.keys scheme.now))) (length votes.items)) }
         ensures enough { quorum_of (length (S.keys scheme.now)) ≤ length votes.items →
             IfErr result (λ error. error ≡ AssemblyError.OutOfMemory) }
         ensures proposal { IfOk result (λ notarization. All (λ vote. vote.proposal ≡ notarization.proposal) votes.items) }
-        ensures made { IfOk result (λ notarization. S.made_of (attestations_of votes.items) notarization.certificate) }
+        ensures made { IfOk result (λ notarization. S.made_of (map (λ vote. vote.attestation) votes.items) notarization.certificate) }
         ensures certified { IfOk result (λ notarization.
             All (λ vote. S.good scheme.now (Notarizes vote.proposal) vote.attestation.signer vote.attestation.signature ≡ true) votes.items →
             S.certified scheme.now (Notarizes notarization.proposal) notarization.certificate ≡ true) }

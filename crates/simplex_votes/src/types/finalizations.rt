@@ -1,16 +1,21 @@
 //! Certificates that a proposal is finalized.
 
-ghost use Rattle.std.specs.Prelude.{◌≡◌, ◌+◌, ◌≤◌, ◌^◌, IfOk, length};
+ghost use Rattle.std.specs.Prelude.{◌≡◌, ◌↔◌, ◌+◌, ◌<◌, ◌≤◌, ◌^◌, true, Err, IsTrue, IfOk, IfErr, All, length, map};
 ghost use Rattle.simplex_base.specs.Format.{fixed};
 ghost use Rattle.simplex_base.specs.FormatLaws.{fixed_lawful};
+ghost use Rattle.simplex_scheme.specs.Committee.{quorum_of};
 ghost use Rattle.simplex_scheme.specs.Subject.{Finalizes};
 
+use crate::types::assembly::{assemble, stand_together};
+use crate::types::finalizes::Finalize;
 use simplex_base::codec::error::Error;
 use simplex_base::codec::parts::write_both;
 use simplex_base::codec::{EncodeSize, Fixed, FixedSize, MaxEncodeSize, Read, Spell, Write};
 use simplex_base::positions::{Epoch, Epochable, Round, View, Viewable};
 use simplex_scheme::proposal::{Proposal, Subject};
-use simplex_scheme::scheme::{CertificateScheme, CertificateVerifier, Digest};
+use simplex_scheme::scheme::{
+    AssemblyError, CertificateScheme, CertificateVerifier, Digest, Scheme,
+};
 use std::alloc::{AllocError, Global};
 
 /// A proposal with a certificate of votes to finalize it, spelled in that order. It is read under the
@@ -68,6 +73,67 @@ impl<S: CertificateVerifier<D>, D: Digest> Finalization<S, D> {
             proposal: &self.proposal,
         };
         scheme.verify_certificate(subject, &self.certificate)
+    }
+}
+
+impl<S: Scheme<D>, D: Digest> Finalization<S, D> {
+    ghost use Rattle.simplex_votes.specs.Assembly.{CanFinalize};
+
+    /// Whether a finalization can be made of the votes, a quorum of them provided: there is at least one, all are
+    /// for one proposal, and the signers are distinct and in the committee. Votes whose signers ascend are looked
+    /// at once each, and one that is out of order is compared to all before it; no memory is taken.
+    pub fn can_assemble(scheme: &S, votes: &[Finalize<S, D>]) -> bool
+        ensures { IsTrue result ↔ CanFinalize (length (S.keys scheme.now)) votes.now }
+    {
+        stand_together(votes, scheme.participants().len())
+    }
+
+    /// Makes a finalization of votes, which [`can_assemble`](Finalization::can_assemble) has to allow. Fewer than a
+    /// quorum are refused by `InsufficientAttestations`, the quorum and their number, and then no memory is taken.
+    /// From a quorum on there is a finalization, or memory was refused. Good votes make a certified one.
+    pub fn from_finalizes(
+        alloc: Global,
+        scheme: &S,
+        votes: &[Finalize<S, D>],
+    ) -> Result<Self, AssemblyError>
+        requires { CanFinalize (length (S.keys scheme.now)) votes.now }
+        ensures below { length votes.now < quorum_of (length (S.keys scheme.now)) →
+            result ≡ Err (AssemblyError.InsufficientAttestations (quorum_of (length (S.keys scheme.now))) (length votes.now)) }
+        ensures enough { quorum_of (length (S.keys scheme.now)) ≤ length votes.now →
+            IfErr result (λ error. error ≡ AssemblyError.OutOfMemory) }
+        ensures proposal { IfOk result (λ finalization. All (λ vote. vote.proposal ≡ finalization.proposal) votes.now) }
+        ensures made { IfOk result (λ finalization. S.made_of (map (λ vote. vote.attestation) votes.now) finalization.certificate) }
+        ensures certified { IfOk result (λ finalization.
+            All (λ vote. S.good scheme.now (Finalizes vote.proposal) vote.attestation.signer vote.attestation.signature ≡ true) votes.now →
+            S.certified scheme.now (Finalizes finalization.proposal) finalization.certificate ≡ true) }
+    {
+        match assemble(alloc, scheme, votes) {
+            Ok(certificate) => Ok(Finalization {
+                proposal: votes[0].proposal,
+                certificate,
+            }),
+            Err(error) => Err(error),
+        }
+    }
+
+    /// Makes a finalization of votes as [`from_finalizes`](Finalization::from_finalizes) does.
+    pub fn from_owned_finalizes(
+        alloc: Global,
+        scheme: &S,
+        votes: Vec<Finalize<S, D>>,
+    ) -> Result<Self, AssemblyError>
+        requires { CanFinalize (length (S.keys scheme.now)) votes.items }
+        ensures below { length votes.items < quorum_of (length (S.keys scheme.now)) →
+            result ≡ Err (AssemblyError.InsufficientAttestations (quorum_of (length (S.keys scheme.now))) (length votes.items)) }
+        ensures enough { quorum_of (length (S.keys scheme.now)) ≤ length votes.items →
+            IfErr result (λ error. error ≡ AssemblyError.OutOfMemory) }
+        ensures proposal { IfOk result (λ finalization. All (λ vote. vote.proposal ≡ finalization.proposal) votes.items) }
+        ensures made { IfOk result (λ finalization. S.made_of (map (λ vote. vote.attestation) votes.items) finalization.certificate) }
+        ensures certified { IfOk result (λ finalization.
+            All (λ vote. S.good scheme.now (Finalizes vote.proposal) vote.attestation.signer vote.attestation.signature ≡ true) votes.items →
+            S.certified scheme.now (Finalizes finalization.proposal) finalization.certificate ≡ true) }
+    {
+        Finalization::from_finalizes(alloc, scheme, votes.as_slice())
     }
 }
 

@@ -1,14 +1,19 @@
 //! Certificates that a round is nullified.
 
-ghost use Rattle.std.specs.Prelude.{◌≡◌, ◌+◌, ◌≤◌, ◌^◌, IfOk, length};
+ghost use Rattle.std.specs.Prelude.{◌≡◌, ◌↔◌, ◌+◌, ◌<◌, ◌≤◌, ◌^◌, true, Err, IsTrue, IfOk, IfErr, All, length, map};
+ghost use Rattle.simplex_scheme.specs.Committee.{quorum_of};
 ghost use Rattle.simplex_scheme.specs.Subject.{Nullifies};
 
+use crate::types::assembly::{assemble, stand_together};
+use crate::types::nullifies::Nullify;
 use simplex_base::codec::error::Error;
 use simplex_base::codec::parts::write_both;
 use simplex_base::codec::{EncodeSize, MaxEncodeSize, Read, Spell, Write};
 use simplex_base::positions::{Epoch, Epochable, Round, View, Viewable};
 use simplex_scheme::proposal::Subject;
-use simplex_scheme::scheme::{CertificateScheme, CertificateVerifier, Digest};
+use simplex_scheme::scheme::{
+    AssemblyError, CertificateScheme, CertificateVerifier, Digest, Scheme,
+};
 use std::alloc::{AllocError, Global};
 
 /// A round with a certificate of votes to nullify it, spelled in that order. It is read under the committee's
@@ -22,6 +27,7 @@ pub struct Nullification<S: CertificateScheme> {
 
 impl<S: CertificateScheme> Nullification<S> {
     ghost use Rattle.simplex_votes.specs.Spellings.{IsNullification, nullification_spelling};
+    ghost use Rattle.simplex_votes.specs.Assembly.{CanNullify};
 
     /// The round.
     pub fn round(&self) -> Round
@@ -63,6 +69,69 @@ impl<S: CertificateScheme> Nullification<S> {
     {
         let subject: Subject<'a, D> = Subject::Nullify { round: self.round };
         scheme.verify_certificate(subject, &self.certificate)
+    }
+
+    /// Whether a nullification can be made of the votes, a quorum of them provided: there is at least one, all are
+    /// for one round, and the signers are distinct and in the committee. Votes whose signers ascend are looked at
+    /// once each, and one that is out of order is compared to all before it; no memory is taken.
+    pub fn can_assemble<'a, D: Digest + 'a>(scheme: &'a S, votes: &[Nullify<S>]) -> bool
+    where
+        S: Scheme<D>,
+        ensures { IsTrue result ↔ CanNullify (length (S.keys scheme.now)) votes.now }
+    {
+        stand_together(votes, scheme.participants().len())
+    }
+
+    /// Makes a nullification of votes, which [`can_assemble`](Nullification::can_assemble) has to allow. Fewer than
+    /// a quorum are refused by `InsufficientAttestations`, the quorum and their number, and then no memory is taken.
+    /// From a quorum on there is a nullification, or memory was refused. Good votes make a certified one.
+    pub fn from_nullifies<'a, D: Digest + 'a>(
+        alloc: Global,
+        scheme: &'a S,
+        votes: &[Nullify<S>],
+    ) -> Result<Self, AssemblyError>
+    where
+        S: Scheme<D>,
+        requires { CanNullify (length (S.keys scheme.now)) votes.now }
+        ensures below { length votes.now < quorum_of (length (S.keys scheme.now)) →
+            result ≡ Err (AssemblyError.InsufficientAttestations (quorum_of (length (S.keys scheme.now))) (length votes.now)) }
+        ensures enough { quorum_of (length (S.keys scheme.now)) ≤ length votes.now →
+            IfErr result (λ error. error ≡ AssemblyError.OutOfMemory) }
+        ensures round { IfOk result (λ nullification. All (λ vote. vote.round ≡ nullification.round) votes.now) }
+        ensures made { IfOk result (λ nullification. S.made_of (map (λ vote. vote.attestation) votes.now) nullification.certificate) }
+        ensures certified { IfOk result (λ nullification.
+            All (λ vote. S.good scheme.now (Nullifies vote.round) vote.attestation.signer vote.attestation.signature ≡ true) votes.now →
+            S.certified scheme.now (Nullifies nullification.round) nullification.certificate ≡ true) }
+    {
+        match assemble(alloc, scheme, votes) {
+            Ok(certificate) => Ok(Nullification {
+                round: votes[0].round,
+                certificate,
+            }),
+            Err(error) => Err(error),
+        }
+    }
+
+    /// Makes a nullification of votes as [`from_nullifies`](Nullification::from_nullifies) does.
+    pub fn from_owned_nullifies<'a, D: Digest + 'a>(
+        alloc: Global,
+        scheme: &'a S,
+        votes: Vec<Nullify<S>>,
+    ) -> Result<Self, AssemblyError>
+    where
+        S: Scheme<D>,
+        requires { CanNullify (length (S.keys scheme.now)) votes.items }
+        ensures below { length votes.items < quorum_of (length (S.keys scheme.now)) →
+            result ≡ Err (AssemblyError.InsufficientAttestations (quorum_of (length (S.keys scheme.now))) (length votes.items)) }
+        ensures enough { quorum_of (length (S.keys scheme.now)) ≤ length votes.items →
+            IfErr result (λ error. error ≡ AssemblyError.OutOfMemory) }
+        ensures round { IfOk result (λ nullification. All (λ vote. vote.round ≡ nullification.round) votes.items) }
+        ensures made { IfOk result (λ nullification. S.made_of (map (λ vote. vote.attestation) votes.items) nullification.certificate) }
+        ensures certified { IfOk result (λ nullification.
+            All (λ vote. S.good scheme.now (Nullifies vote.round) vote.attestation.signer vote.attestation.signature ≡ true) votes.items →
+            S.certified scheme.now (Nullifies nullification.round) nullification.certificate ≡ true) }
+    {
+        Nullification::from_nullifies(alloc, scheme, votes.as_slice())
     }
 }
 

@@ -1,14 +1,14 @@
-use Rattle.std.proofs.Common.{◌≡◌, ◌+◌, [], ◌∷◌, ◌++◌, take, sym, ap, ◌∙◌}
+use Rattle.std.proofs.Common.{◌≡◌, ◌+◌, [], ◌∷◌, ◌++◌, take, map, sym, ap, ◌∙◌}
 use Rattle.std.proofs.lemmas.List.{take_more, map-append}
-use Rattle.simplex_votes.specs.Assembly.{attestations_of}
 use Rattle.simplex_votes.proofs.types.assembly.attestations.Goals as goal
 
 -- one attestation more
 pub votes-preserved : goal.votes-preserved
 votes-preserved g c =
+    let attestation = g.V.Attested.attestation_of in
     let votes = c.args.votes.now in
     let i = c.votes.vote-index in
     let vote = c.vote-item.result in
     let one_more : take i votes ++ vote ∷ [] ≡ take (i + 1) votes = ap (λ v. take i votes ++ v ∷ []) c.vote-item.is ∙ sym (take_more votes i vote c.votes-test.true) in
-    c.in_ok-push.ensures.items ∙ (λ j. c.votes.invariant j ++ (c.copy.ensures j).attestation ∷ []) ∙
-    sym (map-append (λ v. v.attestation) (take i votes) (vote ∷ [])) ∙ ap attestations_of one_more
+    c.in_ok-push.ensures.items ∙ (λ j. c.votes.invariant j ++ (c.attestation-attestation.ensures j) ∷ []) ∙
+    sym (map-append attestation (take i votes) (vote ∷ [])) ∙ ap (map attestation) one_more
