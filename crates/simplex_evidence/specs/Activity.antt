@@ -1,16 +1,13 @@
 -- The union of all messages: how they are spelled, the votes that one holds, and what makes one good.
 use Rattle.std.proofs.Common.{◌≡◌, ℕ, Bool, true, false, List, [], ◌∷◌, ◌++◌, refl, Ok}
-use Rattle.std.specs.Prelude.{codes, map, ◌&&◌, ⊤}
+use Rattle.std.specs.Prelude.{codes, ◌&&◌, ⊤}
 use Rattle.simplex_base.specs.Reading.{Refusal, invalid, Reading}
 use Rattle.simplex_base.specs.Format.{Format, IsLawful}
 use Rattle.simplex_base.specs.Union.{union_at, branch_at, no_branch, branch_takes, no_branch_takes, union_lawful}
 use Rattle.simplex_base.specs.Positions.{Round}
 use Rattle.simplex_scheme.specs.declared.scheme.Attestation.{Attestation}
-use Rattle.simplex_scheme.specs.declared.proposal.Proposal.{Proposal}
 use Rattle.simplex_scheme.specs.Subject.{SubjectValue, Notarizes, Nullifies, Finalizes}
-use Rattle.simplex_votes.specs.declared.types.nullifications.Nullification.{Nullification}
-use Rattle.simplex_votes.specs.declared.types.finalizations.Finalization.{Finalization}
-use Rattle.simplex_votes.specs.Votes.{Vote, notarize_vote, nullify_vote, finalize_vote, notarization_votes}
+use Rattle.simplex_votes.specs.Votes.{Vote, notarize_vote, nullify_vote, finalize_vote, notarization_votes, nullification_votes, finalization_votes}
 use Rattle.simplex_votes.specs.Spellings.{notarize_format, notarize_lawful, nullify_format, nullify_lawful, finalize_format, finalize_lawful, notarization_format, IsNotarization, notarization_spelling, notarization_lawful, nullification_format, IsNullification, nullification_spelling, nullification_lawful, finalization_format, IsFinalization, finalization_spelling, finalization_lawful}
 use Rattle.simplex_evidence.specs.Conflict.{conflicting_notarize_format, conflicting_notarize_lawful, conflicting_finalize_format, conflicting_finalize_lawful, nullify_finalize_format, nullify_finalize_lawful}
 use Rattle.simplex_evidence.specs.declared.types.activities.Activity.{Activity}
@@ -30,22 +27,6 @@ activity_round (activity.ConflictingFinalize c) = c.first.proposal.round
 activity_round (activity.NullifyFinalize c) = c.first.round
 
 -- ---- the votes that a message holds
-
--- the vote of an attestation to a round, as a nullify
-abbrev pub nullify_of : {S D P G : Type 0} → Round → Attestation S P G → Vote D G
-nullify_of r a = record { subject = Nullifies r; signer = a.signer; signature = a.signature }
-
--- the votes of a nullification: the attestations that its certificate lists, each as a nullify of its round
-abbrev pub nullification_votes : {S D C P G : Type 0} → (C → List (Attestation S P G)) → Nullification S C P G → List (Vote D G)
-nullification_votes listed n = map (nullify_of n.round) (listed n.certificate)
-
--- the vote of an attestation to a proposal, as a finalize
-abbrev pub finalize_of : {S D P G : Type 0} → Proposal D → Attestation S P G → Vote D G
-finalize_of p a = record { subject = Finalizes p; signer = a.signer; signature = a.signature }
-
--- the votes of a finalization: the attestations that its certificate lists, each as a finalize of its proposal
-abbrev pub finalization_votes : {S D C P G : Type 0} → (C → List (Attestation S P G)) → Finalization S D C P G → List (Vote D G)
-finalization_votes listed n = map (finalize_of n.proposal) (listed n.certificate)
 
 -- the votes that a message holds, in its order: `listed` gives the attestations that a certificate lists
 abbrev pub votes_in : {S D C P G : Type 0} → (C → List (Attestation S P G)) → Activity S D C P G → List (Vote D G)

@@ -8,7 +8,7 @@ use crate::namespace::Namespace;
 use crate::scheme::Digest;
 use bytes::Bytes;
 use simplex_base::codec::error::Error;
-use simplex_base::codec::parts::write_both;
+use simplex_base::codec::parts::{size_both, write_both};
 use simplex_base::codec::{Encode, EncodeSize, FixedSize, MaxEncodeSize, Read, Spell, Write};
 use simplex_base::positions::{Epoch, Epochable, Round, View, Viewable};
 use std::alloc::{AllocError, Global};
@@ -81,7 +81,7 @@ impl<D: Digest> EncodeSize for Proposal<D> {
     ghost limit = { 30 + 65535 };
 
     fn encode_size(&self) -> usize {
-        self.round.encode_size() + self.parent.encode_size() + self.payload.encode_size()
+        size_both(&self.round, &self.parent) + self.payload.encode_size()
     }
 }
 

@@ -10,7 +10,7 @@ ghost use Rattle.simplex_scheme.specs.Committee.{IsQuorum, IsInOrder, quorum_of,
 use crate::proposal::Subject;
 use crate::set::Set;
 use simplex_base::codec::error::Error;
-use simplex_base::codec::parts::write_both;
+use simplex_base::codec::parts::{size_both, write_both};
 use simplex_base::codec::{EncodeSize, Fixed, FixedSize, MaxEncodeSize, Read, Spell, Write};
 use simplex_base::positions::Participant;
 use std::alloc::{AllocError, Global};
@@ -227,7 +227,7 @@ impl<S: SchemeTypes> EncodeSize for Attestation<S> {
     ghost limit = { 5 + 65535 };
 
     fn encode_size(&self) -> usize {
-        self.signer.encode_size() + self.signature.encode_size()
+        size_both(&self.signer, &self.signature)
     }
 }
 

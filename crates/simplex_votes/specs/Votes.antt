@@ -8,6 +8,8 @@ use Rattle.simplex_votes.specs.declared.types.votes.Notarize.{Notarize}
 use Rattle.simplex_votes.specs.declared.types.nullifies.Nullify.{Nullify}
 use Rattle.simplex_votes.specs.declared.types.finalizes.Finalize.{Finalize}
 use Rattle.simplex_votes.specs.declared.types.certificates.Notarization.{Notarization}
+use Rattle.simplex_votes.specs.declared.types.nullifications.Nullification.{Nullification}
+use Rattle.simplex_votes.specs.declared.types.finalizations.Finalization.{Finalization}
 
 -- what a participant says, signed. D is the type of payloads, G that of signatures
 pub record Vote (D G : Type 0) : Type 0 where
@@ -15,25 +17,37 @@ pub record Vote (D G : Type 0) : Type 0 where
   pub signer : ℕ
   pub signature : G
 
--- a notarize, as a vote
-abbrev pub notarize_vote : {S D P G : Type 0} → Notarize S D P G → Vote D G
-notarize_vote n = record { subject = Notarizes n.proposal; signer = n.attestation.signer; signature = n.attestation.signature }
-
--- a nullify, as a vote
-abbrev pub nullify_vote : {S D P G : Type 0} → Nullify S P G → Vote D G
-nullify_vote n = record { subject = Nullifies n.round; signer = n.attestation.signer; signature = n.attestation.signature }
-
--- a finalize, as a vote
-abbrev pub finalize_vote : {S D P G : Type 0} → Finalize S D P G → Vote D G
-finalize_vote f = record { subject = Finalizes f.proposal; signer = f.attestation.signer; signature = f.attestation.signature }
-
--- the vote of an attestation to a proposal, as a notarize
+-- an attestation to a proposal, as a notarize
 abbrev pub notarize_of : {S D P G : Type 0} → Proposal D → Attestation S P G → Vote D G
 notarize_of p a = record { subject = Notarizes p; signer = a.signer; signature = a.signature }
 
--- the votes of a notarization: the attestations that its certificate lists, each as a notarize of its proposal
+-- an attestation to a round, as a nullify
+abbrev pub nullify_of : {S D P G : Type 0} → Round → Attestation S P G → Vote D G
+nullify_of r a = record { subject = Nullifies r; signer = a.signer; signature = a.signature }
+
+-- an attestation to a proposal, as a finalize
+abbrev pub finalize_of : {S D P G : Type 0} → Proposal D → Attestation S P G → Vote D G
+finalize_of p a = record { subject = Finalizes p; signer = a.signer; signature = a.signature }
+
+-- a notarize, a nullify and a finalize, as votes
+abbrev pub notarize_vote : {S D P G : Type 0} → Notarize S D P G → Vote D G
+notarize_vote v = notarize_of v.proposal v.attestation
+
+abbrev pub nullify_vote : {S D P G : Type 0} → Nullify S P G → Vote D G
+nullify_vote v = nullify_of v.round v.attestation
+
+abbrev pub finalize_vote : {S D P G : Type 0} → Finalize S D P G → Vote D G
+finalize_vote v = finalize_of v.proposal v.attestation
+
+-- the votes of a certificate message: the attestations that its certificate lists, each for its proposal or round
 abbrev pub notarization_votes : {S D C P G : Type 0} → (C → List (Attestation S P G)) → Notarization S D C P G → List (Vote D G)
 notarization_votes listed n = map (notarize_of n.proposal) (listed n.certificate)
+
+abbrev pub nullification_votes : {S D C P G : Type 0} → (C → List (Attestation S P G)) → Nullification S C P G → List (Vote D G)
+nullification_votes listed n = map (nullify_of n.round) (listed n.certificate)
+
+abbrev pub finalization_votes : {S D C P G : Type 0} → (C → List (Attestation S P G)) → Finalization S D C P G → List (Vote D G)
+finalization_votes listed n = map (finalize_of n.proposal) (listed n.certificate)
 
 -- the three sorts of votes
 pub data Sort : Type 0 where

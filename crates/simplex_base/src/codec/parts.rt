@@ -41,6 +41,16 @@ pub fn write_both<A: Write, B: Write>(
     or_restore(buf, start, done)
 }
 
+/// The number of bytes that one value and then another take. The bounds of both sizes have to leave room for the sum.
+pub fn size_both<A: EncodeSize, B: EncodeSize>(first: &A, second: &B) -> usize
+    requires room { A.limit + B.limit < 2 ^ 64 }
+    ensures size { result ≡ length (both_spelled A.spelling B.spelling (first.now, second.now)) }
+    ensures values { BothAre A.is_value B.is_value (first.now, second.now) }
+    ensures limited { result ≤ A.limit + B.limit }
+{
+    first.encode_size() + second.encode_size()
+}
+
 /// Appends a tag of one byte and then a value. After a refusal the buffer is as before.
 pub fn write_tagged<T: Write>(tag: u8, body: &T, buf: &mut Vec<u8>) -> Result<(), AllocError>
     ensures ok { OnOk result (buf.new.items ≡ buf.old.items ++ (tag ∷ T.spelling body.now)) }

@@ -4,7 +4,7 @@ ghost use Rattle.std.specs.Prelude.{◌≡◌, false};
 ghost use Rattle.simplex_base.specs.Positions.{round_format, round_lawful, round_within, longest_round};
 
 use crate::codec::error::Error;
-use crate::codec::parts::write_both;
+use crate::codec::parts::{size_both, write_both};
 use crate::codec::{EncodeSize, MaxEncodeSize, Read, Spell, Write};
 use crate::positions::epochs::{Epoch, Epochable};
 use crate::positions::views::{View, Viewable};
@@ -83,7 +83,7 @@ impl EncodeSize for Round {
     ghost limit = { 20 };
 
     fn encode_size(&self) -> usize {
-        self.epoch.encode_size() + self.view.encode_size()
+        size_both(&self.epoch, &self.view)
     }
 }
 

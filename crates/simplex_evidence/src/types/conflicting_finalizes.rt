@@ -8,7 +8,7 @@ ghost use Rattle.simplex_votes.specs.Votes.{finalize_vote};
 ghost use Rattle.simplex_evidence.specs.Contradiction.{contradicts, Conflicting_finalize};
 
 use simplex_base::codec::error::Error;
-use simplex_base::codec::parts::write_both;
+use simplex_base::codec::parts::{size_both, write_both};
 use simplex_base::codec::{EncodeSize, Fixed, Read, Spell, Write};
 use simplex_base::positions::{Epoch, Epochable, Participant, Round, View, Viewable};
 use simplex_scheme::scheme::{Digest, Scheme, SchemeTypes};
@@ -150,7 +150,7 @@ impl<S: SchemeTypes, D: Digest> EncodeSize for ConflictingFinalize<S, D> {
     ghost limit = { 70 + 4 * 65535 };
 
     fn encode_size(&self) -> usize {
-        self.finalize_1.encode_size() + self.finalize_2.encode_size()
+        size_both(&self.finalize_1, &self.finalize_2)
     }
 }
 

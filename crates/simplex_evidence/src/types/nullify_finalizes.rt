@@ -8,7 +8,7 @@ ghost use Rattle.simplex_votes.specs.Votes.{nullify_vote, finalize_vote};
 ghost use Rattle.simplex_evidence.specs.Contradiction.{contradicts, Nullify_finalize};
 
 use simplex_base::codec::error::Error;
-use simplex_base::codec::parts::write_both;
+use simplex_base::codec::parts::{size_both, write_both};
 use simplex_base::codec::{EncodeSize, Fixed, Read, Spell, Write};
 use simplex_base::positions::{Epoch, Epochable, Participant, Round, View, Viewable};
 use simplex_scheme::scheme::{Digest, Scheme, SchemeTypes};
@@ -147,7 +147,7 @@ impl<S: SchemeTypes, D: Digest> EncodeSize for NullifyFinalize<S, D> {
     ghost limit = { 60 + 3 * 65535 };
 
     fn encode_size(&self) -> usize {
-        self.nullify.encode_size() + self.finalize.encode_size()
+        size_both(&self.nullify, &self.finalize)
     }
 }
 

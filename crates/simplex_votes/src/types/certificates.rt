@@ -9,7 +9,7 @@ ghost use Rattle.simplex_scheme.specs.Subject.{Notarizes};
 use crate::types::assembly::{assemble, stand_together};
 use crate::types::votes::Notarize;
 use simplex_base::codec::error::Error;
-use simplex_base::codec::parts::write_both;
+use simplex_base::codec::parts::{size_both, write_both};
 use simplex_base::codec::{EncodeSize, Fixed, FixedSize, MaxEncodeSize, Read, Spell, Write};
 use simplex_base::positions::{Epoch, Epochable, Round, View, Viewable};
 use simplex_scheme::proposal::{Proposal, Subject};
@@ -171,7 +171,7 @@ impl<S: CertificateScheme, D: Digest> EncodeSize for Notarization<S, D> {
     ghost limit = { 30 + 65535 + 2 ^ 50 };
 
     fn encode_size(&self) -> usize {
-        self.proposal.encode_size() + self.certificate.encode_size()
+        size_both(&self.proposal, &self.certificate)
     }
 }
 

@@ -5,7 +5,7 @@ ghost use Rattle.simplex_base.specs.Format.{fixed};
 ghost use Rattle.simplex_base.specs.FormatLaws.{fixed_lawful};
 
 use simplex_base::codec::error::Error;
-use simplex_base::codec::parts::write_both;
+use simplex_base::codec::parts::{size_both, write_both};
 use simplex_base::codec::{EncodeSize, Fixed, FixedSize, MaxEncodeSize, Read, Spell, Write};
 use simplex_base::positions::{Epoch, Epochable, Round, View, Viewable};
 use simplex_scheme::scheme::{Digest, PublicKey};
@@ -68,8 +68,8 @@ impl<D: Digest, P: PublicKey> EncodeSize for Context<D, P> {
     ghost limit = { 30 + 65535 + 65535 };
 
     fn encode_size(&self) -> usize {
-        let parent = self.parent.0.encode_size() + self.parent.1.encode_size();
-        self.round.encode_size() + self.leader.encode_size() + parent
+        let parent = size_both(&self.parent.0, &self.parent.1);
+        size_both(&self.round, &self.leader) + parent
     }
 }
 

@@ -7,7 +7,7 @@ ghost use Rattle.simplex_scheme.specs.Subject.{Finalizes};
 
 use crate::types::votes::Attributable;
 use simplex_base::codec::error::Error;
-use simplex_base::codec::parts::write_both;
+use simplex_base::codec::parts::{size_both, write_both};
 use simplex_base::codec::{EncodeSize, Fixed, FixedSize, MaxEncodeSize, Read, Spell, Write};
 use simplex_base::positions::{Epoch, Epochable, Participant, Round, View, Viewable};
 use simplex_scheme::proposal::{Proposal, Subject};
@@ -131,7 +131,7 @@ impl<S: SchemeTypes, D: Digest> EncodeSize for Finalize<S, D> {
     ghost limit = { 35 + 65535 + 65535 };
 
     fn encode_size(&self) -> usize {
-        self.proposal.encode_size() + self.attestation.encode_size()
+        size_both(&self.proposal, &self.attestation)
     }
 }
 

@@ -7,7 +7,7 @@ ghost use Rattle.simplex_scheme.specs.Subject.{Nullifies};
 use crate::types::assembly::{assemble, stand_together};
 use crate::types::nullifies::Nullify;
 use simplex_base::codec::error::Error;
-use simplex_base::codec::parts::write_both;
+use simplex_base::codec::parts::{size_both, write_both};
 use simplex_base::codec::{EncodeSize, MaxEncodeSize, Read, Spell, Write};
 use simplex_base::positions::{Epoch, Epochable, Round, View, Viewable};
 use simplex_scheme::proposal::Subject;
@@ -169,7 +169,7 @@ impl<S: CertificateScheme> EncodeSize for Nullification<S> {
     ghost limit = { 20 + 2 ^ 50 };
 
     fn encode_size(&self) -> usize {
-        self.round.encode_size() + self.certificate.encode_size()
+        size_both(&self.round, &self.certificate)
     }
 }
 

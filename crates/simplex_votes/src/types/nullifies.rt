@@ -7,7 +7,7 @@ ghost use Rattle.simplex_scheme.specs.Subject.{Nullifies};
 
 use crate::types::votes::Attributable;
 use simplex_base::codec::error::Error;
-use simplex_base::codec::parts::write_both;
+use simplex_base::codec::parts::{size_both, write_both};
 use simplex_base::codec::{EncodeSize, Fixed, FixedSize, MaxEncodeSize, Read, Spell, Write};
 use simplex_base::positions::{Epoch, Epochable, Participant, Round, View, Viewable};
 use simplex_scheme::proposal::Subject;
@@ -126,7 +126,7 @@ impl<S: SchemeTypes> EncodeSize for Nullify<S> {
     ghost limit = { 25 + 65535 };
 
     fn encode_size(&self) -> usize {
-        self.round.encode_size() + self.attestation.encode_size()
+        size_both(&self.round, &self.attestation)
     }
 }
 
