@@ -12,6 +12,7 @@ use Rattle.simplex_votes.specs.Spellings.{format_of}
 use Rattle.simplex_evidence.specs.Activity.{activity_format, votes_in}
 use Rattle.simplex_evidence.specs.declared.types.activities.Activity.{Activity}
 use Rattle.simplex_evidence.specs.Contradiction.{Evidence}
+use Rattle.simplex_audit.specs.Audited.{audited}
 use Rattle.simplex_audit.specs.Audit.{IsReport}
 use Rattle.simplex_audit.specs.Line.{line_of}
 use Rattle.simplex_audit.specs.declared.audit.Fault.{Fault}
@@ -42,9 +43,9 @@ bytes_32 = fixed 32 (λ bytes. bytes) (λ bytes. bytes)
 abbrev pub Certificate : Type 0
 Certificate = List (Attestation PlainScheme (List ℕ) (List ℕ))
 
--- how messages are read by a committee of n
+-- how the messages that an audit reads are read by a committee of n
 abbrev pub messages_of : ℕ → Format (Activity PlainScheme (List ℕ) Certificate (List ℕ) (List ℕ))
-messages_of n = activity_format bytes_32 (format_of (ListedFits bytes_32 n) (listed_spelling bytes_32) (listed_at bytes_32 n)) bytes_32
+messages_of n = audited (activity_format bytes_eq bytes_32 (format_of (ListedFits bytes_32 n) (listed_spelling bytes_32) (listed_at bytes_32 n)) bytes_32)
 
 -- the text is that of the stream's report, and its fault, if it has one, is what is said
 pub record IsAnswer (scheme : PlainScheme) (stream text : List ℕ) (said : Option (List ℕ)) : Type 0 where

@@ -7,4 +7,5 @@ pub mod KeptLemmas
 pub mod ReportLemmas
 pub mod MemoryLemmas
 pub mod StreamLemmas
+pub mod TagLemmas
 pub mod NamesLemmas

@@ -32,6 +32,10 @@ IsNeverEmpty {M} format = (m : M) → 0 < length (format.spelling m)
 IsBytes-rest : {M : Type 0} (format : Format M) (stream rest : List ℕ) (messages : List M) → IsBytes stream → stream ≡ flat_map format.spelling messages ++ rest → IsBytes rest
 IsBytes-rest format stream rest messages fit whole = IsBytes-after (flat_map format.spelling messages) rest (subst IsBytes whole fit)
 
+-- what was read is a message
+pub next_is_value : {M : Type 0} (format : Format M) (Kept : List M → Type 0) (stream rest rest' : List ℕ) (read : ℕ) (m : M) → IsLawful format → IsBytes stream → SoFar format Kept stream rest read → format.reading rest ≡ Ok (m, rest') → format.is_value m
+next_is_value format Kept stream rest rest' read m law fit far e = (law.takes rest m rest' (IsBytes-rest format stream rest far.messages fit far.whole) e).value
+
 -- one message was read
 pub so_far_next : {M : Type 0} (format : Format M) (Kept Kept' : List M → Type 0) (stream rest rest' : List ℕ) (read : ℕ) (m : M) → IsLawful format → IsNeverEmpty format → IsBytes stream → SoFar format Kept stream rest read → format.reading rest ≡ Ok (m, rest') → ((ms : List M) → Kept ms → Kept' (ms ++ m ∷ [])) → SoFar format Kept' stream rest' (read + 1)
 so_far_next format Kept Kept' stream rest rest' read m law some fit far e keep =

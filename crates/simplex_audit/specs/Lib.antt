@@ -5,6 +5,7 @@ pub mod Kept
 pub mod Places
 pub mod Memory
 pub mod Laws
+pub mod Audited
 pub mod Messages
 pub mod Audit
 pub mod Line

@@ -1,10 +1,10 @@
 //! Reads the messages of a stream one after another, and keeps what has to be kept of their votes.
 
-ghost use Rattle.std.specs.Prelude.{◌≡◌, ◌≢◌, List, [], ◌∷◌, ◌++◌, filter, IfOk, OnOk};
-ghost use Rattle.simplex_base.specs.Format.{fixed};
+ghost use Rattle.std.specs.Prelude.{◌≡◌, ◌≢◌, List, [], ◌∷◌, ◌++◌, filter, IfOk, IsTrue, OnOk};
+ghost use Rattle.simplex_base.specs.Reading.{Gives};
 ghost use Rattle.simplex_votes.specs.Votes.{Vote, notarize_vote, notarize_of, notarization_votes};
-ghost use Rattle.simplex_votes.specs.Spellings.{format_of};
-ghost use Rattle.simplex_evidence.specs.Activity.{activity_format, votes_in};
+ghost use Rattle.simplex_evidence.specs.Activity.{activity_tag, votes_in};
+ghost use Rattle.simplex_audit.specs.Audited.{audited, format_under, is_audited};
 ghost use Rattle.simplex_audit.specs.GoodVotes.{good_votes};
 ghost use Rattle.simplex_audit.specs.Memory.{Holds};
 ghost use Rattle.simplex_audit.specs.Progress.{IsProgress};
@@ -77,12 +77,13 @@ fn keep_notarization<S: Listing<D>, D: Digest>(
     Ok(())
 }
 
-/// Keeps the good votes of a message.
+/// Keeps the good votes of a message that an audit reads.
 fn keep_votes<S: Listing<D>, D: Digest>(
     scheme: &S,
     message: Activity<S, D>,
     memory: &mut Memory<S, D>,
 ) -> Result<(), AllocError>
+    requires { IsTrue (is_audited (activity_tag message)) }
     ensures { OnOk result ((vs : List (Vote D S.Signature)) → Holds D.eq vs memory.old →
         Holds D.eq (vs ++ filter (λ v. S.good scheme.now v.subject v.signer v.signature) (votes_in S.listed message)) memory.new) }
 {
@@ -91,6 +92,7 @@ fn keep_votes<S: Listing<D>, D: Digest>(
             keep_notarize(scheme, &vote.proposal, &vote.attestation, memory)
         }
         Activity::Notarization(notarization) => keep_notarization(scheme, &notarization, memory),
+        _ => unreachable!(),
     }
 }
 
@@ -104,6 +106,21 @@ fn fault_at(place: usize, error: Error) -> Result<Fault, AllocError>
     }
 }
 
+/// Reads the message at the front of the input under a bound, and moves the slice past it. A message that an audit
+/// does not read is refused by its tag alone. After an error the slice is as before.
+fn read_message<S: Listing<D>, D: Digest>(
+    alloc: Global,
+    input: &mut &[u8],
+    bound: u32,
+) -> Result<Activity<S, D>, Error>
+    ensures { Gives S.Certificate.takes_memory result input.old.now input.new.now ((audited (format_under ⟦<Activity<S, D> as Read>⟧ bound)).reading input.old.now) }
+{
+    match input.first() {
+        None | Some(0 | 1) => Activity::read_cfg(alloc, input, &bound),
+        Some(_) => Err(Error::Invalid("consensus::simplex::Activity", "Invalid type")),
+    }
+}
+
 /// Reads a stream under a bound up to its end or first fault, and keeps what has to be kept of its votes.
 pub fn read_stream<S: Listing<D>, D: Digest>(
     alloc: Global,
@@ -111,14 +128,14 @@ pub fn read_stream<S: Listing<D>, D: Digest>(
     bound: u32,
     stream: &[u8],
 ) -> Result<Progress<S, D>, AllocError>
-    ensures { IfOk result (λ p. IsProgress (activity_format {S = S} {P = S.PublicKey} (fixed D.SIZE D.bytes_of D.of_bytes) (format_of (S.Certificate.fits bound) S.Certificate.spelling (S.Certificate.reading bound)) (fixed S.Signature.SIZE S.Signature.bytes_of S.Signature.of_bytes))
+    ensures { IfOk result (λ p. IsProgress (audited (format_under ⟦<Activity<S, D> as Read>⟧ bound))
         (λ messages. Holds D.eq (good_votes (S.good scheme.now) (votes_in S.listed) messages) p.memory) stream.now p.read p.fault) }
 {
     let mut memory = Memory::new(alloc);
     let mut rest: &[u8] = stream;
     let mut read = 0;
     'messages: while !rest.is_empty() {
-        match Activity::<S, D>::read_cfg(alloc, &mut rest, &bound) {
+        match read_message(alloc, &mut rest, bound) {
             Ok(message) => {
                 read += 1;
                 keep_votes(scheme, message, &mut memory)?;

@@ -6,21 +6,23 @@ use Rattle.simplex_base.specs.Reading.{Refusal, Fails}
 use Rattle.simplex_base.specs.Format.{Format, fixed, IsLawful}
 use Rattle.simplex_base.specs.FormatLaws.{fixed_lawful}
 use Rattle.simplex_votes.specs.Spellings.{format_of}
-use Rattle.simplex_evidence.specs.Activity.{activity_format, activity_lawful, votes_in}
+use Rattle.simplex_evidence.specs.Activity.{activity_format, votes_in}
 use Rattle.simplex_evidence.specs.declared.types.activities.Activity.{Activity}
 use Rattle.simplex_audit.specs.Memory.{Holds}
+use Rattle.simplex_audit.specs.Audited.{audited}
 use Rattle.simplex_audit.proofs.NamedLemmas.{good_votes-push}
-use Rattle.simplex_audit.proofs.StreamLemmas.{so_far_start, so_far_next, so_far_shorter, progress_at_fault, progress_at_end, nothing_left}
+use Rattle.simplex_audit.proofs.TagLemmas.{audited_lawful}
+use Rattle.simplex_audit.proofs.StreamLemmas.{so_far_start, so_far_next, so_far_shorter, next_is_value, progress_at_fault, progress_at_end, nothing_left}
 use Rattle.simplex_audit.proofs.reading.read_stream.Given as given
 use Rattle.simplex_audit.proofs.reading.read_stream.Goals as goal
 
 -- the format of messages under a bound
 abbrev format : (g : given.Over) → ℕ → Format (Activity g.row.S.Denot g.row.D.Denot g.row.S-Certificate.Denot g.row.S-PublicKey.Denot g.row.S-Signature.Denot)
-format g bound = activity_format (fixed g.D.FixedSize.SIZE g.D.Fixed.bytes_of g.D.Fixed.of_bytes) (format_of (g.S.Certificate.Read.fits bound) g.S.Certificate.Spell.spelling (g.S.Certificate.Read.reading bound)) (fixed g.S.Signature.FixedSize.SIZE g.S.Signature.Fixed.bytes_of g.S.Signature.Fixed.of_bytes)
+format g bound = audited (activity_format g.D.PartialEq.eq (fixed g.D.FixedSize.SIZE g.D.Fixed.bytes_of g.D.Fixed.of_bytes) (format_of (g.S.Certificate.Read.fits bound) g.S.Certificate.Spell.spelling (g.S.Certificate.Read.reading bound)) (fixed g.S.Signature.FixedSize.SIZE g.S.Signature.Fixed.bytes_of g.S.Signature.Fixed.of_bytes))
 
 -- it is lawful
 law : (g : given.Over) (bound : ℕ) → IsLawful (format g bound)
-law g bound = activity_lawful _ _ _ (fixed_lawful _ _ _ g.met.D.Fixed.back g.met.D.Fixed.forth) (g.met.S.Certificate.Read.lawful bound) (fixed_lawful _ _ _ g.met.S.Signature.Fixed.back g.met.S.Signature.Fixed.forth)
+law g bound = audited_lawful g.D.PartialEq.eq _ _ _ (fixed_lawful _ _ _ g.met.D.Fixed.back g.met.D.Fixed.forth) (g.met.S.Certificate.Read.lawful bound) (fixed_lawful _ _ _ g.met.S.Signature.Fixed.back g.met.S.Signature.Fixed.forth)
 
 positive : (n : ℕ) → ((n ≡ 0) → ⊥) → 0 < n
 positive n h = omega (arith, h)
@@ -28,13 +30,18 @@ positive n h = omega (arith, h)
 pub messages-init : goal.messages-init
 messages-init g c = so_far_start _ _ _ c.new-memory.ensures
 
+-- the message has a tag that an audit reads
+pub keep_votes-requires : goal.keep_votes-requires
+keep_votes-requires g c =
+    (next_is_value _ _ c.args.stream.now c.messages.rest.now c.read_message.new.input.now c.messages.read c.in-Ok.message (law g c.args.bound) (λ i. omega (arith, c.type_inv.stream i)) c.messages.invariant c.in-Ok.ensures).1
+
 pub messages-smaller : goal.messages-smaller
 messages-smaller g c =
-    so_far_shorter _ _ c.args.stream.now c.messages.rest.now c.read_cfg.new.input.now c.messages.read c.in-Ok.message (law g c.args.bound) (λ m. omega arith) (λ i. omega (arith, c.type_inv.stream i)) c.messages.invariant c.in-Ok.ensures
+    so_far_shorter _ _ c.args.stream.now c.messages.rest.now c.read_message.new.input.now c.messages.read c.in-Ok.message (law g c.args.bound) (λ m. omega arith) (λ i. omega (arith, c.type_inv.stream i)) c.messages.invariant c.in-Ok.ensures
 
 pub messages-preserved : goal.messages-preserved
 messages-preserved g c =
-    so_far_next _ _ _ c.args.stream.now c.messages.rest.now c.read_cfg.new.input.now c.messages.read c.in-Ok.message (law g c.args.bound) (λ m. omega arith) (λ i. omega (arith, c.type_inv.stream i)) c.messages.invariant c.in-Ok.ensures
+    so_far_next _ _ _ c.args.stream.now c.messages.rest.now c.read_message.new.input.now c.messages.read c.in-Ok.message (law g c.args.bound) (λ m. omega arith) (λ i. omega (arith, c.type_inv.stream i)) c.messages.invariant c.in-Ok.ensures
     (λ ms held. subst (λ vs. Holds g.D.PartialEq.eq vs c.keep_votes.new.memory) (sym (good_votes-push (g.S.Scheme.good c.args.scheme.now) (votes_in g.S.Listing.listed) ms c.in-Ok.message)) (c.in_ok-keep_votes-in-Ok.ensures _ held))
 
 -- an error that is no want of memory tells of none
