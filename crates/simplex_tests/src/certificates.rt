@@ -1,52 +1,106 @@
-//! Notarizations made of notarizes.
+//! Certificates made of votes: notarizations, nullifications and finalizations.
 
 use simplex_base::codec::Fixed;
-use simplex_base::positions::{Epoch, Participant, Round, View};
+use simplex_base::positions::{Epoch, Epochable, Participant, Round, View, Viewable};
 use simplex_scheme::hash::Sha256Digest;
+use simplex_scheme::listed::Listed;
 use simplex_scheme::marked::{Marked, MarkedDigest, MarkedSignature};
 use simplex_scheme::plain::{Plain, PlainKey};
 use simplex_scheme::proposal::Proposal;
 use simplex_scheme::scheme::{AssemblyError, Attestation, Digest, Listing};
 use simplex_scheme::set::Set;
-use simplex_votes::types::{Notarization, Notarize};
+use simplex_votes::types::{
+    Certificate, Finalization, Finalize, Kind, Notarization, Notarize, Nullification, Nullify,
+};
 use std::alloc::{AllocError, Global};
 use std::process::Abort;
 use std::test::Fail;
 
-/// A proposal for the view 10 of an epoch, on top of view 5.
-fn proposal<D: Digest>(epoch: u64, payload: D) -> Proposal<D> {
-    Proposal::new(
-        Round::new(Epoch::new(epoch), View::new(10)),
-        View::new(5),
-        payload,
-    )
+const KINDS: [Kind; 3] = [Kind::Notarization, Kind::Nullification, Kind::Finalization];
+
+/// The view 10 of an epoch.
+fn round(epoch: u64) -> Round {
+    Round::new(Epoch::new(epoch), View::new(10))
 }
 
-/// A notarize of the marked scheme.
-fn marked(epoch: u64, signer: u32, signature: u8) -> Notarize<Marked, MarkedDigest> {
-    Notarize {
-        proposal: proposal(epoch, MarkedDigest::from_bytes(&[6])),
-        attestation: Attestation {
-            signer: Participant::new(signer),
-            signature: MarkedSignature::from_bytes(&[signature]),
-        },
+/// A proposal for the view 10 of an epoch, on top of view 5.
+fn proposal<D: Digest>(epoch: u64, payload: D) -> Proposal<D> {
+    Proposal::new(round(epoch), View::new(5), payload)
+}
+
+/// A vote of the marked scheme on view 10: its epoch, its signer and its signature.
+#[derive(Clone, Copy)]
+struct Cast(u64, u32, u8);
+
+impl Cast {
+    fn attestation(self) -> Attestation<Marked> {
+        Attestation {
+            signer: Participant::new(self.1),
+            signature: MarkedSignature::from_bytes(&[self.2]),
+        }
+    }
+
+    fn proposal(self) -> Proposal<MarkedDigest> {
+        proposal(self.0, MarkedDigest::from_bytes(&[6]))
+    }
+
+    fn notarize(self) -> Notarize<Marked, MarkedDigest> {
+        Notarize {
+            proposal: self.proposal(),
+            attestation: self.attestation(),
+        }
+    }
+
+    fn nullify(self) -> Nullify<Marked> {
+        Nullify {
+            round: round(self.0),
+            attestation: self.attestation(),
+        }
+    }
+
+    fn finalize(self) -> Finalize<Marked, MarkedDigest> {
+        Finalize {
+            proposal: self.proposal(),
+            attestation: self.attestation(),
+        }
     }
 }
 
-/// Good notarizes of these participants.
-fn marked_by(
+/// Notarizes of these.
+fn notarizes(
     alloc: Global,
-    signers: &[u32],
+    casts: &[Cast],
 ) -> Result<Vec<Notarize<Marked, MarkedDigest>>, AllocError> {
     let mut votes = Vec::new(alloc);
-    for signer in signers {
-        votes.push(marked(0, *signer, 0xaa))?;
+    for cast in casts {
+        votes.push(cast.notarize())?;
+    }
+    Ok(votes)
+}
+
+/// Nullifies of these.
+fn nullifies(alloc: Global, casts: &[Cast]) -> Result<Vec<Nullify<Marked>>, AllocError> {
+    let mut votes = Vec::new(alloc);
+    for cast in casts {
+        votes.push(cast.nullify())?;
+    }
+    Ok(votes)
+}
+
+/// Finalizes of these.
+fn finalizes(
+    alloc: Global,
+    casts: &[Cast],
+) -> Result<Vec<Finalize<Marked, MarkedDigest>>, AllocError> {
+    let mut votes = Vec::new(alloc);
+    for cast in casts {
+        votes.push(cast.finalize())?;
     }
     Ok(votes)
 }
 
 /// The notarization of some votes, lent and handed over.
-fn assembled<S: Listing<D>, D: Digest>(
+fn notarization<S: Listing<D>, D: Digest>(
     rt: &impl Abort,
     alloc: Global,
     scheme: &S,
@@ -59,17 +113,141 @@ fn assembled<S: Listing<D>, D: Digest>(
     lent
 }
 
+/// The nullification of some votes, lent and handed over.
+fn nullification<'a, S: Listing<D>, D: Digest + 'a>(
+    rt: &impl Abort,
+    alloc: Global,
+    scheme: &'a S,
+    votes: Vec<Nullify<S>>,
+) -> Result<Nullification<S>, AssemblyError> {
+    assert!(rt; Nullification::can_assemble::<D>(scheme, votes.as_slice()));
+    let lent = Nullification::from_nullifies::<D>(alloc, scheme, votes.as_slice());
+    let owned = Nullification::from_owned_nullifies::<D>(alloc, scheme, votes);
+    assert!(rt; lent == owned);
+    lent
+}
+
+/// The finalization of some votes, lent and handed over.
+fn finalization<S: Listing<D>, D: Digest>(
+    rt: &impl Abort,
+    alloc: Global,
+    scheme: &S,
+    votes: Vec<Finalize<S, D>>,
+) -> Result<Finalization<S, D>, AssemblyError> {
+    assert!(rt; Finalization::can_assemble(scheme, votes.as_slice()));
+    let lent = Finalization::from_finalizes(alloc, scheme, votes.as_slice());
+    let owned = Finalization::from_owned_finalizes(alloc, scheme, votes);
+    assert!(rt; lent == owned);
+    lent
+}
+
+/// The certificate of this kind that votes make.
+fn assembled(
+    rt: &impl Abort,
+    alloc: Global,
+    scheme: &Marked,
+    kind: Kind,
+    casts: &[Cast],
+) -> Result<Result<Certificate<Marked, MarkedDigest>, AssemblyError>, AllocError> {
+    Ok(match kind {
+        Kind::Notarization => {
+            match notarization(rt, alloc, scheme, notarizes(alloc, casts)?) {
+                Ok(made) => Ok(Certificate::Notarization(made)),
+                Err(error) => Err(error),
+            }
+        }
+        Kind::Nullification => {
+            match nullification::<Marked, MarkedDigest>(
+                rt,
+                alloc,
+                scheme,
+                nullifies(alloc, casts)?,
+            ) {
+                Ok(made) => Ok(Certificate::Nullification(made)),
+                Err(error) => Err(error),
+            }
+        }
+        Kind::Finalization => {
+            match finalization(rt, alloc, scheme, finalizes(alloc, casts)?) {
+                Ok(made) => Ok(Certificate::Finalization(made)),
+                Err(error) => Err(error),
+            }
+        }
+    })
+}
+
+/// Whether votes can make a certificate of this kind.
+fn can_assemble(
+    alloc: Global,
+    scheme: &Marked,
+    kind: Kind,
+    casts: &[Cast],
+) -> Result<bool, AllocError> {
+    Ok(match kind {
+        Kind::Notarization => {
+            Notarization::can_assemble(scheme, notarizes(alloc, casts)?.as_slice())
+        }
+        Kind::Nullification => Nullification::can_assemble::<MarkedDigest>(
+            scheme,
+            nullifies(alloc, casts)?.as_slice(),
+        ),
+        Kind::Finalization => {
+            Finalization::can_assemble(scheme, finalizes(alloc, casts)?.as_slice())
+        }
+    })
+}
+
+/// Good votes of epoch 0 by these participants.
+fn good(alloc: Global, signers: &[u32]) -> Result<Vec<Cast>, AllocError> {
+    let mut casts = Vec::new(alloc);
+    for signer in signers {
+        casts.push(Cast(0, *signer, 0xaa))?;
+    }
+    Ok(casts)
+}
+
 #[test]
 fn fewer_than_a_quorum_are_refused(rt: HostRuntime) -> Result<(), Fail> {
     let alloc = rt.alloc();
     let scheme = Marked::new(alloc, 5, None)?;
     let rows: [(&[u32], u32); 3] = [(&[2], 1), (&[4, 0], 2), (&[0, 1, 2], 3)];
-    for (signers, count) in rows {
-        let votes = marked_by(alloc, signers)?;
-        let refused = AssemblyError::InsufficientAttestations(4, count);
-        assert!(rt; assembled(&rt, alloc, &scheme, votes) == Err(refused));
+    for kind in KINDS {
+        for (signers, count) in rows {
+            let casts = good(alloc, signers)?;
+            let refused = AssemblyError::InsufficientAttestations(4, count);
+            let made = assembled(&rt, alloc, &scheme, kind, casts.as_slice())?;
+            assert!(rt; made == Err(refused), "{kind} {count}");
+        }
     }
     Ok(())
+}
+
+/// What a certificate message lists.
+fn listed(message: &Certificate<Marked, MarkedDigest>) -> &Listed<Marked> {
+    match message {
+        Certificate::Notarization(message) => &message.certificate,
+        Certificate::Nullification(message) => &message.certificate,
+        Certificate::Finalization(message) => &message.certificate,
+    }
+}
+
+/// A certificate message of view 10 of epoch 0 lists these signers ascending, and verifies.
+fn lists(
+    rt: &impl Abort,
+    scheme: &Marked,
+    message: &Certificate<Marked, MarkedDigest>,
+    signers: &[u32],
+) {
+    assert!(rt; message.verify(scheme));
+    assert!(rt; message.epoch() == Epoch::new(0) && message.view() == View::new(10));
+    let attestations = <Marked as Listing<MarkedDigest>>::attestations(listed(message));
+    assert_eq!(rt; attestations.len(), signers.len());
+    let mut above = 0;
+    for attestation in attestations {
+        let signer = attestation.signer.get();
+        assert!(rt; above <= signer && signers.contains(&signer));
+        above = signer.saturating_add(1);
+    }
 }
 
 #[test]
@@ -77,37 +255,30 @@ fn a_quorum_is_listed_by_signer(rt: HostRuntime) -> Result<(), Fail> {
     let alloc = rt.alloc();
     let scheme = Marked::new(alloc, 5, None)?;
     let rows: [&[u32]; 3] = [&[0, 1, 2, 3], &[4, 3, 2, 1, 0], &[3, 0, 4, 1]];
-    for signers in rows {
-        let votes = marked_by(alloc, signers)?;
-        let Ok(notarization) = assembled(&rt, alloc, &scheme, votes) else {
-            return Err("a quorum was refused".into());
-        };
-        assert!(rt; notarization.verify(&scheme));
-        assert!(rt; notarization.proposal == marked(0, 0, 0).proposal);
-        let listed = <Marked as Listing<MarkedDigest>>::attestations(&notarization.certificate);
-        assert_eq!(rt; listed.len(), signers.len());
-        let mut above = 0;
-        for attestation in listed {
-            let signer = attestation.signer.get();
-            assert!(rt; above <= signer && signers.contains(&signer));
-            above = signer.saturating_add(1);
+    for kind in KINDS {
+        for signers in rows {
+            let casts = good(alloc, signers)?;
+            let Ok(message) = assembled(&rt, alloc, &scheme, kind, casts.as_slice())? else {
+                return Err("a quorum was refused".into());
+            };
+            assert_eq!(rt; message.kind(), kind);
+            lists(&rt, &scheme, &message, signers);
         }
     }
     Ok(())
 }
 
 #[test]
-fn bad_votes_make_no_certified_notarization(rt: HostRuntime) -> Result<(), Fail> {
+fn bad_votes_make_no_certified_message(rt: HostRuntime) -> Result<(), Fail> {
     let alloc = rt.alloc();
     let scheme = Marked::new(alloc, 4, None)?;
-    let votes = Vec::from_array(
-        alloc,
-        [marked(0, 0, 0xaa), marked(0, 1, 0), marked(0, 2, 0xaa)],
-    )?;
-    let Ok(notarization) = assembled(&rt, alloc, &scheme, votes) else {
-        return Err("a quorum was refused".into());
-    };
-    assert!(rt; !notarization.verify(&scheme));
+    for kind in KINDS {
+        let casts = [Cast(0, 0, 0xaa), Cast(0, 1, 0), Cast(0, 2, 0xaa)];
+        let Ok(message) = assembled(&rt, alloc, &scheme, kind, &casts)? else {
+            return Err("a quorum was refused".into());
+        };
+        assert!(rt; !message.verify(&scheme), "{kind}");
+    }
     Ok(())
 }
 
@@ -125,23 +296,39 @@ fn not_all_votes_stand_together(rt: HostRuntime) -> Result<(), Fail> {
         // The last is of another round.
         ([0, 1, 2, 3], 1, false),
     ];
-    for ([first, second, third, fourth], epoch, wanted) in rows {
-        let votes = Vec::from_array(
-            alloc,
-            [
-                marked(0, first, 0xaa),
-                marked(0, second, 0),
-                marked(0, third, 0xaa),
-                marked(epoch, fourth, 0xaa),
-            ],
-        )?;
-        assert_eq!(rt;
-            Notarization::can_assemble(&scheme, votes.as_slice()),
-            wanted
-        );
+    for kind in KINDS {
+        for ([first, second, third, fourth], epoch, wanted) in rows {
+            let casts = [
+                Cast(0, first, 0xaa),
+                Cast(0, second, 0),
+                Cast(0, third, 0xaa),
+                Cast(epoch, fourth, 0xaa),
+            ];
+            assert_eq!(rt;
+                can_assemble(alloc, &scheme, kind, &casts)?,
+                wanted,
+                "{kind}"
+            );
+        }
+        assert!(rt; !can_assemble(alloc, &scheme, kind, &[])?, "{kind}");
     }
-    let none: [Notarize<Marked, MarkedDigest>; 0] = [];
-    assert!(rt; !Notarization::can_assemble(&scheme, &none));
+    Ok(())
+}
+
+#[test]
+fn votes_for_two_proposals_do_not_stand_together(rt: HostRuntime) -> Result<(), Fail> {
+    let alloc = rt.alloc();
+    let scheme = Marked::new(alloc, 5, None)?;
+    let first = Cast(0, 0, 0xaa);
+    let second = Cast(0, 1, 0xaa);
+    let mut other = second.notarize();
+    other.proposal.payload = MarkedDigest::from_bytes(&[7]);
+    let votes = [first.notarize(), other];
+    assert!(rt; !Notarization::can_assemble(&scheme, &votes));
+    let mut other = second.finalize();
+    other.proposal.parent = View::new(6);
+    let votes = [first.finalize(), other];
+    assert!(rt; !Finalization::can_assemble(&scheme, &votes));
     Ok(())
 }
 
@@ -163,6 +350,25 @@ fn plain(
     Ok(Plain::signer(alloc, namespace, participants, &own)?.ok_or("no participant has the key")?)
 }
 
+/// A certificate message is verified by its own committee, and neither under another name nor by other keys.
+fn is_of_its_committee(
+    rt: &impl Abort,
+    alloc: Global,
+    message: &Certificate<Plain, Sha256Digest>,
+) -> Result<(), Fail> {
+    let kind = message.kind();
+    assert!(rt; message.verify(&plain(rt, alloc, b"test", 0, 1)?), "{kind}");
+    assert!(rt;
+        !message.verify(&plain(rt, alloc, b"tests", 0, 1)?),
+        "{kind}"
+    );
+    assert!(rt;
+        !message.verify(&plain(rt, alloc, b"test", 0, 2)?),
+        "{kind}"
+    );
+    Ok(())
+}
+
 #[test]
 fn a_notarization_is_verified_by_its_own_committee(rt: HostRuntime) -> Result<(), Fail> {
     let alloc = rt.alloc();
@@ -173,13 +379,55 @@ fn a_notarization_is_verified_by_its_own_committee(rt: HostRuntime) -> Result<()
         votes.push(Notarize::sign(alloc, &scheme, notarized)?.ok_or("nobody signs")?)?;
     }
     let scheme = plain(&rt, alloc, b"test", 0, 1)?;
-    let Ok(mut notarization) = assembled(&rt, alloc, &scheme, votes) else {
+    let Ok(mut made) = notarization(&rt, alloc, &scheme, votes) else {
         return Err("a quorum was refused".into());
     };
-    assert!(rt; notarization.verify(&scheme));
-    assert!(rt; !notarization.verify(&plain(&rt, alloc, b"tests", 0, 1)?));
-    assert!(rt; !notarization.verify(&plain(&rt, alloc, b"test", 0, 2)?));
-    notarization.proposal.parent = View::new(6);
-    assert!(rt; !notarization.verify(&scheme));
+    is_of_its_committee(&rt, alloc, &Certificate::Notarization(made.clone()?))?;
+    made.proposal.parent = View::new(6);
+    assert!(rt; !made.verify(&scheme));
+    Ok(())
+}
+
+#[test]
+fn a_nullification_is_verified_by_its_own_committee(rt: HostRuntime) -> Result<(), Fail> {
+    let alloc = rt.alloc();
+    let mut votes = Vec::new(alloc);
+    for own in [1, 0] {
+        let scheme = plain(&rt, alloc, b"test", own, 1)?;
+        let vote = Nullify::sign::<Sha256Digest>(alloc, &scheme, round(0))?;
+        votes.push(vote.ok_or("nobody signs")?)?;
+    }
+    let scheme = plain(&rt, alloc, b"test", 0, 1)?;
+    let Ok(mut made) = nullification::<Plain, Sha256Digest>(&rt, alloc, &scheme, votes) else {
+        return Err("a quorum was refused".into());
+    };
+    is_of_its_committee(&rt, alloc, &Certificate::Nullification(made.clone()?))?;
+    made.round = round(1);
+    assert!(rt; !made.verify::<Sha256Digest>(&scheme));
+    Ok(())
+}
+
+#[test]
+fn a_finalization_is_verified_by_its_own_committee(rt: HostRuntime) -> Result<(), Fail> {
+    let alloc = rt.alloc();
+    let finalized = proposal(0, Sha256Digest::from_bytes(&[6; 32]));
+    let mut votes = Vec::new(alloc);
+    for own in [1, 0] {
+        let scheme = plain(&rt, alloc, b"test", own, 1)?;
+        votes.push(Finalize::sign(alloc, &scheme, finalized)?.ok_or("nobody signs")?)?;
+    }
+    let scheme = plain(&rt, alloc, b"test", 0, 1)?;
+    let Ok(mut made) = finalization(&rt, alloc, &scheme, votes) else {
+        return Err("a quorum was refused".into());
+    };
+    is_of_its_committee(&rt, alloc, &Certificate::Finalization(made.clone()?))?;
+    // What finalizes a proposal does not notarize it.
+    let notarized = Notarization::<Plain, Sha256Digest> {
+        proposal: finalized,
+        certificate: made.certificate.clone()?,
+    };
+    assert!(rt; !notarized.verify(&scheme));
+    made.proposal.parent = View::new(6);
+    assert!(rt; !made.verify(&scheme));
     Ok(())
 }
