@@ -46,13 +46,17 @@ fn stream_of(alloc: Global, messages: u32, number: u32) -> Result<Vec<u8>, Alloc
     Ok(stream)
 }
 
-/// What may follow: nothing, messages that are cut off, an unknown tag, a number spelled wrongly.
-const TAILS: [&[u8]; 5] = [
+/// What may follow: nothing, messages that are cut off, an unknown tag, a number spelled wrongly, and messages of
+/// tags that an audit does not read.
+const TAILS: [&[u8]; 8] = [
     &[],
     &[0, 0, 10, 5, 6],
     &[1, 0, 10, 5, 6, 2, 0],
     &[255, 0],
     &[0, 128, 0],
+    &[2, 0, 10, 5, 6, 1, 0, 0xaa],
+    &[3, 0, 10, 1, 0xaa],
+    &[7, 0, 10, 5, 6, 1, 0xaa, 0, 10, 5, 7, 1, 0xaa],
 ];
 
 #[test]
@@ -62,7 +66,7 @@ fn every_small_stream_is_audited_by_the_definition(rt: HostRuntime) -> Result<()
     for (messages, streams) in [(0, 1), (1, 24), (2, 576), (3, 13824)] {
         for number in 0..streams {
             let mut stream = stream_of(alloc, messages, number)?;
-            stream.extend_from_slice(TAILS[(number / 7 % 5) as usize])?;
+            stream.extend_from_slice(TAILS[(number / 7 % 8) as usize])?;
             let found = outcome_of::<Marked, MarkedDigest>(alloc, &scheme, stream.as_slice())?;
             let wanted = audit_by_definition(alloc, &scheme, 4, stream.as_slice())?;
             assert_eq!(rt; found, wanted, "of {stream:?}");

@@ -1,17 +1,24 @@
 //! The auditor by its definition: the good votes stand in one list, and any two of them are compared. It is
 //! slow, and there to be run against.
 
-use crate::outcome::Outcome;
+use crate::outcome::{Outcome, UNKNOWN_TAG};
 use simplex_audit::audit::Fault;
+use simplex_base::codec::error::Error;
 use simplex_base::codec::{Fixed, Read};
 use simplex_base::positions::{Participant, Round};
-use simplex_evidence::types::Activity;
 use simplex_scheme::marked::{Marked, MarkedDigest};
 use simplex_scheme::scheme::Listing;
 use simplex_votes::types::{Notarization, Notarize};
 use std::alloc::{AllocError, Global};
 
 type Vote = Notarize<Marked, MarkedDigest>;
+
+/// A message that an audit reads.
+#[derive(Drop)]
+enum Message {
+    Notarize(Vote),
+    Notarization(Notarization<Marked, MarkedDigest>),
+}
 
 /// Two votes that contradict, of one signer in one round, and their line.
 #[derive(Drop)]
@@ -68,9 +75,9 @@ fn read_messages(
                 fault: None,
             });
         }
-        match Activity::<Marked, MarkedDigest>::read_cfg(alloc, &mut rest, &bound) {
-            Ok(Activity::Notarize(vote)) => keep_good(scheme, vote, &mut good_votes)?,
-            Ok(Activity::Notarization(notarization)) => {
+        match read_message(alloc, &mut rest, bound) {
+            Ok(Message::Notarize(vote)) => keep_good(scheme, vote, &mut good_votes)?,
+            Ok(Message::Notarization(notarization)) => {
                 for vote in listed_votes(alloc, &notarization)? {
                     keep_good(scheme, vote, &mut good_votes)?;
                 }
@@ -90,6 +97,28 @@ fn read_messages(
         read: stream.len(),
         fault: None,
     })
+}
+
+/// Reads the message at the front of the input, which is moved past it. Any other tag is unknown.
+fn read_message(alloc: Global, input: &mut &[u8], bound: u32) -> Result<Message, Error> {
+    let bytes: &[u8] = *input;
+    let [tag, body @ ..] = bytes else {
+        return Err(Error::EndOfBuffer);
+    };
+    let mut rest: &[u8] = body;
+    let message = match *tag {
+        0 => match Notarize::read_cfg(alloc, &mut rest, &()) {
+            Ok(vote) => Message::Notarize(vote),
+            Err(error) => return Err(error),
+        },
+        1 => match Notarization::read_cfg(alloc, &mut rest, &bound) {
+            Ok(notarization) => Message::Notarization(notarization),
+            Err(error) => return Err(error),
+        },
+        _ => return Err(UNKNOWN_TAG),
+    };
+    *input = rest;
+    Ok(message)
 }
 
 /// Appends a vote if it verifies.

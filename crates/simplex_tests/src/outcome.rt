@@ -1,9 +1,16 @@
 //! What an audit answers, in a form that tests compare.
 
 use simplex_audit::audit::{Fault, audit};
+use simplex_base::codec::error::Error;
 use simplex_scheme::scheme::{Digest, Listing};
 use std::alloc::Global;
 use std::test::Fail;
+
+/// What an audit answers of a tag that it does not read.
+pub(crate) const UNKNOWN_TAG: Error = Error::Invalid(
+    "consensus::simplex::Activity",
+    "Invalid type",
+);
 
 /// What an audit answers.
 #[derive(Debug, PartialEq, Eq, Drop)]

@@ -1,17 +1,29 @@
 //! Streams of the marked committee of four, and what their audit answers.
 
-use crate::outcome::{bytes, outcome_of};
+use crate::outcome::{UNKNOWN_TAG, bytes, outcome_of};
 use simplex_audit::audit::Fault;
+use simplex_base::codec::decode_cfg;
 use simplex_base::codec::error::Error;
+use simplex_evidence::types::Activity;
 use simplex_scheme::marked::{Marked, MarkedDigest};
 use std::alloc::Global;
 use std::process::Abort;
 use std::test::Fail;
 
 /// A stream, the number of messages read of it, and the text of its lines.
-type Row = (&'static str, usize, &'static str);
+type Row<'a> = (&'a str, usize, &'a str);
 
-const UNKNOWN_TAG: Error = Error::Invalid("consensus::simplex::Activity", "Invalid type");
+/// A whole message of each tag that an audit does not read, in their order.
+const UNREAD: [&str; 8] = [
+    "02000a0506 02 00aa01aa",
+    "03000a01aa",
+    "04000a 02 00aa01aa",
+    "05000a050601aa",
+    "06000a0506 02 00aa01aa",
+    "07000a050601aa 000a050701aa",
+    "08000a050601aa 000a050701aa",
+    "09000a01aa 000a050601aa",
+];
 
 /// Audits a stream, and compares.
 fn answers(rt: &impl Abort, alloc: Global, row: Row, fault: Option<Fault>) -> Result<(), Fail> {
@@ -216,6 +228,46 @@ fn nothing_is_read_after_a_fault(rt: HostRuntime) -> Result<(), Fail> {
     ];
     for (row, place, error) in rows {
         answers(&rt, rt.alloc(), row, Some(Fault { place, error }))?;
+    }
+    Ok(())
+}
+
+#[test]
+fn a_message_of_another_tag_is_a_fault(rt: HostRuntime) -> Result<(), Fail> {
+    let alloc = rt.alloc();
+    let fault = Some(Fault {
+        place: 14,
+        error: UNKNOWN_TAG,
+    });
+    for message in UNREAD {
+        let whole = bytes(alloc, message)?;
+        let taken = decode_cfg::<Activity<Marked, MarkedDigest>>(alloc, whole.as_slice(), &4);
+        assert!(rt; taken.is_ok(), "{message} is a message");
+        let stream = format!(in alloc;
+            "00000a050601aa 00000a050701aa {message} 00000a050602aa 00000a050702aa"
+        )?;
+        let row = (
+            stream.as_str(),
+            2,
+            "0 10 1 conflicting-notarize 5 06 5 07\n",
+        );
+        answers(&rt, alloc, row, fault)?;
+    }
+    Ok(())
+}
+
+#[test]
+fn another_tag_is_a_fault_whatever_follows_it(rt: HostRuntime) -> Result<(), Fail> {
+    let alloc = rt.alloc();
+    let fault = Some(Fault {
+        place: 7,
+        error: UNKNOWN_TAG,
+    });
+    for tag in 2..=255u8 {
+        for rest in ["", "00", "80", "000a01aa", "00000a050701aa"] {
+            let stream = format!(in alloc; "00000a050601aa {tag:02x} {rest}")?;
+            answers(&rt, alloc, (stream.as_str(), 1, ""), fault)?;
+        }
     }
     Ok(())
 }
