@@ -14,6 +14,8 @@ mod model;
 #[cfg(test)]
 mod outcome;
 #[cfg(test)]
+mod reading;
+#[cfg(test)]
 mod signing;
 #[cfg(test)]
 mod spelling;
