@@ -8,6 +8,8 @@ mod bisection;
 #[cfg(test)]
 mod certificates;
 #[cfg(test)]
+mod committee;
+#[cfg(test)]
 mod evidence;
 #[cfg(test)]
 mod model;
@@ -16,9 +18,13 @@ mod outcome;
 #[cfg(test)]
 mod reading;
 #[cfg(test)]
+mod round_trips;
+#[cfg(test)]
 mod signing;
 #[cfg(test)]
 mod spelling;
+#[cfg(test)]
+mod strangers;
 #[cfg(test)]
 mod streams;
 #[cfg(test)]
