@@ -8,7 +8,11 @@ mod bisection;
 #[cfg(test)]
 mod certificates;
 #[cfg(test)]
+mod clones;
+#[cfg(test)]
 mod committee;
+#[cfg(test)]
+mod equality;
 #[cfg(test)]
 mod evidence;
 #[cfg(test)]
