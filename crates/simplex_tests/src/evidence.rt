@@ -1,86 +1,19 @@
-//! Two votes of one signer that contradict, and the lines that tell of them.
+//! The lines that tell of two votes of one signer that contradict.
 
 use crate::outcome::{bytes, outcome_of};
 use simplex_audit::audit::audit;
 use simplex_base::codec::{Encode, Fixed};
-use simplex_base::positions::{Epoch, Epochable, Participant, Round, View, Viewable};
-use simplex_evidence::types::{Activity, ConflictingNotarize};
+use simplex_base::positions::{Epoch, Participant, Round, View};
+use simplex_evidence::types::Activity;
 use simplex_scheme::hash::Sha256Digest;
-use simplex_scheme::marked::{Marked, MarkedDigest, MarkedSignature};
+use simplex_scheme::marked::{Marked, MarkedDigest};
 use simplex_scheme::plain::{Plain, PlainKey};
 use simplex_scheme::proposal::Proposal;
-use simplex_scheme::scheme::Attestation;
 use simplex_scheme::set::Set;
-use simplex_votes::types::{Attributable, Notarize};
+use simplex_votes::types::Notarize;
 use std::alloc::Global;
 use std::process::Abort;
 use std::test::Fail;
-
-/// A notarize at the epoch 2.
-fn notarize(place: u64, payload: u8, signer: u32, signature: u8) -> Notarize<Marked, MarkedDigest> {
-    let round = Round::new(Epoch::new(2), View::new(place));
-    Notarize {
-        proposal: Proposal::new(round, View::new(5), MarkedDigest::from_bytes(&[payload])),
-        attestation: Attestation {
-            signer: Participant::new(signer),
-            signature: MarkedSignature::from_bytes(&[signature]),
-        },
-    }
-}
-
-#[test]
-fn votes_conflict_at_one_round_and_signer(rt: HostRuntime) {
-    let first = notarize(10, 6, 1, 0xaa);
-    let rows = [
-        (notarize(10, 7, 1, 0xaa), true),
-        (notarize(10, 7, 1, 0), true),
-        (notarize(10, 6, 1, 0), false),
-        (notarize(11, 7, 1, 0xaa), false),
-        (notarize(10, 7, 2, 0xaa), false),
-    ];
-    for (second, wanted) in &rows {
-        assert_eq!(rt; ConflictingNotarize::conflicts(&first, second), *wanted);
-        assert_eq!(rt; ConflictingNotarize::conflicts(second, &first), *wanted);
-    }
-}
-
-#[test]
-fn a_conflict_holds_both_votes(rt: HostRuntime) -> Result<(), Fail> {
-    let (first, second) = (notarize(10, 6, 1, 0xaa), notarize(10, 7, 1, 0xaa));
-    assert!(rt; ConflictingNotarize::conflicts(&first, &second));
-    assert!(rt; ConflictingNotarize::conflicts(&second, &first));
-    let conflict = ConflictingNotarize::new(first.copy(), second.copy());
-    assert!(rt; *conflict.notarize_1() == first);
-    assert!(rt; *conflict.notarize_2() == second);
-    assert_eq!(rt; conflict.round(), first.round());
-    assert_eq!(rt;
-        (conflict.epoch(), conflict.view()),
-        (Epoch::new(2), View::new(10))
-    );
-    assert_eq!(rt; conflict.signer(), Participant::new(1));
-    assert!(rt; conflict.clone()? == conflict);
-    let swapped = ConflictingNotarize::new(second, first);
-    assert!(rt; swapped != conflict);
-    Ok(())
-}
-
-#[test]
-fn a_conflict_is_verified_by_both_signatures(rt: HostRuntime) -> Result<(), Fail> {
-    let scheme = Marked::new(rt.alloc(), 4, None)?;
-    let rows = [
-        (0xaa, 0xaa, 1, true),
-        (0xaa, 0, 1, false),
-        (0, 0xaa, 1, false),
-        (0xaa, 0xaa, 4, false),
-    ];
-    for (one, other, signer, wanted) in rows {
-        let (first, second) = (notarize(10, 6, signer, one), notarize(10, 7, signer, other));
-        assert!(rt; ConflictingNotarize::conflicts(&first, &second));
-        let conflict = ConflictingNotarize::new(first, second);
-        assert_eq!(rt; conflict.verify(&scheme), wanted, "{one} {other} {signer}");
-    }
-    Ok(())
-}
 
 #[test]
 fn evidence_tells_its_round_and_signer(rt: HostRuntime) -> Result<(), Fail> {

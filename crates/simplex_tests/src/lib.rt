@@ -12,6 +12,8 @@ mod clones;
 #[cfg(test)]
 mod committee;
 #[cfg(test)]
+mod contradictions;
+#[cfg(test)]
 mod equality;
 #[cfg(test)]
 mod evidence;
