@@ -2,6 +2,8 @@
 #![tactic(auto)]
 
 #[cfg(test)]
+mod activities;
+#[cfg(test)]
 mod against_model;
 #[cfg(test)]
 mod bisection;
