@@ -10,8 +10,6 @@ mod bisection;
 #[cfg(test)]
 mod certificates;
 #[cfg(test)]
-mod clones;
-#[cfg(test)]
 mod committee;
 #[cfg(test)]
 mod contradictions;
@@ -31,8 +29,6 @@ mod round_trips;
 mod signing;
 #[cfg(test)]
 mod spelling;
-#[cfg(test)]
-mod strangers;
 #[cfg(test)]
 mod streams;
 #[cfg(test)]

@@ -4,7 +4,6 @@ use crate::outcome::bytes;
 use simplex_base::codec::error::Error;
 use simplex_base::codec::{Encode, Read, decode_cfg};
 use std::alloc::Global;
-use std::hash::{DefaultHasher, Hash, Hasher};
 use std::process::Abort;
 use std::test::Fail;
 
@@ -135,31 +134,5 @@ pub(crate) fn are_told_apart<T: Read + PartialEq + Drop>(
             );
         }
     }
-    Ok(())
-}
-
-/// The hash of what these bytes spell.
-fn hash_of<T: Read + Hash + Drop>(
-    rt: &impl Abort,
-    alloc: Global,
-    cfg: &T::Cfg,
-    spelling: &str,
-) -> Result<u64, Fail> {
-    let mut state = DefaultHasher::new();
-    read::<T>(rt, alloc, cfg, spelling)?.hash(&mut state);
-    Ok(state.finish())
-}
-
-/// A value hashes as an equal one does, and another otherwise.
-pub(crate) fn is_hashed<T: Read + Hash + Drop>(
-    rt: &impl Abort,
-    alloc: Global,
-    cfg: &T::Cfg,
-    spelling: &str,
-    other: &str,
-) -> Result<(), Fail> {
-    let hash = hash_of::<T>(rt, alloc, cfg, spelling)?;
-    assert_eq!(rt; hash_of::<T>(rt, alloc, cfg, spelling)?, hash, "{spelling}");
-    assert!(rt; hash_of::<T>(rt, alloc, cfg, other)? != hash, "{other}");
     Ok(())
 }

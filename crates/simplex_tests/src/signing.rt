@@ -1,5 +1,6 @@
 //! Committees that sign.
 
+use crate::committee::{finalize, member, notarize};
 use simplex_base::codec::Fixed;
 use simplex_base::positions::{Epoch, Epochable, Participant, Round, View, Viewable};
 use simplex_scheme::hash::Sha256Digest;
@@ -119,5 +120,18 @@ fn a_signature_is_of_one_name_key_signer_and_proposal(rt: HostRuntime) -> Result
     let mut other = vote.copy();
     other.proposal.parent = View::new(6);
     assert!(rt; !other.verify(&scheme));
+    Ok(())
+}
+
+/// A vote of one kind is none of another: the names of the kinds differ, though the proposals do not.
+#[test]
+fn a_signature_is_of_one_kind(rt: HostRuntime) -> Result<(), Fail> {
+    let alloc = rt.alloc();
+    let home = member(&rt, alloc, 0)?;
+    let mut notarize = notarize(alloc, &home, 1)?;
+    let finalize = finalize(alloc, &home, 1)?;
+    assert!(rt; notarize.attestation != finalize.attestation);
+    notarize.attestation = finalize.attestation;
+    assert!(rt; !notarize.verify(&home));
     Ok(())
 }
