@@ -2,13 +2,10 @@
 
 use simplex_base::codec::Fixed;
 use simplex_base::positions::{Epoch, Epochable, Participant, Round, View, Viewable};
-use simplex_scheme::hash::Sha256Digest;
 use simplex_scheme::listed::Listed;
 use simplex_scheme::marked::{Marked, MarkedDigest, MarkedSignature};
-use simplex_scheme::plain::{Plain, PlainKey};
 use simplex_scheme::proposal::Proposal;
 use simplex_scheme::scheme::{AssemblyError, Attestation, Digest, Listing};
-use simplex_scheme::set::Set;
 use simplex_votes::types::{
     Certificate, Finalization, Finalize, Kind, Notarization, Notarize, Nullification, Nullify,
 };
@@ -100,7 +97,7 @@ fn finalizes(
 }
 
 /// The notarization of some votes, lent and handed over.
-fn notarization<S: Listing<D>, D: Digest>(
+pub(crate) fn notarization<S: Listing<D>, D: Digest>(
     rt: &impl Abort,
     alloc: Global,
     scheme: &S,
@@ -114,7 +111,7 @@ fn notarization<S: Listing<D>, D: Digest>(
 }
 
 /// The nullification of some votes, lent and handed over.
-fn nullification<'a, S: Listing<D>, D: Digest + 'a>(
+pub(crate) fn nullification<'a, S: Listing<D>, D: Digest + 'a>(
     rt: &impl Abort,
     alloc: Global,
     scheme: &'a S,
@@ -128,7 +125,7 @@ fn nullification<'a, S: Listing<D>, D: Digest + 'a>(
 }
 
 /// The finalization of some votes, lent and handed over.
-fn finalization<S: Listing<D>, D: Digest>(
+pub(crate) fn finalization<S: Listing<D>, D: Digest>(
     rt: &impl Abort,
     alloc: Global,
     scheme: &S,
@@ -329,105 +326,5 @@ fn votes_for_two_proposals_do_not_stand_together(rt: HostRuntime) -> Result<(), 
     other.proposal.parent = View::new(6);
     let votes = [first.finalize(), other];
     assert!(rt; !Finalization::can_assemble(&scheme, &votes));
-    Ok(())
-}
-
-/// The plain scheme of two participants, whose keys are 32 times 0 and this byte, for the one with this key.
-fn plain(
-    rt: &impl Abort,
-    alloc: Global,
-    namespace: &[u8],
-    own: u8,
-    second: u8,
-) -> Result<Plain, Fail> {
-    let keys = [
-        PlainKey::from_bytes(&[0; 32]),
-        PlainKey::from_bytes(&[second; 32]),
-    ];
-    let participants = Set::try_from_vec(Vec::from_array(alloc, keys)?)?;
-    assert_eq!(rt; participants.len(), 2);
-    let own = PlainKey::from_bytes(&[own; 32]);
-    Ok(Plain::signer(alloc, namespace, participants, &own)?.ok_or("no participant has the key")?)
-}
-
-/// A certificate message is verified by its own committee, and neither under another name nor by other keys.
-fn is_of_its_committee(
-    rt: &impl Abort,
-    alloc: Global,
-    message: &Certificate<Plain, Sha256Digest>,
-) -> Result<(), Fail> {
-    let kind = message.kind();
-    assert!(rt; message.verify(&plain(rt, alloc, b"test", 0, 1)?), "{kind}");
-    assert!(rt;
-        !message.verify(&plain(rt, alloc, b"tests", 0, 1)?),
-        "{kind}"
-    );
-    assert!(rt;
-        !message.verify(&plain(rt, alloc, b"test", 0, 2)?),
-        "{kind}"
-    );
-    Ok(())
-}
-
-#[test]
-fn a_notarization_is_verified_by_its_own_committee(rt: HostRuntime) -> Result<(), Fail> {
-    let alloc = rt.alloc();
-    let notarized = proposal(0, Sha256Digest::from_bytes(&[6; 32]));
-    let mut votes = Vec::new(alloc);
-    for own in [1, 0] {
-        let scheme = plain(&rt, alloc, b"test", own, 1)?;
-        votes.push(Notarize::sign(alloc, &scheme, notarized)?.ok_or("nobody signs")?)?;
-    }
-    let scheme = plain(&rt, alloc, b"test", 0, 1)?;
-    let Ok(mut made) = notarization(&rt, alloc, &scheme, votes) else {
-        return Err("a quorum was refused".into());
-    };
-    is_of_its_committee(&rt, alloc, &Certificate::Notarization(made.clone()?))?;
-    made.proposal.parent = View::new(6);
-    assert!(rt; !made.verify(&scheme));
-    Ok(())
-}
-
-#[test]
-fn a_nullification_is_verified_by_its_own_committee(rt: HostRuntime) -> Result<(), Fail> {
-    let alloc = rt.alloc();
-    let mut votes = Vec::new(alloc);
-    for own in [1, 0] {
-        let scheme = plain(&rt, alloc, b"test", own, 1)?;
-        let vote = Nullify::sign::<Sha256Digest>(alloc, &scheme, round(0))?;
-        votes.push(vote.ok_or("nobody signs")?)?;
-    }
-    let scheme = plain(&rt, alloc, b"test", 0, 1)?;
-    let Ok(mut made) = nullification::<Plain, Sha256Digest>(&rt, alloc, &scheme, votes) else {
-        return Err("a quorum was refused".into());
-    };
-    is_of_its_committee(&rt, alloc, &Certificate::Nullification(made.clone()?))?;
-    made.round = round(1);
-    assert!(rt; !made.verify::<Sha256Digest>(&scheme));
-    Ok(())
-}
-
-#[test]
-fn a_finalization_is_verified_by_its_own_committee(rt: HostRuntime) -> Result<(), Fail> {
-    let alloc = rt.alloc();
-    let finalized = proposal(0, Sha256Digest::from_bytes(&[6; 32]));
-    let mut votes = Vec::new(alloc);
-    for own in [1, 0] {
-        let scheme = plain(&rt, alloc, b"test", own, 1)?;
-        votes.push(Finalize::sign(alloc, &scheme, finalized)?.ok_or("nobody signs")?)?;
-    }
-    let scheme = plain(&rt, alloc, b"test", 0, 1)?;
-    let Ok(mut made) = finalization(&rt, alloc, &scheme, votes) else {
-        return Err("a quorum was refused".into());
-    };
-    is_of_its_committee(&rt, alloc, &Certificate::Finalization(made.clone()?))?;
-    // What finalizes a proposal does not notarize it.
-    let notarized = Notarization::<Plain, Sha256Digest> {
-        proposal: finalized,
-        certificate: made.certificate.clone()?,
-    };
-    assert!(rt; !notarized.verify(&scheme));
-    made.proposal.parent = View::new(6);
-    assert!(rt; !made.verify(&scheme));
     Ok(())
 }

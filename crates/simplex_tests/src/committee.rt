@@ -1,28 +1,27 @@
 //! A plain committee of four, and what it signs for the round (0, 10).
 
-use simplex_base::codec::{Encode, Fixed, decode_cfg};
+use crate::certificates;
+use simplex_base::codec::Fixed;
 use simplex_base::positions::{Epoch, Round, View};
 use simplex_evidence::types::{ConflictingFinalize, ConflictingNotarize, NullifyFinalize};
 use simplex_scheme::hash::Sha256Digest;
-use simplex_scheme::listed::Listed;
 use simplex_scheme::plain::{Plain, PlainKey};
 use simplex_scheme::proposal::Proposal;
-use simplex_scheme::scheme::Attestation;
 use simplex_scheme::set::Set;
 use simplex_votes::types::{
-    Finalization, Finalize, Kind, Notarization, Notarize, Nullification, Nullify,
+    Finalization, Finalize, Notarization, Notarize, Nullification, Nullify,
 };
 use std::alloc::Global;
 use std::process::Abort;
 use std::test::Fail;
 
 /// The round (0, 10).
-pub(crate) fn round() -> Round {
+fn round() -> Round {
     Round::new(Epoch::new(0), View::new(10))
 }
 
 /// The proposal on top of view 5 whose payload is 32 times this byte.
-pub(crate) fn proposal(payload: u8) -> Proposal<Sha256Digest> {
+fn proposal(payload: u8) -> Proposal<Sha256Digest> {
     let payload = Sha256Digest::from_bytes(&[payload; 32]);
     Proposal::new(round(), View::new(5), payload)
 }
@@ -77,63 +76,52 @@ pub(crate) fn finalize(
     Ok(Finalize::sign(alloc, member, proposal(payload))?.ok_or("nobody signs")?)
 }
 
-/// The attestation in a member's vote of the kind that makes such a certificate.
-fn attest(
-    alloc: Global,
-    member: &Plain,
-    kind: Kind,
-    payload: u8,
-) -> Result<Attestation<Plain>, Fail> {
-    match kind {
-        Kind::Notarization => Ok(notarize(alloc, member, payload)?.attestation),
-        Kind::Nullification => Ok(nullify(alloc, member)?.attestation),
-        Kind::Finalization => Ok(finalize(alloc, member, payload)?.attestation),
-    }
-}
-
-/// The certificate of such votes by the members 0, 1 and 2.
-fn listed(rt: &impl Abort, alloc: Global, kind: Kind, payload: u8) -> Result<Listed<Plain>, Fail> {
-    let mut spelling = Vec::from_array(alloc, [3])?;
-    for own in 0..3 {
-        let attestation = attest(alloc, &member(rt, alloc, own)?, kind, payload)?;
-        spelling.extend_from_slice(attestation.encode(alloc)?.as_slice())?;
-    }
-    let Ok(certificate) = decode_cfg::<Listed<Plain>>(alloc, spelling.as_slice(), &4) else {
-        return Err("no certificate".into());
-    };
-    Ok(certificate)
-}
-
-/// The notarization of a proposal.
+/// The notarization that the members 0, 1 and 2 make of a proposal.
 pub(crate) fn notarization(
     rt: &impl Abort,
     alloc: Global,
     payload: u8,
 ) -> Result<Notarization<Plain, Sha256Digest>, Fail> {
-    Ok(Notarization {
-        proposal: proposal(payload),
-        certificate: listed(rt, alloc, Kind::Notarization, payload)?,
-    })
+    let mut votes = Vec::new(alloc);
+    for own in 0..3 {
+        votes.push(notarize(alloc, &member(rt, alloc, own)?, payload)?)?;
+    }
+    let scheme = member(rt, alloc, 3)?;
+    let Ok(made) = certificates::notarization(rt, alloc, &scheme, votes) else {
+        return Err("a quorum was refused".into());
+    };
+    Ok(made)
 }
 
-/// The nullification of the round.
+/// The nullification that the members 0, 1 and 2 make of the round.
 pub(crate) fn nullification(rt: &impl Abort, alloc: Global) -> Result<Nullification<Plain>, Fail> {
-    Ok(Nullification {
-        round: round(),
-        certificate: listed(rt, alloc, Kind::Nullification, 0)?,
-    })
+    let mut votes = Vec::new(alloc);
+    for own in 0..3 {
+        votes.push(nullify(alloc, &member(rt, alloc, own)?)?)?;
+    }
+    let scheme = member(rt, alloc, 3)?;
+    let made = certificates::nullification::<Plain, Sha256Digest>(rt, alloc, &scheme, votes);
+    let Ok(made) = made else {
+        return Err("a quorum was refused".into());
+    };
+    Ok(made)
 }
 
-/// The finalization of a proposal.
+/// The finalization that the members 0, 1 and 2 make of a proposal.
 pub(crate) fn finalization(
     rt: &impl Abort,
     alloc: Global,
     payload: u8,
 ) -> Result<Finalization<Plain, Sha256Digest>, Fail> {
-    Ok(Finalization {
-        proposal: proposal(payload),
-        certificate: listed(rt, alloc, Kind::Finalization, payload)?,
-    })
+    let mut votes = Vec::new(alloc);
+    for own in 0..3 {
+        votes.push(finalize(alloc, &member(rt, alloc, own)?, payload)?)?;
+    }
+    let scheme = member(rt, alloc, 3)?;
+    let Ok(made) = certificates::finalization(rt, alloc, &scheme, votes) else {
+        return Err("a quorum was refused".into());
+    };
+    Ok(made)
 }
 
 /// Evidence that a member notarizes two proposals.

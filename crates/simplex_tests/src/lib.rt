@@ -14,8 +14,6 @@ mod committee;
 #[cfg(test)]
 mod contradictions;
 #[cfg(test)]
-mod equality;
-#[cfg(test)]
 mod evidence;
 #[cfg(test)]
 mod model;
@@ -23,8 +21,6 @@ mod model;
 mod outcome;
 #[cfg(test)]
 mod reading;
-#[cfg(test)]
-mod round_trips;
 #[cfg(test)]
 mod signing;
 #[cfg(test)]
