@@ -261,12 +261,12 @@ mod tests {
     #[test]
     fn rounds_are_an_epoch_and_a_view(rt: HostRuntime) -> Result<(), Fail> {
         let alloc = rt.alloc();
-        let round = Round::new(Epoch::new(333), View::new(10));
-        let bytes = round.encode(alloc)?;
+        let far = Round::new(Epoch::new(333), View::new(10));
+        let bytes = far.encode(alloc)?;
         assert_eq!(rt; bytes.as_slice(), [0xcd, 2, 10].as_slice());
-        assert_eq!(rt; decode::<Round>(alloc, bytes.as_slice()), Ok(round));
+        assert_eq!(rt; decode::<Round>(alloc, bytes.as_slice()), Ok(far));
         let mut input: &[u8] = &[0xcd, 2, 10, 7];
-        assert_eq!(rt; read_value::<Round>(alloc, &mut input), Ok(round));
+        assert_eq!(rt; read_value::<Round>(alloc, &mut input), Ok(far));
         assert_eq!(rt; input, [7].as_slice());
         assert_eq!(rt;
             read_value::<Round>(alloc, &mut input),

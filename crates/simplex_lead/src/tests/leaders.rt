@@ -120,8 +120,8 @@ fn built<C: Config<Marked>>(
 
 /// Who leads a view of an epoch.
 fn leader<E: Elector<Marked>>(elector: &E, epoch: u64, view: u64) -> u32 {
-    let round = Round::new(Epoch::new(epoch), View::new(view));
-    elector.elect(round, None).get()
+    let leader = elector.elect(Round::new(Epoch::new(epoch), View::new(view)), None);
+    leader.get()
 }
 
 /// Who leads the first so many views of an epoch, from view 0 on.

@@ -8,7 +8,7 @@ use std::test::Fail;
 
 #[test]
 fn plans_name_their_recipients(rt: HostRuntime) -> Result<(), Fail> {
-    let round = Round::new(Epoch::new(0), View::new(10));
+    let round = Round::new(Epoch::new(2), View::new(7));
     let key = MarkedKey::from_bytes(&[0, 0, 0, 3]);
     let some = Recipients::Some(Vec::from_array(rt.alloc(), [key])?);
     let plans: [Plan<MarkedKey>; 5] = [

@@ -40,8 +40,11 @@ fn marked_committee(alloc: Global, n: u32) -> Result<Vec<Marked>, Fail> {
 }
 
 fn proposal<D: Digest>(payload: D) -> Proposal<D> {
-    let round = Round::new(Epoch::new(0), View::new(10));
-    Proposal::new(round, View::new(5), payload)
+    Proposal::new(
+        Round::new(Epoch::new(0), View::new(10)),
+        View::new(5),
+        payload,
+    )
 }
 
 /// What the schemes sign to notarize a proposal, the last signer first.

@@ -21,8 +21,11 @@ fn is_refused(rt: &(impl Abort + AllocGlobal)) -> bool {
     let Ok(quorum) = decode_cfg::<Listed<Marked>>(alloc, &quorum, &4) else {
         return true;
     };
-    let round = Round::new(Epoch::new(0), View::new(10));
-    let proposal = Proposal::new(round, View::new(5), MarkedDigest::from_bytes(&[6]));
+    let proposal = Proposal::new(
+        Round::new(Epoch::new(0), View::new(10)),
+        View::new(5),
+        MarkedDigest::from_bytes(&[6]),
+    );
     let items = [&few, &quorum, &few].map(|certificate| {
         let subject = Subject::Notarize {
             proposal: &proposal,

@@ -44,11 +44,6 @@ pub(crate) fn outcome_of<S: Listing<D>, D: Digest>(
 
 /// The bytes that a text names by two digits each, parted by blanks.
 pub(crate) fn bytes(alloc: Global, text: &str) -> Result<Vec<u8>, Fail> {
-    let mut digits = Vec::new(alloc);
-    for byte in text.bytes() {
-        if byte != b' ' {
-            digits.push(byte)?;
-        }
-    }
+    let digits: Vec<u8> = text.bytes().filter(|byte| *byte != b' ').collect(alloc)?;
     Ok(hex::decode(alloc, digits.as_slice())?)
 }

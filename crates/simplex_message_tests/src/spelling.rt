@@ -1,18 +1,19 @@
 //! Positions, proposals, votes and certificate messages, and their bytes.
 
-use crate::reading::{is_spelled, spelled};
+use crate::reading::{is_spelled, read, spelled};
 use simplex_base::codec::{Fixed, MaxEncodeSize};
 use simplex_base::positions::{Epoch, Epochable, Participant, Round, View, Viewable};
 use simplex_scheme::hash::Sha256Digest;
-use simplex_scheme::listed::Listed;
 use simplex_scheme::marked::{Marked, MarkedDigest};
 use simplex_scheme::plain::{Plain, PlainKey, PlainSignature};
 use simplex_scheme::proposal::Proposal;
-use simplex_scheme::scheme::{Attestation, CertificateScheme};
+use simplex_scheme::scheme::{Attestation, CertificateScheme, Digest, Scheme};
 use simplex_votes::types::{
     Attributable, Certificate, Context, Finalization, Finalize, Notarization, Notarize,
     Nullification, Nullify, Vote,
 };
+use std::alloc::Global;
+use std::process::Abort;
 use std::test::Fail;
 
 /// The round (333, 10).
@@ -82,38 +83,53 @@ fn is_vote<T: Epochable + Viewable + Attributable>(vote: &T) -> bool {
     is_placed(vote) && vote.signer() == Participant::new(1)
 }
 
-#[test]
-fn votes_are_proposal_or_round_and_attestation(rt: HostRuntime) -> Result<(), Fail> {
-    let alloc = rt.alloc();
-    let scheme = Marked::new(alloc, 4, None)?;
-    let notarize: Notarize<Marked, MarkedDigest> = spelled(&rt, alloc, &(), "000a0506 01aa")?;
-    assert!(rt; is_vote(&notarize) && notarize.verify(&scheme));
-    let nullify: Nullify<Marked> = spelled(&rt, alloc, &(), "000a 01aa")?;
-    assert!(rt; is_vote(&nullify) && nullify.verify::<MarkedDigest>(&scheme));
-    let finalize: Finalize<Marked, MarkedDigest> = spelled(&rt, alloc, &(), "000a0506 01aa")?;
-    assert!(rt; is_vote(&finalize) && finalize.verify(&scheme));
+/// Votes, which verify.
+fn check_votes<S: Scheme<D>, D: Digest + 'static>(
+    rt: &impl Abort,
+    alloc: Global,
+    scheme: &S,
+) -> Result<(), Fail> {
+    let notarize: Notarize<S, D> = spelled(rt, alloc, &(), "000a0506 01aa")?;
+    assert!(rt; is_vote(&notarize) && notarize.verify(scheme));
+    let nullify: Nullify<S> = spelled(rt, alloc, &(), "000a 01aa")?;
+    assert!(rt; is_vote(&nullify) && nullify.verify::<D>(scheme));
+    let finalize: Finalize<S, D> = spelled(rt, alloc, &(), "000a0506 01aa")?;
+    assert!(rt; is_vote(&finalize) && finalize.verify(scheme));
     assert!(rt; notarize.proposal == finalize.proposal);
     assert!(rt; notarize.attestation == nullify.attestation);
     Ok(())
 }
 
 #[test]
-fn certificate_messages_are_proposal_or_round_and_certificate(rt: HostRuntime) -> Result<(), Fail> {
-    let alloc = rt.alloc();
-    let scheme = Marked::new(alloc, 4, None)?;
-    let listed: Listed<Marked> = spelled(&rt, alloc, &4, "03 00aa 01aa 03aa")?;
+fn votes_are_proposal_or_round_and_attestation(rt: HostRuntime) -> Result<(), Fail> {
+    let scheme = Marked::new(rt.alloc(), 4, None)?;
+    check_votes::<Marked, MarkedDigest>(&rt, rt.alloc(), &scheme)
+}
+
+/// Certificate messages, which verify.
+fn check_certificate_messages<S: Scheme<D>, D: Digest + 'static>(
+    rt: &impl Abort,
+    alloc: Global,
+    scheme: &S,
+) -> Result<(), Fail> {
     let proposed = "000a0506 03 00aa 01aa 03aa";
-    let notarization: Notarization<Marked, MarkedDigest> = spelled(&rt, alloc, &4, proposed)?;
-    assert!(rt; is_placed(&notarization) && notarization.verify(&scheme));
-    assert!(rt; notarization.certificate == listed);
-    let finalization: Finalization<Marked, MarkedDigest> = spelled(&rt, alloc, &4, proposed)?;
-    assert!(rt; is_placed(&finalization) && finalization.verify(&scheme));
-    assert!(rt; finalization.certificate == listed);
-    let round = "000a 03 00aa 01aa 03aa";
-    let nullification: Nullification<Marked> = spelled(&rt, alloc, &4, round)?;
-    assert!(rt; is_placed(&nullification) && nullification.verify::<MarkedDigest>(&scheme));
-    assert!(rt; nullification.certificate == listed);
+    let notarization: Notarization<S, D> = spelled(rt, alloc, &4, proposed)?;
+    assert!(rt; is_placed(&notarization) && notarization.verify(scheme));
+    let finalization: Finalization<S, D> = spelled(rt, alloc, &4, proposed)?;
+    assert!(rt; is_placed(&finalization) && finalization.verify(scheme));
+    let nullification: Nullification<S> = spelled(rt, alloc, &4, "000a 03 00aa 01aa 03aa")?;
+    assert!(rt; is_placed(&nullification) && nullification.verify::<D>(scheme));
+    let certificate: S::Certificate = read(rt, alloc, &4, "03 00aa 01aa 03aa")?;
+    assert!(rt; notarization.certificate == certificate);
+    assert!(rt; nullification.certificate == certificate);
+    assert!(rt; finalization.certificate == certificate);
     Ok(())
+}
+
+#[test]
+fn certificate_messages_are_proposal_or_round_and_certificate(rt: HostRuntime) -> Result<(), Fail> {
+    let scheme = Marked::new(rt.alloc(), 4, None)?;
+    check_certificate_messages::<Marked, MarkedDigest>(&rt, rt.alloc(), &scheme)
 }
 
 /// Numbers have at most 5 or 10 bytes, digests, signatures and keys always as many, and tags one.

@@ -1,10 +1,8 @@
-//! Tests that cross the crates, and the plain auditor that every other body of the audit is run against.
+//! Tests of the message types that cross the crates: what committees sign and list, its bytes, and what verifies.
 #![tactic(auto)]
 
 #[cfg(test)]
 mod activities;
-#[cfg(test)]
-mod against_model;
 #[cfg(test)]
 mod bisection;
 #[cfg(test)]
@@ -14,19 +12,13 @@ mod committee;
 #[cfg(test)]
 mod contradictions;
 #[cfg(test)]
-mod evidence;
-#[cfg(test)]
-mod model;
-#[cfg(test)]
-mod outcome;
-#[cfg(test)]
 mod reading;
+#[cfg(test)]
+mod signed;
 #[cfg(test)]
 mod signing;
 #[cfg(test)]
 mod spelling;
-#[cfg(test)]
-mod streams;
 #[cfg(test)]
 mod unions;
 #[cfg(test)]

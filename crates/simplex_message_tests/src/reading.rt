@@ -1,6 +1,5 @@
 //! What every value and its bytes are asked, whatever its type.
 
-use crate::outcome::bytes;
 use simplex_base::codec::error::Error;
 use simplex_base::codec::{Encode, Read, decode_cfg};
 use std::alloc::Global;
@@ -135,4 +134,10 @@ pub(crate) fn are_told_apart<T: Read + PartialEq + Drop>(
         }
     }
     Ok(())
+}
+
+/// The bytes that a text names by two digits each, parted by blanks.
+pub(crate) fn bytes(alloc: Global, text: &str) -> Result<Vec<u8>, Fail> {
+    let digits: Vec<u8> = text.bytes().filter(|byte| *byte != b' ').collect(alloc)?;
+    Ok(hex::decode(alloc, digits.as_slice())?)
 }

@@ -1,0 +1,13 @@
+//! Tests of the audit that cross the crates, and the plain auditor that every other body of it is run against.
+#![tactic(auto)]
+
+#[cfg(test)]
+mod against_model;
+#[cfg(test)]
+mod evidence;
+#[cfg(test)]
+mod model;
+#[cfg(test)]
+mod outcome;
+#[cfg(test)]
+mod streams;
