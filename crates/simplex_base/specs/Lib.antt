@@ -2,7 +2,6 @@ pub mod Reading
 pub mod Format
 pub mod FormatLaws
 pub mod Union
-pub mod UnionLaws
 pub mod Varint
 pub mod VarintLaws
 pub mod Sizes

@@ -11,6 +11,7 @@ pub mod error;
 pub mod fixed_bytes;
 pub mod parts;
 pub mod truth;
+pub mod unions;
 pub mod varint;
 
 use bytes::Bytes;

@@ -1,6 +1,6 @@
 //! Values that are spelled part after part, and values of a fixed size.
 
-ghost use Rattle.std.specs.Prelude.{◌≡◌, ◌++◌, ◌∷◌, ◌+◌, ◌<◌, ◌≤◌, ◌^◌, ◌||◌, false, OnOk, OnErr, length, take};
+ghost use Rattle.std.specs.Prelude.{◌≡◌, ◌++◌, ◌+◌, ◌<◌, ◌≤◌, ◌^◌, ◌||◌, false, OnOk, OnErr, length, take};
 ghost use Rattle.simplex_base.specs.Reading.{IsBytes};
 ghost use Rattle.simplex_base.specs.Format.{both_spelled, both_at, BothAre, IsFixed, fixed_at};
 ghost use Rattle.simplex_base.specs.FormatLaws.{both_lawful, fixed_lawful};
@@ -49,17 +49,6 @@ pub fn size_both<A: EncodeSize, B: EncodeSize>(first: &A, second: &B) -> usize
     ensures limited { result ≤ A.limit + B.limit }
 {
     first.encode_size() + second.encode_size()
-}
-
-/// Appends a tag of one byte and then a value. After a refusal the buffer is as before.
-pub fn write_tagged<T: Write>(tag: u8, body: &T, buf: &mut Vec<u8>) -> Result<(), AllocError>
-    ensures ok { OnOk result (buf.new.items ≡ buf.old.items ++ (tag ∷ T.spelling body.now)) }
-    ensures err { OnErr result (buf.new.items ≡ buf.old.items) }
-{
-    let start = buf.len();
-    buf.push(tag)?;
-    let done = body.write(buf);
-    or_restore(buf, start, done)
 }
 
 impl<A: Spell, B: Spell> Spell for (A, B) {

@@ -3,15 +3,13 @@
 ghost use Rattle.std.specs.Prelude.{◌≡◌, ◌+◌, ◌*◌, ◌^◌, IfOk, IfErr, IsTrue};
 ghost use Rattle.simplex_base.specs.Format.{fixed};
 ghost use Rattle.simplex_base.specs.FormatLaws.{fixed_lawful};
-ghost use Rattle.simplex_base.specs.Reading.{Gives};
 ghost use Rattle.simplex_votes.specs.Spellings.{format_of};
-ghost use Rattle.simplex_evidence.specs.Activity.{activity_branches};
 
 use crate::types::conflicting_finalizes::ConflictingFinalize;
 use crate::types::conflicts::ConflictingNotarize;
 use crate::types::nullify_finalizes::NullifyFinalize;
 use simplex_base::codec::error::Error;
-use simplex_base::codec::parts::write_tagged;
+use simplex_base::codec::unions::{Tagged, read_tagged, write_tagged};
 use simplex_base::codec::{EncodeSize, Fixed, Read, Spell, Write};
 use simplex_base::positions::{Epoch, Epochable, View, Viewable};
 use simplex_scheme::scheme::{CertificateScheme, Digest, Scheme};
@@ -228,75 +226,64 @@ impl<S: CertificateScheme, D: Digest> Read for Activity<S, D> {
     ghost takes_memory = { S.Certificate.takes_memory };
 
     fn read_cfg(alloc: Global, input: &mut &[u8], bound: &u32) -> Result<Self, Error> {
-        let bytes: &[u8] = *input;
-        let [tag, body @ ..] = bytes else {
-            return Err(Error::EndOfBuffer);
-        };
-        let mut rest: &[u8] = body;
-        match read_body(alloc, *tag, &mut rest, bound) {
-            Ok(message) => {
-                *input = rest;
-                Ok(message)
-            }
-            Err(error) => Err(error),
-        }
+        read_tagged(alloc, input, bound)
     }
 
     ghost lawful = { λ bound. activity_lawful D.eq _ _ _ (fixed_lawful D.SIZE D.bytes_of D.of_bytes D.back D.forth) (S.Certificate.lawful bound) (fixed_lawful S.Signature.SIZE S.Signature.bytes_of S.Signature.of_bytes S.Signature.back S.Signature.forth) };
 }
 
-/// Reads the parts of the message with this tag.
-fn read_body<S: CertificateScheme, D: Digest>(
-    alloc: Global,
-    tag: u8,
-    input: &mut &[u8],
-    bound: &u32,
-) -> Result<Activity<S, D>, Error>
-    ensures { Gives S.Certificate.takes_memory result input.old.now input.new.now (activity_branches D.eq (fixed D.SIZE D.bytes_of D.of_bytes)
-        (format_of (S.Certificate.fits bound.now) S.Certificate.spelling (S.Certificate.reading bound.now))
-        (fixed S.Signature.SIZE S.Signature.bytes_of S.Signature.of_bytes) tag input.old.now) }
-{
-    match tag {
-        0 => match Notarize::read_cfg(alloc, input, &()) {
-            Ok(vote) => Ok(Activity::Notarize(vote)),
-            Err(error) => Err(error),
-        },
-        1 => match Notarization::read_cfg(alloc, input, bound) {
-            Ok(message) => Ok(Activity::Notarization(message)),
-            Err(error) => Err(error),
-        },
-        2 => match Notarization::read_cfg(alloc, input, bound) {
-            Ok(message) => Ok(Activity::Certification(message)),
-            Err(error) => Err(error),
-        },
-        3 => match Nullify::read_cfg(alloc, input, &()) {
-            Ok(vote) => Ok(Activity::Nullify(vote)),
-            Err(error) => Err(error),
-        },
-        4 => match Nullification::read_cfg(alloc, input, bound) {
-            Ok(message) => Ok(Activity::Nullification(message)),
-            Err(error) => Err(error),
-        },
-        5 => match Finalize::read_cfg(alloc, input, &()) {
-            Ok(vote) => Ok(Activity::Finalize(vote)),
-            Err(error) => Err(error),
-        },
-        6 => match Finalization::read_cfg(alloc, input, bound) {
-            Ok(message) => Ok(Activity::Finalization(message)),
-            Err(error) => Err(error),
-        },
-        7 => match ConflictingNotarize::read_cfg(alloc, input, &()) {
-            Ok(evidence) => Ok(Activity::ConflictingNotarize(evidence)),
-            Err(error) => Err(error),
-        },
-        8 => match ConflictingFinalize::read_cfg(alloc, input, &()) {
-            Ok(evidence) => Ok(Activity::ConflictingFinalize(evidence)),
-            Err(error) => Err(error),
-        },
-        9 => match NullifyFinalize::read_cfg(alloc, input, &()) {
-            Ok(evidence) => Ok(Activity::NullifyFinalize(evidence)),
-            Err(error) => Err(error),
-        },
-        _ => Err(Error::Invalid("consensus::simplex::Activity", "Invalid type")),
+impl<S: CertificateScheme, D: Digest> Tagged for Activity<S, D> {
+    ghost use Rattle.simplex_evidence.specs.Activity.{activity_branches};
+
+    type Cfg = u32;
+
+    ghost branches = { λ bound. activity_branches D.eq (fixed D.SIZE D.bytes_of D.of_bytes) (format_of (S.Certificate.fits bound) S.Certificate.spelling (S.Certificate.reading bound)) (fixed S.Signature.SIZE S.Signature.bytes_of S.Signature.of_bytes) };
+
+    ghost takes_memory = { S.Certificate.takes_memory };
+
+    fn read_body(alloc: Global, tag: u8, input: &mut &[u8], bound: &u32) -> Result<Self, Error> {
+        match tag {
+            0 => match Notarize::read_cfg(alloc, input, &()) {
+                Ok(vote) => Ok(Activity::Notarize(vote)),
+                Err(error) => Err(error),
+            },
+            1 => match Notarization::read_cfg(alloc, input, bound) {
+                Ok(message) => Ok(Activity::Notarization(message)),
+                Err(error) => Err(error),
+            },
+            2 => match Notarization::read_cfg(alloc, input, bound) {
+                Ok(message) => Ok(Activity::Certification(message)),
+                Err(error) => Err(error),
+            },
+            3 => match Nullify::read_cfg(alloc, input, &()) {
+                Ok(vote) => Ok(Activity::Nullify(vote)),
+                Err(error) => Err(error),
+            },
+            4 => match Nullification::read_cfg(alloc, input, bound) {
+                Ok(message) => Ok(Activity::Nullification(message)),
+                Err(error) => Err(error),
+            },
+            5 => match Finalize::read_cfg(alloc, input, &()) {
+                Ok(vote) => Ok(Activity::Finalize(vote)),
+                Err(error) => Err(error),
+            },
+            6 => match Finalization::read_cfg(alloc, input, bound) {
+                Ok(message) => Ok(Activity::Finalization(message)),
+                Err(error) => Err(error),
+            },
+            7 => match ConflictingNotarize::read_cfg(alloc, input, &()) {
+                Ok(evidence) => Ok(Activity::ConflictingNotarize(evidence)),
+                Err(error) => Err(error),
+            },
+            8 => match ConflictingFinalize::read_cfg(alloc, input, &()) {
+                Ok(evidence) => Ok(Activity::ConflictingFinalize(evidence)),
+                Err(error) => Err(error),
+            },
+            9 => match NullifyFinalize::read_cfg(alloc, input, &()) {
+                Ok(evidence) => Ok(Activity::NullifyFinalize(evidence)),
+                Err(error) => Err(error),
+            },
+            _ => Err(Error::Invalid("consensus::simplex::Activity", "Invalid type")),
+        }
     }
 }

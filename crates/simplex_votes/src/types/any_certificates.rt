@@ -3,15 +3,13 @@
 ghost use Rattle.std.specs.Prelude.{◌≡◌, ◌+◌, ◌≤◌, ◌^◌, IfOk, Some, length};
 ghost use Rattle.simplex_base.specs.Format.{fixed};
 ghost use Rattle.simplex_base.specs.FormatLaws.{fixed_lawful};
-ghost use Rattle.simplex_base.specs.Reading.{Gives};
 ghost use Rattle.simplex_votes.specs.Spellings.{format_of};
-ghost use Rattle.simplex_votes.specs.Unions.{certificate_branches};
 
 use crate::types::certificates::Notarization;
 use crate::types::finalizations::Finalization;
 use crate::types::nullifications::Nullification;
 use simplex_base::codec::error::Error;
-use simplex_base::codec::parts::write_tagged;
+use simplex_base::codec::unions::{Tagged, read_tagged, write_tagged};
 use simplex_base::codec::{EncodeSize, Fixed, FixedSize, MaxEncodeSize, Read, Spell, Write};
 use simplex_base::positions::{Epoch, Epochable, View, Viewable};
 use simplex_scheme::proposal::Proposal;
@@ -202,46 +200,36 @@ impl<S: CertificateScheme, D: Digest> Read for Certificate<S, D> {
     ghost takes_memory = { S.Certificate.takes_memory };
 
     fn read_cfg(alloc: Global, input: &mut &[u8], bound: &u32) -> Result<Self, Error> {
-        let bytes: &[u8] = *input;
-        let [tag, body @ ..] = bytes else {
-            return Err(Error::EndOfBuffer);
-        };
-        let mut rest: &[u8] = body;
-        match read_body(alloc, *tag, &mut rest, bound) {
-            Ok(message) => {
-                *input = rest;
-                Ok(message)
-            }
-            Err(error) => Err(error),
-        }
+        read_tagged(alloc, input, bound)
     }
 
     ghost lawful = { λ bound. certificate_lawful _ _ (fixed_lawful D.SIZE D.bytes_of D.of_bytes D.back D.forth) (S.Certificate.lawful bound) };
 }
 
-/// Reads the parts of the certificate message with this tag.
-fn read_body<S: CertificateScheme, D: Digest>(
-    alloc: Global,
-    tag: u8,
-    input: &mut &[u8],
-    bound: &u32,
-) -> Result<Certificate<S, D>, Error>
-    ensures { Gives S.Certificate.takes_memory result input.old.now input.new.now (certificate_branches (fixed D.SIZE D.bytes_of D.of_bytes)
-        (format_of (S.Certificate.fits bound.now) S.Certificate.spelling (S.Certificate.reading bound.now)) tag input.old.now) }
-{
-    match tag {
-        0 => match Notarization::read_cfg(alloc, input, bound) {
-            Ok(message) => Ok(Certificate::Notarization(message)),
-            Err(error) => Err(error),
-        },
-        1 => match Nullification::read_cfg(alloc, input, bound) {
-            Ok(message) => Ok(Certificate::Nullification(message)),
-            Err(error) => Err(error),
-        },
-        2 => match Finalization::read_cfg(alloc, input, bound) {
-            Ok(message) => Ok(Certificate::Finalization(message)),
-            Err(error) => Err(error),
-        },
-        _ => Err(Error::Invalid("consensus::simplex::Certificate", "Invalid type")),
+impl<S: CertificateScheme, D: Digest> Tagged for Certificate<S, D> {
+    ghost use Rattle.simplex_votes.specs.Unions.{certificate_branches};
+
+    type Cfg = u32;
+
+    ghost branches = { λ bound. certificate_branches (fixed D.SIZE D.bytes_of D.of_bytes) (format_of (S.Certificate.fits bound) S.Certificate.spelling (S.Certificate.reading bound)) };
+
+    ghost takes_memory = { S.Certificate.takes_memory };
+
+    fn read_body(alloc: Global, tag: u8, input: &mut &[u8], bound: &u32) -> Result<Self, Error> {
+        match tag {
+            0 => match Notarization::read_cfg(alloc, input, bound) {
+                Ok(message) => Ok(Certificate::Notarization(message)),
+                Err(error) => Err(error),
+            },
+            1 => match Nullification::read_cfg(alloc, input, bound) {
+                Ok(message) => Ok(Certificate::Nullification(message)),
+                Err(error) => Err(error),
+            },
+            2 => match Finalization::read_cfg(alloc, input, bound) {
+                Ok(message) => Ok(Certificate::Finalization(message)),
+                Err(error) => Err(error),
+            },
+            _ => Err(Error::Invalid("consensus::simplex::Certificate", "Invalid type")),
+        }
     }
 }

@@ -3,14 +3,12 @@
 ghost use Rattle.std.specs.Prelude.{◌≡◌, ⊤, ◌+◌, false};
 ghost use Rattle.simplex_base.specs.Format.{fixed};
 ghost use Rattle.simplex_base.specs.FormatLaws.{fixed_lawful};
-ghost use Rattle.simplex_base.specs.Reading.{Gives};
-ghost use Rattle.simplex_votes.specs.Unions.{vote_branches};
 
 use crate::types::finalizes::Finalize;
 use crate::types::nullifies::Nullify;
 use crate::types::votes::{Attributable, Notarize};
 use simplex_base::codec::error::Error;
-use simplex_base::codec::parts::write_tagged;
+use simplex_base::codec::unions::{Tagged, read_tagged, write_tagged};
 use simplex_base::codec::{EncodeSize, Fixed, FixedSize, MaxEncodeSize, Read, Spell, Write};
 use simplex_base::positions::{Epoch, Epochable, Participant, View, Viewable};
 use simplex_scheme::scheme::{Digest, SchemeTypes};
@@ -140,45 +138,37 @@ impl<S: SchemeTypes, D: Digest> Read for Vote<S, D> {
 
     ghost takes_memory = { false };
 
-    fn read_cfg(alloc: Global, input: &mut &[u8], _cfg: &()) -> Result<Self, Error> {
-        let bytes: &[u8] = *input;
-        let [tag, body @ ..] = bytes else {
-            return Err(Error::EndOfBuffer);
-        };
-        let mut rest: &[u8] = body;
-        match read_body(alloc, *tag, &mut rest) {
-            Ok(vote) => {
-                *input = rest;
-                Ok(vote)
-            }
-            Err(error) => Err(error),
-        }
+    fn read_cfg(alloc: Global, input: &mut &[u8], cfg: &()) -> Result<Self, Error> {
+        read_tagged(alloc, input, cfg)
     }
 
     ghost lawful = { λ _. vote_lawful _ _ (fixed_lawful D.SIZE D.bytes_of D.of_bytes D.back D.forth) (fixed_lawful S.Signature.SIZE S.Signature.bytes_of S.Signature.of_bytes S.Signature.back S.Signature.forth) };
 }
 
-/// Reads the parts of the vote with this tag.
-fn read_body<S: SchemeTypes, D: Digest>(
-    alloc: Global,
-    tag: u8,
-    input: &mut &[u8],
-) -> Result<Vote<S, D>, Error>
-    ensures { Gives false result input.old.now input.new.now (vote_branches (fixed D.SIZE D.bytes_of D.of_bytes) (fixed S.Signature.SIZE S.Signature.bytes_of S.Signature.of_bytes) tag input.old.now) }
-{
-    match tag {
-        0 => match Notarize::read_cfg(alloc, input, &()) {
-            Ok(vote) => Ok(Vote::Notarize(vote)),
-            Err(error) => Err(error),
-        },
-        1 => match Nullify::read_cfg(alloc, input, &()) {
-            Ok(vote) => Ok(Vote::Nullify(vote)),
-            Err(error) => Err(error),
-        },
-        2 => match Finalize::read_cfg(alloc, input, &()) {
-            Ok(vote) => Ok(Vote::Finalize(vote)),
-            Err(error) => Err(error),
-        },
-        _ => Err(Error::Invalid("consensus::simplex::Vote", "Invalid type")),
+impl<S: SchemeTypes, D: Digest> Tagged for Vote<S, D> {
+    ghost use Rattle.simplex_votes.specs.Unions.{vote_branches};
+
+    type Cfg = ();
+
+    ghost branches = { λ _. vote_branches (fixed D.SIZE D.bytes_of D.of_bytes) (fixed S.Signature.SIZE S.Signature.bytes_of S.Signature.of_bytes) };
+
+    ghost takes_memory = { false };
+
+    fn read_body(alloc: Global, tag: u8, input: &mut &[u8], _cfg: &()) -> Result<Self, Error> {
+        match tag {
+            0 => match Notarize::read_cfg(alloc, input, &()) {
+                Ok(vote) => Ok(Vote::Notarize(vote)),
+                Err(error) => Err(error),
+            },
+            1 => match Nullify::read_cfg(alloc, input, &()) {
+                Ok(vote) => Ok(Vote::Nullify(vote)),
+                Err(error) => Err(error),
+            },
+            2 => match Finalize::read_cfg(alloc, input, &()) {
+                Ok(vote) => Ok(Vote::Finalize(vote)),
+                Err(error) => Err(error),
+            },
+            _ => Err(Error::Invalid("consensus::simplex::Vote", "Invalid type")),
+        }
     }
 }

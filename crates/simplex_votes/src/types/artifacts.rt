@@ -3,9 +3,7 @@
 ghost use Rattle.std.specs.Prelude.{◌≡◌, ◌+◌, ◌^◌, IfOk};
 ghost use Rattle.simplex_base.specs.Format.{fixed};
 ghost use Rattle.simplex_base.specs.FormatLaws.{fixed_lawful};
-ghost use Rattle.simplex_base.specs.Reading.{Gives};
 ghost use Rattle.simplex_votes.specs.Spellings.{format_of};
-ghost use Rattle.simplex_votes.specs.Artifact.{artifact_branches};
 
 use crate::types::any_certificates::Certificate;
 use crate::types::any_votes::Vote;
@@ -16,7 +14,7 @@ use crate::types::nullifications::Nullification;
 use crate::types::nullifies::Nullify;
 use crate::types::votes::Notarize;
 use simplex_base::codec::error::Error;
-use simplex_base::codec::parts::write_tagged;
+use simplex_base::codec::unions::{Tagged, read_tagged, write_tagged};
 use simplex_base::codec::{EncodeSize, Fixed, Read, Spell, Write};
 use simplex_base::positions::{Epoch, Epochable, Round, View, Viewable};
 use simplex_scheme::scheme::{CertificateScheme, Digest};
@@ -193,63 +191,52 @@ impl<S: CertificateScheme, D: Digest> Read for Artifact<S, D> {
     ghost takes_memory = { S.Certificate.takes_memory };
 
     fn read_cfg(alloc: Global, input: &mut &[u8], bound: &u32) -> Result<Self, Error> {
-        let bytes: &[u8] = *input;
-        let [tag, body @ ..] = bytes else {
-            return Err(Error::EndOfBuffer);
-        };
-        let mut rest: &[u8] = body;
-        match read_body(alloc, *tag, &mut rest, bound) {
-            Ok(artifact) => {
-                *input = rest;
-                Ok(artifact)
-            }
-            Err(error) => Err(error),
-        }
+        read_tagged(alloc, input, bound)
     }
 
     ghost lawful = { λ bound. artifact_lawful _ _ _ (fixed_lawful D.SIZE D.bytes_of D.of_bytes D.back D.forth) (S.Certificate.lawful bound) (fixed_lawful S.Signature.SIZE S.Signature.bytes_of S.Signature.of_bytes S.Signature.back S.Signature.forth) };
 }
 
-/// Reads the parts of the artifact with this tag.
-fn read_body<S: CertificateScheme, D: Digest>(
-    alloc: Global,
-    tag: u8,
-    input: &mut &[u8],
-    bound: &u32,
-) -> Result<Artifact<S, D>, Error>
-    ensures { Gives S.Certificate.takes_memory result input.old.now input.new.now (artifact_branches (fixed D.SIZE D.bytes_of D.of_bytes)
-        (format_of (S.Certificate.fits bound.now) S.Certificate.spelling (S.Certificate.reading bound.now))
-        (fixed S.Signature.SIZE S.Signature.bytes_of S.Signature.of_bytes) tag input.old.now) }
-{
-    match tag {
-        0 => match Notarize::read_cfg(alloc, input, &()) {
-            Ok(vote) => Ok(Artifact::Notarize(vote)),
-            Err(error) => Err(error),
-        },
-        1 => match Notarization::read_cfg(alloc, input, bound) {
-            Ok(message) => Ok(Artifact::Notarization(message)),
-            Err(error) => Err(error),
-        },
-        2 => match <(Round, bool)>::read_cfg(alloc, input, &()) {
-            Ok((round, certified)) => Ok(Artifact::Certification(round, certified)),
-            Err(error) => Err(error),
-        },
-        3 => match Nullify::read_cfg(alloc, input, &()) {
-            Ok(vote) => Ok(Artifact::Nullify(vote)),
-            Err(error) => Err(error),
-        },
-        4 => match Nullification::read_cfg(alloc, input, bound) {
-            Ok(message) => Ok(Artifact::Nullification(message)),
-            Err(error) => Err(error),
-        },
-        5 => match Finalize::read_cfg(alloc, input, &()) {
-            Ok(vote) => Ok(Artifact::Finalize(vote)),
-            Err(error) => Err(error),
-        },
-        6 => match Finalization::read_cfg(alloc, input, bound) {
-            Ok(message) => Ok(Artifact::Finalization(message)),
-            Err(error) => Err(error),
-        },
-        _ => Err(Error::Invalid("consensus::simplex::Artifact", "Invalid type")),
+impl<S: CertificateScheme, D: Digest> Tagged for Artifact<S, D> {
+    ghost use Rattle.simplex_votes.specs.Artifact.{artifact_branches};
+
+    type Cfg = u32;
+
+    ghost branches = { λ bound. artifact_branches (fixed D.SIZE D.bytes_of D.of_bytes) (format_of (S.Certificate.fits bound) S.Certificate.spelling (S.Certificate.reading bound)) (fixed S.Signature.SIZE S.Signature.bytes_of S.Signature.of_bytes) };
+
+    ghost takes_memory = { S.Certificate.takes_memory };
+
+    fn read_body(alloc: Global, tag: u8, input: &mut &[u8], bound: &u32) -> Result<Self, Error> {
+        match tag {
+            0 => match Notarize::read_cfg(alloc, input, &()) {
+                Ok(vote) => Ok(Artifact::Notarize(vote)),
+                Err(error) => Err(error),
+            },
+            1 => match Notarization::read_cfg(alloc, input, bound) {
+                Ok(message) => Ok(Artifact::Notarization(message)),
+                Err(error) => Err(error),
+            },
+            2 => match <(Round, bool)>::read_cfg(alloc, input, &()) {
+                Ok((round, certified)) => Ok(Artifact::Certification(round, certified)),
+                Err(error) => Err(error),
+            },
+            3 => match Nullify::read_cfg(alloc, input, &()) {
+                Ok(vote) => Ok(Artifact::Nullify(vote)),
+                Err(error) => Err(error),
+            },
+            4 => match Nullification::read_cfg(alloc, input, bound) {
+                Ok(message) => Ok(Artifact::Nullification(message)),
+                Err(error) => Err(error),
+            },
+            5 => match Finalize::read_cfg(alloc, input, &()) {
+                Ok(vote) => Ok(Artifact::Finalize(vote)),
+                Err(error) => Err(error),
+            },
+            6 => match Finalization::read_cfg(alloc, input, bound) {
+                Ok(message) => Ok(Artifact::Finalization(message)),
+                Err(error) => Err(error),
+            },
+            _ => Err(Error::Invalid("consensus::simplex::Artifact", "Invalid type")),
+        }
     }
 }
