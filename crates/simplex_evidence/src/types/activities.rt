@@ -71,36 +71,19 @@ impl<S: CertificateScheme, D: Digest> Activity<S, D> {
     {
         match self {
             Activity::Notarize(vote) => Ok(Activity::Notarize(vote.copy())),
-            Activity::Notarization(message) => match message.clone() {
-                Ok(copy) => Ok(Activity::Notarization(copy)),
-                Err(error) => Err(error),
-            },
-            Activity::Certification(message) => match message.clone() {
-                Ok(copy) => Ok(Activity::Certification(copy)),
-                Err(error) => Err(error),
-            },
+            Activity::Notarization(message) => Ok(Activity::Notarization(message.clone()?)),
+            Activity::Certification(message) => Ok(Activity::Certification(message.clone()?)),
             Activity::Nullify(vote) => Ok(Activity::Nullify(vote.copy())),
-            Activity::Nullification(message) => match message.clone() {
-                Ok(copy) => Ok(Activity::Nullification(copy)),
-                Err(error) => Err(error),
-            },
+            Activity::Nullification(message) => Ok(Activity::Nullification(message.clone()?)),
             Activity::Finalize(vote) => Ok(Activity::Finalize(vote.copy())),
-            Activity::Finalization(message) => match message.clone() {
-                Ok(copy) => Ok(Activity::Finalization(copy)),
-                Err(error) => Err(error),
-            },
-            Activity::ConflictingNotarize(evidence) => match evidence.clone() {
-                Ok(copy) => Ok(Activity::ConflictingNotarize(copy)),
-                Err(error) => Err(error),
-            },
-            Activity::ConflictingFinalize(evidence) => match evidence.clone() {
-                Ok(copy) => Ok(Activity::ConflictingFinalize(copy)),
-                Err(error) => Err(error),
-            },
-            Activity::NullifyFinalize(evidence) => match evidence.clone() {
-                Ok(copy) => Ok(Activity::NullifyFinalize(copy)),
-                Err(error) => Err(error),
-            },
+            Activity::Finalization(message) => Ok(Activity::Finalization(message.clone()?)),
+            Activity::ConflictingNotarize(evidence) => Ok(Activity::ConflictingNotarize(
+                evidence.clone()?,
+            )),
+            Activity::ConflictingFinalize(evidence) => Ok(Activity::ConflictingFinalize(
+                evidence.clone()?,
+            )),
+            Activity::NullifyFinalize(evidence) => Ok(Activity::NullifyFinalize(evidence.clone()?)),
         }
     }
 }
@@ -242,48 +225,18 @@ impl<S: CertificateScheme, D: Digest> Tagged for Activity<S, D> {
     ghost takes_memory = { S.Certificate.takes_memory };
 
     fn read_body(alloc: Global, tag: u8, input: &mut &[u8], bound: &u32) -> Result<Self, Error> {
-        match tag {
-            0 => match Notarize::read_cfg(alloc, input, &()) {
-                Ok(vote) => Ok(Activity::Notarize(vote)),
-                Err(error) => Err(error),
-            },
-            1 => match Notarization::read_cfg(alloc, input, bound) {
-                Ok(message) => Ok(Activity::Notarization(message)),
-                Err(error) => Err(error),
-            },
-            2 => match Notarization::read_cfg(alloc, input, bound) {
-                Ok(message) => Ok(Activity::Certification(message)),
-                Err(error) => Err(error),
-            },
-            3 => match Nullify::read_cfg(alloc, input, &()) {
-                Ok(vote) => Ok(Activity::Nullify(vote)),
-                Err(error) => Err(error),
-            },
-            4 => match Nullification::read_cfg(alloc, input, bound) {
-                Ok(message) => Ok(Activity::Nullification(message)),
-                Err(error) => Err(error),
-            },
-            5 => match Finalize::read_cfg(alloc, input, &()) {
-                Ok(vote) => Ok(Activity::Finalize(vote)),
-                Err(error) => Err(error),
-            },
-            6 => match Finalization::read_cfg(alloc, input, bound) {
-                Ok(message) => Ok(Activity::Finalization(message)),
-                Err(error) => Err(error),
-            },
-            7 => match ConflictingNotarize::read_cfg(alloc, input, &()) {
-                Ok(evidence) => Ok(Activity::ConflictingNotarize(evidence)),
-                Err(error) => Err(error),
-            },
-            8 => match ConflictingFinalize::read_cfg(alloc, input, &()) {
-                Ok(evidence) => Ok(Activity::ConflictingFinalize(evidence)),
-                Err(error) => Err(error),
-            },
-            9 => match NullifyFinalize::read_cfg(alloc, input, &()) {
-                Ok(evidence) => Ok(Activity::NullifyFinalize(evidence)),
-                Err(error) => Err(error),
-            },
-            _ => Err(Error::Invalid("consensus::simplex::Activity", "Invalid type")),
-        }
+        Ok(match tag {
+            0 => Activity::Notarize(Notarize::read_cfg(alloc, input, &())?),
+            1 => Activity::Notarization(Notarization::read_cfg(alloc, input, bound)?),
+            2 => Activity::Certification(Notarization::read_cfg(alloc, input, bound)?),
+            3 => Activity::Nullify(Nullify::read_cfg(alloc, input, &())?),
+            4 => Activity::Nullification(Nullification::read_cfg(alloc, input, bound)?),
+            5 => Activity::Finalize(Finalize::read_cfg(alloc, input, &())?),
+            6 => Activity::Finalization(Finalization::read_cfg(alloc, input, bound)?),
+            7 => Activity::ConflictingNotarize(ConflictingNotarize::read_cfg(alloc, input, &())?),
+            8 => Activity::ConflictingFinalize(ConflictingFinalize::read_cfg(alloc, input, &())?),
+            9 => Activity::NullifyFinalize(NullifyFinalize::read_cfg(alloc, input, &())?),
+            _ => return Err(Error::Invalid("consensus::simplex::Activity", "Invalid type")),
+        })
     }
 }

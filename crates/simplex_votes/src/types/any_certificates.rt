@@ -86,18 +86,9 @@ impl<S: CertificateScheme, D: Digest> Certificate<S, D> {
             IfOk result (λ copy. copy ≡ self.now) }
     {
         match self {
-            Certificate::Notarization(message) => match message.clone() {
-                Ok(copy) => Ok(Certificate::Notarization(copy)),
-                Err(error) => Err(error),
-            },
-            Certificate::Nullification(message) => match message.clone() {
-                Ok(copy) => Ok(Certificate::Nullification(copy)),
-                Err(error) => Err(error),
-            },
-            Certificate::Finalization(message) => match message.clone() {
-                Ok(copy) => Ok(Certificate::Finalization(copy)),
-                Err(error) => Err(error),
-            },
+            Certificate::Notarization(message) => Ok(Certificate::Notarization(message.clone()?)),
+            Certificate::Nullification(message) => Ok(Certificate::Nullification(message.clone()?)),
+            Certificate::Finalization(message) => Ok(Certificate::Finalization(message.clone()?)),
         }
     }
 
@@ -216,20 +207,11 @@ impl<S: CertificateScheme, D: Digest> Tagged for Certificate<S, D> {
     ghost takes_memory = { S.Certificate.takes_memory };
 
     fn read_body(alloc: Global, tag: u8, input: &mut &[u8], bound: &u32) -> Result<Self, Error> {
-        match tag {
-            0 => match Notarization::read_cfg(alloc, input, bound) {
-                Ok(message) => Ok(Certificate::Notarization(message)),
-                Err(error) => Err(error),
-            },
-            1 => match Nullification::read_cfg(alloc, input, bound) {
-                Ok(message) => Ok(Certificate::Nullification(message)),
-                Err(error) => Err(error),
-            },
-            2 => match Finalization::read_cfg(alloc, input, bound) {
-                Ok(message) => Ok(Certificate::Finalization(message)),
-                Err(error) => Err(error),
-            },
-            _ => Err(Error::Invalid("consensus::simplex::Certificate", "Invalid type")),
-        }
+        Ok(match tag {
+            0 => Certificate::Notarization(Notarization::read_cfg(alloc, input, bound)?),
+            1 => Certificate::Nullification(Nullification::read_cfg(alloc, input, bound)?),
+            2 => Certificate::Finalization(Finalization::read_cfg(alloc, input, bound)?),
+            _ => return Err(Error::Invalid("consensus::simplex::Certificate", "Invalid type")),
+        })
     }
 }

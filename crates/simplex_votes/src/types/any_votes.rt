@@ -155,20 +155,11 @@ impl<S: SchemeTypes, D: Digest> Tagged for Vote<S, D> {
     ghost takes_memory = { false };
 
     fn read_body(alloc: Global, tag: u8, input: &mut &[u8], _cfg: &()) -> Result<Self, Error> {
-        match tag {
-            0 => match Notarize::read_cfg(alloc, input, &()) {
-                Ok(vote) => Ok(Vote::Notarize(vote)),
-                Err(error) => Err(error),
-            },
-            1 => match Nullify::read_cfg(alloc, input, &()) {
-                Ok(vote) => Ok(Vote::Nullify(vote)),
-                Err(error) => Err(error),
-            },
-            2 => match Finalize::read_cfg(alloc, input, &()) {
-                Ok(vote) => Ok(Vote::Finalize(vote)),
-                Err(error) => Err(error),
-            },
-            _ => Err(Error::Invalid("consensus::simplex::Vote", "Invalid type")),
-        }
+        Ok(match tag {
+            0 => Vote::Notarize(Notarize::read_cfg(alloc, input, &())?),
+            1 => Vote::Nullify(Nullify::read_cfg(alloc, input, &())?),
+            2 => Vote::Finalize(Finalize::read_cfg(alloc, input, &())?),
+            _ => return Err(Error::Invalid("consensus::simplex::Vote", "Invalid type")),
+        })
     }
 }

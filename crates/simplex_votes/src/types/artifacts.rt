@@ -52,23 +52,14 @@ impl<S: CertificateScheme, D: Digest> Artifact<S, D> {
     {
         match self {
             Artifact::Notarize(vote) => Ok(Artifact::Notarize(vote.copy())),
-            Artifact::Notarization(message) => match message.clone() {
-                Ok(copy) => Ok(Artifact::Notarization(copy)),
-                Err(error) => Err(error),
-            },
+            Artifact::Notarization(message) => Ok(Artifact::Notarization(message.clone()?)),
             Artifact::Certification(round, certified) => {
                 Ok(Artifact::Certification(*round, *certified))
             }
             Artifact::Nullify(vote) => Ok(Artifact::Nullify(vote.copy())),
-            Artifact::Nullification(message) => match message.clone() {
-                Ok(copy) => Ok(Artifact::Nullification(copy)),
-                Err(error) => Err(error),
-            },
+            Artifact::Nullification(message) => Ok(Artifact::Nullification(message.clone()?)),
             Artifact::Finalize(vote) => Ok(Artifact::Finalize(vote.copy())),
-            Artifact::Finalization(message) => match message.clone() {
-                Ok(copy) => Ok(Artifact::Finalization(copy)),
-                Err(error) => Err(error),
-            },
+            Artifact::Finalization(message) => Ok(Artifact::Finalization(message.clone()?)),
         }
     }
 }
@@ -207,36 +198,18 @@ impl<S: CertificateScheme, D: Digest> Tagged for Artifact<S, D> {
     ghost takes_memory = { S.Certificate.takes_memory };
 
     fn read_body(alloc: Global, tag: u8, input: &mut &[u8], bound: &u32) -> Result<Self, Error> {
-        match tag {
-            0 => match Notarize::read_cfg(alloc, input, &()) {
-                Ok(vote) => Ok(Artifact::Notarize(vote)),
-                Err(error) => Err(error),
-            },
-            1 => match Notarization::read_cfg(alloc, input, bound) {
-                Ok(message) => Ok(Artifact::Notarization(message)),
-                Err(error) => Err(error),
-            },
+        Ok(match tag {
+            0 => Artifact::Notarize(Notarize::read_cfg(alloc, input, &())?),
+            1 => Artifact::Notarization(Notarization::read_cfg(alloc, input, bound)?),
             2 => match <(Round, bool)>::read_cfg(alloc, input, &()) {
-                Ok((round, certified)) => Ok(Artifact::Certification(round, certified)),
-                Err(error) => Err(error),
+                Ok((round, certified)) => Artifact::Certification(round, certified),
+                Err(error) => return Err(error),
             },
-            3 => match Nullify::read_cfg(alloc, input, &()) {
-                Ok(vote) => Ok(Artifact::Nullify(vote)),
-                Err(error) => Err(error),
-            },
-            4 => match Nullification::read_cfg(alloc, input, bound) {
-                Ok(message) => Ok(Artifact::Nullification(message)),
-                Err(error) => Err(error),
-            },
-            5 => match Finalize::read_cfg(alloc, input, &()) {
-                Ok(vote) => Ok(Artifact::Finalize(vote)),
-                Err(error) => Err(error),
-            },
-            6 => match Finalization::read_cfg(alloc, input, bound) {
-                Ok(message) => Ok(Artifact::Finalization(message)),
-                Err(error) => Err(error),
-            },
-            _ => Err(Error::Invalid("consensus::simplex::Artifact", "Invalid type")),
-        }
+            3 => Artifact::Nullify(Nullify::read_cfg(alloc, input, &())?),
+            4 => Artifact::Nullification(Nullification::read_cfg(alloc, input, bound)?),
+            5 => Artifact::Finalize(Finalize::read_cfg(alloc, input, &())?),
+            6 => Artifact::Finalization(Finalization::read_cfg(alloc, input, bound)?),
+            _ => return Err(Error::Invalid("consensus::simplex::Artifact", "Invalid type")),
+        })
     }
 }
