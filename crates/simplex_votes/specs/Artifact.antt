@@ -1,5 +1,5 @@
 -- The union of what a node stores: votes, certificate messages and what it certified.
-use Rattle.std.proofs.Common.{◌≡◌, ℕ, List, ◌∷◌, ◌++◌, refl, Ok}
+use Rattle.std.proofs.Common.{◌≡◌, ℕ, Bool, true, false, List, ◌∷◌, ◌++◌, refl, Ok}
 use Rattle.std.specs.Prelude.{codes, ⊤}
 use Rattle.simplex_base.specs.Reading.{Refusal, invalid, Reading}
 use Rattle.simplex_base.specs.Format.{Format, IsLawful, both, truth}
@@ -35,6 +35,13 @@ artifact_round (artifact.Nullify v) = v.round
 artifact_round (artifact.Nullification n) = n.round
 artifact_round (artifact.Finalize v) = v.proposal.round
 artifact_round (artifact.Finalization n) = n.proposal.round
+
+-- whether an artifact has a certificate
+abbrev pub has_certificate : {S D C P G : Type 0} → Artifact S D C P G → Bool
+has_certificate (artifact.Notarization n) = true
+has_certificate (artifact.Nullification n) = true
+has_certificate (artifact.Finalization n) = true
+has_certificate _ = false
 
 -- an artifact with a clone of the other's certificate and the other's parts besides
 abbrev pub IsArtifactClone : {S D C P G : Type 0} → (C → C → Type 0) → Artifact S D C P G → Artifact S D C P G → Type 0

@@ -1,6 +1,6 @@
 //! The union of what a node stores.
 
-ghost use Rattle.std.specs.Prelude.{◌≡◌, ◌+◌, ◌^◌, IfOk};
+ghost use Rattle.std.specs.Prelude.{◌≡◌, ◌+◌, ◌^◌, IfOk, IfErr, IsTrue};
 ghost use Rattle.simplex_base.specs.Format.{fixed};
 ghost use Rattle.simplex_base.specs.FormatLaws.{fixed_lawful};
 ghost use Rattle.simplex_votes.specs.Spellings.{format_of};
@@ -42,13 +42,14 @@ pub enum Artifact<S: CertificateScheme, D: Digest> {
 }
 
 impl<S: CertificateScheme, D: Digest> Artifact<S, D> {
-    ghost use Rattle.simplex_votes.specs.Artifact.{IsArtifactClone, ClonesCertificate};
+    ghost use Rattle.simplex_votes.specs.Artifact.{has_certificate, IsArtifactClone, ClonesCertificate};
 
-    /// The same artifact, with a clone of the certificate where it has one.
+    /// The same artifact, with a clone of the certificate where it has one. Only that clone takes memory.
     pub fn clone(&self) -> Result<Self, AllocError>
         ensures parts { IfOk result (λ copy. IsArtifactClone S.Certificate.is_clone self.now copy) }
         // Where a certificate's clone is the certificate, this one's is this artifact.
         ensures same { ClonesCertificate S.Certificate.is_clone self.now → IfOk result (λ copy. copy ≡ self.now) }
+        ensures refused { IfErr result (λ _. IsTrue (has_certificate self.now)) }
     {
         match self {
             Artifact::Notarize(vote) => Ok(Artifact::Notarize(vote.copy())),
