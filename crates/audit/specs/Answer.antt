@@ -6,9 +6,8 @@ use Rattle.std.specs.Io.KnownBytes.{Consumes, IsAtEnd, Appends, Keeps}
 use Rattle.simplex_base.specs.Format.{Format, fixed}
 use Rattle.simplex_scheme.specs.Namespace.{names_of}
 use Rattle.simplex_scheme.specs.Plain.{PlainScheme, plain_good}
-use Rattle.simplex_scheme.specs.Listed.{ListedFits, listed_spelling, listed_at}
+use Rattle.simplex_scheme.specs.Listed.{listed_format}
 use Rattle.simplex_scheme.specs.declared.scheme.Attestation.{Attestation}
-use Rattle.simplex_votes.specs.Spellings.{format_of}
 use Rattle.simplex_evidence.specs.Activity.{activity_format, votes_in}
 use Rattle.simplex_evidence.specs.declared.types.activities.Activity.{Activity}
 use Rattle.simplex_evidence.specs.Contradiction.{Evidence}
@@ -45,7 +44,7 @@ Certificate = List (Attestation PlainScheme (List ℕ) (List ℕ))
 
 -- how the messages that an audit reads are read by a committee of n
 abbrev pub messages_of : ℕ → Format (Activity PlainScheme (List ℕ) Certificate (List ℕ) (List ℕ))
-messages_of n = audited (activity_format bytes_eq bytes_32 (format_of (ListedFits bytes_32 n) (listed_spelling bytes_32) (listed_at bytes_32 n)) bytes_32)
+messages_of n = audited (activity_format bytes_eq bytes_32 (listed_format bytes_32 n) bytes_32)
 
 -- the text is that of the stream's report, and its fault, if it has one, is what is said
 pub record IsAnswer (scheme : PlainScheme) (stream text : List ℕ) (said : Option (List ℕ)) : Type 0 where

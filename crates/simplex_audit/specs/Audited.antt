@@ -30,11 +30,3 @@ is_audited tag = nat_lt tag 2
 -- Of all messages, those that an audit reads: any other tag is unknown to it, also where a message has that tag.
 abbrev pub audited : {S D C P G : Type 0} → Format (Activity S D C P G) → Format (Activity S D C P G)
 audited messages = with_tags is_audited unknown_activity messages
-
--- what `Read` tells of a type that is read under a number
-abbrev pub Readable : Type 0 → Type 1
-Readable T = record { is_value : T → Type 0; spelling : T → List ℕ; fits : ℕ → T → Type 0; reading : ℕ → List ℕ → Reading T; takes_memory : Bool }
-
--- the format of the values of such a type under a bound
-abbrev pub format_under : {T : Type 0} → Readable T → ℕ → Format T
-format_under type bound = record { is_value = type.fits bound; spelling = type.spelling; reading = type.reading bound }

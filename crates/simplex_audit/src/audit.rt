@@ -1,8 +1,9 @@
 //! The audit of a whole stream.
 
 ghost use Rattle.std.specs.Prelude.{◌≡◌, ◌↔◌, ℕ, List, ◌++◌, map, length, IfOk, IsTrue, IsPermutation, Contains, All};
+ghost use Rattle.simplex_base.specs.Readable.{format_under};
 ghost use Rattle.simplex_evidence.specs.Activity.{votes_in};
-ghost use Rattle.simplex_audit.specs.Audited.{audited, format_under};
+ghost use Rattle.simplex_audit.specs.Audited.{audited};
 ghost use Rattle.simplex_audit.specs.GoodVotes.{good_votes};
 ghost use Rattle.simplex_audit.specs.Named.{Named, is_named, named_by};
 ghost use Rattle.simplex_audit.specs.Evidence.{IsEquivocation};

@@ -2,9 +2,10 @@
 
 ghost use Rattle.std.specs.Prelude.{◌≡◌, ◌≢◌, List, [], ◌∷◌, ◌++◌, filter, IfOk, IsTrue, OnOk};
 ghost use Rattle.simplex_base.specs.Reading.{Gives};
+ghost use Rattle.simplex_base.specs.Readable.{format_under};
 ghost use Rattle.simplex_votes.specs.Votes.{Vote, notarize_vote, notarize_of, notarization_votes};
 ghost use Rattle.simplex_evidence.specs.Activity.{activity_tag, votes_in};
-ghost use Rattle.simplex_audit.specs.Audited.{audited, format_under, is_audited};
+ghost use Rattle.simplex_audit.specs.Audited.{audited, is_audited};
 ghost use Rattle.simplex_audit.specs.GoodVotes.{good_votes};
 ghost use Rattle.simplex_audit.specs.Memory.{Holds};
 ghost use Rattle.simplex_audit.specs.Progress.{IsProgress};

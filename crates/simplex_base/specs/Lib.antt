@@ -1,5 +1,6 @@
 pub mod Reading
 pub mod Format
+pub mod Readable
 pub mod FormatLaws
 pub mod Union
 pub mod Varint

@@ -6,7 +6,7 @@ ghost use Rattle.std.specs.Cmp.Lexicographic.{pointwise, lists_per};
 ghost use Rattle.std.specs.Cmp.Rules.{comparing, hashing};
 ghost use Rattle.std.proofs.Common.{rules};
 ghost use Rattle.std.proofs.lemmas.Cmp.{lists_equiv};
-ghost use Rattle.simplex_base.specs.Format.{fixed};
+ghost use Rattle.simplex_base.specs.Readable.{format_of};
 ghost use Rattle.simplex_base.specs.FormatLaws.{fixed_lawful};
 ghost use Rattle.simplex_base.specs.Reading.{Gives};
 ghost use Rattle.simplex_scheme.specs.Listed.{AreListed, ListedFits, listed_spelling, attestation_at, attestations_at, listed_at};
@@ -94,9 +94,9 @@ impl<S: SchemeTypes> Hash for Listed<S> {
 }
 
 impl<S: SchemeTypes> Spell for Listed<S> {
-    ghost is_value = { ListedFits (fixed S.Signature.SIZE S.Signature.bytes_of S.Signature.of_bytes) (2 ^ 32) };
+    ghost is_value = { ListedFits (format_of ⟦<S::Signature as Read>⟧) (2 ^ 32) };
 
-    ghost spelling = { listed_spelling (fixed S.Signature.SIZE S.Signature.bytes_of S.Signature.of_bytes) };
+    ghost spelling = { listed_spelling (format_of ⟦<S::Signature as Read>⟧) };
 }
 
 impl<S: SchemeTypes> Write for Listed<S> {
@@ -120,9 +120,9 @@ impl<S: SchemeTypes> EncodeSize for Listed<S> {
 impl<S: SchemeTypes> Read for Listed<S> {
     type Cfg = u32;
 
-    ghost fits = { ListedFits (fixed S.Signature.SIZE S.Signature.bytes_of S.Signature.of_bytes) };
+    ghost fits = { ListedFits (format_of ⟦<S::Signature as Read>⟧) };
 
-    ghost reading = { listed_at (fixed S.Signature.SIZE S.Signature.bytes_of S.Signature.of_bytes) };
+    ghost reading = { listed_at (format_of ⟦<S::Signature as Read>⟧) };
 
     ghost takes_memory = { true };
 
@@ -142,7 +142,7 @@ impl<S: SchemeTypes> Read for Listed<S> {
         }
     }
 
-    ghost lawful = { λ bound. listed_lawful (fixed S.Signature.SIZE S.Signature.bytes_of S.Signature.of_bytes) bound (fixed_lawful S.Signature.SIZE S.Signature.bytes_of S.Signature.of_bytes S.Signature.back S.Signature.forth) };
+    ghost lawful = { λ bound. listed_lawful (format_of ⟦<S::Signature as Read>⟧) bound (fixed_lawful S.Signature.SIZE S.Signature.bytes_of S.Signature.of_bytes S.Signature.back S.Signature.forth) };
 }
 
 /// How many attestations the bytes can hold, but no more than the count. Each takes a byte at least, and its
@@ -162,7 +162,7 @@ fn read_attestations<S: SchemeTypes>(
     count: u32,
 ) -> Result<Listed<S>, Error>
     requires { 0 < count }
-    ensures { Gives true result input.old.now input.new.now (attestations_at (fixed S.Signature.SIZE S.Signature.bytes_of S.Signature.of_bytes) bound 0 count input.old.now) }
+    ensures { Gives true result input.old.now input.new.now (attestations_at (format_of ⟦<S::Signature as Read>⟧) bound 0 count input.old.now) }
 {
     let mut rest: &[u8] = known_bytes(*input);
     let room = room_for::<S>(rest, count);
@@ -192,7 +192,7 @@ fn read_attestation<S: SchemeTypes>(
     least: u32,
 ) -> Result<Attestation<S>, Error>
     ensures below { IfOk result (λ attestation. attestation.signer < bound) }
-    ensures gives { Gives false result input.old.now input.new.now (attestation_at (fixed S.Signature.SIZE S.Signature.bytes_of S.Signature.of_bytes) bound least input.old.now) }
+    ensures gives { Gives false result input.old.now input.new.now (attestation_at (format_of ⟦<S::Signature as Read>⟧) bound least input.old.now) }
 {
     let mut rest: &[u8] = *input;
     let attestation: Attestation<S> = match Read::read_cfg(alloc, &mut rest, &()) {

@@ -3,7 +3,7 @@
 
 ghost use Rattle.std.specs.Prelude.{◌≡◌, ◌≢◌, ◌↔◌, ◌&&◌, ◌+◌, ◌*◌, ℕ, List, [], Option, Some, None, Ok, Err, IsOk, IsTrue, IfOk, IfSome, MatchOption, All, length, nat_eq, nat_lt, slice_get, option_copied, option_map, option_and_then, ◌++◌, ◌<◌, ◌≤◌, ◌^◌, true};
 ghost use Rattle.std.proofs.Common.{lit<, lit≤};
-ghost use Rattle.simplex_base.specs.Format.{fixed};
+ghost use Rattle.simplex_base.specs.Readable.{format_of};
 ghost use Rattle.simplex_base.specs.Varint.{number_64};
 ghost use Rattle.simplex_scheme.specs.Namespace.{names_of};
 ghost use Rattle.simplex_scheme.specs.Subject.{SubjectValue, subject_value};
@@ -25,9 +25,9 @@ use crate::scheme::{
     Scheme, SchemeTypes, Signature,
 };
 use crate::set::Set;
-use simplex_base::codec::Fixed;
 use simplex_base::codec::fixed_bytes::{FixedBytes, Role};
 use simplex_base::codec::varint::Varint;
+use simplex_base::codec::{Fixed, Read};
 use simplex_base::positions::{Participant, Round, View};
 use std::alloc::{AllocError, Global};
 use std::marker::Model;
@@ -147,7 +147,7 @@ impl Plain {
         signer: Option<Participant>,
         proposal: &Proposal<D>,
     ) -> Option<PlainSignature>
-        ensures { result ≡ option_map (λ key. sha256 (hashed name.now key ((proposal_format (fixed D.SIZE D.bytes_of D.of_bytes)).spelling proposal.now))) (option_and_then (slice_get self.now.keys) signer) }
+        ensures { result ≡ option_map (λ key. sha256 (hashed name.now key ((proposal_format (format_of ⟦<D as Read>⟧)).spelling proposal.now))) (option_and_then (slice_get self.now.keys) signer) }
     {
         let key = self.key_of(signer)?;
         let payload = proposal.payload.as_bytes();
@@ -236,7 +236,7 @@ impl CertificateScheme for Plain {
 }
 
 impl<D: Digest> AttestationVerifier<D> for Plain {
-    ghost accepted = { plain_good (fixed D.SIZE D.bytes_of D.of_bytes) };
+    ghost accepted = { plain_good (format_of ⟦<D as Read>⟧) };
 
     fn accepts(&self, subject: &Subject<'_, D>, attestation: &Attestation<Self>) -> bool {
         let signer = Some(attestation.signer);
@@ -258,12 +258,12 @@ impl<D: Digest> AttestationVerifier<D> for Plain {
 }
 
 impl<D: Digest> CertificateVerifier<D> for Plain {
-    ghost certified = { λ scheme subject. is_quorum (length scheme.keys) (plain_good (fixed D.SIZE D.bytes_of D.of_bytes) scheme subject) };
+    ghost certified = { λ scheme subject. is_quorum (length scheme.keys) (plain_good (format_of ⟦<D as Read>⟧) scheme subject) };
 
     fn verify_certificate(&self, subject: Subject<'_, D>, certificate: &Listed<Plain>) -> bool
-        ensures certified { result ≡ is_quorum (length self.now.keys) (plain_good (fixed D.SIZE D.bytes_of D.of_bytes) self.now (subject_value subject.entry)) certificate.now }
+        ensures certified { result ≡ is_quorum (length self.now.keys) (plain_good (format_of ⟦<D as Read>⟧) self.now (subject_value subject.entry)) certificate.now }
         // The test says exactly this.
-        ensures exactly { IsTrue result ↔ IsQuorum (length self.now.keys) (plain_good (fixed D.SIZE D.bytes_of D.of_bytes) self.now (subject_value subject.entry)) certificate.now }
+        ensures exactly { IsTrue result ↔ IsQuorum (length self.now.keys) (plain_good (format_of ⟦<D as Read>⟧) self.now (subject_value subject.entry)) certificate.now }
     {
         // The prover knows a subject that came by value only by its kinds.
         let subject = match subject {
@@ -280,7 +280,7 @@ impl<D: Digest> CertificateVerifier<D> for Plain {
 }
 
 impl<D: Digest> Scheme<D> for Plain {
-    ghost good = { plain_good (fixed D.SIZE D.bytes_of D.of_bytes) };
+    ghost good = { plain_good (format_of ⟦<D as Read>⟧) };
 
     ghost made_of = { IsInOrder };
 
@@ -291,7 +291,7 @@ impl<D: Digest> Scheme<D> for Plain {
     ) -> Result<Option<Attestation<Self>>, AllocError>
         ensures none { self.now.me ≡ None → result ≡ Ok None }
         ensures signed { IfOk result (λ signed. MatchOption signed (self.now.me ≡ None) (λ a.
-            (self.now.me ≡ Some a.signer) × (plain_good (fixed D.SIZE D.bytes_of D.of_bytes) self.now (subject_value subject.entry) a.signer a.signature ≡ true))) }
+            (self.now.me ≡ Some a.signer) × (plain_good (format_of ⟦<D as Read>⟧) self.now (subject_value subject.entry) a.signer a.signature ≡ true))) }
         // No memory is taken.
         ensures ample { IsOk result }
     {
@@ -312,7 +312,7 @@ impl<D: Digest> Scheme<D> for Plain {
     }
 
     fn verify_attestation(&self, subject: Subject<'_, D>, attestation: &Attestation<Self>) -> bool
-        ensures good { result ≡ plain_good (fixed D.SIZE D.bytes_of D.of_bytes) self.now (subject_value subject.entry) attestation.now.signer attestation.now.signature }
+        ensures good { result ≡ plain_good (format_of ⟦<D as Read>⟧) self.now (subject_value subject.entry) attestation.now.signer attestation.now.signature }
         // The hashed bytes decide the name, the key and the message.
         ensures decided { (name other_name key other_key message other_message : List ℕ) → length name < 2 ^ 64 → length other_name < 2 ^ 64 →
             length key ≡ length other_key → hashed name key message ≡ hashed other_name other_key other_message →
@@ -340,13 +340,13 @@ impl<D: Digest> Scheme<D> for Plain {
         ensures ample { quorum_of (length self.now.keys) ≤ length attestations.items → IsOk result }
         ensures made { IfOk result (λ certificate. IsInOrder attestations.items certificate) }
         ensures certified { IfOk result (λ certificate. (subject : SubjectValue D) →
-            All (λ a. plain_good (fixed D.SIZE D.bytes_of D.of_bytes) self.now subject a.signer a.signature ≡ true) attestations.items →
-            is_quorum (length self.now.keys) (plain_good (fixed D.SIZE D.bytes_of D.of_bytes) self.now subject) certificate ≡ true) }
+            All (λ a. plain_good (format_of ⟦<D as Read>⟧) self.now subject a.signer a.signature ≡ true) attestations.items →
+            is_quorum (length self.now.keys) (plain_good (format_of ⟦<D as Read>⟧) self.now subject) certificate ≡ true) }
     {
         assembled(self, attestations)
     }
 
-    ghost members = { λ scheme subject signer signature h. good_members (fixed D.SIZE D.bytes_of D.of_bytes) scheme subject signer signature h };
+    ghost members = { λ scheme subject signer signature h. good_members (format_of ⟦<D as Read>⟧) scheme subject signer signature h };
 }
 
 impl<D: Digest> Listing<D> for Plain {
@@ -356,7 +356,7 @@ impl<D: Digest> Listing<D> for Plain {
         certificate.attestations()
     }
 
-    ghost lists_quorums = { λ scheme subject certificate. (quorum_meaning (length scheme.keys) (plain_good (fixed D.SIZE D.bytes_of D.of_bytes) scheme subject) certificate).0 };
+    ghost lists_quorums = { λ scheme subject certificate. (quorum_meaning (length scheme.keys) (plain_good (format_of ⟦<D as Read>⟧) scheme subject) certificate).0 };
 
     ghost lists_given = { λ given certificate made. made };
 }

@@ -1,7 +1,7 @@
 //! What is voted on.
 
 ghost use Rattle.std.specs.Prelude.{◌≡◌, ⊤, ◌+◌, ℕ, List, IfOk, false, length};
-ghost use Rattle.simplex_base.specs.Format.{fixed};
+ghost use Rattle.simplex_base.specs.Readable.{format_of};
 ghost use Rattle.simplex_base.specs.FormatLaws.{fixed_lawful};
 
 use crate::namespace::Namespace;
@@ -66,9 +66,9 @@ impl<D> Viewable for Proposal<D> {
 impl<D: Digest> Spell for Proposal<D> {
     ghost use Rattle.simplex_scheme.specs.Proposal.{proposal_format};
 
-    ghost is_value = { (proposal_format (fixed D.SIZE D.bytes_of D.of_bytes)).is_value };
+    ghost is_value = { (proposal_format (format_of ⟦<D as Read>⟧)).is_value };
 
-    ghost spelling = { (proposal_format (fixed D.SIZE D.bytes_of D.of_bytes)).spelling };
+    ghost spelling = { (proposal_format (format_of ⟦<D as Read>⟧)).spelling };
 }
 
 impl<D: Digest> Write for Proposal<D> {
@@ -95,9 +95,9 @@ impl<D: Digest> MaxEncodeSize for Proposal<D> {
         Round::max_encode_size() + View::max_encode_size() + D::SIZE
     }
 
-    ghost within = { proposal_within (fixed D.SIZE D.bytes_of D.of_bytes) D.SIZE (fixed_within D.SIZE D.bytes_of D.of_bytes) };
+    ghost within = { proposal_within (format_of ⟦<D as Read>⟧) D.SIZE (fixed_within D.SIZE D.bytes_of D.of_bytes) };
 
-    ghost reached = { proposal_longest (fixed D.SIZE D.bytes_of D.of_bytes) D.SIZE (fixed_longest D.SIZE D.bytes_of D.of_bytes D.back) };
+    ghost reached = { proposal_longest (format_of ⟦<D as Read>⟧) D.SIZE (fixed_longest D.SIZE D.bytes_of D.of_bytes D.back) };
 }
 
 impl<D: Digest> Read for Proposal<D> {
@@ -105,9 +105,9 @@ impl<D: Digest> Read for Proposal<D> {
 
     type Cfg = ();
 
-    ghost fits = { λ _. (proposal_format (fixed D.SIZE D.bytes_of D.of_bytes)).is_value };
+    ghost fits = { λ _. (proposal_format (format_of ⟦<D as Read>⟧)).is_value };
 
-    ghost reading = { λ _. (proposal_format (fixed D.SIZE D.bytes_of D.of_bytes)).reading };
+    ghost reading = { λ _. (proposal_format (format_of ⟦<D as Read>⟧)).reading };
 
     ghost takes_memory = { false };
 
@@ -118,7 +118,7 @@ impl<D: Digest> Read for Proposal<D> {
         }
     }
 
-    ghost lawful = { λ _. proposal_lawful (fixed D.SIZE D.bytes_of D.of_bytes) (fixed_lawful D.SIZE D.bytes_of D.of_bytes D.back D.forth) };
+    ghost lawful = { λ _. proposal_lawful (format_of ⟦<D as Read>⟧) (fixed_lawful D.SIZE D.bytes_of D.of_bytes D.back D.forth) };
 }
 
 /// What a vote or a certificate says.
@@ -157,7 +157,7 @@ impl<D: Digest> CertificateSubject for Subject<'_, D> {
 
     ghost name_in = { λ subject names. name_of names (subject_value subject) };
 
-    ghost signed = { λ subject. message_of (fixed D.SIZE D.bytes_of D.of_bytes) (subject_value subject) };
+    ghost signed = { λ subject. message_of (format_of ⟦<D as Read>⟧) (subject_value subject) };
 
     fn namespace<'b>(&self, names: &'b Namespace) -> &'b [u8] {
         match self {
@@ -168,11 +168,11 @@ impl<D: Digest> CertificateSubject for Subject<'_, D> {
     }
 
     fn message(&self, alloc: Global) -> Result<Bytes, AllocError>
-        ensures message { IfOk result (λ bytes. bytes ≡ message_of (fixed D.SIZE D.bytes_of D.of_bytes) (subject_value self.now)) }
+        ensures message { IfOk result (λ bytes. bytes ≡ message_of (format_of ⟦<D as Read>⟧) (subject_value self.now)) }
         // A name under one base and a message are those of one subject alone.
-        ensures one { (base : List ℕ) (other : SubjectValue D) → IsSubject (fixed D.SIZE D.bytes_of D.of_bytes) other →
+        ensures one { (base : List ℕ) (other : SubjectValue D) → IsSubject (format_of ⟦<D as Read>⟧) other →
             name_of (names_of base) (subject_value self.now) ≡ name_of (names_of base) other →
-            message_of (fixed D.SIZE D.bytes_of D.of_bytes) (subject_value self.now) ≡ message_of (fixed D.SIZE D.bytes_of D.of_bytes) other →
+            message_of (format_of ⟦<D as Read>⟧) (subject_value self.now) ≡ message_of (format_of ⟦<D as Read>⟧) other →
             subject_value self.now ≡ other }
     {
         match self {

@@ -2,7 +2,7 @@
 
 ghost use Rattle.std.specs.Prelude.{◌≡◌, ⊤, ◌+◌, ℕ, Bool, true, false, List, Option, Some, None, Ok, Err, IsTrue, IfOk, IfErr, IfSome, MatchOption, All, length, nat_eq, ◌<◌, ◌≤◌, ◌^◌};
 ghost use Rattle.std.specs.List.{IsDistinct, list_all};
-ghost use Rattle.simplex_base.specs.Format.{fixed};
+ghost use Rattle.simplex_base.specs.Readable.{format_of};
 ghost use Rattle.simplex_base.specs.FormatLaws.{fixed_lawful};
 ghost use Rattle.simplex_scheme.specs.Subject.{SubjectValue, subject_value};
 ghost use Rattle.simplex_scheme.specs.Committee.{IsQuorum, IsInOrder, quorum_of, signers_of};
@@ -212,9 +212,9 @@ pub trait Listing<D: Digest>: Scheme<D> {
 impl<S: SchemeTypes> Spell for Attestation<S> {
     ghost use Rattle.simplex_scheme.specs.Attestation.{attestation_format};
 
-    ghost is_value = { (attestation_format (fixed S.Signature.SIZE S.Signature.bytes_of S.Signature.of_bytes)).is_value };
+    ghost is_value = { (attestation_format (format_of ⟦<S::Signature as Read>⟧)).is_value };
 
-    ghost spelling = { (attestation_format (fixed S.Signature.SIZE S.Signature.bytes_of S.Signature.of_bytes)).spelling };
+    ghost spelling = { (attestation_format (format_of ⟦<S::Signature as Read>⟧)).spelling };
 }
 
 impl<S: SchemeTypes> Write for Attestation<S> {
@@ -241,9 +241,9 @@ impl<S: SchemeTypes> MaxEncodeSize for Attestation<S> {
         Participant::max_encode_size() + S::Signature::SIZE
     }
 
-    ghost within = { attestation_within (fixed S.Signature.SIZE S.Signature.bytes_of S.Signature.of_bytes) S.Signature.SIZE (fixed_within S.Signature.SIZE S.Signature.bytes_of S.Signature.of_bytes) };
+    ghost within = { attestation_within (format_of ⟦<S::Signature as Read>⟧) S.Signature.SIZE (fixed_within S.Signature.SIZE S.Signature.bytes_of S.Signature.of_bytes) };
 
-    ghost reached = { attestation_longest (fixed S.Signature.SIZE S.Signature.bytes_of S.Signature.of_bytes) S.Signature.SIZE (fixed_longest S.Signature.SIZE S.Signature.bytes_of S.Signature.of_bytes S.Signature.back) };
+    ghost reached = { attestation_longest (format_of ⟦<S::Signature as Read>⟧) S.Signature.SIZE (fixed_longest S.Signature.SIZE S.Signature.bytes_of S.Signature.of_bytes S.Signature.back) };
 }
 
 impl<S: SchemeTypes> Read for Attestation<S> {
@@ -251,9 +251,9 @@ impl<S: SchemeTypes> Read for Attestation<S> {
 
     type Cfg = ();
 
-    ghost fits = { λ _. (attestation_format (fixed S.Signature.SIZE S.Signature.bytes_of S.Signature.of_bytes)).is_value };
+    ghost fits = { λ _. (attestation_format (format_of ⟦<S::Signature as Read>⟧)).is_value };
 
-    ghost reading = { λ _. (attestation_format (fixed S.Signature.SIZE S.Signature.bytes_of S.Signature.of_bytes)).reading };
+    ghost reading = { λ _. (attestation_format (format_of ⟦<S::Signature as Read>⟧)).reading };
 
     ghost takes_memory = { false };
 
@@ -264,5 +264,5 @@ impl<S: SchemeTypes> Read for Attestation<S> {
         }
     }
 
-    ghost lawful = { λ _. attestation_lawful (fixed S.Signature.SIZE S.Signature.bytes_of S.Signature.of_bytes) (fixed_lawful S.Signature.SIZE S.Signature.bytes_of S.Signature.of_bytes S.Signature.back S.Signature.forth) };
+    ghost lawful = { λ _. attestation_lawful (format_of ⟦<S::Signature as Read>⟧) (fixed_lawful S.Signature.SIZE S.Signature.bytes_of S.Signature.of_bytes S.Signature.back S.Signature.forth) };
 }

@@ -1,6 +1,5 @@
 -- How votes and certificates are spelled.
 use Rattle.std.proofs.Common.{ℕ, List, ◌+◌, ◌++◌, refl, arith}
-use Rattle.simplex_base.specs.Reading.{Reading}
 use Rattle.simplex_base.specs.Format.{Format, IsLawful, both, made}
 use Rattle.simplex_base.specs.FormatLaws.{both_lawful, made_lawful}
 use Rattle.simplex_base.specs.Positions.{round_format, round_lawful, round_within, longest_round}
@@ -25,10 +24,6 @@ nullify_format signature = made (λ p. record { round = p.0; attestation = p.1 }
 -- the proposal, and then the attestation
 abbrev pub finalize_format : {S D P G : Type 0} → Format D → Format G → Format (Finalize S D P G)
 finalize_format payload signature = made (λ p. record { proposal = p.0; attestation = p.1 }) (λ v. (v.proposal, v.attestation)) (both (proposal_format payload) (attestation_format signature))
-
--- the format of a certificate that is read under some bound, from its parts
-abbrev pub format_of : {C : Type 0} → (C → Type 0) → (C → List ℕ) → (List ℕ → Reading C) → Format C
-format_of is_value spelling reading = record { is_value = is_value; spelling = spelling; reading = reading }
 
 -- the proposal, and then the certificate
 abbrev pub notarization_format : {S D C P G : Type 0} → Format D → Format C → Format (Notarization S D C P G)

@@ -1,9 +1,8 @@
 //! The union of all messages.
 
 ghost use Rattle.std.specs.Prelude.{◌≡◌, ◌+◌, ◌*◌, ◌^◌, IfOk, IfErr, IsTrue};
-ghost use Rattle.simplex_base.specs.Format.{fixed};
+ghost use Rattle.simplex_base.specs.Readable.{format_of, format_under};
 ghost use Rattle.simplex_base.specs.FormatLaws.{fixed_lawful};
-ghost use Rattle.simplex_votes.specs.Spellings.{format_of};
 
 use crate::types::conflicting_finalizes::ConflictingFinalize;
 use crate::types::conflicts::ConflictingNotarize;
@@ -156,9 +155,9 @@ impl<S: CertificateScheme, D: Digest> Viewable for Activity<S, D> {
 impl<S: CertificateScheme, D: Digest> Spell for Activity<S, D> {
     ghost use Rattle.simplex_evidence.specs.Activity.{IsActivity, activity_spelling};
 
-    ghost is_value = { IsActivity D.eq (fixed D.SIZE D.bytes_of D.of_bytes) S.Certificate.is_value (fixed S.Signature.SIZE S.Signature.bytes_of S.Signature.of_bytes) };
+    ghost is_value = { IsActivity D.eq (format_of ⟦<D as Read>⟧) S.Certificate.is_value (format_of ⟦<S::Signature as Read>⟧) };
 
-    ghost spelling = { activity_spelling D.eq (fixed D.SIZE D.bytes_of D.of_bytes) S.Certificate.spelling (fixed S.Signature.SIZE S.Signature.bytes_of S.Signature.of_bytes) };
+    ghost spelling = { activity_spelling D.eq (format_of ⟦<D as Read>⟧) S.Certificate.spelling (format_of ⟦<S::Signature as Read>⟧) };
 }
 
 impl<S: CertificateScheme, D: Digest> Write for Activity<S, D> {
@@ -202,9 +201,9 @@ impl<S: CertificateScheme, D: Digest> Read for Activity<S, D> {
 
     type Cfg = u32;
 
-    ghost fits = { λ bound. (activity_format D.eq (fixed D.SIZE D.bytes_of D.of_bytes) (format_of (S.Certificate.fits bound) S.Certificate.spelling (S.Certificate.reading bound)) (fixed S.Signature.SIZE S.Signature.bytes_of S.Signature.of_bytes)).is_value };
+    ghost fits = { λ bound. (activity_format D.eq (format_of ⟦<D as Read>⟧) (format_under ⟦<S::Certificate as Read>⟧ bound) (format_of ⟦<S::Signature as Read>⟧)).is_value };
 
-    ghost reading = { λ bound. (activity_format D.eq (fixed D.SIZE D.bytes_of D.of_bytes) (format_of (S.Certificate.fits bound) S.Certificate.spelling (S.Certificate.reading bound)) (fixed S.Signature.SIZE S.Signature.bytes_of S.Signature.of_bytes)).reading };
+    ghost reading = { λ bound. (activity_format D.eq (format_of ⟦<D as Read>⟧) (format_under ⟦<S::Certificate as Read>⟧ bound) (format_of ⟦<S::Signature as Read>⟧)).reading };
 
     ghost takes_memory = { S.Certificate.takes_memory };
 
@@ -220,7 +219,7 @@ impl<S: CertificateScheme, D: Digest> Tagged for Activity<S, D> {
 
     type Cfg = u32;
 
-    ghost branches = { λ bound. activity_branches D.eq (fixed D.SIZE D.bytes_of D.of_bytes) (format_of (S.Certificate.fits bound) S.Certificate.spelling (S.Certificate.reading bound)) (fixed S.Signature.SIZE S.Signature.bytes_of S.Signature.of_bytes) };
+    ghost branches = { λ bound. activity_branches D.eq (format_of ⟦<D as Read>⟧) (format_under ⟦<S::Certificate as Read>⟧ bound) (format_of ⟦<S::Signature as Read>⟧) };
 
     ghost takes_memory = { S.Certificate.takes_memory };
 

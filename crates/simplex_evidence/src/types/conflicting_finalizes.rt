@@ -1,7 +1,7 @@
 //! Two finalizes that contradict.
 
 ghost use Rattle.std.specs.Prelude.{◌≡◌, ◌&&◌, ◌+◌, ◌*◌, ⊤, false, IsTrue};
-ghost use Rattle.simplex_base.specs.Format.{fixed};
+ghost use Rattle.simplex_base.specs.Readable.{format_of};
 ghost use Rattle.simplex_base.specs.FormatLaws.{fixed_lawful};
 ghost use Rattle.simplex_scheme.specs.Subject.{Finalizes};
 ghost use Rattle.simplex_votes.specs.Votes.{finalize_vote};
@@ -135,9 +135,9 @@ impl<S: SchemeTypes, D: Digest> Viewable for ConflictingFinalize<S, D> {
 impl<S: SchemeTypes, D: Digest> Spell for ConflictingFinalize<S, D> {
     ghost use Rattle.simplex_evidence.specs.Conflict.{conflicting_finalize_format};
 
-    ghost is_value = { (conflicting_finalize_format D.eq (fixed D.SIZE D.bytes_of D.of_bytes) (fixed S.Signature.SIZE S.Signature.bytes_of S.Signature.of_bytes)).is_value };
+    ghost is_value = { (conflicting_finalize_format D.eq (format_of ⟦<D as Read>⟧) (format_of ⟦<S::Signature as Read>⟧)).is_value };
 
-    ghost spelling = { (conflicting_finalize_format D.eq (fixed D.SIZE D.bytes_of D.of_bytes) (fixed S.Signature.SIZE S.Signature.bytes_of S.Signature.of_bytes)).spelling };
+    ghost spelling = { (conflicting_finalize_format D.eq (format_of ⟦<D as Read>⟧) (format_of ⟦<S::Signature as Read>⟧)).spelling };
 }
 
 impl<S: SchemeTypes, D: Digest> Write for ConflictingFinalize<S, D> {
@@ -159,9 +159,9 @@ impl<S: SchemeTypes, D: Digest> Read for ConflictingFinalize<S, D> {
 
     type Cfg = ();
 
-    ghost fits = { λ _. (conflicting_finalize_format D.eq (fixed D.SIZE D.bytes_of D.of_bytes) (fixed S.Signature.SIZE S.Signature.bytes_of S.Signature.of_bytes)).is_value };
+    ghost fits = { λ _. (conflicting_finalize_format D.eq (format_of ⟦<D as Read>⟧) (format_of ⟦<S::Signature as Read>⟧)).is_value };
 
-    ghost reading = { λ _. (conflicting_finalize_format D.eq (fixed D.SIZE D.bytes_of D.of_bytes) (fixed S.Signature.SIZE S.Signature.bytes_of S.Signature.of_bytes)).reading };
+    ghost reading = { λ _. (conflicting_finalize_format D.eq (format_of ⟦<D as Read>⟧) (format_of ⟦<S::Signature as Read>⟧)).reading };
 
     ghost takes_memory = { false };
 

@@ -1,7 +1,7 @@
 //! Two votes that contradict.
 
 ghost use Rattle.std.specs.Prelude.{◌≡◌, ◌&&◌, ◌+◌, ◌*◌, ⊤, false, IsTrue};
-ghost use Rattle.simplex_base.specs.Format.{fixed};
+ghost use Rattle.simplex_base.specs.Readable.{format_of};
 ghost use Rattle.simplex_base.specs.FormatLaws.{fixed_lawful};
 ghost use Rattle.simplex_scheme.specs.Subject.{Notarizes};
 ghost use Rattle.simplex_votes.specs.Votes.{notarize_vote};
@@ -135,9 +135,9 @@ impl<S: SchemeTypes, D: Digest> Viewable for ConflictingNotarize<S, D> {
 impl<S: SchemeTypes, D: Digest> Spell for ConflictingNotarize<S, D> {
     ghost use Rattle.simplex_evidence.specs.Conflict.{conflicting_notarize_format};
 
-    ghost is_value = { (conflicting_notarize_format D.eq (fixed D.SIZE D.bytes_of D.of_bytes) (fixed S.Signature.SIZE S.Signature.bytes_of S.Signature.of_bytes)).is_value };
+    ghost is_value = { (conflicting_notarize_format D.eq (format_of ⟦<D as Read>⟧) (format_of ⟦<S::Signature as Read>⟧)).is_value };
 
-    ghost spelling = { (conflicting_notarize_format D.eq (fixed D.SIZE D.bytes_of D.of_bytes) (fixed S.Signature.SIZE S.Signature.bytes_of S.Signature.of_bytes)).spelling };
+    ghost spelling = { (conflicting_notarize_format D.eq (format_of ⟦<D as Read>⟧) (format_of ⟦<S::Signature as Read>⟧)).spelling };
 }
 
 impl<S: SchemeTypes, D: Digest> Write for ConflictingNotarize<S, D> {
@@ -159,9 +159,9 @@ impl<S: SchemeTypes, D: Digest> Read for ConflictingNotarize<S, D> {
 
     type Cfg = ();
 
-    ghost fits = { λ _. (conflicting_notarize_format D.eq (fixed D.SIZE D.bytes_of D.of_bytes) (fixed S.Signature.SIZE S.Signature.bytes_of S.Signature.of_bytes)).is_value };
+    ghost fits = { λ _. (conflicting_notarize_format D.eq (format_of ⟦<D as Read>⟧) (format_of ⟦<S::Signature as Read>⟧)).is_value };
 
-    ghost reading = { λ _. (conflicting_notarize_format D.eq (fixed D.SIZE D.bytes_of D.of_bytes) (fixed S.Signature.SIZE S.Signature.bytes_of S.Signature.of_bytes)).reading };
+    ghost reading = { λ _. (conflicting_notarize_format D.eq (format_of ⟦<D as Read>⟧) (format_of ⟦<S::Signature as Read>⟧)).reading };
 
     ghost takes_memory = { false };
 

@@ -1,7 +1,7 @@
 //! A nullify and a finalize that contradict.
 
 ghost use Rattle.std.specs.Prelude.{◌≡◌, ◌&&◌, ◌+◌, ◌*◌, ⊤, false, IsTrue};
-ghost use Rattle.simplex_base.specs.Format.{fixed};
+ghost use Rattle.simplex_base.specs.Readable.{format_of};
 ghost use Rattle.simplex_base.specs.FormatLaws.{fixed_lawful};
 ghost use Rattle.simplex_scheme.specs.Subject.{Nullifies, Finalizes};
 ghost use Rattle.simplex_votes.specs.Votes.{nullify_vote, finalize_vote};
@@ -132,9 +132,9 @@ impl<S: SchemeTypes, D: Digest> Viewable for NullifyFinalize<S, D> {
 impl<S: SchemeTypes, D: Digest> Spell for NullifyFinalize<S, D> {
     ghost use Rattle.simplex_evidence.specs.Conflict.{nullify_finalize_format};
 
-    ghost is_value = { (nullify_finalize_format D.eq (fixed D.SIZE D.bytes_of D.of_bytes) (fixed S.Signature.SIZE S.Signature.bytes_of S.Signature.of_bytes)).is_value };
+    ghost is_value = { (nullify_finalize_format D.eq (format_of ⟦<D as Read>⟧) (format_of ⟦<S::Signature as Read>⟧)).is_value };
 
-    ghost spelling = { (nullify_finalize_format D.eq (fixed D.SIZE D.bytes_of D.of_bytes) (fixed S.Signature.SIZE S.Signature.bytes_of S.Signature.of_bytes)).spelling };
+    ghost spelling = { (nullify_finalize_format D.eq (format_of ⟦<D as Read>⟧) (format_of ⟦<S::Signature as Read>⟧)).spelling };
 }
 
 impl<S: SchemeTypes, D: Digest> Write for NullifyFinalize<S, D> {
@@ -156,9 +156,9 @@ impl<S: SchemeTypes, D: Digest> Read for NullifyFinalize<S, D> {
 
     type Cfg = ();
 
-    ghost fits = { λ _. (nullify_finalize_format D.eq (fixed D.SIZE D.bytes_of D.of_bytes) (fixed S.Signature.SIZE S.Signature.bytes_of S.Signature.of_bytes)).is_value };
+    ghost fits = { λ _. (nullify_finalize_format D.eq (format_of ⟦<D as Read>⟧) (format_of ⟦<S::Signature as Read>⟧)).is_value };
 
-    ghost reading = { λ _. (nullify_finalize_format D.eq (fixed D.SIZE D.bytes_of D.of_bytes) (fixed S.Signature.SIZE S.Signature.bytes_of S.Signature.of_bytes)).reading };
+    ghost reading = { λ _. (nullify_finalize_format D.eq (format_of ⟦<D as Read>⟧) (format_of ⟦<S::Signature as Read>⟧)).reading };
 
     ghost takes_memory = { false };
 

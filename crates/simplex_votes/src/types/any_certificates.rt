@@ -1,9 +1,8 @@
 //! The union of certificate messages.
 
 ghost use Rattle.std.specs.Prelude.{◌≡◌, ◌+◌, ◌≤◌, ◌^◌, IfOk, Some, length};
-ghost use Rattle.simplex_base.specs.Format.{fixed};
+ghost use Rattle.simplex_base.specs.Readable.{format_of, format_under};
 ghost use Rattle.simplex_base.specs.FormatLaws.{fixed_lawful};
-ghost use Rattle.simplex_votes.specs.Spellings.{format_of};
 
 use crate::types::certificates::Notarization;
 use crate::types::finalizations::Finalization;
@@ -97,8 +96,8 @@ impl<S: CertificateScheme, D: Digest> Certificate<S, D> {
     pub fn max_encode_size(participants: u32) -> usize
         ensures size { result ≡ 31 + D.SIZE + S.max_size participants }
         ensures within { (c : Certificate S D S.Certificate S.PublicKey S.Signature) →
-            IsCertificate (fixed D.SIZE D.bytes_of D.of_bytes) (S.Certificate.fits participants) c →
-            length (certificate_spelling (fixed D.SIZE D.bytes_of D.of_bytes) S.Certificate.spelling c) ≤ result }
+            IsCertificate (format_of ⟦<D as Read>⟧) (S.Certificate.fits participants) c →
+            length (certificate_spelling (format_of ⟦<D as Read>⟧) S.Certificate.spelling c) ≤ result }
     {
         let proposal = Proposal::<D>::max_encode_size();
         1 + proposal + S::max_certificate_size(participants)
@@ -151,9 +150,9 @@ impl<S: CertificateScheme, D: Digest> Viewable for Certificate<S, D> {
 impl<S: CertificateScheme, D: Digest> Spell for Certificate<S, D> {
     ghost use Rattle.simplex_votes.specs.Unions.{IsCertificate, certificate_spelling};
 
-    ghost is_value = { IsCertificate (fixed D.SIZE D.bytes_of D.of_bytes) S.Certificate.is_value };
+    ghost is_value = { IsCertificate (format_of ⟦<D as Read>⟧) S.Certificate.is_value };
 
-    ghost spelling = { certificate_spelling (fixed D.SIZE D.bytes_of D.of_bytes) S.Certificate.spelling };
+    ghost spelling = { certificate_spelling (format_of ⟦<D as Read>⟧) S.Certificate.spelling };
 }
 
 impl<S: CertificateScheme, D: Digest> Write for Certificate<S, D> {
@@ -179,14 +178,13 @@ impl<S: CertificateScheme, D: Digest> EncodeSize for Certificate<S, D> {
 }
 
 impl<S: CertificateScheme, D: Digest> Read for Certificate<S, D> {
-    ghost use Rattle.simplex_votes.specs.Spellings.{format_of};
     ghost use Rattle.simplex_votes.specs.Unions.{certificate_format, certificate_lawful};
 
     type Cfg = u32;
 
-    ghost fits = { λ bound. (certificate_format (fixed D.SIZE D.bytes_of D.of_bytes) (format_of (S.Certificate.fits bound) S.Certificate.spelling (S.Certificate.reading bound))).is_value };
+    ghost fits = { λ bound. (certificate_format (format_of ⟦<D as Read>⟧) (format_under ⟦<S::Certificate as Read>⟧ bound)).is_value };
 
-    ghost reading = { λ bound. (certificate_format (fixed D.SIZE D.bytes_of D.of_bytes) (format_of (S.Certificate.fits bound) S.Certificate.spelling (S.Certificate.reading bound))).reading };
+    ghost reading = { λ bound. (certificate_format (format_of ⟦<D as Read>⟧) (format_under ⟦<S::Certificate as Read>⟧ bound)).reading };
 
     ghost takes_memory = { S.Certificate.takes_memory };
 
@@ -202,7 +200,7 @@ impl<S: CertificateScheme, D: Digest> Tagged for Certificate<S, D> {
 
     type Cfg = u32;
 
-    ghost branches = { λ bound. certificate_branches (fixed D.SIZE D.bytes_of D.of_bytes) (format_of (S.Certificate.fits bound) S.Certificate.spelling (S.Certificate.reading bound)) };
+    ghost branches = { λ bound. certificate_branches (format_of ⟦<D as Read>⟧) (format_under ⟦<S::Certificate as Read>⟧ bound) };
 
     ghost takes_memory = { S.Certificate.takes_memory };
 

@@ -1,7 +1,7 @@
 //! The union of votes.
 
 ghost use Rattle.std.specs.Prelude.{◌≡◌, ⊤, ◌+◌, false};
-ghost use Rattle.simplex_base.specs.Format.{fixed};
+ghost use Rattle.simplex_base.specs.Readable.{format_of};
 ghost use Rattle.simplex_base.specs.FormatLaws.{fixed_lawful};
 
 use crate::types::finalizes::Finalize;
@@ -85,9 +85,9 @@ impl<S: SchemeTypes, D: Digest> Viewable for Vote<S, D> {
 impl<S: SchemeTypes, D: Digest> Spell for Vote<S, D> {
     ghost use Rattle.simplex_votes.specs.Unions.{vote_format};
 
-    ghost is_value = { (vote_format (fixed D.SIZE D.bytes_of D.of_bytes) (fixed S.Signature.SIZE S.Signature.bytes_of S.Signature.of_bytes)).is_value };
+    ghost is_value = { (vote_format (format_of ⟦<D as Read>⟧) (format_of ⟦<S::Signature as Read>⟧)).is_value };
 
-    ghost spelling = { (vote_format (fixed D.SIZE D.bytes_of D.of_bytes) (fixed S.Signature.SIZE S.Signature.bytes_of S.Signature.of_bytes)).spelling };
+    ghost spelling = { (vote_format (format_of ⟦<D as Read>⟧) (format_of ⟦<S::Signature as Read>⟧)).spelling };
 }
 
 impl<S: SchemeTypes, D: Digest> Write for Vote<S, D> {
@@ -122,9 +122,9 @@ impl<S: SchemeTypes, D: Digest> MaxEncodeSize for Vote<S, D> {
         1 + Notarize::<S, D>::max_encode_size()
     }
 
-    ghost within = { vote_within (fixed D.SIZE D.bytes_of D.of_bytes) (fixed S.Signature.SIZE S.Signature.bytes_of S.Signature.of_bytes) D.SIZE S.Signature.SIZE (fixed_within D.SIZE D.bytes_of D.of_bytes) (fixed_within S.Signature.SIZE S.Signature.bytes_of S.Signature.of_bytes) };
+    ghost within = { vote_within (format_of ⟦<D as Read>⟧) (format_of ⟦<S::Signature as Read>⟧) D.SIZE S.Signature.SIZE (fixed_within D.SIZE D.bytes_of D.of_bytes) (fixed_within S.Signature.SIZE S.Signature.bytes_of S.Signature.of_bytes) };
 
-    ghost reached = { vote_longest (fixed D.SIZE D.bytes_of D.of_bytes) (fixed S.Signature.SIZE S.Signature.bytes_of S.Signature.of_bytes) D.SIZE S.Signature.SIZE (fixed_longest D.SIZE D.bytes_of D.of_bytes D.back) (fixed_longest S.Signature.SIZE S.Signature.bytes_of S.Signature.of_bytes S.Signature.back) };
+    ghost reached = { vote_longest (format_of ⟦<D as Read>⟧) (format_of ⟦<S::Signature as Read>⟧) D.SIZE S.Signature.SIZE (fixed_longest D.SIZE D.bytes_of D.of_bytes D.back) (fixed_longest S.Signature.SIZE S.Signature.bytes_of S.Signature.of_bytes S.Signature.back) };
 }
 
 impl<S: SchemeTypes, D: Digest> Read for Vote<S, D> {
@@ -132,9 +132,9 @@ impl<S: SchemeTypes, D: Digest> Read for Vote<S, D> {
 
     type Cfg = ();
 
-    ghost fits = { λ _. (vote_format (fixed D.SIZE D.bytes_of D.of_bytes) (fixed S.Signature.SIZE S.Signature.bytes_of S.Signature.of_bytes)).is_value };
+    ghost fits = { λ _. (vote_format (format_of ⟦<D as Read>⟧) (format_of ⟦<S::Signature as Read>⟧)).is_value };
 
-    ghost reading = { λ _. (vote_format (fixed D.SIZE D.bytes_of D.of_bytes) (fixed S.Signature.SIZE S.Signature.bytes_of S.Signature.of_bytes)).reading };
+    ghost reading = { λ _. (vote_format (format_of ⟦<D as Read>⟧) (format_of ⟦<S::Signature as Read>⟧)).reading };
 
     ghost takes_memory = { false };
 
@@ -150,7 +150,7 @@ impl<S: SchemeTypes, D: Digest> Tagged for Vote<S, D> {
 
     type Cfg = ();
 
-    ghost branches = { λ _. vote_branches (fixed D.SIZE D.bytes_of D.of_bytes) (fixed S.Signature.SIZE S.Signature.bytes_of S.Signature.of_bytes) };
+    ghost branches = { λ _. vote_branches (format_of ⟦<D as Read>⟧) (format_of ⟦<S::Signature as Read>⟧) };
 
     ghost takes_memory = { false };
 

@@ -1,9 +1,8 @@
 //! The union of what a node stores.
 
 ghost use Rattle.std.specs.Prelude.{◌≡◌, ◌+◌, ◌^◌, IfOk, IfErr, IsTrue};
-ghost use Rattle.simplex_base.specs.Format.{fixed};
+ghost use Rattle.simplex_base.specs.Readable.{format_of, format_under};
 ghost use Rattle.simplex_base.specs.FormatLaws.{fixed_lawful};
-ghost use Rattle.simplex_votes.specs.Spellings.{format_of};
 
 use crate::types::any_certificates::Certificate;
 use crate::types::any_votes::Vote;
@@ -132,9 +131,9 @@ impl<S: CertificateScheme, D: Digest> Viewable for Artifact<S, D> {
 impl<S: CertificateScheme, D: Digest> Spell for Artifact<S, D> {
     ghost use Rattle.simplex_votes.specs.Artifact.{IsArtifact, artifact_spelling};
 
-    ghost is_value = { IsArtifact (fixed D.SIZE D.bytes_of D.of_bytes) S.Certificate.is_value (fixed S.Signature.SIZE S.Signature.bytes_of S.Signature.of_bytes) };
+    ghost is_value = { IsArtifact (format_of ⟦<D as Read>⟧) S.Certificate.is_value (format_of ⟦<S::Signature as Read>⟧) };
 
-    ghost spelling = { artifact_spelling (fixed D.SIZE D.bytes_of D.of_bytes) S.Certificate.spelling (fixed S.Signature.SIZE S.Signature.bytes_of S.Signature.of_bytes) };
+    ghost spelling = { artifact_spelling (format_of ⟦<D as Read>⟧) S.Certificate.spelling (format_of ⟦<S::Signature as Read>⟧) };
 }
 
 impl<S: CertificateScheme, D: Digest> Write for Artifact<S, D> {
@@ -176,9 +175,9 @@ impl<S: CertificateScheme, D: Digest> Read for Artifact<S, D> {
 
     type Cfg = u32;
 
-    ghost fits = { λ bound. (artifact_format (fixed D.SIZE D.bytes_of D.of_bytes) (format_of (S.Certificate.fits bound) S.Certificate.spelling (S.Certificate.reading bound)) (fixed S.Signature.SIZE S.Signature.bytes_of S.Signature.of_bytes)).is_value };
+    ghost fits = { λ bound. (artifact_format (format_of ⟦<D as Read>⟧) (format_under ⟦<S::Certificate as Read>⟧ bound) (format_of ⟦<S::Signature as Read>⟧)).is_value };
 
-    ghost reading = { λ bound. (artifact_format (fixed D.SIZE D.bytes_of D.of_bytes) (format_of (S.Certificate.fits bound) S.Certificate.spelling (S.Certificate.reading bound)) (fixed S.Signature.SIZE S.Signature.bytes_of S.Signature.of_bytes)).reading };
+    ghost reading = { λ bound. (artifact_format (format_of ⟦<D as Read>⟧) (format_under ⟦<S::Certificate as Read>⟧ bound) (format_of ⟦<S::Signature as Read>⟧)).reading };
 
     ghost takes_memory = { S.Certificate.takes_memory };
 
@@ -194,7 +193,7 @@ impl<S: CertificateScheme, D: Digest> Tagged for Artifact<S, D> {
 
     type Cfg = u32;
 
-    ghost branches = { λ bound. artifact_branches (fixed D.SIZE D.bytes_of D.of_bytes) (format_of (S.Certificate.fits bound) S.Certificate.spelling (S.Certificate.reading bound)) (fixed S.Signature.SIZE S.Signature.bytes_of S.Signature.of_bytes) };
+    ghost branches = { λ bound. artifact_branches (format_of ⟦<D as Read>⟧) (format_under ⟦<S::Certificate as Read>⟧ bound) (format_of ⟦<S::Signature as Read>⟧) };
 
     ghost takes_memory = { S.Certificate.takes_memory };
 

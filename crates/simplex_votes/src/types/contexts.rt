@@ -1,7 +1,7 @@
 //! What a payload is built on.
 
 ghost use Rattle.std.specs.Prelude.{◌≡◌, ⊤, ◌+◌, false};
-ghost use Rattle.simplex_base.specs.Format.{fixed};
+ghost use Rattle.simplex_base.specs.Readable.{format_of};
 ghost use Rattle.simplex_base.specs.FormatLaws.{fixed_lawful};
 
 use simplex_base::codec::error::Error;
@@ -53,9 +53,9 @@ impl<D, P> Viewable for Context<D, P> {
 impl<D: Digest, P: PublicKey> Spell for Context<D, P> {
     ghost use Rattle.simplex_votes.specs.Context.{context_format};
 
-    ghost is_value = { (context_format (fixed D.SIZE D.bytes_of D.of_bytes) (fixed P.SIZE P.bytes_of P.of_bytes)).is_value };
+    ghost is_value = { (context_format (format_of ⟦<D as Read>⟧) (format_of ⟦<P as Read>⟧)).is_value };
 
-    ghost spelling = { (context_format (fixed D.SIZE D.bytes_of D.of_bytes) (fixed P.SIZE P.bytes_of P.of_bytes)).spelling };
+    ghost spelling = { (context_format (format_of ⟦<D as Read>⟧) (format_of ⟦<P as Read>⟧)).spelling };
 }
 
 impl<D: Digest, P: PublicKey> Write for Context<D, P> {
@@ -83,9 +83,9 @@ impl<D: Digest, P: PublicKey> MaxEncodeSize for Context<D, P> {
         Round::max_encode_size() + P::SIZE + View::max_encode_size() + D::SIZE
     }
 
-    ghost within = { context_within (fixed D.SIZE D.bytes_of D.of_bytes) (fixed P.SIZE P.bytes_of P.of_bytes) D.SIZE P.SIZE (fixed_within D.SIZE D.bytes_of D.of_bytes) (fixed_within P.SIZE P.bytes_of P.of_bytes) };
+    ghost within = { context_within (format_of ⟦<D as Read>⟧) (format_of ⟦<P as Read>⟧) D.SIZE P.SIZE (fixed_within D.SIZE D.bytes_of D.of_bytes) (fixed_within P.SIZE P.bytes_of P.of_bytes) };
 
-    ghost reached = { context_longest (fixed D.SIZE D.bytes_of D.of_bytes) (fixed P.SIZE P.bytes_of P.of_bytes) D.SIZE P.SIZE (fixed_longest D.SIZE D.bytes_of D.of_bytes D.back) (fixed_longest P.SIZE P.bytes_of P.of_bytes P.back) };
+    ghost reached = { context_longest (format_of ⟦<D as Read>⟧) (format_of ⟦<P as Read>⟧) D.SIZE P.SIZE (fixed_longest D.SIZE D.bytes_of D.of_bytes D.back) (fixed_longest P.SIZE P.bytes_of P.of_bytes P.back) };
 }
 
 impl<D: Digest, P: PublicKey> Read for Context<D, P> {
@@ -93,9 +93,9 @@ impl<D: Digest, P: PublicKey> Read for Context<D, P> {
 
     type Cfg = ();
 
-    ghost fits = { λ _. (context_format (fixed D.SIZE D.bytes_of D.of_bytes) (fixed P.SIZE P.bytes_of P.of_bytes)).is_value };
+    ghost fits = { λ _. (context_format (format_of ⟦<D as Read>⟧) (format_of ⟦<P as Read>⟧)).is_value };
 
-    ghost reading = { λ _. (context_format (fixed D.SIZE D.bytes_of D.of_bytes) (fixed P.SIZE P.bytes_of P.of_bytes)).reading };
+    ghost reading = { λ _. (context_format (format_of ⟦<D as Read>⟧) (format_of ⟦<P as Read>⟧)).reading };
 
     ghost takes_memory = { false };
 

@@ -1,7 +1,7 @@
 //! Certificates that a proposal is finalized.
 
 ghost use Rattle.std.specs.Prelude.{◌≡◌, ◌↔◌, ◌+◌, ◌<◌, ◌≤◌, ◌^◌, true, Err, IsTrue, IfOk, IfErr, All, length, map};
-ghost use Rattle.simplex_base.specs.Format.{fixed};
+ghost use Rattle.simplex_base.specs.Readable.{format_of, format_under};
 ghost use Rattle.simplex_base.specs.FormatLaws.{fixed_lawful};
 ghost use Rattle.simplex_scheme.specs.Committee.{quorum_of};
 ghost use Rattle.simplex_scheme.specs.Subject.{Finalizes};
@@ -56,8 +56,8 @@ impl<S: CertificateScheme, D: Digest> Finalization<S, D> {
     pub fn max_encode_size(participants: u32) -> usize
         ensures size { result ≡ 30 + D.SIZE + S.max_size participants }
         ensures within { (n : Finalization S D S.Certificate S.PublicKey S.Signature) →
-            IsFinalization (fixed D.SIZE D.bytes_of D.of_bytes) (S.Certificate.fits participants) n →
-            length (finalization_spelling (fixed D.SIZE D.bytes_of D.of_bytes) S.Certificate.spelling n) ≤ result }
+            IsFinalization (format_of ⟦<D as Read>⟧) (S.Certificate.fits participants) n →
+            length (finalization_spelling (format_of ⟦<D as Read>⟧) S.Certificate.spelling n) ≤ result }
     {
         let proposal = Round::max_encode_size() + View::max_encode_size() + D::SIZE;
         proposal + S::max_certificate_size(participants)
@@ -156,9 +156,9 @@ impl<S: CertificateScheme, D: Digest> Viewable for Finalization<S, D> {
 impl<S: CertificateScheme, D: Digest> Spell for Finalization<S, D> {
     ghost use Rattle.simplex_votes.specs.Spellings.{IsFinalization, finalization_spelling};
 
-    ghost is_value = { IsFinalization (fixed D.SIZE D.bytes_of D.of_bytes) S.Certificate.is_value };
+    ghost is_value = { IsFinalization (format_of ⟦<D as Read>⟧) S.Certificate.is_value };
 
-    ghost spelling = { finalization_spelling (fixed D.SIZE D.bytes_of D.of_bytes) S.Certificate.spelling };
+    ghost spelling = { finalization_spelling (format_of ⟦<D as Read>⟧) S.Certificate.spelling };
 }
 
 impl<S: CertificateScheme, D: Digest> Write for Finalization<S, D> {
@@ -176,13 +176,13 @@ impl<S: CertificateScheme, D: Digest> EncodeSize for Finalization<S, D> {
 }
 
 impl<S: CertificateScheme, D: Digest> Read for Finalization<S, D> {
-    ghost use Rattle.simplex_votes.specs.Spellings.{format_of, finalization_format, finalization_lawful};
+    ghost use Rattle.simplex_votes.specs.Spellings.{finalization_format, finalization_lawful};
 
     type Cfg = u32;
 
-    ghost fits = { λ bound. (finalization_format (fixed D.SIZE D.bytes_of D.of_bytes) (format_of (S.Certificate.fits bound) S.Certificate.spelling (S.Certificate.reading bound))).is_value };
+    ghost fits = { λ bound. (finalization_format (format_of ⟦<D as Read>⟧) (format_under ⟦<S::Certificate as Read>⟧ bound)).is_value };
 
-    ghost reading = { λ bound. (finalization_format (fixed D.SIZE D.bytes_of D.of_bytes) (format_of (S.Certificate.fits bound) S.Certificate.spelling (S.Certificate.reading bound))).reading };
+    ghost reading = { λ bound. (finalization_format (format_of ⟦<D as Read>⟧) (format_under ⟦<S::Certificate as Read>⟧ bound)).reading };
 
     ghost takes_memory = { S.Certificate.takes_memory };
 

@@ -1,7 +1,7 @@
 //! Votes to finalize a proposal.
 
 ghost use Rattle.std.specs.Prelude.{◌≡◌, ⊤, ◌+◌, false, true, Ok, None, Some, IfOk, MatchOption};
-ghost use Rattle.simplex_base.specs.Format.{fixed};
+ghost use Rattle.simplex_base.specs.Readable.{format_of};
 ghost use Rattle.simplex_base.specs.FormatLaws.{fixed_lawful};
 ghost use Rattle.simplex_scheme.specs.Subject.{Finalizes};
 
@@ -116,9 +116,9 @@ impl<S: SchemeTypes, D: Digest> Viewable for Finalize<S, D> {
 impl<S: SchemeTypes, D: Digest> Spell for Finalize<S, D> {
     ghost use Rattle.simplex_votes.specs.Spellings.{finalize_format};
 
-    ghost is_value = { (finalize_format (fixed D.SIZE D.bytes_of D.of_bytes) (fixed S.Signature.SIZE S.Signature.bytes_of S.Signature.of_bytes)).is_value };
+    ghost is_value = { (finalize_format (format_of ⟦<D as Read>⟧) (format_of ⟦<S::Signature as Read>⟧)).is_value };
 
-    ghost spelling = { (finalize_format (fixed D.SIZE D.bytes_of D.of_bytes) (fixed S.Signature.SIZE S.Signature.bytes_of S.Signature.of_bytes)).spelling };
+    ghost spelling = { (finalize_format (format_of ⟦<D as Read>⟧) (format_of ⟦<S::Signature as Read>⟧)).spelling };
 }
 
 impl<S: SchemeTypes, D: Digest> Write for Finalize<S, D> {
@@ -145,9 +145,9 @@ impl<S: SchemeTypes, D: Digest> MaxEncodeSize for Finalize<S, D> {
         Proposal::<D>::max_encode_size() + Attestation::<S>::max_encode_size()
     }
 
-    ghost within = { finalize_within (fixed D.SIZE D.bytes_of D.of_bytes) (fixed S.Signature.SIZE S.Signature.bytes_of S.Signature.of_bytes) D.SIZE S.Signature.SIZE (fixed_within D.SIZE D.bytes_of D.of_bytes) (fixed_within S.Signature.SIZE S.Signature.bytes_of S.Signature.of_bytes) };
+    ghost within = { finalize_within (format_of ⟦<D as Read>⟧) (format_of ⟦<S::Signature as Read>⟧) D.SIZE S.Signature.SIZE (fixed_within D.SIZE D.bytes_of D.of_bytes) (fixed_within S.Signature.SIZE S.Signature.bytes_of S.Signature.of_bytes) };
 
-    ghost reached = { finalize_longest (fixed D.SIZE D.bytes_of D.of_bytes) (fixed S.Signature.SIZE S.Signature.bytes_of S.Signature.of_bytes) D.SIZE S.Signature.SIZE (fixed_longest D.SIZE D.bytes_of D.of_bytes D.back) (fixed_longest S.Signature.SIZE S.Signature.bytes_of S.Signature.of_bytes S.Signature.back) };
+    ghost reached = { finalize_longest (format_of ⟦<D as Read>⟧) (format_of ⟦<S::Signature as Read>⟧) D.SIZE S.Signature.SIZE (fixed_longest D.SIZE D.bytes_of D.of_bytes D.back) (fixed_longest S.Signature.SIZE S.Signature.bytes_of S.Signature.of_bytes S.Signature.back) };
 }
 
 impl<S: SchemeTypes, D: Digest> Read for Finalize<S, D> {
@@ -155,9 +155,9 @@ impl<S: SchemeTypes, D: Digest> Read for Finalize<S, D> {
 
     type Cfg = ();
 
-    ghost fits = { λ _. (finalize_format (fixed D.SIZE D.bytes_of D.of_bytes) (fixed S.Signature.SIZE S.Signature.bytes_of S.Signature.of_bytes)).is_value };
+    ghost fits = { λ _. (finalize_format (format_of ⟦<D as Read>⟧) (format_of ⟦<S::Signature as Read>⟧)).is_value };
 
-    ghost reading = { λ _. (finalize_format (fixed D.SIZE D.bytes_of D.of_bytes) (fixed S.Signature.SIZE S.Signature.bytes_of S.Signature.of_bytes)).reading };
+    ghost reading = { λ _. (finalize_format (format_of ⟦<D as Read>⟧) (format_of ⟦<S::Signature as Read>⟧)).reading };
 
     ghost takes_memory = { false };
 

@@ -1,6 +1,7 @@
 //! Certificates that a round is nullified.
 
 ghost use Rattle.std.specs.Prelude.{◌≡◌, ◌↔◌, ◌+◌, ◌<◌, ◌≤◌, ◌^◌, true, Err, IsTrue, IfOk, IfErr, All, length, map};
+ghost use Rattle.simplex_base.specs.Readable.{format_under};
 ghost use Rattle.simplex_scheme.specs.Committee.{quorum_of};
 ghost use Rattle.simplex_scheme.specs.Subject.{Nullifies};
 
@@ -174,13 +175,13 @@ impl<S: CertificateScheme> EncodeSize for Nullification<S> {
 }
 
 impl<S: CertificateScheme> Read for Nullification<S> {
-    ghost use Rattle.simplex_votes.specs.Spellings.{format_of, nullification_format, nullification_lawful};
+    ghost use Rattle.simplex_votes.specs.Spellings.{nullification_format, nullification_lawful};
 
     type Cfg = u32;
 
-    ghost fits = { λ bound. (nullification_format (format_of (S.Certificate.fits bound) S.Certificate.spelling (S.Certificate.reading bound))).is_value };
+    ghost fits = { λ bound. (nullification_format (format_under ⟦<S::Certificate as Read>⟧ bound)).is_value };
 
-    ghost reading = { λ bound. (nullification_format (format_of (S.Certificate.fits bound) S.Certificate.spelling (S.Certificate.reading bound))).reading };
+    ghost reading = { λ bound. (nullification_format (format_under ⟦<S::Certificate as Read>⟧ bound)).reading };
 
     ghost takes_memory = { S.Certificate.takes_memory };
 

@@ -1,7 +1,7 @@
 //! Votes to nullify a round.
 
 ghost use Rattle.std.specs.Prelude.{◌≡◌, ⊤, ◌+◌, false, true, Ok, None, Some, IfOk, MatchOption};
-ghost use Rattle.simplex_base.specs.Format.{fixed};
+ghost use Rattle.simplex_base.specs.Readable.{format_of};
 ghost use Rattle.simplex_base.specs.FormatLaws.{fixed_lawful};
 ghost use Rattle.simplex_scheme.specs.Subject.{Nullifies};
 
@@ -111,9 +111,9 @@ impl<S: SchemeTypes> Viewable for Nullify<S> {
 impl<S: SchemeTypes> Spell for Nullify<S> {
     ghost use Rattle.simplex_votes.specs.Spellings.{nullify_format};
 
-    ghost is_value = { (nullify_format (fixed S.Signature.SIZE S.Signature.bytes_of S.Signature.of_bytes)).is_value };
+    ghost is_value = { (nullify_format (format_of ⟦<S::Signature as Read>⟧)).is_value };
 
-    ghost spelling = { (nullify_format (fixed S.Signature.SIZE S.Signature.bytes_of S.Signature.of_bytes)).spelling };
+    ghost spelling = { (nullify_format (format_of ⟦<S::Signature as Read>⟧)).spelling };
 }
 
 impl<S: SchemeTypes> Write for Nullify<S> {
@@ -140,9 +140,9 @@ impl<S: SchemeTypes> MaxEncodeSize for Nullify<S> {
         Round::max_encode_size() + Attestation::<S>::max_encode_size()
     }
 
-    ghost within = { nullify_within (fixed S.Signature.SIZE S.Signature.bytes_of S.Signature.of_bytes) S.Signature.SIZE (fixed_within S.Signature.SIZE S.Signature.bytes_of S.Signature.of_bytes) };
+    ghost within = { nullify_within (format_of ⟦<S::Signature as Read>⟧) S.Signature.SIZE (fixed_within S.Signature.SIZE S.Signature.bytes_of S.Signature.of_bytes) };
 
-    ghost reached = { nullify_longest (fixed S.Signature.SIZE S.Signature.bytes_of S.Signature.of_bytes) S.Signature.SIZE (fixed_longest S.Signature.SIZE S.Signature.bytes_of S.Signature.of_bytes S.Signature.back) };
+    ghost reached = { nullify_longest (format_of ⟦<S::Signature as Read>⟧) S.Signature.SIZE (fixed_longest S.Signature.SIZE S.Signature.bytes_of S.Signature.of_bytes S.Signature.back) };
 }
 
 impl<S: SchemeTypes> Read for Nullify<S> {
@@ -150,9 +150,9 @@ impl<S: SchemeTypes> Read for Nullify<S> {
 
     type Cfg = ();
 
-    ghost fits = { λ _. (nullify_format (fixed S.Signature.SIZE S.Signature.bytes_of S.Signature.of_bytes)).is_value };
+    ghost fits = { λ _. (nullify_format (format_of ⟦<S::Signature as Read>⟧)).is_value };
 
-    ghost reading = { λ _. (nullify_format (fixed S.Signature.SIZE S.Signature.bytes_of S.Signature.of_bytes)).reading };
+    ghost reading = { λ _. (nullify_format (format_of ⟦<S::Signature as Read>⟧)).reading };
 
     ghost takes_memory = { false };
 

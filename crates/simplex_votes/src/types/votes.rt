@@ -1,7 +1,7 @@
 //! The votes of the protocol.
 
 ghost use Rattle.std.specs.Prelude.{◌≡◌, ⊤, ◌+◌, ℕ, false, true, Ok, None, Some, IfOk, MatchOption};
-ghost use Rattle.simplex_base.specs.Format.{fixed};
+ghost use Rattle.simplex_base.specs.Readable.{format_of};
 ghost use Rattle.simplex_base.specs.FormatLaws.{fixed_lawful};
 ghost use Rattle.simplex_scheme.specs.Subject.{Notarizes};
 
@@ -125,9 +125,9 @@ impl<S: SchemeTypes, D: Digest> Viewable for Notarize<S, D> {
 impl<S: SchemeTypes, D: Digest> Spell for Notarize<S, D> {
     ghost use Rattle.simplex_votes.specs.Spellings.{notarize_format};
 
-    ghost is_value = { (notarize_format (fixed D.SIZE D.bytes_of D.of_bytes) (fixed S.Signature.SIZE S.Signature.bytes_of S.Signature.of_bytes)).is_value };
+    ghost is_value = { (notarize_format (format_of ⟦<D as Read>⟧) (format_of ⟦<S::Signature as Read>⟧)).is_value };
 
-    ghost spelling = { (notarize_format (fixed D.SIZE D.bytes_of D.of_bytes) (fixed S.Signature.SIZE S.Signature.bytes_of S.Signature.of_bytes)).spelling };
+    ghost spelling = { (notarize_format (format_of ⟦<D as Read>⟧) (format_of ⟦<S::Signature as Read>⟧)).spelling };
 }
 
 impl<S: SchemeTypes, D: Digest> Write for Notarize<S, D> {
@@ -154,9 +154,9 @@ impl<S: SchemeTypes, D: Digest> MaxEncodeSize for Notarize<S, D> {
         Proposal::<D>::max_encode_size() + Attestation::<S>::max_encode_size()
     }
 
-    ghost within = { notarize_within (fixed D.SIZE D.bytes_of D.of_bytes) (fixed S.Signature.SIZE S.Signature.bytes_of S.Signature.of_bytes) D.SIZE S.Signature.SIZE (fixed_within D.SIZE D.bytes_of D.of_bytes) (fixed_within S.Signature.SIZE S.Signature.bytes_of S.Signature.of_bytes) };
+    ghost within = { notarize_within (format_of ⟦<D as Read>⟧) (format_of ⟦<S::Signature as Read>⟧) D.SIZE S.Signature.SIZE (fixed_within D.SIZE D.bytes_of D.of_bytes) (fixed_within S.Signature.SIZE S.Signature.bytes_of S.Signature.of_bytes) };
 
-    ghost reached = { notarize_longest (fixed D.SIZE D.bytes_of D.of_bytes) (fixed S.Signature.SIZE S.Signature.bytes_of S.Signature.of_bytes) D.SIZE S.Signature.SIZE (fixed_longest D.SIZE D.bytes_of D.of_bytes D.back) (fixed_longest S.Signature.SIZE S.Signature.bytes_of S.Signature.of_bytes S.Signature.back) };
+    ghost reached = { notarize_longest (format_of ⟦<D as Read>⟧) (format_of ⟦<S::Signature as Read>⟧) D.SIZE S.Signature.SIZE (fixed_longest D.SIZE D.bytes_of D.of_bytes D.back) (fixed_longest S.Signature.SIZE S.Signature.bytes_of S.Signature.of_bytes S.Signature.back) };
 }
 
 impl<S: SchemeTypes, D: Digest> Read for Notarize<S, D> {
@@ -164,9 +164,9 @@ impl<S: SchemeTypes, D: Digest> Read for Notarize<S, D> {
 
     type Cfg = ();
 
-    ghost fits = { λ _. (notarize_format (fixed D.SIZE D.bytes_of D.of_bytes) (fixed S.Signature.SIZE S.Signature.bytes_of S.Signature.of_bytes)).is_value };
+    ghost fits = { λ _. (notarize_format (format_of ⟦<D as Read>⟧) (format_of ⟦<S::Signature as Read>⟧)).is_value };
 
-    ghost reading = { λ _. (notarize_format (fixed D.SIZE D.bytes_of D.of_bytes) (fixed S.Signature.SIZE S.Signature.bytes_of S.Signature.of_bytes)).reading };
+    ghost reading = { λ _. (notarize_format (format_of ⟦<D as Read>⟧) (format_of ⟦<S::Signature as Read>⟧)).reading };
 
     ghost takes_memory = { false };
 

@@ -1,6 +1,5 @@
 use Rattle.std.proofs.Common.{ℕ, subst}
 use Rattle.simplex_base.specs.Format.{Format, fixed}
-use Rattle.simplex_votes.specs.Spellings.{format_of}
 use Rattle.simplex_evidence.specs.Activity.{activity_format, votes_in}
 use Rattle.simplex_evidence.specs.declared.types.activities.Activity.{Activity}
 use Rattle.simplex_audit.specs.Audited.{audited}
@@ -12,7 +11,7 @@ use Rattle.simplex_audit.proofs.audit.audit_stream.Goals as goal
 
 -- the format of messages under a bound
 abbrev format : (g : given.Over) → ℕ → Format (Activity g.row.S.Denot g.row.D.Denot g.row.S-Certificate.Denot g.row.S-PublicKey.Denot g.row.S-Signature.Denot)
-format g bound = audited (activity_format g.D.PartialEq.eq (fixed g.D.FixedSize.SIZE g.D.Fixed.bytes_of g.D.Fixed.of_bytes) (format_of (g.S.Certificate.Read.fits bound) g.S.Certificate.Spell.spelling (g.S.Certificate.Read.reading bound)) (fixed g.S.Signature.FixedSize.SIZE g.S.Signature.Fixed.bytes_of g.S.Signature.Fixed.of_bytes))
+format g bound = audited (activity_format g.D.PartialEq.eq (fixed g.D.FixedSize.SIZE g.D.Fixed.bytes_of g.D.Fixed.of_bytes) (record { is_value = g.S.Certificate.Read.fits bound; spelling = g.S.Certificate.Spell.spelling; reading = g.S.Certificate.Read.reading bound }) (fixed g.S.Signature.FixedSize.SIZE g.S.Signature.Fixed.bytes_of g.S.Signature.Fixed.of_bytes))
 
 -- what was read, and the evidence in what was kept of it
 pub returns : goal.returns

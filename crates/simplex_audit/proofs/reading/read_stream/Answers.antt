@@ -5,7 +5,6 @@ use Rattle.simplex_base.specs.declared.codec.error.Error.TheVariants as errors
 use Rattle.simplex_base.specs.Reading.{Refusal, Fails}
 use Rattle.simplex_base.specs.Format.{Format, fixed, IsLawful}
 use Rattle.simplex_base.specs.FormatLaws.{fixed_lawful}
-use Rattle.simplex_votes.specs.Spellings.{format_of}
 use Rattle.simplex_evidence.specs.Activity.{activity_format, votes_in}
 use Rattle.simplex_evidence.specs.declared.types.activities.Activity.{Activity}
 use Rattle.simplex_audit.specs.Memory.{Holds}
@@ -18,7 +17,7 @@ use Rattle.simplex_audit.proofs.reading.read_stream.Goals as goal
 
 -- the format of messages under a bound
 abbrev format : (g : given.Over) → ℕ → Format (Activity g.row.S.Denot g.row.D.Denot g.row.S-Certificate.Denot g.row.S-PublicKey.Denot g.row.S-Signature.Denot)
-format g bound = audited (activity_format g.D.PartialEq.eq (fixed g.D.FixedSize.SIZE g.D.Fixed.bytes_of g.D.Fixed.of_bytes) (format_of (g.S.Certificate.Read.fits bound) g.S.Certificate.Spell.spelling (g.S.Certificate.Read.reading bound)) (fixed g.S.Signature.FixedSize.SIZE g.S.Signature.Fixed.bytes_of g.S.Signature.Fixed.of_bytes))
+format g bound = audited (activity_format g.D.PartialEq.eq (fixed g.D.FixedSize.SIZE g.D.Fixed.bytes_of g.D.Fixed.of_bytes) (record { is_value = g.S.Certificate.Read.fits bound; spelling = g.S.Certificate.Spell.spelling; reading = g.S.Certificate.Read.reading bound }) (fixed g.S.Signature.FixedSize.SIZE g.S.Signature.Fixed.bytes_of g.S.Signature.Fixed.of_bytes))
 
 -- it is lawful
 law : (g : given.Over) (bound : ℕ) → IsLawful (format g bound)
