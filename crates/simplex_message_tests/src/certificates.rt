@@ -1,11 +1,10 @@
 //! Certificates made of votes: notarizations, nullifications and finalizations.
 
-use simplex_base::codec::Fixed;
-use simplex_base::positions::{Epoch, Epochable, Participant, Round, View, Viewable};
-use simplex_scheme::listed::Listed;
-use simplex_scheme::marked::{Marked, MarkedDigest, MarkedSignature};
-use simplex_scheme::proposal::Proposal;
-use simplex_scheme::scheme::{AssemblyError, Attestation, Digest, Listing};
+use crate::reading::read;
+use simplex_base::codec::Read;
+use simplex_base::positions::{Epoch, Epochable, View, Viewable};
+use simplex_scheme::marked::{Marked, MarkedDigest};
+use simplex_scheme::scheme::{AssemblyError, Digest, Listing};
 use simplex_votes::types::{
     Certificate, Finalization, Finalize, Kind, Notarization, Notarize, Nullification, Nullify,
 };
@@ -15,83 +14,37 @@ use std::test::Fail;
 
 const KINDS: [Kind; 3] = [Kind::Notarization, Kind::Nullification, Kind::Finalization];
 
-/// The view 10 of an epoch.
-fn round(epoch: u64) -> Round {
-    Round::new(Epoch::new(epoch), View::new(10))
-}
+/// What a vote to nullify holds besides its epoch and attestation.
+const VIEW: &str = "0a";
 
-/// A proposal for the view 10 of an epoch, on top of view 5.
-fn proposal<D: Digest>(epoch: u64, payload: D) -> Proposal<D> {
-    Proposal::new(round(epoch), View::new(5), payload)
-}
+/// What other votes hold besides these: a view, a parent and a payload.
+const PROPOSED: &str = "0a0506";
 
-/// A vote of the marked scheme on view 10: its epoch, its signer and its signature.
+/// A vote of the marked scheme on view 10: its epoch, its signer, and whether its signature is good.
 #[derive(Clone, Copy)]
-struct Cast(u64, u32, u8);
+struct Cast(u64, u32, bool);
 
-impl Cast {
-    fn attestation(self) -> Attestation<Marked> {
-        Attestation {
-            signer: Participant::new(self.1),
-            signature: MarkedSignature::from_bytes(&[self.2]),
-        }
+/// Good votes of epoch 0 by these participants.
+fn good(alloc: Global, signers: &[u32]) -> Result<Vec<Cast>, AllocError> {
+    let mut casts = Vec::new(alloc);
+    for signer in signers {
+        casts.push(Cast(0, *signer, true))?;
     }
-
-    fn proposal(self) -> Proposal<MarkedDigest> {
-        proposal(self.0, MarkedDigest::from_bytes(&[6]))
-    }
-
-    fn notarize(self) -> Notarize<Marked, MarkedDigest> {
-        Notarize {
-            proposal: self.proposal(),
-            attestation: self.attestation(),
-        }
-    }
-
-    fn nullify(self) -> Nullify<Marked> {
-        Nullify {
-            round: round(self.0),
-            attestation: self.attestation(),
-        }
-    }
-
-    fn finalize(self) -> Finalize<Marked, MarkedDigest> {
-        Finalize {
-            proposal: self.proposal(),
-            attestation: self.attestation(),
-        }
-    }
+    Ok(casts)
 }
 
-/// Notarizes of these.
-fn notarizes(
+/// These votes, of one kind.
+fn votes<V: Read<Cfg = ()> + Drop>(
+    rt: &impl Abort,
     alloc: Global,
+    subject: &str,
     casts: &[Cast],
-) -> Result<Vec<Notarize<Marked, MarkedDigest>>, AllocError> {
+) -> Result<Vec<V>, Fail> {
     let mut votes = Vec::new(alloc);
-    for cast in casts {
-        votes.push(cast.notarize())?;
-    }
-    Ok(votes)
-}
-
-/// Nullifies of these.
-fn nullifies(alloc: Global, casts: &[Cast]) -> Result<Vec<Nullify<Marked>>, AllocError> {
-    let mut votes = Vec::new(alloc);
-    for cast in casts {
-        votes.push(cast.nullify())?;
-    }
-    Ok(votes)
-}
-
-/// Finalizes of these.
-fn finalizes(
-    alloc: Global,
-    casts: &[Cast],
-) -> Result<Vec<Finalize<Marked, MarkedDigest>>, AllocError> {
-    let mut votes = Vec::new(alloc);
-    for cast in casts {
-        votes.push(cast.finalize())?;
+    for Cast(epoch, signer, is_good) in casts {
+        let signature = if *is_good { "aa" } else { "00" };
+        let spelling = format!(in alloc; "0{epoch} {subject} 0{signer} {signature}")?;
+        votes.push(read(rt, alloc, &(), spelling.as_str())?)?;
     }
     Ok(votes)
 }
@@ -138,89 +91,108 @@ pub(crate) fn finalization<S: Listing<D>, D: Digest>(
     lent
 }
 
-/// The certificate of this kind that votes make.
-fn assembled(
+/// The certificate message that votes make, or their refusal.
+type Assembled<S, D> = Result<Certificate<S, D>, AssemblyError>;
+
+fn notarized<S: Listing<D>, D: Digest>(
     rt: &impl Abort,
     alloc: Global,
-    scheme: &Marked,
+    scheme: &S,
+    casts: &[Cast],
+) -> Result<Assembled<S, D>, Fail> {
+    let votes = votes(rt, alloc, PROPOSED, casts)?;
+    Ok(notarization(rt, alloc, scheme, votes).map(|made| Certificate::Notarization(made)))
+}
+
+fn nullified<S: Listing<D>, D: Digest + 'static>(
+    rt: &impl Abort,
+    alloc: Global,
+    scheme: &S,
+    casts: &[Cast],
+) -> Result<Assembled<S, D>, Fail> {
+    let votes = votes(rt, alloc, VIEW, casts)?;
+    let made = nullification::<S, D>(rt, alloc, scheme, votes);
+    Ok(made.map(|made| Certificate::Nullification(made)))
+}
+
+fn finalized<S: Listing<D>, D: Digest>(
+    rt: &impl Abort,
+    alloc: Global,
+    scheme: &S,
+    casts: &[Cast],
+) -> Result<Assembled<S, D>, Fail> {
+    let votes = votes(rt, alloc, PROPOSED, casts)?;
+    Ok(finalization(rt, alloc, scheme, votes).map(|made| Certificate::Finalization(made)))
+}
+
+/// The certificate message of this kind that votes make.
+fn assembled<S: Listing<D>, D: Digest + 'static>(
+    rt: &impl Abort,
+    alloc: Global,
+    scheme: &S,
     kind: Kind,
     casts: &[Cast],
-) -> Result<Result<Certificate<Marked, MarkedDigest>, AssemblyError>, AllocError> {
+) -> Result<Assembled<S, D>, Fail> {
+    match kind {
+        Kind::Notarization => notarized(rt, alloc, scheme, casts),
+        Kind::Nullification => nullified(rt, alloc, scheme, casts),
+        Kind::Finalization => finalized(rt, alloc, scheme, casts),
+    }
+}
+
+/// Whether votes can make a certificate message of this kind.
+fn can_assemble<S: Listing<D>, D: Digest + 'static>(
+    rt: &impl Abort,
+    alloc: Global,
+    scheme: &S,
+    kind: Kind,
+    casts: &[Cast],
+) -> Result<bool, Fail> {
     Ok(match kind {
         Kind::Notarization => {
-            match notarization(rt, alloc, scheme, notarizes(alloc, casts)?) {
-                Ok(made) => Ok(Certificate::Notarization(made)),
-                Err(error) => Err(error),
-            }
+            let votes = votes::<Notarize<S, D>>(rt, alloc, PROPOSED, casts)?;
+            Notarization::can_assemble(scheme, votes.as_slice())
         }
         Kind::Nullification => {
-            match nullification::<Marked, MarkedDigest>(
-                rt,
-                alloc,
-                scheme,
-                nullifies(alloc, casts)?,
-            ) {
-                Ok(made) => Ok(Certificate::Nullification(made)),
-                Err(error) => Err(error),
-            }
+            let votes = votes::<Nullify<S>>(rt, alloc, VIEW, casts)?;
+            Nullification::can_assemble::<D>(scheme, votes.as_slice())
         }
         Kind::Finalization => {
-            match finalization(rt, alloc, scheme, finalizes(alloc, casts)?) {
-                Ok(made) => Ok(Certificate::Finalization(made)),
-                Err(error) => Err(error),
-            }
+            let votes = votes::<Finalize<S, D>>(rt, alloc, PROPOSED, casts)?;
+            Finalization::can_assemble(scheme, votes.as_slice())
         }
     })
 }
 
-/// Whether votes can make a certificate of this kind.
-fn can_assemble(
+/// So many votes of each kind are fewer than a quorum of five.
+fn check_few<S: Listing<D>, D: Digest + 'static>(
+    rt: &impl Abort,
     alloc: Global,
-    scheme: &Marked,
-    kind: Kind,
-    casts: &[Cast],
-) -> Result<bool, AllocError> {
-    Ok(match kind {
-        Kind::Notarization => {
-            Notarization::can_assemble(scheme, notarizes(alloc, casts)?.as_slice())
-        }
-        Kind::Nullification => Nullification::can_assemble::<MarkedDigest>(
-            scheme,
-            nullifies(alloc, casts)?.as_slice(),
-        ),
-        Kind::Finalization => {
-            Finalization::can_assemble(scheme, finalizes(alloc, casts)?.as_slice())
-        }
-    })
-}
-
-/// Good votes of epoch 0 by these participants.
-fn good(alloc: Global, signers: &[u32]) -> Result<Vec<Cast>, AllocError> {
-    let mut casts = Vec::new(alloc);
-    for signer in signers {
-        casts.push(Cast(0, *signer, 0xaa))?;
+    scheme: &S,
+    signers: &[u32],
+    count: u32,
+) -> Result<(), Fail> {
+    let refused = AssemblyError::InsufficientAttestations(4, count);
+    let casts = good(alloc, signers)?;
+    for kind in KINDS {
+        let made = assembled::<S, D>(rt, alloc, scheme, kind, casts.as_slice())?;
+        assert!(rt; made.err() == Some(refused), "{kind} {count}");
     }
-    Ok(casts)
+    Ok(())
 }
 
 #[test]
 fn fewer_than_a_quorum_are_refused(rt: HostRuntime) -> Result<(), Fail> {
-    let alloc = rt.alloc();
-    let scheme = Marked::new(alloc, 5, None)?;
+    let scheme = Marked::new(rt.alloc(), 5, None)?;
     let rows: [(&[u32], u32); 3] = [(&[2], 1), (&[4, 0], 2), (&[0, 1, 2], 3)];
-    for kind in KINDS {
-        for (signers, count) in rows {
-            let casts = good(alloc, signers)?;
-            let refused = AssemblyError::InsufficientAttestations(4, count);
-            let made = assembled(&rt, alloc, &scheme, kind, casts.as_slice())?;
-            assert!(rt; made == Err(refused), "{kind} {count}");
-        }
+    for (signers, count) in rows {
+        check_few::<Marked, MarkedDigest>(&rt, rt.alloc(), &scheme, signers, count)?;
     }
     Ok(())
 }
 
 /// What a certificate message lists.
-fn listed(message: &Certificate<Marked, MarkedDigest>) -> &Listed<Marked> {
+fn listed<S: Listing<D>, D: Digest>(message: &Certificate<S, D>) -> &S::Certificate {
     match message {
         Certificate::Notarization(message) => &message.certificate,
         Certificate::Nullification(message) => &message.certificate,
@@ -228,53 +200,74 @@ fn listed(message: &Certificate<Marked, MarkedDigest>) -> &Listed<Marked> {
     }
 }
 
-/// A certificate message of view 10 of epoch 0 lists these signers ascending, and verifies.
-fn lists(
+/// Votes of each kind by these signers make a message of view 10 of epoch 0 that verifies and lists them ascending.
+fn check_quorum<S: Listing<D>, D: Digest + 'static>(
     rt: &impl Abort,
-    scheme: &Marked,
-    message: &Certificate<Marked, MarkedDigest>,
+    alloc: Global,
+    scheme: &S,
     signers: &[u32],
-) {
-    assert!(rt; message.verify(scheme));
-    assert!(rt; message.epoch() == Epoch::new(0) && message.view() == View::new(10));
-    let attestations = <Marked as Listing<MarkedDigest>>::attestations(listed(message));
-    assert_eq!(rt; attestations.len(), signers.len());
-    let mut above = 0;
-    for attestation in attestations {
-        let signer = attestation.signer.get();
-        assert!(rt; above <= signer && signers.contains(&signer));
-        above = signer.saturating_add(1);
-    }
-}
-
-#[test]
-fn a_quorum_is_listed_by_signer(rt: HostRuntime) -> Result<(), Fail> {
-    let alloc = rt.alloc();
-    let scheme = Marked::new(alloc, 5, None)?;
-    let rows: [&[u32]; 3] = [&[0, 1, 2, 3], &[4, 3, 2, 1, 0], &[3, 0, 4, 1]];
+) -> Result<(), Fail> {
+    let casts = good(alloc, signers)?;
     for kind in KINDS {
-        for signers in rows {
-            let casts = good(alloc, signers)?;
-            let Ok(message) = assembled(&rt, alloc, &scheme, kind, casts.as_slice())? else {
-                return Err("a quorum was refused".into());
-            };
-            assert_eq!(rt; message.kind(), kind);
-            lists(&rt, &scheme, &message, signers);
+        let Ok(message) = assembled::<S, D>(rt, alloc, scheme, kind, casts.as_slice())? else {
+            return Err("a quorum was refused".into());
+        };
+        assert_eq!(rt; message.kind(), kind);
+        assert!(rt; message.verify(scheme));
+        assert!(rt; message.epoch() == Epoch::new(0) && message.view() == View::new(10));
+        let attestations = S::attestations(listed(&message));
+        assert_eq!(rt; attestations.len(), signers.len());
+        assert!(rt; attestations.is_sorted_by(|one, other| one.signer < other.signer));
+        for attestation in attestations {
+            assert!(rt; signers.contains(&attestation.signer.get()));
         }
     }
     Ok(())
 }
 
 #[test]
-fn bad_votes_make_no_certified_message(rt: HostRuntime) -> Result<(), Fail> {
-    let alloc = rt.alloc();
-    let scheme = Marked::new(alloc, 4, None)?;
+fn a_quorum_is_listed_by_signer(rt: HostRuntime) -> Result<(), Fail> {
+    let scheme = Marked::new(rt.alloc(), 5, None)?;
+    let rows: [&[u32]; 3] = [&[0, 1, 2, 3], &[4, 3, 2, 1, 0], &[3, 0, 4, 1]];
+    for signers in rows {
+        check_quorum::<Marked, MarkedDigest>(&rt, rt.alloc(), &scheme, signers)?;
+    }
+    Ok(())
+}
+
+/// Votes of each kind of which one is bad make a message that does not verify.
+fn check_bad<S: Listing<D>, D: Digest + 'static>(
+    rt: &impl Abort,
+    alloc: Global,
+    scheme: &S,
+) -> Result<(), Fail> {
+    let casts = [Cast(0, 0, true), Cast(0, 1, false), Cast(0, 2, true)];
     for kind in KINDS {
-        let casts = [Cast(0, 0, 0xaa), Cast(0, 1, 0), Cast(0, 2, 0xaa)];
-        let Ok(message) = assembled(&rt, alloc, &scheme, kind, &casts)? else {
+        let Ok(message) = assembled::<S, D>(rt, alloc, scheme, kind, &casts)? else {
             return Err("a quorum was refused".into());
         };
-        assert!(rt; !message.verify(&scheme), "{kind}");
+        assert!(rt; !message.verify(scheme), "{kind}");
+    }
+    Ok(())
+}
+
+#[test]
+fn bad_votes_make_no_certified_message(rt: HostRuntime) -> Result<(), Fail> {
+    let scheme = Marked::new(rt.alloc(), 4, None)?;
+    check_bad::<Marked, MarkedDigest>(&rt, rt.alloc(), &scheme)
+}
+
+/// Whether votes stand together, whatever their kind.
+fn check_together<S: Listing<D>, D: Digest + 'static>(
+    rt: &impl Abort,
+    alloc: Global,
+    scheme: &S,
+    casts: &[Cast],
+    wanted: bool,
+) -> Result<(), Fail> {
+    for kind in KINDS {
+        let found = can_assemble::<S, D>(rt, alloc, scheme, kind, casts)?;
+        assert_eq!(rt; found, wanted, "{kind}");
     }
     Ok(())
 }
@@ -293,38 +286,35 @@ fn not_all_votes_stand_together(rt: HostRuntime) -> Result<(), Fail> {
         // The last is of another round.
         ([0, 1, 2, 3], 1, false),
     ];
-    for kind in KINDS {
-        for ([first, second, third, fourth], epoch, wanted) in rows {
-            let casts = [
-                Cast(0, first, 0xaa),
-                Cast(0, second, 0),
-                Cast(0, third, 0xaa),
-                Cast(epoch, fourth, 0xaa),
-            ];
-            assert_eq!(rt;
-                can_assemble(alloc, &scheme, kind, &casts)?,
-                wanted,
-                "{kind}"
-            );
-        }
-        assert!(rt; !can_assemble(alloc, &scheme, kind, &[])?, "{kind}");
+    for ([first, second, third, fourth], epoch, wanted) in rows {
+        let casts = [
+            Cast(0, first, true),
+            Cast(0, second, false),
+            Cast(0, third, true),
+            Cast(epoch, fourth, true),
+        ];
+        check_together::<Marked, MarkedDigest>(&rt, alloc, &scheme, &casts, wanted)?;
     }
+    check_together::<Marked, MarkedDigest>(&rt, alloc, &scheme, &[], false)
+}
+
+/// Votes for two proposals, which differ in the payload or the parent.
+fn check_two_proposals<S: Listing<D>, D: Digest>(
+    rt: &impl Abort,
+    alloc: Global,
+    scheme: &S,
+) -> Result<(), Fail> {
+    let mut two = votes::<Notarize<S, D>>(rt, alloc, PROPOSED, &[Cast(0, 0, true)])?;
+    two.push(read(rt, alloc, &(), "000a0507 01aa")?)?;
+    assert!(rt; !Notarization::can_assemble(scheme, two.as_slice()));
+    let mut two = votes::<Finalize<S, D>>(rt, alloc, PROPOSED, &[Cast(0, 0, true)])?;
+    two.push(read(rt, alloc, &(), "000a0606 01aa")?)?;
+    assert!(rt; !Finalization::can_assemble(scheme, two.as_slice()));
     Ok(())
 }
 
 #[test]
 fn votes_for_two_proposals_do_not_stand_together(rt: HostRuntime) -> Result<(), Fail> {
-    let alloc = rt.alloc();
-    let scheme = Marked::new(alloc, 5, None)?;
-    let first = Cast(0, 0, 0xaa);
-    let second = Cast(0, 1, 0xaa);
-    let mut other = second.notarize();
-    other.proposal.payload = MarkedDigest::from_bytes(&[7]);
-    let votes = [first.notarize(), other];
-    assert!(rt; !Notarization::can_assemble(&scheme, &votes));
-    let mut other = second.finalize();
-    other.proposal.parent = View::new(6);
-    let votes = [first.finalize(), other];
-    assert!(rt; !Finalization::can_assemble(&scheme, &votes));
-    Ok(())
+    let scheme = Marked::new(rt.alloc(), 5, None)?;
+    check_two_proposals::<Marked, MarkedDigest>(&rt, rt.alloc(), &scheme)
 }

@@ -245,34 +245,45 @@ fn check_message<S: Listing<D>, D: Digest>(
     Ok(())
 }
 
-/// The messages of a committee without a certificate, that is, votes and evidence, have these sizes.
-fn check_messages_of_one<S: Listing<D>, D: Digest + 'static>(
+/// A member's votes have these sizes as messages.
+fn check_votes_as_messages<S: Listing<D>, D: Digest + 'static>(
     rt: &impl Abort,
     alloc: Global,
     committee: &Committee<S>,
-    payloads: [D; 2],
-    [vote, nullify_size, evidence, mixed]: [usize; 4],
+    payload: D,
+    [vote, nullify_size]: [usize; 2],
 ) -> Result<(), Fail> {
     let [home, ..] = &committee.quorum;
-    let [payload, _] = payloads;
     let message = Activity::Notarize(notarize(alloc, home, payload)?);
     check_message(rt, alloc, committee, &message, vote, false)?;
     let message = Activity::<S, D>::Nullify(nullify::<S, D>(alloc, home)?);
     check_message(rt, alloc, committee, &message, nullify_size, false)?;
     let message = Activity::Finalize(finalize(alloc, home, payload)?);
-    check_message(rt, alloc, committee, &message, vote, false)?;
+    check_message(rt, alloc, committee, &message, vote, false)
+}
+
+/// Evidence against a member has these sizes as a message.
+fn check_evidence_as_messages<S: Listing<D>, D: Digest + 'static>(
+    rt: &impl Abort,
+    alloc: Global,
+    committee: &Committee<S>,
+    payloads: [D; 2],
+    [evidence, mixed]: [usize; 2],
+) -> Result<(), Fail> {
+    let [home, ..] = &committee.quorum;
     let found = conflicting_notarize(rt, alloc, home, payloads)?;
     let message = Activity::ConflictingNotarize(found);
     check_message(rt, alloc, committee, &message, evidence, false)?;
     let found = conflicting_finalize(rt, alloc, home, payloads)?;
     let message = Activity::ConflictingFinalize(found);
     check_message(rt, alloc, committee, &message, evidence, false)?;
-    let message = Activity::NullifyFinalize(nullify_finalize(rt, alloc, home, payload)?);
+    let found = nullify_finalize(rt, alloc, home, payloads[0])?;
+    let message = Activity::NullifyFinalize(found);
     check_message(rt, alloc, committee, &message, mixed, false)
 }
 
-/// The messages of a committee with a certificate have these sizes.
-fn check_messages_of_a_quorum<S: Listing<D>, D: Digest + 'static>(
+/// A quorum's certificate messages have these sizes as messages.
+fn check_certificates_as_messages<S: Listing<D>, D: Digest + 'static>(
     rt: &impl Abort,
     alloc: Global,
     committee: &Committee<S>,
@@ -294,6 +305,7 @@ fn messages(rt: HostRuntime) -> Result<(), Fail> {
     let alloc = rt.alloc();
     let committee = Committee::plain(&rt, alloc)?;
     let payloads = [payload(6), payload(7)];
-    check_messages_of_one(&rt, alloc, &committee, payloads, [69, 36, 137, 104])?;
-    check_messages_of_a_quorum(&rt, alloc, &committee, payload(6), [136, 103])
+    check_votes_as_messages(&rt, alloc, &committee, payload(6), [69, 36])?;
+    check_evidence_as_messages(&rt, alloc, &committee, payloads, [137, 104])?;
+    check_certificates_as_messages(&rt, alloc, &committee, payload(6), [136, 103])
 }

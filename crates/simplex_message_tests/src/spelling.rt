@@ -1,5 +1,6 @@
 //! Positions, proposals, votes and certificate messages, and their bytes.
 
+use crate::committee::{payload, proposal, round};
 use crate::reading::{is_spelled, read, spelled};
 use simplex_base::codec::{Fixed, MaxEncodeSize};
 use simplex_base::positions::{Epoch, Epochable, Participant, Round, View, Viewable};
@@ -44,11 +45,8 @@ fn positions_are_numbers(rt: HostRuntime) -> Result<(), Fail> {
 #[test]
 fn proposals_are_round_parent_and_payload(rt: HostRuntime) -> Result<(), Fail> {
     let alloc = rt.alloc();
-    let round = Round::new(Epoch::new(0), View::new(10));
-    let payload = Sha256Digest::from_bytes(&[1; 32]);
     let spelling = "000a05 0101010101010101 0101010101010101 0101010101010101 0101010101010101";
-    let proposal = Proposal::new(round, View::new(5), payload);
-    is_spelled(&rt, alloc, &proposal, &(), spelling)?;
+    is_spelled(&rt, alloc, &proposal(payload(1)), &(), spelling)?;
     let far = Proposal::new(far_round(), View::new(128), MarkedDigest::from_bytes(&[6]));
     is_spelled(&rt, alloc, &far, &(), "cd020a 8001 06")
 }
@@ -56,9 +54,9 @@ fn proposals_are_round_parent_and_payload(rt: HostRuntime) -> Result<(), Fail> {
 #[test]
 fn contexts_are_round_leader_and_parent(rt: HostRuntime) -> Result<(), Fail> {
     let context = Context {
-        round: Round::new(Epoch::new(0), View::new(10)),
+        round: round(),
         leader: PlainKey::from_bytes(&[1; 32]),
-        parent: (View::new(5), Sha256Digest::from_bytes(&[2; 32])),
+        parent: (View::new(5), payload(2)),
     };
     assert!(rt; is_placed(&context));
     let spelling = "000a 0101010101010101 0101010101010101 0101010101010101 0101010101010101 \
