@@ -1,8 +1,8 @@
 //! Many certificates verified at once.
 
-use crate::committee::{Committee, notarization, payload, proposal};
-use crate::reading::read;
-use simplex_base::codec::Fixed;
+use crate::committee::{Committee, notarization, notarize, payload, proposal};
+use crate::reading::{bytes, read};
+use simplex_base::codec::{Fixed, Write, decode_cfg};
 use simplex_evidence::types::verify_certificates;
 use simplex_scheme::hash::Sha256Digest;
 use simplex_scheme::listed::Listed;
@@ -110,14 +110,25 @@ fn bad_marked_certificates_stand_among_good_ones(rt: HostRuntime) -> Result<(), 
     Ok(())
 }
 
-/// A certificate certifies its own proposal, and no other.
+/// The notarization certificate of payload 6 by a quorum, the last of whom signs payload 7.
+fn spoilt_listed(alloc: Global, committee: &Committee<Plain>) -> Result<Listed<Plain>, Fail> {
+    let [one, two, last] = &committee.quorum;
+    let mut spelling = bytes(alloc, "03")?;
+    for (member, byte) in [(one, 6), (two, 6), (last, 7)] {
+        let vote = notarize(alloc, member, payload(byte))?;
+        vote.attestation.write(&mut spelling)?;
+    }
+    Ok(decode_cfg(alloc, spelling.as_slice(), &4)?)
+}
+
+/// The bad one has one bad signature of three.
 #[test]
 fn a_bad_plain_certificate_is_found_at_each_place(rt: HostRuntime) -> Result<(), Fail> {
     let alloc = rt.alloc();
     let committee = Committee::plain(&rt, alloc)?;
     let [scheme, ..] = &committee.quorum;
     let good = notarization(&rt, alloc, &committee, payload(6))?.certificate;
-    let bad = notarization(&rt, alloc, &committee, payload(7))?.certificate;
+    let bad = spoilt_listed(alloc, &committee)?;
     let proposal = proposal(payload(6));
     for (count, spoilt) in lists(alloc)? {
         let answers = plain_answers(alloc, scheme, &proposal, &good, &bad, (count, spoilt))?;
@@ -127,5 +138,26 @@ fn a_bad_plain_certificate_is_found_at_each_place(rt: HostRuntime) -> Result<(),
             "{count} {spoilt}"
         );
     }
+    Ok(())
+}
+
+/// A certificate certifies its own proposal, and no other.
+#[test]
+fn a_plain_certificate_has_its_own_subject(rt: HostRuntime) -> Result<(), Fail> {
+    let alloc = rt.alloc();
+    let committee = Committee::plain(&rt, alloc)?;
+    let [scheme, ..] = &committee.quorum;
+    let own = notarization(&rt, alloc, &committee, payload(6))?.certificate;
+    let other = notarization(&rt, alloc, &committee, payload(7))?.certificate;
+    let proposal = proposal(payload(7));
+    let items = [&own, &other, &other, &own].map(|certificate| {
+        let subject = Subject::Notarize {
+            proposal: &proposal,
+        };
+        (subject, certificate)
+    });
+    let answers = verify_certificates(alloc, scheme, &items)?;
+    let wanted = [false, true, true, false];
+    assert_eq!(rt; answers.as_slice(), wanted.as_slice());
     Ok(())
 }

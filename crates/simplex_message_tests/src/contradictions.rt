@@ -4,7 +4,7 @@ use crate::committee::{Committee, finalize, notarize, nullify, payload};
 use crate::reading::{is_refused, read, spelled};
 use simplex_base::codec::error::Error;
 use simplex_base::codec::{Write, decode};
-use simplex_base::positions::{Epochable, Round, Viewable};
+use simplex_base::positions::{Epoch, Epochable, Participant, Round, View, Viewable};
 use simplex_evidence::types::{ConflictingFinalize, ConflictingNotarize, NullifyFinalize};
 use simplex_scheme::marked::{Marked, MarkedDigest};
 use simplex_scheme::scheme::{Digest, Scheme};
@@ -28,56 +28,60 @@ const NULLIFY_FINALIZE: Error = Error::Invalid(
     "mismatched signatures",
 );
 
-/// A vote, another, and whether they contradict.
-type Row = (&'static str, &'static str, bool);
+/// An epoch, a view of it and a signer.
+type Place = (u64, u64, u32);
+
+/// A vote, another, and the place at which they contradict, if they do.
+type Row = (&'static str, &'static str, Option<Place>);
 
 /// Votes with a proposal: at one round and by one signer they contradict, where the proposals differ. The signatures
 /// do not matter.
 const PROPOSED: [Row; 8] = [
-    ("020a0506 03aa", "020a0507 03aa", true),
-    ("000a0506 01aa", "000a0606 01aa", true),
-    ("000a0506 0100", "000a0507 01aa", true),
-    ("000a0506 01aa", "000a0506 01aa", false),
-    ("000a0506 01aa", "000a0506 0100", false),
-    ("000a0506 01aa", "000a0507 02aa", false),
-    ("000a0506 01aa", "000b0507 01aa", false),
-    ("000a0506 01aa", "010a0507 01aa", false),
+    ("020a0506 03aa", "020a0507 03aa", Some((2, 10, 3))),
+    ("000a0506 01aa", "000a0606 01aa", Some((0, 10, 1))),
+    ("000a0506 0100", "000a0507 01aa", Some((0, 10, 1))),
+    ("000a0506 01aa", "000a0506 01aa", None),
+    ("000a0506 01aa", "000a0506 0100", None),
+    ("000a0506 01aa", "000a0507 02aa", None),
+    ("000a0506 01aa", "000b0507 01aa", None),
+    ("000a0506 01aa", "010a0507 01aa", None),
 ];
 
-/// The evidence is of the vote's round and signer.
-fn is_placed<E: Epochable + Viewable + Attributable, V: Epochable + Viewable + Attributable>(
+/// The evidence is of this place.
+fn is_placed<E: Epochable + Viewable + Attributable>(
     evidence: &E,
     round: Round,
-    vote: &V,
+    (epoch, view, signer): Place,
 ) -> bool {
-    evidence.epoch() == vote.epoch()
-        && evidence.view() == vote.view()
-        && evidence.signer() == vote.signer()
-        && round == Round::new(vote.epoch(), vote.view())
+    let (epoch, view) = (Epoch::new(epoch), View::new(view));
+    evidence.epoch() == epoch
+        && evidence.view() == view
+        && evidence.signer() == Participant::new(signer)
+        && round == Round::new(epoch, view)
 }
 
 /// Two notarizes contradict or not, and are evidence or not.
 fn check_notarizes<S: Scheme<D>, D: Digest>(
     rt: &impl Abort,
     alloc: Global,
-    (first, second, wanted): Row,
+    (first, second, place): Row,
 ) -> Result<(), Fail> {
     let both = format!(in alloc; "{first} {second}")?;
     let first = read::<Notarize<S, D>>(rt, alloc, &(), first)?;
     let second = read::<Notarize<S, D>>(rt, alloc, &(), second)?;
     let found = ConflictingNotarize::conflicts(&first, &second);
-    assert_eq!(rt; found, wanted, "{both}");
+    assert_eq!(rt; found, place.is_some(), "{both}");
     assert_eq!(rt;
         ConflictingNotarize::conflicts(&second, &first),
-        wanted,
+        found,
         "{both}"
     );
-    if !found {
+    let Some(place) = place else {
         let both = both.as_str();
         return is_refused::<ConflictingNotarize<S, D>>(rt, alloc, &(), both, NOTARIZES);
-    }
+    };
     let read = spelled::<ConflictingNotarize<S, D>>(rt, alloc, &(), both.as_str())?;
-    assert!(rt; is_placed(&read, read.round(), &first), "{both}");
+    assert!(rt; is_placed(&read, read.round(), place), "{both}");
     assert!(rt;
         *read.notarize_1() == first && *read.notarize_2() == second,
         "{both}"
@@ -98,24 +102,24 @@ fn notarizes_contradict_at_one_round_and_signer(rt: HostRuntime) -> Result<(), F
 fn check_finalizes<S: Scheme<D>, D: Digest>(
     rt: &impl Abort,
     alloc: Global,
-    (first, second, wanted): Row,
+    (first, second, place): Row,
 ) -> Result<(), Fail> {
     let both = format!(in alloc; "{first} {second}")?;
     let first = read::<Finalize<S, D>>(rt, alloc, &(), first)?;
     let second = read::<Finalize<S, D>>(rt, alloc, &(), second)?;
     let found = ConflictingFinalize::conflicts(&first, &second);
-    assert_eq!(rt; found, wanted, "{both}");
+    assert_eq!(rt; found, place.is_some(), "{both}");
     assert_eq!(rt;
         ConflictingFinalize::conflicts(&second, &first),
-        wanted,
+        found,
         "{both}"
     );
-    if !found {
+    let Some(place) = place else {
         let both = both.as_str();
         return is_refused::<ConflictingFinalize<S, D>>(rt, alloc, &(), both, FINALIZES);
-    }
+    };
     let read = spelled::<ConflictingFinalize<S, D>>(rt, alloc, &(), both.as_str())?;
-    assert!(rt; is_placed(&read, read.round(), &first), "{both}");
+    assert!(rt; is_placed(&read, read.round(), place), "{both}");
     assert!(rt;
         *read.finalize_1() == first && *read.finalize_2() == second,
         "{both}"
@@ -136,19 +140,19 @@ fn finalizes_contradict_at_one_round_and_signer(rt: HostRuntime) -> Result<(), F
 fn check_nullify_and_finalize<S: Scheme<D>, D: Digest>(
     rt: &impl Abort,
     alloc: Global,
-    (first, second, wanted): Row,
+    (first, second, place): Row,
 ) -> Result<(), Fail> {
     let both = format!(in alloc; "{first} {second}")?;
     let first = read::<Nullify<S>>(rt, alloc, &(), first)?;
     let second = read::<Finalize<S, D>>(rt, alloc, &(), second)?;
     let found = NullifyFinalize::conflicts(&first, &second);
-    assert_eq!(rt; found, wanted, "{both}");
-    if !found {
+    assert_eq!(rt; found, place.is_some(), "{both}");
+    let Some(place) = place else {
         let both = both.as_str();
         return is_refused::<NullifyFinalize<S, D>>(rt, alloc, &(), both, NULLIFY_FINALIZE);
-    }
+    };
     let read = spelled::<NullifyFinalize<S, D>>(rt, alloc, &(), both.as_str())?;
-    assert!(rt; is_placed(&read, read.round(), &first), "{both}");
+    assert!(rt; is_placed(&read, read.round(), place), "{both}");
     assert!(rt;
         *read.nullify() == first && *read.finalize() == second,
         "{both}"
@@ -162,11 +166,11 @@ fn a_nullify_and_a_finalize_contradict_at_one_round_and_signer(
     rt: HostRuntime,
 ) -> Result<(), Fail> {
     let rows = [
-        ("020a 03aa", "020a0506 03aa", true),
-        ("000a 0100", "000a0506 01aa", true),
-        ("000a 01aa", "000a0506 02aa", false),
-        ("000a 01aa", "000b0506 01aa", false),
-        ("000a 01aa", "010a0506 01aa", false),
+        ("020a 03aa", "020a0506 03aa", Some((2, 10, 3))),
+        ("000a 0100", "000a0506 01aa", Some((0, 10, 1))),
+        ("000a 01aa", "000a0506 02aa", None),
+        ("000a 01aa", "000b0506 01aa", None),
+        ("000a 01aa", "010a0506 01aa", None),
     ];
     for row in rows {
         check_nullify_and_finalize::<Marked, MarkedDigest>(&rt, rt.alloc(), row)?;
@@ -179,7 +183,7 @@ fn check_signatures<S: Scheme<D>, D: Digest>(
     rt: &impl Abort,
     alloc: Global,
     scheme: &S,
-    (one, other, wanted): Row,
+    (one, other, wanted): (&str, &str, bool),
 ) -> Result<(), Fail> {
     let both = format!(in alloc; "000a0506 {one} 000a0507 {other}")?;
     let notarizes = read::<ConflictingNotarize<S, D>>(rt, alloc, &(), both.as_str())?;

@@ -1,9 +1,8 @@
 //! Unions of votes, of certificate messages and of artifacts, and their bytes.
 
-use crate::committee::round;
 use crate::reading::{is_refused, is_spelled, spelled};
 use simplex_base::codec::error::Error;
-use simplex_base::positions::{Epoch, Epochable, Participant, View, Viewable};
+use simplex_base::positions::{Epoch, Epochable, Participant, Round, View, Viewable};
 use simplex_scheme::marked::{Marked, MarkedDigest};
 use simplex_scheme::scheme::{Digest, Scheme};
 use simplex_votes::types::{Artifact, Attributable, Certificate, Kind, Vote};
@@ -11,23 +10,25 @@ use std::alloc::Global;
 use std::process::Abort;
 use std::test::Fail;
 
-/// The message is of the round (0, 10).
+/// The message is of the round (1, 10).
 fn is_placed<T: Epochable + Viewable>(message: &T) -> bool {
-    message.epoch() == Epoch::new(0) && message.view() == View::new(10)
+    message.epoch() == Epoch::new(1) && message.view() == View::new(10)
 }
 
 /// Votes by participant 1, and the artifacts that they become.
 fn check_votes<S: Scheme<D>, D: Digest>(rt: &impl Abort, alloc: Global) -> Result<(), Fail> {
     let rows = [
-        ("00 000a0506 01aa", "00 000a0506 01aa"),
-        ("01 000a 01aa", "03 000a 01aa"),
-        ("02 000a0506 01aa", "05 000a0506 01aa"),
+        ("00 010a0506 01aa", "00 010a0506 01aa"),
+        ("01 010a 01aa", "03 010a 01aa"),
+        ("02 010a0506 01aa", "05 010a0506 01aa"),
     ];
     for (spelling, stored) in rows {
         let vote: Vote<S, D> = spelled(rt, alloc, &(), spelling)?;
         assert!(rt; is_placed(&vote), "{spelling}");
         assert_eq!(rt; vote.signer(), Participant::new(1), "{spelling}");
-        is_spelled(rt, alloc, &Artifact::from(vote), &4, stored)?;
+        let artifact = Artifact::from(vote);
+        assert!(rt; is_placed(&artifact), "{stored}");
+        is_spelled(rt, alloc, &artifact, &4, stored)?;
     }
     let unknown = Error::Invalid("consensus::simplex::Vote", "Invalid type");
     is_refused::<Vote<S, D>>(rt, alloc, &(), "03", unknown)
@@ -44,8 +45,8 @@ fn check_certificates<S: Scheme<D>, D: Digest>(
     alloc: Global,
     scheme: &S,
 ) -> Result<(), Fail> {
-    let (one, other) = ("000a0506 03 00aa01aa02aa", "000a0506 02 00aa01aa");
-    let (empty, bad) = ("000a 03 00aa01aa03aa", "000a 03 00aa010003aa");
+    let (one, other) = ("010a0506 03 00aa01aa02aa", "010a0506 02 00aa01aa");
+    let (empty, bad) = ("010a 03 00aa01aa03aa", "010a 03 00aa010003aa");
     let rows = [
         (0, 1, one, Kind::Notarization, true),
         (0, 1, other, Kind::Notarization, false),
@@ -60,7 +61,9 @@ fn check_certificates<S: Scheme<D>, D: Digest>(
         assert_eq!(rt; message.verify(scheme), verified, "{spelling}");
         assert!(rt; is_placed(&message), "{spelling}");
         let stored = format!(in alloc; "0{stored} {parts}")?;
-        is_spelled(rt, alloc, &Artifact::from(message), &4, stored.as_str())?;
+        let artifact = Artifact::from(message);
+        assert!(rt; is_placed(&artifact), "{stored}");
+        is_spelled(rt, alloc, &artifact, &4, stored.as_str())?;
     }
     Ok(())
 }
@@ -78,10 +81,10 @@ fn check_refusals<S: Scheme<D>, D: Digest>(rt: &impl Abort, alloc: Global) -> Re
     let signers = Error::Invalid("simplex_messages::Listed", "signers out of order or range");
     let rows = [
         ("03", unknown),
-        ("01 000a 00", count),
-        ("01 000a 05", count),
-        ("02 000a0506 02 01aa00aa", signers),
-        ("00 000a0506 01 04aa", signers),
+        ("01 010a 00", count),
+        ("01 010a 05", count),
+        ("02 010a0506 02 01aa00aa", signers),
+        ("00 010a0506 01 04aa", signers),
     ];
     for (spelling, error) in rows {
         is_refused::<Certificate<S, D>>(rt, alloc, &4, spelling, error)?;
@@ -111,16 +114,17 @@ fn kinds_print_as_words(rt: HostRuntime) -> Result<(), Fail> {
 
 /// What was certified or not, and what is no artifact.
 fn check_artifacts<S: Scheme<D>, D: Digest>(rt: &impl Abort, alloc: Global) -> Result<(), Fail> {
-    for (certified, spelling) in [(true, "02 000a 01"), (false, "02 000a 00")] {
+    let round = Round::new(Epoch::new(1), View::new(10));
+    for (certified, spelling) in [(true, "02 010a 01"), (false, "02 010a 00")] {
         let artifact: Artifact<S, D> = spelled(rt, alloc, &4, spelling)?;
         assert!(rt; is_placed(&artifact), "{spelling}");
         assert!(rt;
-            artifact == Artifact::Certification(round(), certified),
+            artifact == Artifact::Certification(round, certified),
             "{spelling}"
         );
     }
     let unknown = Error::Invalid("consensus::simplex::Artifact", "Invalid type");
-    for (spelling, error) in [("07", unknown), ("02 000a 02", Error::InvalidBool)] {
+    for (spelling, error) in [("07", unknown), ("02 010a 02", Error::InvalidBool)] {
         is_refused::<Artifact<S, D>>(rt, alloc, &4, spelling, error)?;
     }
     Ok(())
