@@ -10,24 +10,24 @@ use std::alloc::Global;
 use std::process::Abort;
 use std::test::Fail;
 
-/// The message is of the round (1, 10).
-fn is_placed<T: Epochable + Viewable>(message: &T) -> bool {
-    message.epoch() == Epoch::new(1) && message.view() == View::new(10)
+/// The message is of view 10 of this epoch.
+fn is_placed<T: Epochable + Viewable>(message: &T, epoch: u64) -> bool {
+    message.epoch() == Epoch::new(epoch) && message.view() == View::new(10)
 }
 
 /// Votes by participant 1, and the artifacts that they become.
 fn check_votes<S: Scheme<D>, D: Digest>(rt: &impl Abort, alloc: Global) -> Result<(), Fail> {
     let rows = [
-        ("00 010a0506 01aa", "00 010a0506 01aa"),
-        ("01 010a 01aa", "03 010a 01aa"),
-        ("02 010a0506 01aa", "05 010a0506 01aa"),
+        (1, "00 010a0506 01aa", "00 010a0506 01aa"),
+        (0, "01 000a 01aa", "03 000a 01aa"),
+        (2, "02 020a0506 01aa", "05 020a0506 01aa"),
     ];
-    for (spelling, stored) in rows {
+    for (epoch, spelling, stored) in rows {
         let vote: Vote<S, D> = spelled(rt, alloc, &(), spelling)?;
-        assert!(rt; is_placed(&vote), "{spelling}");
+        assert!(rt; is_placed(&vote, epoch), "{spelling}");
         assert_eq!(rt; vote.signer(), Participant::new(1), "{spelling}");
         let artifact = Artifact::from(vote);
-        assert!(rt; is_placed(&artifact), "{stored}");
+        assert!(rt; is_placed(&artifact, epoch), "{stored}");
         is_spelled(rt, alloc, &artifact, &4, stored)?;
     }
     let unknown = Error::Invalid("consensus::simplex::Vote", "Invalid type");
@@ -59,10 +59,10 @@ fn check_certificates<S: Scheme<D>, D: Digest>(
         let message: Certificate<S, D> = spelled(rt, alloc, &4, spelling.as_str())?;
         assert_eq!(rt; message.kind(), kind, "{spelling}");
         assert_eq!(rt; message.verify(scheme), verified, "{spelling}");
-        assert!(rt; is_placed(&message), "{spelling}");
+        assert!(rt; is_placed(&message, 1), "{spelling}");
         let stored = format!(in alloc; "0{stored} {parts}")?;
         let artifact = Artifact::from(message);
-        assert!(rt; is_placed(&artifact), "{stored}");
+        assert!(rt; is_placed(&artifact, 1), "{stored}");
         is_spelled(rt, alloc, &artifact, &4, stored.as_str())?;
     }
     Ok(())
@@ -81,10 +81,10 @@ fn check_refusals<S: Scheme<D>, D: Digest>(rt: &impl Abort, alloc: Global) -> Re
     let signers = Error::Invalid("simplex_messages::Listed", "signers out of order or range");
     let rows = [
         ("03", unknown),
-        ("01 010a 00", count),
-        ("01 010a 05", count),
-        ("02 010a0506 02 01aa00aa", signers),
-        ("00 010a0506 01 04aa", signers),
+        ("01 000a 00", count),
+        ("01 000a 05", count),
+        ("02 000a0506 02 01aa00aa", signers),
+        ("00 000a0506 01 04aa", signers),
     ];
     for (spelling, error) in rows {
         is_refused::<Certificate<S, D>>(rt, alloc, &4, spelling, error)?;
@@ -114,17 +114,17 @@ fn kinds_print_as_words(rt: HostRuntime) -> Result<(), Fail> {
 
 /// What was certified or not, and what is no artifact.
 fn check_artifacts<S: Scheme<D>, D: Digest>(rt: &impl Abort, alloc: Global) -> Result<(), Fail> {
-    let round = Round::new(Epoch::new(1), View::new(10));
-    for (certified, spelling) in [(true, "02 010a 01"), (false, "02 010a 00")] {
+    for (epoch, certified, spelling) in [(0, true, "02 000a 01"), (1, false, "02 010a 00")] {
         let artifact: Artifact<S, D> = spelled(rt, alloc, &4, spelling)?;
-        assert!(rt; is_placed(&artifact), "{spelling}");
+        let round = Round::new(Epoch::new(epoch), View::new(10));
+        assert!(rt; is_placed(&artifact, epoch), "{spelling}");
         assert!(rt;
             artifact == Artifact::Certification(round, certified),
             "{spelling}"
         );
     }
     let unknown = Error::Invalid("consensus::simplex::Artifact", "Invalid type");
-    for (spelling, error) in [("07", unknown), ("02 010a 02", Error::InvalidBool)] {
+    for (spelling, error) in [("07", unknown), ("02 000a 02", Error::InvalidBool)] {
         is_refused::<Artifact<S, D>>(rt, alloc, &4, spelling, error)?;
     }
     Ok(())
