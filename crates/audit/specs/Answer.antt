@@ -9,7 +9,7 @@ use Rattle.simplex_scheme.specs.Plain.{PlainScheme, plain_good}
 use Rattle.simplex_scheme.specs.Listed.{listed_format}
 use Rattle.simplex_scheme.specs.declared.scheme.Attestation.{Attestation}
 use Rattle.simplex_evidence.specs.Activity.{activity_format, votes_in}
-use Rattle.simplex_evidence.specs.declared.types.activities.Activity.{Activity}
+use Rattle.simplex_evidence.specs.declared.types.activity.Activity.{Activity}
 use Rattle.simplex_evidence.specs.Contradiction.{Evidence}
 use Rattle.simplex_audit.specs.Audited.{audited}
 use Rattle.simplex_audit.specs.Audit.{IsReport}

@@ -3,7 +3,7 @@ use Rattle.std.specs.Prelude.{◌∷◌, ℕ, Bool, false, IsTrue, List, [], Err
 use Rattle.simplex_base.specs.Reading.{Reading, Refusal, end_of_buffer}
 use Rattle.simplex_base.specs.Format.{Format}
 use Rattle.simplex_evidence.specs.Activity.{unknown_activity}
-use Rattle.simplex_evidence.specs.declared.types.activities.Activity.{Activity}
+use Rattle.simplex_evidence.specs.declared.types.activity.Activity.{Activity}
 
 -- the tag, which is the first byte, passes a test
 abbrev pub tag_passes : (ℕ → Bool) → List ℕ → Bool

@@ -4,7 +4,9 @@ ghost use Rattle.std.specs.Prelude.{◌≡◌, ◌↔◌, true, ℕ, Bool, Ok, E
 ghost use Rattle.std.specs.Ordering.{nat_cmp};
 ghost use Rattle.std.specs.Cmp.Lexicographic.{slice_cmp};
 ghost use Rattle.simplex_base.specs.Reading.{Reading, Gives, GivesAll, all_of};
-ghost use Rattle.simplex_base.specs.Format.{Lawful, IsFixed};
+ghost use Rattle.simplex_base.specs.Format.{Lawful, IsFixed, fixed, fixed_at};
+ghost use Rattle.simplex_base.specs.FormatLaws.{fixed_lawful};
+ghost use Rattle.simplex_base.specs.Sizes.{IsWithin, Longest, fixed_within, fixed_longest};
 
 pub mod counted;
 pub mod error;
@@ -138,6 +140,15 @@ pub trait Fixed: FixedSize + Copy + Eq + Ord + Hash {
 
     /// and of one only.
     ghost forth: { (x : Self) → IsFixed Self.SIZE (bytes_of x) → of_bytes (bytes_of x) ≡ x };
+
+    /// Reading so many bytes gives the value of them, and nothing else is read.
+    ghost lawful: { Lawful (λ x. IsFixed Self.SIZE (bytes_of x)) bytes_of (fixed_at Self.SIZE of_bytes) } = { fixed_lawful Self.SIZE bytes_of of_bytes back forth };
+
+    /// No value has more bytes than the size,
+    ghost within: { IsWithin (fixed Self.SIZE bytes_of of_bytes) Self.SIZE } = { fixed_within Self.SIZE bytes_of of_bytes };
+
+    /// and some value has as many.
+    ghost longest: { Longest (fixed Self.SIZE bytes_of of_bytes) Self.SIZE } = { fixed_longest Self.SIZE bytes_of of_bytes back };
 
     /// Equal is what has the same bytes.
     ghost equal: { (x y : Self) → (Self.eq x y ≡ true) ↔ (bytes_of x ≡ bytes_of y) };

@@ -4,3 +4,4 @@
 
 pub mod codec;
 pub mod positions;
+pub mod values;

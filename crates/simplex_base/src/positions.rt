@@ -1,15 +1,15 @@
 //! Epochs, views, terms, rounds and participants: plain numbers with types of their own.
 
-pub mod deltas;
-pub mod epochs;
-pub mod participants;
-pub mod rounds;
+pub mod epoch;
+pub mod participant;
+pub mod round;
 pub mod terms;
-pub mod views;
+pub mod view;
+pub mod view_delta;
 
-pub use deltas::ViewDelta;
-pub use epochs::{Epoch, Epochable};
-pub use participants::Participant;
-pub use rounds::Round;
+pub use epoch::{Epoch, Epochable};
+pub use participant::Participant;
+pub use round::{Round, Roundable};
 pub use terms::TermLength;
-pub use views::{View, Viewable};
+pub use view::{View, Viewable};
+pub use view_delta::ViewDelta;

@@ -10,8 +10,8 @@ use Rattle.simplex_scheme.specs.Subject.{SubjectValue, Notarizes, Nullifies, Fin
 use Rattle.simplex_votes.specs.Votes.{Vote, notarize_vote, nullify_vote, finalize_vote, notarization_votes, nullification_votes, finalization_votes}
 use Rattle.simplex_votes.specs.Spellings.{notarize_format, notarize_lawful, nullify_format, nullify_lawful, finalize_format, finalize_lawful, notarization_format, IsNotarization, notarization_spelling, notarization_lawful, nullification_format, IsNullification, nullification_spelling, nullification_lawful, finalization_format, IsFinalization, finalization_spelling, finalization_lawful}
 use Rattle.simplex_evidence.specs.Conflict.{conflicting_notarize_format, conflicting_notarize_lawful, conflicting_finalize_format, conflicting_finalize_lawful, nullify_finalize_format, nullify_finalize_lawful}
-use Rattle.simplex_evidence.specs.declared.types.activities.Activity.{Activity}
-use Rattle.simplex_evidence.specs.declared.types.activities.Activity.TheVariants as activity
+use Rattle.simplex_evidence.specs.declared.types.activity.Activity.{Activity}
+use Rattle.simplex_evidence.specs.declared.types.activity.Activity.TheVariants as activity
 
 -- the round that a message is of
 abbrev pub activity_round : {S D C P G : Type 0} → Activity S D C P G → Round

@@ -5,9 +5,9 @@ use Rattle.simplex_base.specs.Reading.{Refusal, invalid}
 use Rattle.simplex_base.specs.Format.{Format, IsLawful, both, made, tested}
 use Rattle.simplex_base.specs.FormatLaws.{both_lawful, made_lawful, tested_lawful}
 use Rattle.simplex_votes.specs.Spellings.{notarize_format, notarize_lawful, nullify_format, nullify_lawful, finalize_format, finalize_lawful}
-use Rattle.simplex_votes.specs.declared.types.votes.Notarize.{Notarize}
-use Rattle.simplex_votes.specs.declared.types.nullifies.Nullify.{Nullify}
-use Rattle.simplex_votes.specs.declared.types.finalizes.Finalize.{Finalize}
+use Rattle.simplex_votes.specs.declared.types.notarize.Notarize.{Notarize}
+use Rattle.simplex_votes.specs.declared.types.nullify.Nullify.{Nullify}
+use Rattle.simplex_votes.specs.declared.types.finalize.Finalize.{Finalize}
 use Rattle.simplex_votes.specs.Votes.{notarize_vote, nullify_vote, finalize_vote}
 use Rattle.simplex_evidence.specs.Contradiction.{Evidence, contradicts, Conflicting_notarize, Conflicting_finalize, Nullify_finalize}
 

@@ -1,15 +1,15 @@
-//! The evidence types, the union of all messages, the map of first items, and many certificates verified at once.
+//! Evidence, the union of all messages, the vote map, and many certificates verified at once.
 
-pub mod activities;
-pub mod attributable;
+pub mod activity;
+pub mod attributable_map;
 pub mod bisection;
-pub mod conflicting_finalizes;
-pub mod conflicts;
-pub mod nullify_finalizes;
+pub mod conflicting_finalize;
+pub mod conflicting_notarize;
+pub mod nullify_finalize;
 
-pub use activities::Activity;
-pub use attributable::{AttributableIter, AttributableMap};
+pub use activity::Activity;
+pub use attributable_map::{AttributableIter, AttributableMap};
 pub use bisection::verify_certificates;
-pub use conflicting_finalizes::ConflictingFinalize;
-pub use conflicts::ConflictingNotarize;
-pub use nullify_finalizes::NullifyFinalize;
+pub use conflicting_finalize::ConflictingFinalize;
+pub use conflicting_notarize::ConflictingNotarize;
+pub use nullify_finalize::NullifyFinalize;

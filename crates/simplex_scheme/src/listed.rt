@@ -7,7 +7,6 @@ ghost use Rattle.std.specs.Cmp.Rules.{comparing, hashing};
 ghost use Rattle.std.proofs.Common.{rules};
 ghost use Rattle.std.proofs.lemmas.Cmp.{lists_equiv};
 ghost use Rattle.simplex_base.specs.Readable.{format_of};
-ghost use Rattle.simplex_base.specs.FormatLaws.{fixed_lawful};
 ghost use Rattle.simplex_base.specs.Reading.{Gives};
 ghost use Rattle.simplex_scheme.specs.Listed.{AreListed, ListedFits, listed_spelling, attestation_at, attestations_at, listed_at};
 ghost use Rattle.simplex_scheme.specs.ListedLaws.{listed_lawful};
@@ -142,7 +141,7 @@ impl<S: SchemeTypes> Read for Listed<S> {
         }
     }
 
-    ghost lawful = { λ bound. listed_lawful (format_of ⟦<S::Signature as Read>⟧) bound (fixed_lawful S.Signature.SIZE S.Signature.bytes_of S.Signature.of_bytes S.Signature.back S.Signature.forth) };
+    ghost lawful = { λ bound. listed_lawful (format_of ⟦<S::Signature as Read>⟧) bound S.Signature.lawful };
 }
 
 /// How many attestations the bytes can hold, but no more than the count. Each takes a byte at least, and its

@@ -2,7 +2,6 @@
 
 ghost use Rattle.std.specs.Prelude.{◌≡◌, ⊤, ◌+◌, ℕ, List, IfOk, false, length};
 ghost use Rattle.simplex_base.specs.Readable.{format_of};
-ghost use Rattle.simplex_base.specs.FormatLaws.{fixed_lawful};
 
 use crate::namespace::Namespace;
 use crate::scheme::Digest;
@@ -10,7 +9,7 @@ use bytes::Bytes;
 use simplex_base::codec::error::Error;
 use simplex_base::codec::parts::{size_both, write_both};
 use simplex_base::codec::{Encode, EncodeSize, FixedSize, MaxEncodeSize, Read, Spell, Write};
-use simplex_base::positions::{Epoch, Epochable, Round, View, Viewable};
+use simplex_base::positions::{Round, Roundable, View};
 use std::alloc::{AllocError, Global};
 
 /// A payload that is proposed for a round, on top of the proposal of the parent's view. It is spelled as
@@ -47,19 +46,11 @@ impl<D: Copy> Clone for Proposal<D> {
 
 impl<D: Copy> Copy for Proposal<D> {}
 
-impl<D> Epochable for Proposal<D> {
-    ghost epoch_of = { λ proposal. proposal.round.epoch };
+impl<D> Roundable for Proposal<D> {
+    ghost round_of = { λ proposal. proposal.round };
 
-    fn epoch(&self) -> Epoch {
-        self.round.epoch()
-    }
-}
-
-impl<D> Viewable for Proposal<D> {
-    ghost view_of = { λ proposal. proposal.round.view };
-
-    fn view(&self) -> View {
-        self.round.view()
+    fn round(&self) -> Round {
+        self.round
     }
 }
 
@@ -86,7 +77,6 @@ impl<D: Digest> EncodeSize for Proposal<D> {
 }
 
 impl<D: Digest> MaxEncodeSize for Proposal<D> {
-    ghost use Rattle.simplex_base.specs.Sizes.{fixed_within, fixed_longest};
     ghost use Rattle.simplex_scheme.specs.Proposal.{proposal_within, proposal_longest};
 
     ghost max_size = { 30 + D.SIZE };
@@ -95,9 +85,9 @@ impl<D: Digest> MaxEncodeSize for Proposal<D> {
         Round::max_encode_size() + View::max_encode_size() + D::SIZE
     }
 
-    ghost within = { proposal_within (format_of ⟦<D as Read>⟧) D.SIZE (fixed_within D.SIZE D.bytes_of D.of_bytes) };
+    ghost within = { proposal_within (format_of ⟦<D as Read>⟧) D.SIZE D.within };
 
-    ghost reached = { proposal_longest (format_of ⟦<D as Read>⟧) D.SIZE (fixed_longest D.SIZE D.bytes_of D.of_bytes D.back) };
+    ghost reached = { proposal_longest (format_of ⟦<D as Read>⟧) D.SIZE D.longest };
 }
 
 impl<D: Digest> Read for Proposal<D> {
@@ -118,7 +108,7 @@ impl<D: Digest> Read for Proposal<D> {
         }
     }
 
-    ghost lawful = { λ _. proposal_lawful (format_of ⟦<D as Read>⟧) (fixed_lawful D.SIZE D.bytes_of D.of_bytes D.back D.forth) };
+    ghost lawful = { λ _. proposal_lawful (format_of ⟦<D as Read>⟧) D.lawful };
 }
 
 /// What a vote or a certificate says.
@@ -183,15 +173,16 @@ impl<D: Digest> CertificateSubject for Subject<'_, D> {
     }
 }
 
-impl<D> Viewable for Subject<'_, D> {
-    ghost use Rattle.simplex_scheme.specs.Subject.{subject_value, round_of};
+impl<D> Roundable for Subject<'_, D> {
+    ghost use Rattle.simplex_scheme.specs.Subject.{subject_value};
+    ghost use Rattle.simplex_scheme.specs.Subject as subjects;
 
-    ghost view_of = { λ subject. (round_of (subject_value subject)).view };
+    ghost round_of = { λ subject. subjects.round_of (subject_value subject) };
 
-    fn view(&self) -> View {
+    fn round(&self) -> Round {
         match self {
-            Subject::Notarize { proposal } | Subject::Finalize { proposal } => proposal.view(),
-            Subject::Nullify { round } => round.view(),
+            Subject::Notarize { proposal } | Subject::Finalize { proposal } => proposal.round,
+            Subject::Nullify { round } => *round,
         }
     }
 }

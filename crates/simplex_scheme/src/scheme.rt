@@ -3,7 +3,6 @@
 ghost use Rattle.std.specs.Prelude.{◌≡◌, ⊤, ◌+◌, ℕ, Bool, true, false, List, Option, Some, None, Ok, Err, IsTrue, IfOk, IfErr, IfSome, MatchOption, All, length, nat_eq, ◌<◌, ◌≤◌, ◌^◌};
 ghost use Rattle.std.specs.List.{IsDistinct, list_all};
 ghost use Rattle.simplex_base.specs.Readable.{format_of};
-ghost use Rattle.simplex_base.specs.FormatLaws.{fixed_lawful};
 ghost use Rattle.simplex_scheme.specs.Subject.{SubjectValue, subject_value};
 ghost use Rattle.simplex_scheme.specs.Committee.{IsQuorum, IsInOrder, quorum_of, signers_of};
 
@@ -232,7 +231,6 @@ impl<S: SchemeTypes> EncodeSize for Attestation<S> {
 }
 
 impl<S: SchemeTypes> MaxEncodeSize for Attestation<S> {
-    ghost use Rattle.simplex_base.specs.Sizes.{fixed_within, fixed_longest};
     ghost use Rattle.simplex_scheme.specs.Attestation.{attestation_within, attestation_longest};
 
     ghost max_size = { 5 + S.Signature.SIZE };
@@ -241,9 +239,9 @@ impl<S: SchemeTypes> MaxEncodeSize for Attestation<S> {
         Participant::max_encode_size() + S::Signature::SIZE
     }
 
-    ghost within = { attestation_within (format_of ⟦<S::Signature as Read>⟧) S.Signature.SIZE (fixed_within S.Signature.SIZE S.Signature.bytes_of S.Signature.of_bytes) };
+    ghost within = { attestation_within (format_of ⟦<S::Signature as Read>⟧) S.Signature.SIZE S.Signature.within };
 
-    ghost reached = { attestation_longest (format_of ⟦<S::Signature as Read>⟧) S.Signature.SIZE (fixed_longest S.Signature.SIZE S.Signature.bytes_of S.Signature.of_bytes S.Signature.back) };
+    ghost reached = { attestation_longest (format_of ⟦<S::Signature as Read>⟧) S.Signature.SIZE S.Signature.longest };
 }
 
 impl<S: SchemeTypes> Read for Attestation<S> {
@@ -264,5 +262,5 @@ impl<S: SchemeTypes> Read for Attestation<S> {
         }
     }
 
-    ghost lawful = { λ _. attestation_lawful (format_of ⟦<S::Signature as Read>⟧) (fixed_lawful S.Signature.SIZE S.Signature.bytes_of S.Signature.of_bytes S.Signature.back S.Signature.forth) };
+    ghost lawful = { λ _. attestation_lawful (format_of ⟦<S::Signature as Read>⟧) S.Signature.lawful };
 }

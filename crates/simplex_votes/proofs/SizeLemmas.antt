@@ -6,8 +6,8 @@ use Rattle.simplex_base.specs.Sizes.{IsWithin, fixed_within}
 use Rattle.simplex_scheme.specs.declared.proposal.Proposal.{Proposal}
 use Rattle.simplex_scheme.specs.Proposal.{proposal_format, proposal_within}
 use Rattle.simplex_votes.specs.Unions.{IsCertificate, certificate_spelling}
-use Rattle.simplex_votes.specs.declared.types.any_certificates.Certificate.{Certificate}
-use Rattle.simplex_votes.specs.declared.types.any_certificates.Certificate.TheVariants as certificate
+use Rattle.simplex_votes.specs.declared.types.certificate.Certificate.{Certificate}
+use Rattle.simplex_votes.specs.declared.types.certificate.Certificate.TheVariants as certificate
 
 -- a message has what it certifies and a certificate
 pub certified_within : {A C : Type 0} (f : Format A) (m most : ℕ) (fits : C → Type 0) (spelling : C → List ℕ) → IsWithin f m → ((c : C) → fits c → length (spelling c) ≤ most) → (a : A) (c : C) → f.is_value a → fits c → length (f.spelling a ++ spelling c) ≤ m + most

@@ -7,12 +7,12 @@ use Rattle.simplex_base.specs.FormatLaws.{both_lawful, truth_lawful}
 use Rattle.simplex_base.specs.Union.{union_at, branch_at, no_branch, branch_takes, no_branch_takes, union_lawful}
 use Rattle.simplex_base.specs.Positions.{Round, round_format, round_lawful}
 use Rattle.simplex_votes.specs.Spellings.{notarize_format, notarize_lawful, nullify_format, nullify_lawful, finalize_format, finalize_lawful, notarization_format, IsNotarization, notarization_spelling, notarization_lawful, nullification_format, IsNullification, nullification_spelling, nullification_lawful, finalization_format, IsFinalization, finalization_spelling, finalization_lawful}
-use Rattle.simplex_votes.specs.declared.types.any_votes.Vote.{Vote}
-use Rattle.simplex_votes.specs.declared.types.any_votes.Vote.TheVariants as vote
-use Rattle.simplex_votes.specs.declared.types.any_certificates.Certificate.{Certificate}
-use Rattle.simplex_votes.specs.declared.types.any_certificates.Certificate.TheVariants as certificate
-use Rattle.simplex_votes.specs.declared.types.artifacts.Artifact.{Artifact}
-use Rattle.simplex_votes.specs.declared.types.artifacts.Artifact.TheVariants as artifact
+use Rattle.simplex_votes.specs.declared.types.vote.Vote.{Vote}
+use Rattle.simplex_votes.specs.declared.types.vote.Vote.TheVariants as vote
+use Rattle.simplex_votes.specs.declared.types.certificate.Certificate.{Certificate}
+use Rattle.simplex_votes.specs.declared.types.certificate.Certificate.TheVariants as certificate
+use Rattle.simplex_votes.specs.declared.types.artifact.Artifact.{Artifact}
+use Rattle.simplex_votes.specs.declared.types.artifact.Artifact.TheVariants as artifact
 
 -- a vote, as an artifact
 abbrev pub vote_artifact : {S D C P G : Type 0} → Vote S D P G → Artifact S D C P G

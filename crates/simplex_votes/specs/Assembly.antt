@@ -3,9 +3,9 @@ use Rattle.std.specs.Prelude.{◌≡◌, ℕ, ◌<◌, ◌≤◌, List, length, 
 use Rattle.std.specs.List.{IsDistinct, AllPairs}
 use Rattle.simplex_scheme.specs.declared.scheme.Attestation.{Attestation}
 use Rattle.simplex_scheme.specs.Committee.{signers_of}
-use Rattle.simplex_votes.specs.declared.types.votes.Notarize.{Notarize}
-use Rattle.simplex_votes.specs.declared.types.nullifies.Nullify.{Nullify}
-use Rattle.simplex_votes.specs.declared.types.finalizes.Finalize.{Finalize}
+use Rattle.simplex_votes.specs.declared.types.notarize.Notarize.{Notarize}
+use Rattle.simplex_votes.specs.declared.types.nullify.Nullify.{Nullify}
+use Rattle.simplex_votes.specs.declared.types.finalize.Finalize.{Finalize}
 
 -- votes of which a certificate can be made: at least one, all of one subject, and of distinct participants out of n.
 -- V is the type of votes, X that of what they are for

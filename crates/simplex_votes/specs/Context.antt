@@ -6,7 +6,7 @@ use Rattle.simplex_base.specs.Sizes.{IsWithin, Longest, both_within, both_longes
 use Rattle.simplex_base.specs.Varint.{number_64}
 use Rattle.simplex_base.specs.VarintLaws.{number_64_lawful}
 use Rattle.simplex_base.specs.Positions.{round_format, round_lawful, round_within, longest_round}
-use Rattle.simplex_votes.specs.declared.types.contexts.Context.{Context}
+use Rattle.simplex_votes.specs.declared.types.context.Context.{Context}
 
 -- the round, the leader, the parent's view and its payload
 abbrev pub context_format : {D P : Type 0} → Format D → Format P → Format (Context D P)

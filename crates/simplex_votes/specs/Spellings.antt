@@ -6,12 +6,12 @@ use Rattle.simplex_base.specs.Positions.{round_format, round_lawful, round_withi
 use Rattle.simplex_base.specs.Sizes.{IsWithin, Longest, both_within, both_longest, made_longest, same_longest}
 use Rattle.simplex_scheme.specs.Proposal.{proposal_format, proposal_lawful, proposal_within, proposal_longest}
 use Rattle.simplex_scheme.specs.Attestation.{attestation_format, attestation_lawful, attestation_within, attestation_longest}
-use Rattle.simplex_votes.specs.declared.types.votes.Notarize.{Notarize}
-use Rattle.simplex_votes.specs.declared.types.nullifies.Nullify.{Nullify}
-use Rattle.simplex_votes.specs.declared.types.finalizes.Finalize.{Finalize}
-use Rattle.simplex_votes.specs.declared.types.certificates.Notarization.{Notarization}
-use Rattle.simplex_votes.specs.declared.types.nullifications.Nullification.{Nullification}
-use Rattle.simplex_votes.specs.declared.types.finalizations.Finalization.{Finalization}
+use Rattle.simplex_votes.specs.declared.types.notarize.Notarize.{Notarize}
+use Rattle.simplex_votes.specs.declared.types.nullify.Nullify.{Nullify}
+use Rattle.simplex_votes.specs.declared.types.finalize.Finalize.{Finalize}
+use Rattle.simplex_votes.specs.declared.types.notarization.Notarization.{Notarization}
+use Rattle.simplex_votes.specs.declared.types.nullification.Nullification.{Nullification}
+use Rattle.simplex_votes.specs.declared.types.finalization.Finalization.{Finalization}
 
 -- the proposal, and then the attestation
 abbrev pub notarize_format : {S D P G : Type 0} → Format D → Format G → Format (Notarize S D P G)

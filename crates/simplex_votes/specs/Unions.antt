@@ -9,12 +9,12 @@ use Rattle.simplex_base.specs.Positions.{Round}
 use Rattle.simplex_scheme.specs.declared.scheme.Attestation.{Attestation}
 use Rattle.simplex_scheme.specs.Subject.{SubjectValue, Notarizes, Nullifies, Finalizes}
 use Rattle.simplex_votes.specs.Spellings.{notarize_format, notarize_lawful, notarize_within, notarize_longest, nullify_format, nullify_lawful, nullify_within, finalize_format, finalize_lawful, finalize_within, notarization_format, IsNotarization, notarization_spelling, notarization_lawful, nullification_format, IsNullification, nullification_spelling, nullification_lawful, finalization_format, IsFinalization, finalization_spelling, finalization_lawful}
-use Rattle.simplex_votes.specs.declared.types.any_votes.Vote.{Vote}
-use Rattle.simplex_votes.specs.declared.types.any_votes.Vote.TheVariants as vote
-use Rattle.simplex_votes.specs.declared.types.any_certificates.Kind.{Kind}
-use Rattle.simplex_votes.specs.declared.types.any_certificates.Kind.TheVariants as kind
-use Rattle.simplex_votes.specs.declared.types.any_certificates.Certificate.{Certificate}
-use Rattle.simplex_votes.specs.declared.types.any_certificates.Certificate.TheVariants as certificate
+use Rattle.simplex_votes.specs.declared.types.vote.Vote.{Vote}
+use Rattle.simplex_votes.specs.declared.types.vote.Vote.TheVariants as vote
+use Rattle.simplex_votes.specs.declared.types.certificate.Kind.{Kind}
+use Rattle.simplex_votes.specs.declared.types.certificate.Kind.TheVariants as kind
+use Rattle.simplex_votes.specs.declared.types.certificate.Certificate.{Certificate}
+use Rattle.simplex_votes.specs.declared.types.certificate.Certificate.TheVariants as certificate
 
 -- ---- votes
 

@@ -4,12 +4,12 @@ use Rattle.simplex_base.specs.Positions.{Round}
 use Rattle.simplex_scheme.specs.declared.proposal.Proposal.{Proposal}
 use Rattle.simplex_scheme.specs.Subject.{SubjectValue, Notarizes, Nullifies, Finalizes, round_of}
 use Rattle.simplex_scheme.specs.declared.scheme.Attestation.{Attestation}
-use Rattle.simplex_votes.specs.declared.types.votes.Notarize.{Notarize}
-use Rattle.simplex_votes.specs.declared.types.nullifies.Nullify.{Nullify}
-use Rattle.simplex_votes.specs.declared.types.finalizes.Finalize.{Finalize}
-use Rattle.simplex_votes.specs.declared.types.certificates.Notarization.{Notarization}
-use Rattle.simplex_votes.specs.declared.types.nullifications.Nullification.{Nullification}
-use Rattle.simplex_votes.specs.declared.types.finalizations.Finalization.{Finalization}
+use Rattle.simplex_votes.specs.declared.types.notarize.Notarize.{Notarize}
+use Rattle.simplex_votes.specs.declared.types.nullify.Nullify.{Nullify}
+use Rattle.simplex_votes.specs.declared.types.finalize.Finalize.{Finalize}
+use Rattle.simplex_votes.specs.declared.types.notarization.Notarization.{Notarization}
+use Rattle.simplex_votes.specs.declared.types.nullification.Nullification.{Nullification}
+use Rattle.simplex_votes.specs.declared.types.finalization.Finalization.{Finalization}
 
 -- what a participant says, signed. D is the type of payloads, G that of signatures
 pub record Vote (D G : Type 0) : Type 0 where

@@ -1,24 +1,26 @@
-//! The votes and certificates of the protocol.
+//! Votes, certificate messages, and the unions of both.
 
-pub mod any_certificates;
-pub mod any_votes;
-pub mod artifacts;
+pub mod artifact;
 mod assembly;
-pub mod certificates;
-pub mod contexts;
-pub mod finalizations;
-pub mod finalizes;
-pub mod nullifications;
-pub mod nullifies;
-pub mod votes;
+pub mod attributable;
+pub mod certificate;
+pub mod context;
+pub mod finalization;
+pub mod finalize;
+pub mod notarization;
+pub mod notarize;
+pub mod nullification;
+pub mod nullify;
+pub mod vote;
 
-pub use any_certificates::{Certificate, Kind};
-pub use any_votes::Vote;
-pub use artifacts::Artifact;
-pub use certificates::Notarization;
-pub use contexts::Context;
-pub use finalizations::Finalization;
-pub use finalizes::Finalize;
-pub use nullifications::Nullification;
-pub use nullifies::Nullify;
-pub use votes::{Attributable, Notarize};
+pub use artifact::Artifact;
+pub use attributable::Attributable;
+pub use certificate::{Certificate, Kind};
+pub use context::Context;
+pub use finalization::Finalization;
+pub use finalize::Finalize;
+pub use notarization::Notarization;
+pub use notarize::Notarize;
+pub use nullification::Nullification;
+pub use nullify::Nullify;
+pub use vote::Vote;

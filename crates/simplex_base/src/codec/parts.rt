@@ -3,7 +3,7 @@
 ghost use Rattle.std.specs.Prelude.{◌≡◌, ◌++◌, ◌+◌, ◌<◌, ◌≤◌, ◌^◌, ◌||◌, false, OnOk, OnErr, length, take};
 ghost use Rattle.simplex_base.specs.Reading.{IsBytes};
 ghost use Rattle.simplex_base.specs.Format.{both_spelled, both_at, BothAre, IsFixed, fixed_at};
-ghost use Rattle.simplex_base.specs.FormatLaws.{both_lawful, fixed_lawful};
+ghost use Rattle.simplex_base.specs.FormatLaws.{both_lawful};
 
 use crate::codec::error::Error;
 use crate::codec::{EncodeSize, Fixed, Read, Spell, Write};
@@ -123,7 +123,7 @@ impl<T: Fixed> Read for T {
         Ok(T::from_bytes(front))
     }
 
-    ghost lawful = { λ _. fixed_lawful T.SIZE T.bytes_of T.of_bytes T.back T.forth };
+    ghost lawful = { λ _. T.lawful };
 }
 
 /// The same bytes, each of which is below 256.

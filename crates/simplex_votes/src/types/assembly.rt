@@ -6,9 +6,10 @@ ghost use Rattle.simplex_scheme.specs.Committee.{quorum_of, signers_of};
 ghost use Rattle.simplex_scheme.specs.Subject.{SubjectValue};
 ghost use Rattle.simplex_votes.specs.Assembly.{CanAssemble};
 
-use crate::types::finalizes::Finalize;
-use crate::types::nullifies::Nullify;
-use crate::types::votes::{Attributable, Notarize};
+use crate::types::finalize::Finalize;
+use crate::types::nullify::Nullify;
+use crate::types::attributable::Attributable;
+use crate::types::notarize::Notarize;
 use simplex_base::codec::Fixed;
 use simplex_base::positions::{Participant, Round};
 use simplex_scheme::faults::quorum;

@@ -1,7 +1,7 @@
 use Rattle.std.proofs.Common.{ℕ, subst}
 use Rattle.simplex_base.specs.Format.{Format, fixed}
 use Rattle.simplex_evidence.specs.Activity.{activity_format, votes_in}
-use Rattle.simplex_evidence.specs.declared.types.activities.Activity.{Activity}
+use Rattle.simplex_evidence.specs.declared.types.activity.Activity.{Activity}
 use Rattle.simplex_audit.specs.Audited.{audited}
 use Rattle.simplex_audit.specs.GoodVotes.{good_votes}
 use Rattle.simplex_audit.specs.Memory.{Holds}

@@ -6,7 +6,7 @@ use Rattle.simplex_base.specs.Reading.{Refusal, Fails}
 use Rattle.simplex_base.specs.Format.{Format, fixed, IsLawful}
 use Rattle.simplex_base.specs.FormatLaws.{fixed_lawful}
 use Rattle.simplex_evidence.specs.Activity.{activity_format, votes_in}
-use Rattle.simplex_evidence.specs.declared.types.activities.Activity.{Activity}
+use Rattle.simplex_evidence.specs.declared.types.activity.Activity.{Activity}
 use Rattle.simplex_audit.specs.Memory.{Holds}
 use Rattle.simplex_audit.specs.Audited.{audited}
 use Rattle.simplex_audit.proofs.NamedLemmas.{good_votes-push}

@@ -1,0 +1,153 @@
+//! Rounds, each a view of an epoch.
+
+ghost use Rattle.std.specs.Prelude.{◌≡◌, ◌&&◌, false, nat_eq, refl};
+ghost use Rattle.std.specs.Ordering.{nat_cmp, ordering_then};
+ghost use Rattle.simplex_base.specs.Positions.{round_format, round_lawful, round_within, longest_round};
+
+use crate::codec::error::Error;
+use crate::codec::parts::{size_both, write_both};
+use crate::codec::{EncodeSize, MaxEncodeSize, Read, Spell, Write};
+use crate::positions::epoch::{Epoch, Epochable};
+use crate::positions::view::{View, Viewable};
+use std::alloc::{AllocError, Global};
+use crate::values::{EqByParts, OrdByParts};
+use std::marker::Model;
+
+/// A view of an epoch, ordered by epoch and then by view, spelled in 2 to 20 bytes.
+#[derive(Clone, Copy, Debug, PartialEq, Eq, PartialOrd, Ord, Hash)]
+pub struct Round {
+    epoch: Epoch,
+    view: View,
+}
+
+impl Model for Round {
+    ghost use Rattle.simplex_base.specs.Positions as positions;
+
+    ghost Value = { positions.Round };
+
+    ghost view = { λ round. record { epoch = round.epoch; view = round.view } };
+
+    ghost inverse = { λ round. record { epoch = round.epoch; view = round.view } };
+}
+
+impl EqByParts for Round {
+    ghost same = { λ x y. nat_eq x.epoch y.epoch && nat_eq x.view y.view };
+
+    ghost equal = { λ x y. refl };
+}
+
+impl OrdByParts for Round {
+    ghost order = { λ x y. ordering_then (nat_cmp x.epoch y.epoch) (nat_cmp x.view y.view) };
+
+    ghost ordered = { λ x y. refl };
+}
+
+impl Round {
+    /// The round of an epoch and a view.
+    pub fn new(epoch: Epoch, view: View) -> Self
+        ensures { result ≡ record { epoch = epoch; view = view } }
+    {
+        Round { epoch, view }
+    }
+
+    /// The epoch.
+    pub fn epoch(self) -> Epoch
+        ensures { result ≡ self.epoch }
+    {
+        self.epoch
+    }
+
+    /// The view.
+    pub fn view(self) -> View
+        ensures { result ≡ self.view }
+    {
+        self.view
+    }
+}
+
+/// What belongs to a round, and so to the round's epoch and view.
+pub trait Roundable {
+    ghost use Rattle.simplex_base.specs.Positions as positions;
+
+    /// The round.
+    ghost round_of: { Self → positions.Round };
+
+    /// The round that it belongs to.
+    fn round(&self) -> Round
+        ensures { result ≡ round_of self.now };
+}
+
+impl Roundable for Round {
+    ghost round_of = { λ round. round };
+
+    fn round(&self) -> Round {
+        *self
+    }
+}
+
+impl<T: Roundable> Epochable for T {
+    ghost epoch_of = { λ value. (T.round_of value).epoch };
+
+    fn epoch(&self) -> Epoch {
+        self.round().epoch
+    }
+}
+
+impl<T: Roundable> Viewable for T {
+    ghost view_of = { λ value. (T.round_of value).view };
+
+    fn view(&self) -> View {
+        self.round().view
+    }
+}
+
+impl Spell for Round {
+    ghost is_value = { round_format.is_value };
+
+    ghost spelling = { round_format.spelling };
+}
+
+impl Write for Round {
+    fn write(&self, buf: &mut Vec<u8>) -> Result<(), AllocError> {
+        write_both(&self.epoch, &self.view, buf)
+    }
+}
+
+impl EncodeSize for Round {
+    ghost limit = { 20 };
+
+    fn encode_size(&self) -> usize {
+        size_both(&self.epoch, &self.view)
+    }
+}
+
+impl MaxEncodeSize for Round {
+    ghost max_size = { 20 };
+
+    fn max_encode_size() -> usize {
+        Epoch::max_encode_size() + View::max_encode_size()
+    }
+
+    ghost within = { round_within };
+
+    ghost reached = { longest_round };
+}
+
+impl Read for Round {
+    type Cfg = ();
+
+    ghost fits = { λ _. round_format.is_value };
+
+    ghost reading = { λ _. round_format.reading };
+
+    ghost takes_memory = { false };
+
+    fn read_cfg(alloc: Global, input: &mut &[u8], cfg: &()) -> Result<Self, Error> {
+        match <(Epoch, View)>::read_cfg(alloc, input, cfg) {
+            Ok((epoch, view)) => Ok(Round { epoch, view }),
+            Err(error) => Err(error),
+        }
+    }
+
+    ghost lawful = { λ _. round_lawful };
+}

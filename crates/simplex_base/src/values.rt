@@ -1,0 +1,22 @@
+//! What `==` and `cmp` answer of values that have parts. What `Hash` feeds agrees with `==`, which is a law of its own.
+
+ghost use Rattle.std.specs.Prelude.{◌≡◌, Bool};
+ghost use Rattle.std.specs.declared.cmp.Ordering.{Ordering};
+
+/// A type whose values are equal exactly where their parts are, each by its own `==`.
+pub trait EqByParts: Eq {
+    /// Whether the parts of two values are equal.
+    ghost same: { Self → Self → Bool };
+
+    /// It is what `==` answers.
+    ghost equal: { (x y : Self) → Self.eq x y ≡ same x y };
+}
+
+/// A type whose values are ordered by their parts, one after another, each by its own `cmp`.
+pub trait OrdByParts: Ord {
+    /// How the parts of two values compare.
+    ghost order: { Self → Self → Ordering };
+
+    /// It is what `cmp` answers.
+    ghost ordered: { (x y : Self) → Self.cmp x y ≡ order x y };
+}

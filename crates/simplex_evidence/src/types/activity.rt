@@ -1,0 +1,219 @@
+//! The union of all messages.
+
+ghost use Rattle.std.specs.Prelude.{◌≡◌, ◌+◌, ◌*◌, ◌^◌, IfOk, IfErr, IsTrue};
+ghost use Rattle.simplex_base.specs.Readable.{format_of, format_under};
+
+use crate::types::conflicting_finalize::ConflictingFinalize;
+use crate::types::conflicting_notarize::ConflictingNotarize;
+use crate::types::nullify_finalize::NullifyFinalize;
+use simplex_base::codec::error::Error;
+use simplex_base::codec::unions::{Tagged, read_tagged, write_tagged};
+use simplex_base::codec::{EncodeSize, Fixed, Read, Spell, Write};
+use simplex_base::positions::{Round, Roundable};
+use simplex_scheme::scheme::{CertificateScheme, Digest, Scheme};
+use simplex_votes::types::{
+    Finalization, Finalize, Notarization, Notarize, Nullification, Nullify,
+};
+use std::alloc::{AllocError, Global};
+
+/// A message: a vote, a certificate message, or evidence of two votes that contradict. It is spelled as one byte of
+/// tag, and then the parts of the member with that tag. It is read under the committee's bound.
+#[derive(Drop)]
+#[derive_where(PartialEq, Eq, Hash)]
+pub enum Activity<S: CertificateScheme, D: Digest> {
+    /// Tag 0.
+    Notarize(Notarize<S, D>),
+    /// Tag 1.
+    Notarization(Notarization<S, D>),
+    /// Tag 2: the notarization of a proposal that was certified.
+    Certification(Notarization<S, D>),
+    /// Tag 3.
+    Nullify(Nullify<S>),
+    /// Tag 4.
+    Nullification(Nullification<S>),
+    /// Tag 5.
+    Finalize(Finalize<S, D>),
+    /// Tag 6.
+    Finalization(Finalization<S, D>),
+    /// Tag 7.
+    ConflictingNotarize(ConflictingNotarize<S, D>),
+    /// Tag 8.
+    ConflictingFinalize(ConflictingFinalize<S, D>),
+    /// Tag 9.
+    NullifyFinalize(NullifyFinalize<S, D>),
+}
+
+impl<S: CertificateScheme, D: Digest> Activity<S, D> {
+    ghost use Rattle.simplex_evidence.specs.Activity.{has_certificate, IsActivityClone, ClonesCertificate};
+
+    /// Whether the message is of a kind that consensus verifies before it reports it: those with a certificate, and
+    /// no others. It looks at no signature; [`verify`](Activity::verify) does.
+    pub fn verified(&self) -> bool
+        ensures { result ≡ has_certificate self.now }
+    {
+        match self {
+            Activity::Notarization(_) => true,
+            Activity::Certification(_) => true,
+            Activity::Nullification(_) => true,
+            Activity::Finalization(_) => true,
+            _ => false,
+        }
+    }
+
+    /// The same message, with a clone of the certificate where it has one. Only that clone takes memory.
+    pub fn clone(&self) -> Result<Self, AllocError>
+        ensures parts { IfOk result (λ copy. IsActivityClone S.Certificate.is_clone self.now copy) }
+        // Where a certificate's clone is the certificate, this one's is this message.
+        ensures same { ClonesCertificate S.Certificate.is_clone self.now → IfOk result (λ copy. copy ≡ self.now) }
+        ensures refused { IfErr result (λ _. IsTrue (has_certificate self.now)) }
+    {
+        match self {
+            Activity::Notarize(vote) => Ok(Activity::Notarize(vote.copy())),
+            Activity::Notarization(message) => Ok(Activity::Notarization(message.clone()?)),
+            Activity::Certification(message) => Ok(Activity::Certification(message.clone()?)),
+            Activity::Nullify(vote) => Ok(Activity::Nullify(vote.copy())),
+            Activity::Nullification(message) => Ok(Activity::Nullification(message.clone()?)),
+            Activity::Finalize(vote) => Ok(Activity::Finalize(vote.copy())),
+            Activity::Finalization(message) => Ok(Activity::Finalization(message.clone()?)),
+            Activity::ConflictingNotarize(evidence) => Ok(Activity::ConflictingNotarize(
+                evidence.clone()?,
+            )),
+            Activity::ConflictingFinalize(evidence) => Ok(Activity::ConflictingFinalize(
+                evidence.clone()?,
+            )),
+            Activity::NullifyFinalize(evidence) => Ok(Activity::NullifyFinalize(evidence.clone()?)),
+        }
+    }
+}
+
+impl<S: Scheme<D>, D: Digest> Activity<S, D> {
+    ghost use Rattle.simplex_evidence.specs.Activity.{activity_verifies};
+
+    /// Whether the message is good: a vote by its signature, a certificate message by its certificate, and evidence
+    /// by both of its signatures. It verifies whatever [`verified`](Activity::verified) answers.
+    pub fn verify(&self, scheme: &S) -> bool
+        ensures { result ≡ activity_verifies (S.good scheme.now) (S.certified scheme.now) self.now }
+    {
+        match self {
+            Activity::Notarize(vote) => vote.verify(scheme),
+            Activity::Notarization(message) => message.verify(scheme),
+            Activity::Certification(message) => message.verify(scheme),
+            Activity::Nullify(vote) => vote.verify::<D>(scheme),
+            Activity::Nullification(message) => message.verify::<D>(scheme),
+            Activity::Finalize(vote) => vote.verify(scheme),
+            Activity::Finalization(message) => message.verify(scheme),
+            Activity::ConflictingNotarize(evidence) => evidence.verify(scheme),
+            Activity::ConflictingFinalize(evidence) => evidence.verify(scheme),
+            Activity::NullifyFinalize(evidence) => evidence.verify(scheme),
+        }
+    }
+}
+
+impl<S: CertificateScheme, D: Digest> Roundable for Activity<S, D> {
+    ghost use Rattle.simplex_evidence.specs.Activity.{activity_round};
+
+    ghost round_of = { activity_round };
+
+    fn round(&self) -> Round {
+        match self {
+            Activity::Notarize(vote) => vote.round(),
+            Activity::Notarization(message) => message.round(),
+            Activity::Certification(message) => message.round(),
+            Activity::Nullify(vote) => vote.round(),
+            Activity::Nullification(message) => message.round(),
+            Activity::Finalize(vote) => vote.round(),
+            Activity::Finalization(message) => message.round(),
+            Activity::ConflictingNotarize(evidence) => evidence.round(),
+            Activity::ConflictingFinalize(evidence) => evidence.round(),
+            Activity::NullifyFinalize(evidence) => evidence.round(),
+        }
+    }
+}
+
+impl<S: CertificateScheme, D: Digest> Spell for Activity<S, D> {
+    ghost use Rattle.simplex_evidence.specs.Activity.{IsActivity, activity_spelling};
+
+    ghost is_value = { IsActivity D.eq (format_of ⟦<D as Read>⟧) S.Certificate.is_value (format_of ⟦<S::Signature as Read>⟧) };
+
+    ghost spelling = { activity_spelling D.eq (format_of ⟦<D as Read>⟧) S.Certificate.spelling (format_of ⟦<S::Signature as Read>⟧) };
+}
+
+impl<S: CertificateScheme, D: Digest> Write for Activity<S, D> {
+    fn write(&self, buf: &mut Vec<u8>) -> Result<(), AllocError> {
+        match self {
+            Activity::Notarize(vote) => write_tagged(0, vote, buf),
+            Activity::Notarization(message) => write_tagged(1, message, buf),
+            Activity::Certification(message) => write_tagged(2, message, buf),
+            Activity::Nullify(vote) => write_tagged(3, vote, buf),
+            Activity::Nullification(message) => write_tagged(4, message, buf),
+            Activity::Finalize(vote) => write_tagged(5, vote, buf),
+            Activity::Finalization(message) => write_tagged(6, message, buf),
+            Activity::ConflictingNotarize(evidence) => write_tagged(7, evidence, buf),
+            Activity::ConflictingFinalize(evidence) => write_tagged(8, evidence, buf),
+            Activity::NullifyFinalize(evidence) => write_tagged(9, evidence, buf),
+        }
+    }
+}
+
+impl<S: CertificateScheme, D: Digest> EncodeSize for Activity<S, D> {
+    ghost limit = { 71 + 4 * 65535 + 2 ^ 50 };
+
+    fn encode_size(&self) -> usize {
+        match self {
+            Activity::Notarize(vote) => 1 + vote.encode_size(),
+            Activity::Notarization(message) => 1 + message.encode_size(),
+            Activity::Certification(message) => 1 + message.encode_size(),
+            Activity::Nullify(vote) => 1 + vote.encode_size(),
+            Activity::Nullification(message) => 1 + message.encode_size(),
+            Activity::Finalize(vote) => 1 + vote.encode_size(),
+            Activity::Finalization(message) => 1 + message.encode_size(),
+            Activity::ConflictingNotarize(evidence) => 1 + evidence.encode_size(),
+            Activity::ConflictingFinalize(evidence) => 1 + evidence.encode_size(),
+            Activity::NullifyFinalize(evidence) => 1 + evidence.encode_size(),
+        }
+    }
+}
+
+impl<S: CertificateScheme, D: Digest> Read for Activity<S, D> {
+    ghost use Rattle.simplex_evidence.specs.Activity.{activity_format, activity_lawful};
+
+    type Cfg = u32;
+
+    ghost fits = { λ bound. (activity_format D.eq (format_of ⟦<D as Read>⟧) (format_under ⟦<S::Certificate as Read>⟧ bound) (format_of ⟦<S::Signature as Read>⟧)).is_value };
+
+    ghost reading = { λ bound. (activity_format D.eq (format_of ⟦<D as Read>⟧) (format_under ⟦<S::Certificate as Read>⟧ bound) (format_of ⟦<S::Signature as Read>⟧)).reading };
+
+    ghost takes_memory = { S.Certificate.takes_memory };
+
+    fn read_cfg(alloc: Global, input: &mut &[u8], bound: &u32) -> Result<Self, Error> {
+        read_tagged(alloc, input, bound)
+    }
+
+    ghost lawful = { λ bound. activity_lawful D.eq _ _ _ D.lawful (S.Certificate.lawful bound) S.Signature.lawful };
+}
+
+impl<S: CertificateScheme, D: Digest> Tagged for Activity<S, D> {
+    ghost use Rattle.simplex_evidence.specs.Activity.{activity_branches};
+
+    type Cfg = u32;
+
+    ghost branches = { λ bound. activity_branches D.eq (format_of ⟦<D as Read>⟧) (format_under ⟦<S::Certificate as Read>⟧ bound) (format_of ⟦<S::Signature as Read>⟧) };
+
+    ghost takes_memory = { S.Certificate.takes_memory };
+
+    fn read_body(alloc: Global, tag: u8, input: &mut &[u8], bound: &u32) -> Result<Self, Error> {
+        Ok(match tag {
+            0 => Activity::Notarize(Notarize::read_cfg(alloc, input, &())?),
+            1 => Activity::Notarization(Notarization::read_cfg(alloc, input, bound)?),
+            2 => Activity::Certification(Notarization::read_cfg(alloc, input, bound)?),
+            3 => Activity::Nullify(Nullify::read_cfg(alloc, input, &())?),
+            4 => Activity::Nullification(Nullification::read_cfg(alloc, input, bound)?),
+            5 => Activity::Finalize(Finalize::read_cfg(alloc, input, &())?),
+            6 => Activity::Finalization(Finalization::read_cfg(alloc, input, bound)?),
+            7 => Activity::ConflictingNotarize(ConflictingNotarize::read_cfg(alloc, input, &())?),
+            8 => Activity::ConflictingFinalize(ConflictingFinalize::read_cfg(alloc, input, &())?),
+            9 => Activity::NullifyFinalize(NullifyFinalize::read_cfg(alloc, input, &())?),
+            _ => return Err(Error::Invalid("consensus::simplex::Activity", "Invalid type")),
+        })
+    }
+}

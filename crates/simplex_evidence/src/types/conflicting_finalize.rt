@@ -1,0 +1,170 @@
+//! Two finalizes that contradict.
+
+ghost use Rattle.std.specs.Prelude.{◌≡◌, ◌&&◌, ◌+◌, ◌*◌, ⊤, false, IsTrue};
+ghost use Rattle.simplex_base.specs.Readable.{format_of};
+ghost use Rattle.simplex_scheme.specs.Subject.{Finalizes};
+ghost use Rattle.simplex_votes.specs.Votes.{finalize_vote};
+ghost use Rattle.simplex_evidence.specs.Contradiction.{contradicts, Conflicting_finalize};
+
+use simplex_base::codec::error::Error;
+use simplex_base::codec::parts::{size_both, write_both};
+use simplex_base::codec::{EncodeSize, Fixed, Read, Spell, Write};
+use simplex_base::positions::{Participant, Round, Roundable};
+use simplex_scheme::scheme::{Digest, Scheme, SchemeTypes};
+use simplex_votes::types::{Attributable, Finalize};
+use std::alloc::{AllocError, Global};
+use std::marker::Model;
+
+/// Two finalizes of one signer and one round for different proposals. Swapping them gives an unequal value.
+#[derive(Drop)]
+#[derive_where(PartialEq, Eq, Hash)]
+pub struct ConflictingFinalize<S: SchemeTypes, D: Digest> {
+    finalize_1: Finalize<S, D>,
+    finalize_2: Finalize<S, D>,
+}
+
+impl<S: SchemeTypes, D: Digest> Model for ConflictingFinalize<S, D> {
+    ghost use Rattle.std.specs.Prelude.{IsTrue};
+    ghost use Rattle.simplex_votes.specs.declared.types.finalize.Finalize as declared;
+    ghost use Rattle.simplex_votes.specs.Votes.{finalize_vote};
+    ghost use Rattle.simplex_evidence.specs.Contradiction.{contradicts, Conflicting_finalize};
+    ghost use Rattle.simplex_evidence.specs.Conflict.{Conflict};
+
+    ghost Value = { Conflict (declared.Finalize S D S.PublicKey S.Signature) (declared.Finalize S D S.PublicKey S.Signature) };
+
+    ghost view = { λ conflict. record { first = conflict.finalize_1; second = conflict.finalize_2 } };
+
+    ghost invariant = { λ conflict. IsTrue (contradicts D.eq Conflicting_finalize (finalize_vote conflict.finalize_1) (finalize_vote conflict.finalize_2)) };
+
+    ghost inverse = { λ conflict. record { finalize_1 = conflict.first; finalize_2 = conflict.second } };
+}
+
+impl<S: SchemeTypes, D: Digest> ConflictingFinalize<S, D> {
+    /// Whether two finalizes contradict: they have one round and one signer, and their proposals differ.
+    pub fn conflicts(first: &Finalize<S, D>, second: &Finalize<S, D>) -> bool
+        ensures { result ≡ contradicts D.eq Conflicting_finalize (finalize_vote first.now) (finalize_vote second.now) }
+    {
+        second.proposal.round == first.proposal.round
+            && second.attestation.signer == first.attestation.signer
+            && first.proposal != second.proposal
+    }
+
+    /// The evidence of two finalizes that contradict, as [`conflicts`](ConflictingFinalize::conflicts) tells.
+    pub fn new(finalize_1: Finalize<S, D>, finalize_2: Finalize<S, D>) -> Self
+        requires { IsTrue (contradicts D.eq Conflicting_finalize (finalize_vote finalize_1) (finalize_vote finalize_2)) }
+        ensures { result ≡ record { first = finalize_1; second = finalize_2 } }
+    {
+        ConflictingFinalize {
+            finalize_1,
+            finalize_2,
+        }
+    }
+
+    /// The first finalize.
+    pub fn finalize_1(&self) -> &Finalize<S, D>
+        ensures finalize { result.now ≡ self.now.first }
+        ensures contradicts { IsTrue (contradicts D.eq Conflicting_finalize (finalize_vote self.now.first) (finalize_vote self.now.second)) }
+    {
+        &self.finalize_1
+    }
+
+    /// The second finalize.
+    pub fn finalize_2(&self) -> &Finalize<S, D>
+        ensures finalize { result.now ≡ self.now.second }
+        ensures contradicts { IsTrue (contradicts D.eq Conflicting_finalize (finalize_vote self.now.first) (finalize_vote self.now.second)) }
+    {
+        &self.finalize_2
+    }
+}
+
+impl<S: Scheme<D>, D: Digest> ConflictingFinalize<S, D> {
+    /// Whether both signatures are good, and nothing else.
+    pub fn verify(&self, scheme: &S) -> bool
+        ensures { result ≡ (S.good scheme.now (Finalizes self.now.first.proposal) self.now.first.attestation.signer self.now.first.attestation.signature &&
+            S.good scheme.now (Finalizes self.now.second.proposal) self.now.second.attestation.signer self.now.second.attestation.signature) }
+    {
+        self.finalize_1.verify(scheme) && self.finalize_2.verify(scheme)
+    }
+}
+
+impl<S: SchemeTypes, D: Digest> Clone for ConflictingFinalize<S, D> {
+    ghost is_clone = { λ conflict copy. copy ≡ conflict };
+
+    ghost is_infallible = { λ _. ⊤ };
+
+    fn clone(&self) -> Result<Self, AllocError> {
+        Ok(ConflictingFinalize {
+            finalize_1: self.finalize_1.copy(),
+            finalize_2: self.finalize_2.copy(),
+        })
+    }
+}
+
+impl<S: SchemeTypes, D: Digest> Attributable for ConflictingFinalize<S, D> {
+    ghost signer_of = { λ conflict. conflict.first.attestation.signer };
+
+    fn signer(&self) -> Participant {
+        self.finalize_1.attestation.signer
+    }
+}
+
+impl<S: SchemeTypes, D: Digest> Roundable for ConflictingFinalize<S, D> {
+    ghost round_of = { λ conflict. conflict.first.proposal.round };
+
+    fn round(&self) -> Round {
+        self.finalize_1.round()
+    }
+}
+
+impl<S: SchemeTypes, D: Digest> Spell for ConflictingFinalize<S, D> {
+    ghost use Rattle.simplex_evidence.specs.Conflict.{conflicting_finalize_format};
+
+    ghost is_value = { (conflicting_finalize_format D.eq (format_of ⟦<D as Read>⟧) (format_of ⟦<S::Signature as Read>⟧)).is_value };
+
+    ghost spelling = { (conflicting_finalize_format D.eq (format_of ⟦<D as Read>⟧) (format_of ⟦<S::Signature as Read>⟧)).spelling };
+}
+
+impl<S: SchemeTypes, D: Digest> Write for ConflictingFinalize<S, D> {
+    fn write(&self, buf: &mut Vec<u8>) -> Result<(), AllocError> {
+        write_both(&self.finalize_1, &self.finalize_2, buf)
+    }
+}
+
+impl<S: SchemeTypes, D: Digest> EncodeSize for ConflictingFinalize<S, D> {
+    ghost limit = { 70 + 4 * 65535 };
+
+    fn encode_size(&self) -> usize {
+        size_both(&self.finalize_1, &self.finalize_2)
+    }
+}
+
+impl<S: SchemeTypes, D: Digest> Read for ConflictingFinalize<S, D> {
+    ghost use Rattle.simplex_evidence.specs.Conflict.{conflicting_finalize_format, conflicting_finalize_lawful};
+
+    type Cfg = ();
+
+    ghost fits = { λ _. (conflicting_finalize_format D.eq (format_of ⟦<D as Read>⟧) (format_of ⟦<S::Signature as Read>⟧)).is_value };
+
+    ghost reading = { λ _. (conflicting_finalize_format D.eq (format_of ⟦<D as Read>⟧) (format_of ⟦<S::Signature as Read>⟧)).reading };
+
+    ghost takes_memory = { false };
+
+    fn read_cfg(alloc: Global, input: &mut &[u8], cfg: &()) -> Result<Self, Error> {
+        let mut rest: &[u8] = *input;
+        match <(Finalize<S, D>, Finalize<S, D>)>::read_cfg(alloc, &mut rest, cfg) {
+            Ok((finalize_1, finalize_2)) => {
+                if !Self::conflicts(&finalize_1, &finalize_2) {
+                    return Err(Error::Invalid(
+                        "consensus::simplex::ConflictingFinalize",
+                        "invalid conflicting finalize",
+                    ));
+                }
+                *input = rest;
+                Ok(Self::new(finalize_1, finalize_2))
+            }
+            Err(error) => Err(error),
+        }
+    }
+
+    ghost lawful = { λ _. conflicting_finalize_lawful D.eq _ _ D.lawful S.Signature.lawful };
+}

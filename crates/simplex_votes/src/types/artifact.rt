@@ -1,0 +1,196 @@
+//! The union of what a node stores.
+
+ghost use Rattle.std.specs.Prelude.{◌≡◌, ◌+◌, ◌^◌, IfOk, IfErr, IsTrue};
+ghost use Rattle.simplex_base.specs.Readable.{format_of, format_under};
+
+use crate::types::certificate::Certificate;
+use crate::types::vote::Vote;
+use crate::types::notarization::Notarization;
+use crate::types::finalization::Finalization;
+use crate::types::finalize::Finalize;
+use crate::types::nullification::Nullification;
+use crate::types::nullify::Nullify;
+use crate::types::notarize::Notarize;
+use simplex_base::codec::error::Error;
+use simplex_base::codec::unions::{Tagged, read_tagged, write_tagged};
+use simplex_base::codec::{EncodeSize, Fixed, Read, Spell, Write};
+use simplex_base::positions::{Round, Roundable};
+use simplex_scheme::scheme::{CertificateScheme, Digest};
+use std::alloc::{AllocError, Global};
+
+/// A vote, a certificate message, or whether a round was certified: one byte of tag, and then the parts of the
+/// member with that tag. It is read under the committee's bound.
+#[derive(Drop)]
+#[derive_where(PartialEq, Eq)]
+pub enum Artifact<S: CertificateScheme, D: Digest> {
+    /// Tag 0.
+    Notarize(Notarize<S, D>),
+    /// Tag 1.
+    Notarization(Notarization<S, D>),
+    /// Tag 2: the round, and whether its proposal was certified.
+    Certification(Round, bool),
+    /// Tag 3.
+    Nullify(Nullify<S>),
+    /// Tag 4.
+    Nullification(Nullification<S>),
+    /// Tag 5.
+    Finalize(Finalize<S, D>),
+    /// Tag 6.
+    Finalization(Finalization<S, D>),
+}
+
+impl<S: CertificateScheme, D: Digest> Artifact<S, D> {
+    ghost use Rattle.simplex_votes.specs.Artifact.{has_certificate, IsArtifactClone, ClonesCertificate};
+
+    /// The same artifact, with a clone of the certificate where it has one. Only that clone takes memory.
+    pub fn clone(&self) -> Result<Self, AllocError>
+        ensures parts { IfOk result (λ copy. IsArtifactClone S.Certificate.is_clone self.now copy) }
+        // Where a certificate's clone is the certificate, this one's is this artifact.
+        ensures same { ClonesCertificate S.Certificate.is_clone self.now → IfOk result (λ copy. copy ≡ self.now) }
+        ensures refused { IfErr result (λ _. IsTrue (has_certificate self.now)) }
+    {
+        match self {
+            Artifact::Notarize(vote) => Ok(Artifact::Notarize(vote.copy())),
+            Artifact::Notarization(message) => Ok(Artifact::Notarization(message.clone()?)),
+            Artifact::Certification(round, certified) => {
+                Ok(Artifact::Certification(*round, *certified))
+            }
+            Artifact::Nullify(vote) => Ok(Artifact::Nullify(vote.copy())),
+            Artifact::Nullification(message) => Ok(Artifact::Nullification(message.clone()?)),
+            Artifact::Finalize(vote) => Ok(Artifact::Finalize(vote.copy())),
+            Artifact::Finalization(message) => Ok(Artifact::Finalization(message.clone()?)),
+        }
+    }
+}
+
+impl<S: CertificateScheme, D: Digest> From<Vote<S, D>> for Artifact<S, D> {
+    ghost use Rattle.simplex_votes.specs.Artifact.{vote_artifact};
+
+    ghost from_gives = { λ vote artifact. artifact ≡ vote_artifact vote };
+
+    fn from(vote: Vote<S, D>) -> Self {
+        match vote {
+            Vote::Notarize(vote) => Artifact::Notarize(vote),
+            Vote::Nullify(vote) => Artifact::Nullify(vote),
+            Vote::Finalize(vote) => Artifact::Finalize(vote),
+        }
+    }
+}
+
+impl<S: CertificateScheme, D: Digest> From<Certificate<S, D>> for Artifact<S, D> {
+    ghost use Rattle.simplex_votes.specs.Artifact.{certificate_artifact};
+
+    ghost from_gives = { λ message artifact. artifact ≡ certificate_artifact message };
+
+    fn from(message: Certificate<S, D>) -> Self {
+        match message {
+            Certificate::Notarization(message) => Artifact::Notarization(message),
+            Certificate::Nullification(message) => Artifact::Nullification(message),
+            Certificate::Finalization(message) => Artifact::Finalization(message),
+        }
+    }
+}
+
+impl<S: CertificateScheme, D: Digest> Roundable for Artifact<S, D> {
+    ghost use Rattle.simplex_votes.specs.Artifact.{artifact_round};
+
+    ghost round_of = { artifact_round };
+
+    fn round(&self) -> Round {
+        match self {
+            Artifact::Notarize(vote) => vote.round(),
+            Artifact::Notarization(message) => message.round(),
+            Artifact::Certification(round, _) => *round,
+            Artifact::Nullify(vote) => vote.round(),
+            Artifact::Nullification(message) => message.round(),
+            Artifact::Finalize(vote) => vote.round(),
+            Artifact::Finalization(message) => message.round(),
+        }
+    }
+}
+
+impl<S: CertificateScheme, D: Digest> Spell for Artifact<S, D> {
+    ghost use Rattle.simplex_votes.specs.Artifact.{IsArtifact, artifact_spelling};
+
+    ghost is_value = { IsArtifact (format_of ⟦<D as Read>⟧) S.Certificate.is_value (format_of ⟦<S::Signature as Read>⟧) };
+
+    ghost spelling = { artifact_spelling (format_of ⟦<D as Read>⟧) S.Certificate.spelling (format_of ⟦<S::Signature as Read>⟧) };
+}
+
+impl<S: CertificateScheme, D: Digest> Write for Artifact<S, D> {
+    fn write(&self, buf: &mut Vec<u8>) -> Result<(), AllocError> {
+        match self {
+            Artifact::Notarize(vote) => write_tagged(0, vote, buf),
+            Artifact::Notarization(message) => write_tagged(1, message, buf),
+            Artifact::Certification(round, certified) => {
+                write_tagged(2, &(*round, *certified), buf)
+            }
+            Artifact::Nullify(vote) => write_tagged(3, vote, buf),
+            Artifact::Nullification(message) => write_tagged(4, message, buf),
+            Artifact::Finalize(vote) => write_tagged(5, vote, buf),
+            Artifact::Finalization(message) => write_tagged(6, message, buf),
+        }
+    }
+}
+
+impl<S: CertificateScheme, D: Digest> EncodeSize for Artifact<S, D> {
+    ghost limit = { 36 + 65535 + 2 ^ 50 };
+
+    fn encode_size(&self) -> usize {
+        match self {
+            Artifact::Notarize(vote) => 1 + vote.encode_size(),
+            Artifact::Notarization(message) => 1 + message.encode_size(),
+            Artifact::Certification(round, certified) => {
+                1 + round.encode_size() + certified.encode_size()
+            }
+            Artifact::Nullify(vote) => 1 + vote.encode_size(),
+            Artifact::Nullification(message) => 1 + message.encode_size(),
+            Artifact::Finalize(vote) => 1 + vote.encode_size(),
+            Artifact::Finalization(message) => 1 + message.encode_size(),
+        }
+    }
+}
+
+impl<S: CertificateScheme, D: Digest> Read for Artifact<S, D> {
+    ghost use Rattle.simplex_votes.specs.Artifact.{artifact_format, artifact_lawful};
+
+    type Cfg = u32;
+
+    ghost fits = { λ bound. (artifact_format (format_of ⟦<D as Read>⟧) (format_under ⟦<S::Certificate as Read>⟧ bound) (format_of ⟦<S::Signature as Read>⟧)).is_value };
+
+    ghost reading = { λ bound. (artifact_format (format_of ⟦<D as Read>⟧) (format_under ⟦<S::Certificate as Read>⟧ bound) (format_of ⟦<S::Signature as Read>⟧)).reading };
+
+    ghost takes_memory = { S.Certificate.takes_memory };
+
+    fn read_cfg(alloc: Global, input: &mut &[u8], bound: &u32) -> Result<Self, Error> {
+        read_tagged(alloc, input, bound)
+    }
+
+    ghost lawful = { λ bound. artifact_lawful _ _ _ D.lawful (S.Certificate.lawful bound) S.Signature.lawful };
+}
+
+impl<S: CertificateScheme, D: Digest> Tagged for Artifact<S, D> {
+    ghost use Rattle.simplex_votes.specs.Artifact.{artifact_branches};
+
+    type Cfg = u32;
+
+    ghost branches = { λ bound. artifact_branches (format_of ⟦<D as Read>⟧) (format_under ⟦<S::Certificate as Read>⟧ bound) (format_of ⟦<S::Signature as Read>⟧) };
+
+    ghost takes_memory = { S.Certificate.takes_memory };
+
+    fn read_body(alloc: Global, tag: u8, input: &mut &[u8], bound: &u32) -> Result<Self, Error> {
+        Ok(match tag {
+            0 => Artifact::Notarize(Notarize::read_cfg(alloc, input, &())?),
+            1 => Artifact::Notarization(Notarization::read_cfg(alloc, input, bound)?),
+            2 => match <(Round, bool)>::read_cfg(alloc, input, &()) {
+                Ok((round, certified)) => Artifact::Certification(round, certified),
+                Err(error) => return Err(error),
+            },
+            3 => Artifact::Nullify(Nullify::read_cfg(alloc, input, &())?),
+            4 => Artifact::Nullification(Nullification::read_cfg(alloc, input, bound)?),
+            5 => Artifact::Finalize(Finalize::read_cfg(alloc, input, &())?),
+            6 => Artifact::Finalization(Finalization::read_cfg(alloc, input, bound)?),
+            _ => return Err(Error::Invalid("consensus::simplex::Artifact", "Invalid type")),
+        })
+    }
+}

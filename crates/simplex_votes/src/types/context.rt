@@ -1,0 +1,104 @@
+//! What a payload is built on.
+
+ghost use Rattle.std.specs.Prelude.{◌≡◌, ⊤, ◌+◌, false};
+ghost use Rattle.simplex_base.specs.Readable.{format_of};
+
+use simplex_base::codec::error::Error;
+use simplex_base::codec::parts::{size_both, write_both};
+use simplex_base::codec::{EncodeSize, Fixed, FixedSize, MaxEncodeSize, Read, Spell, Write};
+use simplex_base::positions::{Round, Roundable, View};
+use simplex_scheme::scheme::{Digest, PublicKey};
+use std::alloc::{AllocError, Global};
+
+/// The round of a payload, the key of the round's leader, and the view and the payload of the parent that it is
+/// built on, spelled in that order.
+#[derive(Debug, Drop, PartialEq, Eq)]
+pub struct Context<D, P> {
+    pub round: Round,
+    pub leader: P,
+    pub parent: (View, D),
+}
+
+impl<D: Copy + Drop, P: Copy + Drop> Clone for Context<D, P> {
+    ghost is_clone = { λ context copy. copy ≡ context };
+
+    ghost is_infallible = { λ _. ⊤ };
+
+    fn clone(&self) -> Result<Self, AllocError> {
+        Ok(Context {
+            round: self.round,
+            leader: self.leader,
+            parent: self.parent,
+        })
+    }
+}
+
+impl<D, P> Roundable for Context<D, P> {
+    ghost round_of = { λ context. context.round };
+
+    fn round(&self) -> Round {
+        self.round
+    }
+}
+
+impl<D: Digest, P: PublicKey> Spell for Context<D, P> {
+    ghost use Rattle.simplex_votes.specs.Context.{context_format};
+
+    ghost is_value = { (context_format (format_of ⟦<D as Read>⟧) (format_of ⟦<P as Read>⟧)).is_value };
+
+    ghost spelling = { (context_format (format_of ⟦<D as Read>⟧) (format_of ⟦<P as Read>⟧)).spelling };
+}
+
+impl<D: Digest, P: PublicKey> Write for Context<D, P> {
+    fn write(&self, buf: &mut Vec<u8>) -> Result<(), AllocError> {
+        write_both(&self.round, &(self.leader, self.parent), buf)
+    }
+}
+
+impl<D: Digest, P: PublicKey> EncodeSize for Context<D, P> {
+    ghost limit = { 30 + 65535 + 65535 };
+
+    fn encode_size(&self) -> usize {
+        let parent = size_both(&self.parent.0, &self.parent.1);
+        size_both(&self.round, &self.leader) + parent
+    }
+}
+
+impl<D: Digest, P: PublicKey> MaxEncodeSize for Context<D, P> {
+    ghost use Rattle.simplex_votes.specs.Context.{context_within, context_longest};
+
+    ghost max_size = { 30 + P.SIZE + D.SIZE };
+
+    fn max_encode_size() -> usize {
+        Round::max_encode_size() + P::SIZE + View::max_encode_size() + D::SIZE
+    }
+
+    ghost within = { context_within (format_of ⟦<D as Read>⟧) (format_of ⟦<P as Read>⟧) D.SIZE P.SIZE D.within P.within };
+
+    ghost reached = { context_longest (format_of ⟦<D as Read>⟧) (format_of ⟦<P as Read>⟧) D.SIZE P.SIZE D.longest P.longest };
+}
+
+impl<D: Digest, P: PublicKey> Read for Context<D, P> {
+    ghost use Rattle.simplex_votes.specs.Context.{context_format, context_lawful};
+
+    type Cfg = ();
+
+    ghost fits = { λ _. (context_format (format_of ⟦<D as Read>⟧) (format_of ⟦<P as Read>⟧)).is_value };
+
+    ghost reading = { λ _. (context_format (format_of ⟦<D as Read>⟧) (format_of ⟦<P as Read>⟧)).reading };
+
+    ghost takes_memory = { false };
+
+    fn read_cfg(alloc: Global, input: &mut &[u8], cfg: &()) -> Result<Self, Error> {
+        match <(Round, (P, (View, D)))>::read_cfg(alloc, input, cfg) {
+            Ok((round, (leader, parent))) => Ok(Context {
+                round,
+                leader,
+                parent,
+            }),
+            Err(error) => Err(error),
+        }
+    }
+
+    ghost lawful = { λ _. context_lawful _ _ D.lawful P.lawful };
+}

@@ -1,0 +1,184 @@
+//! Certificates that a proposal is finalized.
+
+ghost use Rattle.std.specs.Prelude.{◌≡◌, ◌↔◌, ◌+◌, ◌<◌, ◌≤◌, ◌^◌, true, Err, IsTrue, IfOk, IfErr, All, length, map};
+ghost use Rattle.simplex_base.specs.Readable.{format_of, format_under};
+ghost use Rattle.simplex_scheme.specs.Committee.{quorum_of};
+ghost use Rattle.simplex_scheme.specs.Subject.{Finalizes};
+
+use crate::types::assembly::{assemble, stand_together};
+use crate::types::finalize::Finalize;
+use simplex_base::codec::error::Error;
+use simplex_base::codec::parts::{size_both, write_both};
+use simplex_base::codec::{EncodeSize, Fixed, FixedSize, MaxEncodeSize, Read, Spell, Write};
+use simplex_base::positions::{Round, Roundable, View};
+use simplex_scheme::proposal::{Proposal, Subject};
+use simplex_scheme::scheme::{
+    AssemblyError, CertificateScheme, CertificateVerifier, Digest, Scheme,
+};
+use std::alloc::{AllocError, Global};
+
+/// A proposal with a certificate of votes to finalize it, spelled in that order. It is read under the
+/// committee's bound.
+#[derive(Drop)]
+#[derive_where(PartialEq, Eq, Hash)]
+pub struct Finalization<S: CertificateScheme, D: Digest> {
+    pub proposal: Proposal<D>,
+    pub certificate: S::Certificate,
+}
+
+impl<S: CertificateScheme, D: Digest> Finalization<S, D> {
+    ghost use Rattle.simplex_votes.specs.Spellings.{IsFinalization, finalization_spelling};
+
+    /// The same proposal with a clone of the certificate.
+    pub fn clone(&self) -> Result<Self, AllocError>
+        ensures parts { IfOk result (λ copy. (copy.proposal ≡ self.now.proposal) × S.Certificate.is_clone self.now.certificate copy.certificate) }
+        // Where a certificate's clone is the certificate, this one's is this finalization.
+        ensures same { ((copy : S.Certificate) → S.Certificate.is_clone self.now.certificate copy → copy ≡ self.now.certificate) →
+            IfOk result (λ copy. copy ≡ self.now) }
+    {
+        let certificate = self.certificate.clone()?;
+        Ok(Finalization {
+            proposal: self.proposal,
+            certificate,
+        })
+    }
+
+    /// The greatest number of bytes of a finalization that is read under this bound: 30 and those of the digest
+    /// and of the greatest certificate.
+    pub fn max_encode_size(participants: u32) -> usize
+        ensures size { result ≡ 30 + D.SIZE + S.max_size participants }
+        ensures within { (n : Finalization S D S.Certificate S.PublicKey S.Signature) →
+            IsFinalization (format_of ⟦<D as Read>⟧) (S.Certificate.fits participants) n →
+            length (finalization_spelling (format_of ⟦<D as Read>⟧) S.Certificate.spelling n) ≤ result }
+    {
+        let proposal = Round::max_encode_size() + View::max_encode_size() + D::SIZE;
+        proposal + S::max_certificate_size(participants)
+    }
+}
+
+impl<S: CertificateVerifier<D>, D: Digest> Finalization<S, D> {
+    /// Whether the certificate certifies that the proposal is finalized.
+    pub fn verify(&self, scheme: &S) -> bool
+        ensures { result ≡ S.certified scheme.now (Finalizes self.now.proposal) self.now.certificate }
+    {
+        let subject = Subject::Finalize {
+            proposal: &self.proposal,
+        };
+        scheme.verify_certificate(subject, &self.certificate)
+    }
+}
+
+impl<S: Scheme<D>, D: Digest> Finalization<S, D> {
+    ghost use Rattle.simplex_votes.specs.Assembly.{CanFinalize};
+
+    /// Whether a finalization can be made of the votes, a quorum of them provided: there is at least one, all are
+    /// for one proposal, and the signers are distinct and in the committee. Votes whose signers ascend are looked
+    /// at once each, and one that is out of order is compared to all before it; no memory is taken.
+    pub fn can_assemble(scheme: &S, votes: &[Finalize<S, D>]) -> bool
+        ensures { IsTrue result ↔ CanFinalize (length (S.keys scheme.now)) votes.now }
+    {
+        stand_together(votes, scheme.participants().len())
+    }
+
+    /// Makes a finalization of votes, which [`can_assemble`](Finalization::can_assemble) has to allow. Fewer than a
+    /// quorum are refused by `InsufficientAttestations`, the quorum and their number, and then no memory is taken.
+    /// From a quorum on there is a finalization, or memory was refused. Good votes make a certified one.
+    pub fn from_finalizes(
+        alloc: Global,
+        scheme: &S,
+        votes: &[Finalize<S, D>],
+    ) -> Result<Self, AssemblyError>
+        requires { CanFinalize (length (S.keys scheme.now)) votes.now }
+        ensures below { length votes.now < quorum_of (length (S.keys scheme.now)) →
+            result ≡ Err (AssemblyError.InsufficientAttestations (quorum_of (length (S.keys scheme.now))) (length votes.now)) }
+        ensures enough { quorum_of (length (S.keys scheme.now)) ≤ length votes.now →
+            IfErr result (λ error. error ≡ AssemblyError.OutOfMemory) }
+        ensures proposal { IfOk result (λ finalization. All (λ vote. vote.proposal ≡ finalization.proposal) votes.now) }
+        ensures made { IfOk result (λ finalization. S.made_of (map (λ vote. vote.attestation) votes.now) finalization.certificate) }
+        ensures certified { IfOk result (λ finalization.
+            All (λ vote. S.good scheme.now (Finalizes vote.proposal) vote.attestation.signer vote.attestation.signature ≡ true) votes.now →
+            S.certified scheme.now (Finalizes finalization.proposal) finalization.certificate ≡ true) }
+    {
+        match assemble(alloc, scheme, votes) {
+            Ok(certificate) => Ok(Finalization {
+                proposal: votes[0].proposal,
+                certificate,
+            }),
+            Err(error) => Err(error),
+        }
+    }
+
+    /// Makes a finalization of votes as [`from_finalizes`](Finalization::from_finalizes) does.
+    pub fn from_owned_finalizes(
+        alloc: Global,
+        scheme: &S,
+        votes: Vec<Finalize<S, D>>,
+    ) -> Result<Self, AssemblyError>
+        requires { CanFinalize (length (S.keys scheme.now)) votes.items }
+        ensures below { length votes.items < quorum_of (length (S.keys scheme.now)) →
+            result ≡ Err (AssemblyError.InsufficientAttestations (quorum_of (length (S.keys scheme.now))) (length votes.items)) }
+        ensures enough { quorum_of (length (S.keys scheme.now)) ≤ length votes.items →
+            IfErr result (λ error. error ≡ AssemblyError.OutOfMemory) }
+        ensures proposal { IfOk result (λ finalization. All (λ vote. vote.proposal ≡ finalization.proposal) votes.items) }
+        ensures made { IfOk result (λ finalization. S.made_of (map (λ vote. vote.attestation) votes.items) finalization.certificate) }
+        ensures certified { IfOk result (λ finalization.
+            All (λ vote. S.good scheme.now (Finalizes vote.proposal) vote.attestation.signer vote.attestation.signature ≡ true) votes.items →
+            S.certified scheme.now (Finalizes finalization.proposal) finalization.certificate ≡ true) }
+    {
+        Finalization::from_finalizes(alloc, scheme, votes.as_slice())
+    }
+}
+
+impl<S: CertificateScheme, D: Digest> Roundable for Finalization<S, D> {
+    ghost round_of = { λ finalization. finalization.proposal.round };
+
+    fn round(&self) -> Round {
+        self.proposal.round
+    }
+}
+
+impl<S: CertificateScheme, D: Digest> Spell for Finalization<S, D> {
+    ghost use Rattle.simplex_votes.specs.Spellings.{IsFinalization, finalization_spelling};
+
+    ghost is_value = { IsFinalization (format_of ⟦<D as Read>⟧) S.Certificate.is_value };
+
+    ghost spelling = { finalization_spelling (format_of ⟦<D as Read>⟧) S.Certificate.spelling };
+}
+
+impl<S: CertificateScheme, D: Digest> Write for Finalization<S, D> {
+    fn write(&self, buf: &mut Vec<u8>) -> Result<(), AllocError> {
+        write_both(&self.proposal, &self.certificate, buf)
+    }
+}
+
+impl<S: CertificateScheme, D: Digest> EncodeSize for Finalization<S, D> {
+    ghost limit = { 30 + 65535 + 2 ^ 50 };
+
+    fn encode_size(&self) -> usize {
+        size_both(&self.proposal, &self.certificate)
+    }
+}
+
+impl<S: CertificateScheme, D: Digest> Read for Finalization<S, D> {
+    ghost use Rattle.simplex_votes.specs.Spellings.{finalization_format, finalization_lawful};
+
+    type Cfg = u32;
+
+    ghost fits = { λ bound. (finalization_format (format_of ⟦<D as Read>⟧) (format_under ⟦<S::Certificate as Read>⟧ bound)).is_value };
+
+    ghost reading = { λ bound. (finalization_format (format_of ⟦<D as Read>⟧) (format_under ⟦<S::Certificate as Read>⟧ bound)).reading };
+
+    ghost takes_memory = { S.Certificate.takes_memory };
+
+    fn read_cfg(alloc: Global, input: &mut &[u8], bound: &u32) -> Result<Self, Error> {
+        match <(Proposal<D>, S::Certificate)>::read_cfg(alloc, input, bound) {
+            Ok((proposal, certificate)) => Ok(Finalization {
+                proposal,
+                certificate,
+            }),
+            Err(error) => Err(error),
+        }
+    }
+
+    ghost lawful = { λ bound. finalization_lawful _ _ D.lawful (S.Certificate.lawful bound) };
+}

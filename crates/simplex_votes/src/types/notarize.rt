@@ -1,0 +1,158 @@
+//! Votes to notarize a proposal.
+
+ghost use Rattle.std.specs.Prelude.{◌≡◌, ⊤, ◌+◌, ℕ, false, true, Ok, None, Some, IfOk, MatchOption};
+ghost use Rattle.simplex_base.specs.Readable.{format_of};
+ghost use Rattle.simplex_scheme.specs.Subject.{Notarizes};
+
+use crate::types::attributable::Attributable;
+use simplex_base::codec::error::Error;
+use simplex_base::codec::parts::{size_both, write_both};
+use simplex_base::codec::{EncodeSize, Fixed, FixedSize, MaxEncodeSize, Read, Spell, Write};
+use simplex_base::positions::{Participant, Round, Roundable};
+use simplex_scheme::proposal::{Proposal, Subject};
+use simplex_scheme::scheme::{Attestation, Digest, Scheme, SchemeTypes};
+use std::alloc::{AllocError, Global};
+
+/// A vote to notarize a proposal, spelled as the proposal and the attestation.
+#[derive(Drop)]
+#[derive_where(PartialEq, Eq, Hash)]
+pub struct Notarize<S: SchemeTypes, D: Digest> {
+    pub proposal: Proposal<D>,
+    pub attestation: Attestation<S>,
+}
+
+impl<S: SchemeTypes, D: Digest> Notarize<S, D> {
+    /// The same vote, without memory.
+    pub fn copy(&self) -> Self
+        ensures { result ≡ self.now }
+    {
+        Notarize {
+            proposal: self.proposal,
+            attestation: Attestation {
+                signer: self.attestation.signer,
+                signature: self.attestation.signature,
+            },
+        }
+    }
+}
+
+impl<S: SchemeTypes, D: Digest> Clone for Notarize<S, D> {
+    ghost is_clone = { λ vote copy. copy ≡ vote };
+
+    ghost is_infallible = { λ _. ⊤ };
+
+    fn clone(&self) -> Result<Self, AllocError> {
+        Ok(self.copy())
+    }
+}
+
+impl<S: Scheme<D>, D: Digest> Notarize<S, D> {
+    /// Signs a proposal as the scheme's participant. `None` comes exactly where it has none.
+    pub fn sign(
+        alloc: Global,
+        scheme: &S,
+        proposal: Proposal<D>,
+    ) -> Result<Option<Self>, AllocError>
+        ensures none { S.own scheme.now ≡ None → result ≡ Ok None }
+        ensures signed { IfOk result (λ signed. MatchOption signed (S.own scheme.now ≡ None) (λ vote.
+            (vote.proposal ≡ proposal) × (S.own scheme.now ≡ Some vote.attestation.signer) ×
+            (S.good scheme.now (Notarizes proposal) vote.attestation.signer vote.attestation.signature ≡ true))) }
+    {
+        let subject = Subject::Notarize {
+            proposal: &proposal,
+        };
+        match scheme.sign(alloc, subject)? {
+            Some(attestation) => Ok(Some(Notarize {
+                proposal,
+                attestation,
+            })),
+            None => Ok(None),
+        }
+    }
+
+    /// Whether the signature is one of the signer for the proposal.
+    pub fn verify(&self, scheme: &S) -> bool
+        ensures { result ≡ S.good scheme.now (Notarizes self.now.proposal) self.now.attestation.signer self.now.attestation.signature }
+    {
+        let subject = Subject::Notarize {
+            proposal: &self.proposal,
+        };
+        scheme.verify_attestation(subject, &self.attestation)
+    }
+}
+
+impl<S: SchemeTypes, D: Digest> Attributable for Notarize<S, D> {
+    ghost signer_of = { λ vote. vote.attestation.signer };
+
+    fn signer(&self) -> Participant {
+        self.attestation.signer
+    }
+}
+
+impl<S: SchemeTypes, D: Digest> Roundable for Notarize<S, D> {
+    ghost round_of = { λ vote. vote.proposal.round };
+
+    fn round(&self) -> Round {
+        self.proposal.round
+    }
+}
+
+impl<S: SchemeTypes, D: Digest> Spell for Notarize<S, D> {
+    ghost use Rattle.simplex_votes.specs.Spellings.{notarize_format};
+
+    ghost is_value = { (notarize_format (format_of ⟦<D as Read>⟧) (format_of ⟦<S::Signature as Read>⟧)).is_value };
+
+    ghost spelling = { (notarize_format (format_of ⟦<D as Read>⟧) (format_of ⟦<S::Signature as Read>⟧)).spelling };
+}
+
+impl<S: SchemeTypes, D: Digest> Write for Notarize<S, D> {
+    fn write(&self, buf: &mut Vec<u8>) -> Result<(), AllocError> {
+        write_both(&self.proposal, &self.attestation, buf)
+    }
+}
+
+impl<S: SchemeTypes, D: Digest> EncodeSize for Notarize<S, D> {
+    ghost limit = { 35 + 65535 + 65535 };
+
+    fn encode_size(&self) -> usize {
+        size_both(&self.proposal, &self.attestation)
+    }
+}
+
+impl<S: SchemeTypes, D: Digest> MaxEncodeSize for Notarize<S, D> {
+    ghost use Rattle.simplex_votes.specs.Spellings.{notarize_within, notarize_longest};
+
+    ghost max_size = { 35 + D.SIZE + S.Signature.SIZE };
+
+    fn max_encode_size() -> usize {
+        Proposal::<D>::max_encode_size() + Attestation::<S>::max_encode_size()
+    }
+
+    ghost within = { notarize_within (format_of ⟦<D as Read>⟧) (format_of ⟦<S::Signature as Read>⟧) D.SIZE S.Signature.SIZE D.within S.Signature.within };
+
+    ghost reached = { notarize_longest (format_of ⟦<D as Read>⟧) (format_of ⟦<S::Signature as Read>⟧) D.SIZE S.Signature.SIZE D.longest S.Signature.longest };
+}
+
+impl<S: SchemeTypes, D: Digest> Read for Notarize<S, D> {
+    ghost use Rattle.simplex_votes.specs.Spellings.{notarize_format, notarize_lawful};
+
+    type Cfg = ();
+
+    ghost fits = { λ _. (notarize_format (format_of ⟦<D as Read>⟧) (format_of ⟦<S::Signature as Read>⟧)).is_value };
+
+    ghost reading = { λ _. (notarize_format (format_of ⟦<D as Read>⟧) (format_of ⟦<S::Signature as Read>⟧)).reading };
+
+    ghost takes_memory = { false };
+
+    fn read_cfg(alloc: Global, input: &mut &[u8], cfg: &()) -> Result<Self, Error> {
+        match <(Proposal<D>, Attestation<S>)>::read_cfg(alloc, input, cfg) {
+            Ok((proposal, attestation)) => Ok(Notarize {
+                proposal,
+                attestation,
+            }),
+            Err(error) => Err(error),
+        }
+    }
+
+    ghost lawful = { λ _. notarize_lawful _ _ D.lawful S.Signature.lawful };
+}

@@ -1,0 +1,181 @@
+//! Certificates that a round is nullified.
+
+ghost use Rattle.std.specs.Prelude.{◌≡◌, ◌↔◌, ◌+◌, ◌<◌, ◌≤◌, ◌^◌, true, Err, IsTrue, IfOk, IfErr, All, length, map};
+ghost use Rattle.simplex_base.specs.Readable.{format_under};
+ghost use Rattle.simplex_scheme.specs.Committee.{quorum_of};
+ghost use Rattle.simplex_scheme.specs.Subject.{Nullifies};
+
+use crate::types::assembly::{assemble, stand_together};
+use crate::types::nullify::Nullify;
+use simplex_base::codec::error::Error;
+use simplex_base::codec::parts::{size_both, write_both};
+use simplex_base::codec::{EncodeSize, MaxEncodeSize, Read, Spell, Write};
+use simplex_base::positions::{Round, Roundable};
+use simplex_scheme::proposal::Subject;
+use simplex_scheme::scheme::{
+    AssemblyError, CertificateScheme, CertificateVerifier, Digest, Scheme,
+};
+use std::alloc::{AllocError, Global};
+
+/// A round with a certificate of votes to nullify it, spelled in that order. It is read under the committee's
+/// bound.
+#[derive(Drop)]
+#[derive_where(PartialEq, Eq, Hash)]
+pub struct Nullification<S: CertificateScheme> {
+    pub round: Round,
+    pub certificate: S::Certificate,
+}
+
+impl<S: CertificateScheme> Nullification<S> {
+    ghost use Rattle.simplex_votes.specs.Spellings.{IsNullification, nullification_spelling};
+    ghost use Rattle.simplex_votes.specs.Assembly.{CanNullify};
+
+    /// The same round with a clone of the certificate.
+    pub fn clone(&self) -> Result<Self, AllocError>
+        ensures parts { IfOk result (λ copy. (copy.round ≡ self.now.round) × S.Certificate.is_clone self.now.certificate copy.certificate) }
+        // Where a certificate's clone is the certificate, this one's is this nullification.
+        ensures same { ((copy : S.Certificate) → S.Certificate.is_clone self.now.certificate copy → copy ≡ self.now.certificate) →
+            IfOk result (λ copy. copy ≡ self.now) }
+    {
+        let certificate = self.certificate.clone()?;
+        Ok(Nullification {
+            round: self.round,
+            certificate,
+        })
+    }
+
+    /// The greatest number of bytes of a nullification that is read under this bound: 20 and those of the
+    /// greatest certificate.
+    pub fn max_encode_size(participants: u32) -> usize
+        ensures size { result ≡ 20 + S.max_size participants }
+        ensures within { (n : Nullification S S.Certificate S.PublicKey S.Signature) →
+            IsNullification (S.Certificate.fits participants) n →
+            length (nullification_spelling S.Certificate.spelling n) ≤ result }
+    {
+        Round::max_encode_size() + S::max_certificate_size(participants)
+    }
+
+    /// Whether the certificate certifies that the round is nullified.
+    pub fn verify<'a, D: Digest + 'a>(&self, scheme: &'a S) -> bool
+    where
+        S: CertificateVerifier<D>,
+        ensures { result ≡ S.certified scheme.now (Nullifies self.now.round) self.now.certificate }
+    {
+        let subject: Subject<'a, D> = Subject::Nullify { round: self.round };
+        scheme.verify_certificate(subject, &self.certificate)
+    }
+
+    /// Whether a nullification can be made of the votes, a quorum of them provided: there is at least one, all are
+    /// for one round, and the signers are distinct and in the committee. Votes whose signers ascend are looked at
+    /// once each, and one that is out of order is compared to all before it; no memory is taken.
+    pub fn can_assemble<'a, D: Digest + 'a>(scheme: &'a S, votes: &[Nullify<S>]) -> bool
+    where
+        S: Scheme<D>,
+        ensures { IsTrue result ↔ CanNullify (length (S.keys scheme.now)) votes.now }
+    {
+        stand_together(votes, scheme.participants().len())
+    }
+
+    /// Makes a nullification of votes, which [`can_assemble`](Nullification::can_assemble) has to allow. Fewer than
+    /// a quorum are refused by `InsufficientAttestations`, the quorum and their number, and then no memory is taken.
+    /// From a quorum on there is a nullification, or memory was refused. Good votes make a certified one.
+    pub fn from_nullifies<'a, D: Digest + 'a>(
+        alloc: Global,
+        scheme: &'a S,
+        votes: &[Nullify<S>],
+    ) -> Result<Self, AssemblyError>
+    where
+        S: Scheme<D>,
+        requires { CanNullify (length (S.keys scheme.now)) votes.now }
+        ensures below { length votes.now < quorum_of (length (S.keys scheme.now)) →
+            result ≡ Err (AssemblyError.InsufficientAttestations (quorum_of (length (S.keys scheme.now))) (length votes.now)) }
+        ensures enough { quorum_of (length (S.keys scheme.now)) ≤ length votes.now →
+            IfErr result (λ error. error ≡ AssemblyError.OutOfMemory) }
+        ensures round { IfOk result (λ nullification. All (λ vote. vote.round ≡ nullification.round) votes.now) }
+        ensures made { IfOk result (λ nullification. S.made_of (map (λ vote. vote.attestation) votes.now) nullification.certificate) }
+        ensures certified { IfOk result (λ nullification.
+            All (λ vote. S.good scheme.now (Nullifies vote.round) vote.attestation.signer vote.attestation.signature ≡ true) votes.now →
+            S.certified scheme.now (Nullifies nullification.round) nullification.certificate ≡ true) }
+    {
+        match assemble(alloc, scheme, votes) {
+            Ok(certificate) => Ok(Nullification {
+                round: votes[0].round,
+                certificate,
+            }),
+            Err(error) => Err(error),
+        }
+    }
+
+    /// Makes a nullification of votes as [`from_nullifies`](Nullification::from_nullifies) does.
+    pub fn from_owned_nullifies<'a, D: Digest + 'a>(
+        alloc: Global,
+        scheme: &'a S,
+        votes: Vec<Nullify<S>>,
+    ) -> Result<Self, AssemblyError>
+    where
+        S: Scheme<D>,
+        requires { CanNullify (length (S.keys scheme.now)) votes.items }
+        ensures below { length votes.items < quorum_of (length (S.keys scheme.now)) →
+            result ≡ Err (AssemblyError.InsufficientAttestations (quorum_of (length (S.keys scheme.now))) (length votes.items)) }
+        ensures enough { quorum_of (length (S.keys scheme.now)) ≤ length votes.items →
+            IfErr result (λ error. error ≡ AssemblyError.OutOfMemory) }
+        ensures round { IfOk result (λ nullification. All (λ vote. vote.round ≡ nullification.round) votes.items) }
+        ensures made { IfOk result (λ nullification. S.made_of (map (λ vote. vote.attestation) votes.items) nullification.certificate) }
+        ensures certified { IfOk result (λ nullification.
+            All (λ vote. S.good scheme.now (Nullifies vote.round) vote.attestation.signer vote.attestation.signature ≡ true) votes.items →
+            S.certified scheme.now (Nullifies nullification.round) nullification.certificate ≡ true) }
+    {
+        Nullification::from_nullifies(alloc, scheme, votes.as_slice())
+    }
+}
+
+impl<S: CertificateScheme> Roundable for Nullification<S> {
+    ghost round_of = { λ nullification. nullification.round };
+
+    fn round(&self) -> Round {
+        self.round
+    }
+}
+
+impl<S: CertificateScheme> Spell for Nullification<S> {
+    ghost use Rattle.simplex_votes.specs.Spellings.{IsNullification, nullification_spelling};
+
+    ghost is_value = { IsNullification S.Certificate.is_value };
+
+    ghost spelling = { nullification_spelling S.Certificate.spelling };
+}
+
+impl<S: CertificateScheme> Write for Nullification<S> {
+    fn write(&self, buf: &mut Vec<u8>) -> Result<(), AllocError> {
+        write_both(&self.round, &self.certificate, buf)
+    }
+}
+
+impl<S: CertificateScheme> EncodeSize for Nullification<S> {
+    ghost limit = { 20 + 2 ^ 50 };
+
+    fn encode_size(&self) -> usize {
+        size_both(&self.round, &self.certificate)
+    }
+}
+
+impl<S: CertificateScheme> Read for Nullification<S> {
+    ghost use Rattle.simplex_votes.specs.Spellings.{nullification_format, nullification_lawful};
+
+    type Cfg = u32;
+
+    ghost fits = { λ bound. (nullification_format (format_under ⟦<S::Certificate as Read>⟧ bound)).is_value };
+
+    ghost reading = { λ bound. (nullification_format (format_under ⟦<S::Certificate as Read>⟧ bound)).reading };
+
+    ghost takes_memory = { S.Certificate.takes_memory };
+
+    fn read_cfg(alloc: Global, input: &mut &[u8], bound: &u32) -> Result<Self, Error> {
+        match <(Round, S::Certificate)>::read_cfg(alloc, input, bound) {
+            Ok((round, certificate)) => Ok(Nullification { round, certificate }),
+            Err(error) => Err(error),
+        }
+    }
+
+    ghost lawful = { λ bound. nullification_lawful _ (S.Certificate.lawful bound) };
+}
