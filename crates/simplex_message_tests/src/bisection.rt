@@ -8,7 +8,8 @@ use simplex_scheme::hash::Sha256Digest;
 use simplex_scheme::listed::Listed;
 use simplex_scheme::marked::{Marked, MarkedDigest};
 use simplex_scheme::plain::Plain;
-use simplex_scheme::proposal::{Proposal, Subject};
+use simplex_scheme::proposal::Proposal;
+use simplex_scheme::subject::Subject;
 use std::alloc::{AllocError, Global};
 use std::test::Fail;
 

@@ -6,3 +6,4 @@ pub mod NamespaceLemmas
 pub mod MarkedLemmas
 pub mod SubjectLemmas
 pub mod ListedLemmas
+pub mod MessageLemmas

@@ -9,3 +9,4 @@ pub mod Listed
 pub mod ListedLaws
 pub mod Plain
 pub mod Marked
+pub mod Errors

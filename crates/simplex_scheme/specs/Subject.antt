@@ -3,8 +3,8 @@ use Rattle.std.specs.Prelude.{ℕ, List}
 use Rattle.simplex_base.specs.Format.{Format}
 use Rattle.simplex_base.specs.Positions.{Round, round_format}
 use Rattle.simplex_scheme.specs.declared.proposal.Proposal.{Proposal}
-use Rattle.simplex_scheme.specs.declared.proposal.Subject as rust
-use Rattle.simplex_scheme.specs.declared.proposal.Subject.TheVariants as variants
+use Rattle.simplex_scheme.specs.declared.subject.Subject as rust
+use Rattle.simplex_scheme.specs.declared.subject.Subject.TheVariants as variants
 use Rattle.simplex_scheme.specs.Namespace.{Names}
 use Rattle.simplex_scheme.specs.Proposal.{proposal_format}
 

@@ -1,5 +1,5 @@
-//! Certificates that list attestations: what they certify, and how they are made. It is the same for each
-//! scheme that verifies attestations one by one.
+//! What lists of attestations certify, and how they are made, for each scheme that verifies attestations one by one. A
+//! scheme of one's own whose certificates are [`Listed`] is an [`AttestationVerifier`], and answers by these calls.
 
 ghost use Rattle.std.specs.Prelude.{◌≡◌, ℕ, Bool, true, List, length, nat_eq, All, Ok, Err, IsOk, IfOk, ◌<◌, ◌≤◌};
 ghost use Rattle.std.specs.List.{IsDistinct, list_all};
@@ -8,11 +8,11 @@ ghost use Rattle.simplex_scheme.specs.Committee.{IsInOrder, is_quorum, quorum_of
 
 use crate::faults::quorum;
 use crate::listed::Listed;
-use crate::proposal::Subject;
+use crate::subject::Subject;
 use crate::scheme::{AssemblyError, Attestation, CertificateScheme, Digest, SchemeTypes};
 
 /// A committee whose attestations are verified one by one.
-pub(crate) trait AttestationVerifier<D: Digest>: CertificateScheme {
+pub trait AttestationVerifier<D: Digest>: CertificateScheme {
     /// Whether a signature is one of this signer for the subject.
     ghost accepted: { Self → SubjectValue D → ℕ → Self.Signature → Bool };
 
@@ -24,7 +24,7 @@ pub(crate) trait AttestationVerifier<D: Digest>: CertificateScheme {
 }
 
 /// Whether a certificate lists a quorum, each attestation of it for the subject.
-pub(crate) fn is_certified<D: Digest, S: AttestationVerifier<D>>(
+pub fn is_certified<D: Digest, S: AttestationVerifier<D>>(
     scheme: &S,
     subject: &Subject<'_, D>,
     certificate: &Listed<S>,
@@ -44,7 +44,7 @@ pub(crate) fn is_certified<D: Digest, S: AttestationVerifier<D>>(
 }
 
 /// Whether each certificate certifies its subject.
-pub(crate) fn are_certified<'a, D: Digest, S: AttestationVerifier<D>>(
+pub fn are_certified<'a, D: Digest, S: AttestationVerifier<D>>(
     scheme: &S,
     items: &[(Subject<'a, D>, &'a Listed<S>)],
 ) -> bool
@@ -67,7 +67,7 @@ fn sort_by_signers<S: SchemeTypes>(attestations: &mut Vec<Attestation<S>>)
 }
 
 /// The certificate of these attestations, sorted in place without memory.
-pub(crate) fn assembled<S: CertificateScheme>(
+pub fn assembled<S: CertificateScheme>(
     scheme: &S,
     mut attestations: Vec<Attestation<S>>,
 ) -> Result<Listed<S>, AssemblyError>

@@ -31,8 +31,6 @@ impl Role<32> for Sha256Role {
 /// A digest of SHA-256: 32 bytes.
 pub type Sha256Digest = FixedBytes<Sha256Role, 32>;
 
-impl Digest for FixedBytes<Sha256Role, 32> {}
-
 /// SHA-256 by FIPS 180-4.
 pub struct Sha256;
 

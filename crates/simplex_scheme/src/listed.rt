@@ -1,6 +1,6 @@
 //! Certificates that list their attestations.
 
-ghost use Rattle.std.specs.Prelude.{◌≡◌, ◌+◌, ◌*◌, ◌/◌, min, ◌<◌, ◌≤◌, ◌^◌, IfOk, length, true, false};
+ghost use Rattle.std.specs.Prelude.{◌≡◌, ◌+◌, ◌*◌, ◌/◌, min, ◌<◌, ◌≤◌, ◌^◌, IfOk, length, true, false, refl};
 ghost use Rattle.std.specs.Hash as fed;
 ghost use Rattle.std.specs.Cmp.Lexicographic.{pointwise, lists_per};
 ghost use Rattle.std.specs.Cmp.Rules.{comparing, hashing};
@@ -17,6 +17,7 @@ use simplex_base::codec::error::Error;
 use simplex_base::codec::parts::known_bytes;
 use simplex_base::codec::varint::read_u32;
 use simplex_base::codec::{EncodeSize, FixedSize, Read, Spell, Write};
+use simplex_base::values::EqByParts;
 use std::alloc::{AllocError, Global};
 use std::hash::{Hash, Hasher};
 use std::marker::Model;
@@ -42,8 +43,8 @@ impl<S: SchemeTypes> Model for Listed<S> {
 }
 
 impl<S: SchemeTypes> Listed<S> {
-    /// The certificate of these attestations, without memory.
-    pub(crate) fn from_ascending(attestations: Vec<Attestation<S>>) -> Listed<S>
+    /// The certificate of these attestations, from 1 to 2^32 - 1 with strictly ascending signers. It takes no memory.
+    pub fn from_ascending(attestations: Vec<Attestation<S>>) -> Listed<S>
         requires { AreListed attestations.items }
         ensures { result ≡ attestations.items }
     {
@@ -90,6 +91,12 @@ impl<S: SchemeTypes> Hash for Listed<S> {
     fn hash<H: Hasher>(&self, state: &mut H) {
         self.attestations.hash(state);
     }
+}
+
+impl<S: SchemeTypes> EqByParts for Listed<S> {
+    ghost same = { pointwise ⟦<Attestation<S> as PartialEq>⟧.eq };
+
+    ghost equal = { λ x y. refl };
 }
 
 impl<S: SchemeTypes> Spell for Listed<S> {

@@ -12,7 +12,7 @@ ghost use Rattle.simplex_scheme.specs.Marked.{numbered, marked_good, marked_memb
 
 use crate::certificates::{AttestationVerifier, are_certified, assembled, is_certified};
 use crate::listed::Listed;
-use crate::proposal::Subject;
+use crate::subject::Subject;
 use crate::scheme::{
     AssemblyError, Attestation, CertificateScheme, CertificateVerifier, Digest, Listing, PublicKey,
     Scheme, SchemeTypes, Signature,
@@ -34,8 +34,6 @@ impl Role<1> for MarkedDigestRole {
 /// A digest for tests: 1 byte.
 pub type MarkedDigest = FixedBytes<MarkedDigestRole, 1>;
 
-impl Digest for FixedBytes<MarkedDigestRole, 1> {}
-
 /// The role of a key of the marked scheme.
 pub enum MarkedKeyRole {}
 
@@ -46,8 +44,6 @@ impl Role<4> for MarkedKeyRole {
 /// A key of the marked scheme: the number of its participant in 4 bytes, the most significant first.
 pub type MarkedKey = FixedBytes<MarkedKeyRole, 4>;
 
-impl PublicKey for FixedBytes<MarkedKeyRole, 4> {}
-
 /// The role of a signature of the marked scheme.
 pub enum MarkedSignatureRole {}
 
@@ -57,8 +53,6 @@ impl Role<1> for MarkedSignatureRole {
 
 /// A signature of the marked scheme: 1 byte, which is `aa` where it is good.
 pub type MarkedSignature = FixedBytes<MarkedSignatureRole, 1>;
-
-impl Signature for FixedBytes<MarkedSignatureRole, 1> {}
 
 /// A committee that signs by a mark. The signature of each participant over each subject is the byte `aa`,
 /// so it is for tests alone.

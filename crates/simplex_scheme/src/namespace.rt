@@ -8,7 +8,7 @@ use std::marker::Model;
 
 /// The namespaces under which votes of each kind and seeds are signed: a base, which names the
 /// application, followed by a suffix of the kind.
-#[derive(Clone, Drop)]
+#[derive(Drop)]
 pub struct Namespace {
     /// Of votes to notarize: the base and `_NOTARIZE`.
     pub notarize: Vec<u8>,
@@ -39,6 +39,19 @@ impl Namespace {
         ensures one { (other : List ℕ) → TellBases base.now other }
     {
         Self::derive(alloc, base)
+    }
+}
+
+impl Clone for Namespace {
+    ghost is_clone = { λ names copy. copy ≡ names };
+
+    fn clone(&self) -> Result<Self, AllocError> {
+        Ok(Namespace {
+            notarize: self.notarize.clone()?,
+            nullify: self.nullify.clone()?,
+            finalize: self.finalize.clone()?,
+            seed: self.seed.clone()?,
+        })
     }
 }
 

@@ -19,7 +19,8 @@ use crate::certificates::{AttestationVerifier, are_certified, assembled, is_cert
 use crate::hash::{Hasher, Sha256};
 use crate::listed::Listed;
 use crate::namespace::Namespace;
-use crate::proposal::{Proposal, Subject};
+use crate::proposal::Proposal;
+use crate::subject::Subject;
 use crate::scheme::{
     AssemblyError, Attestation, CertificateScheme, CertificateVerifier, Digest, Listing, PublicKey,
     Scheme, SchemeTypes, Signature,
@@ -42,8 +43,6 @@ impl Role<32> for PlainKeyRole {
 /// A key of the plain scheme: 32 bytes.
 pub type PlainKey = FixedBytes<PlainKeyRole, 32>;
 
-impl PublicKey for FixedBytes<PlainKeyRole, 32> {}
-
 /// The role of a signature of the plain scheme.
 pub enum PlainSignatureRole {}
 
@@ -53,8 +52,6 @@ impl Role<32> for PlainSignatureRole {
 
 /// A signature of the plain scheme: 32 bytes.
 pub type PlainSignature = FixedBytes<PlainSignatureRole, 32>;
-
-impl Signature for FixedBytes<PlainSignatureRole, 32> {}
 
 /// A committee that signs by hashing. The signature of the participant with key K over a subject is the
 /// SHA-256 of: the length of the subject's namespace as a number, the namespace, the 32 bytes of K, the

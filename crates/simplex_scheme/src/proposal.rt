@@ -1,15 +1,15 @@
 //! What is voted on.
 
-ghost use Rattle.std.specs.Prelude.{◌≡◌, ⊤, ◌+◌, ℕ, List, IfOk, false, length};
+ghost use Rattle.std.specs.Prelude.{◌≡◌, ◌↔◌, ◌&&◌, ⊤, ◌+◌, IsTrue, false, nat_eq, refl};
+ghost use Rattle.std.specs.Ordering.{nat_cmp, ordering_then};
 ghost use Rattle.simplex_base.specs.Readable.{format_of};
 
-use crate::namespace::Namespace;
 use crate::scheme::Digest;
-use bytes::Bytes;
 use simplex_base::codec::error::Error;
 use simplex_base::codec::parts::{size_both, write_both};
-use simplex_base::codec::{Encode, EncodeSize, FixedSize, MaxEncodeSize, Read, Spell, Write};
+use simplex_base::codec::{EncodeSize, Fixed, FixedSize, MaxEncodeSize, Read, Spell, Write};
 use simplex_base::positions::{Round, Roundable, View};
+use simplex_base::values::{EqByParts, OrdByParts};
 use std::alloc::{AllocError, Global};
 
 /// A payload that is proposed for a round, on top of the proposal of the parent's view. It is spelled as
@@ -34,6 +34,19 @@ impl<D> Proposal<D> {
     }
 }
 
+impl<D: Digest> Proposal<D> {
+    /// Whether another proposal is the same: its round, its parent and the bytes of its payload are. It is what `==`
+    /// answers.
+    pub fn is_same(&self, other: &Self) -> bool
+        ensures same { IsTrue result ↔ (self.now ≡ other.now) }
+        ensures equal { result ≡ ⟦<Proposal<D> as PartialEq>⟧.eq self.now other.now }
+    {
+        let _ = self.payload.as_bytes();
+        let _ = other.payload.as_bytes();
+        self == other
+    }
+}
+
 impl<D: Copy> Clone for Proposal<D> {
     ghost is_clone = { λ proposal copy. copy ≡ proposal };
 
@@ -45,6 +58,18 @@ impl<D: Copy> Clone for Proposal<D> {
 }
 
 impl<D: Copy> Copy for Proposal<D> {}
+
+impl<D: Eq> EqByParts for Proposal<D> {
+    ghost same = { λ x y. ⟦<Round as PartialEq>⟧.eq x.round y.round && (nat_eq x.parent y.parent && D.eq x.payload y.payload) };
+
+    ghost equal = { λ x y. refl };
+}
+
+impl<D: Ord> OrdByParts for Proposal<D> {
+    ghost order = { λ x y. ordering_then (⟦<Round as Ord>⟧.cmp x.round y.round) (ordering_then (nat_cmp x.parent y.parent) (D.cmp x.payload y.payload)) };
+
+    ghost ordered = { λ x y. refl };
+}
 
 impl<D> Roundable for Proposal<D> {
     ghost round_of = { λ proposal. proposal.round };
@@ -109,80 +134,4 @@ impl<D: Digest> Read for Proposal<D> {
     }
 
     ghost lawful = { λ _. proposal_lawful (format_of ⟦<D as Read>⟧) D.lawful };
-}
-
-/// What a vote or a certificate says.
-#[derive(Clone, Copy)]
-pub enum Subject<'a, D> {
-    Notarize { proposal: &'a Proposal<D> },
-    Nullify { round: Round },
-    Finalize { proposal: &'a Proposal<D> },
-}
-
-/// What is signed: a message under a namespace.
-pub trait CertificateSubject {
-    /// The names of all kinds of subjects.
-    type Namespace;
-
-    /// The name under which the subject is signed.
-    ghost name_in: { Self → Self.Namespace → List ℕ };
-
-    /// The message that is signed.
-    ghost signed: { Self → List ℕ };
-
-    /// The name under which the subject is signed.
-    fn namespace<'b>(&self, names: &'b Self::Namespace) -> &'b [u8]
-        ensures { result.now ≡ name_in self.now names.now };
-
-    /// The bytes that are signed.
-    fn message(&self, alloc: Global) -> Result<Bytes, AllocError>
-        ensures { IfOk result (λ bytes. bytes ≡ signed self.now) };
-}
-
-impl<D: Digest> CertificateSubject for Subject<'_, D> {
-    ghost use Rattle.simplex_scheme.specs.Namespace.{names_of};
-    ghost use Rattle.simplex_scheme.specs.Subject.{SubjectValue, IsSubject, subject_value, name_of, message_of};
-
-    type Namespace = Namespace;
-
-    ghost name_in = { λ subject names. name_of names (subject_value subject) };
-
-    ghost signed = { λ subject. message_of (format_of ⟦<D as Read>⟧) (subject_value subject) };
-
-    fn namespace<'b>(&self, names: &'b Namespace) -> &'b [u8] {
-        match self {
-            Subject::Notarize { .. } => names.notarize.as_slice(),
-            Subject::Nullify { .. } => names.nullify.as_slice(),
-            Subject::Finalize { .. } => names.finalize.as_slice(),
-        }
-    }
-
-    fn message(&self, alloc: Global) -> Result<Bytes, AllocError>
-        ensures message { IfOk result (λ bytes. bytes ≡ message_of (format_of ⟦<D as Read>⟧) (subject_value self.now)) }
-        // A name under one base and a message are those of one subject alone.
-        ensures one { (base : List ℕ) (other : SubjectValue D) → IsSubject (format_of ⟦<D as Read>⟧) other →
-            name_of (names_of base) (subject_value self.now) ≡ name_of (names_of base) other →
-            message_of (format_of ⟦<D as Read>⟧) (subject_value self.now) ≡ message_of (format_of ⟦<D as Read>⟧) other →
-            subject_value self.now ≡ other }
-    {
-        match self {
-            Subject::Notarize { proposal } => proposal.encode(alloc),
-            Subject::Nullify { round } => round.encode(alloc),
-            Subject::Finalize { proposal } => proposal.encode(alloc),
-        }
-    }
-}
-
-impl<D> Roundable for Subject<'_, D> {
-    ghost use Rattle.simplex_scheme.specs.Subject.{subject_value};
-    ghost use Rattle.simplex_scheme.specs.Subject as subjects;
-
-    ghost round_of = { λ subject. subjects.round_of (subject_value subject) };
-
-    fn round(&self) -> Round {
-        match self {
-            Subject::Notarize { proposal } | Subject::Finalize { proposal } => proposal.round,
-            Subject::Nullify { round } => *round,
-        }
-    }
 }

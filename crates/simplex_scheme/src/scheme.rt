@@ -1,17 +1,22 @@
 //! The schemes that sign and verify.
 
-ghost use Rattle.std.specs.Prelude.{◌≡◌, ⊤, ◌+◌, ℕ, Bool, true, false, List, Option, Some, None, Ok, Err, IsTrue, IfOk, IfErr, IfSome, MatchOption, All, length, nat_eq, ◌<◌, ◌≤◌, ◌^◌};
+ghost use Rattle.std.specs.Prelude.{◌≡◌, ⊤, ◌+◌, ℕ, Bool, true, false, List, Option, Some, None, Ok, Err, IsTrue, IfOk, IfErr, IfSome, MatchOption, All, length, nat_eq, ◌&&◌, ◌<◌, ◌≤◌, ◌^◌, refl};
 ghost use Rattle.std.specs.List.{IsDistinct, list_all};
 ghost use Rattle.simplex_base.specs.Readable.{format_of};
 ghost use Rattle.simplex_scheme.specs.Subject.{SubjectValue, subject_value};
 ghost use Rattle.simplex_scheme.specs.Committee.{IsQuorum, IsInOrder, quorum_of, signers_of};
 
-use crate::proposal::Subject;
-use crate::set::Set;
+pub use crate::hash::{Hasher, Sha256, Sha256Digest};
+pub use crate::namespace::{CertificateNamespace, Namespace};
+pub use crate::proposal::Proposal;
+pub use crate::set::{Set, SetError};
+pub use crate::subject::{CertificateSubject, Subject};
 use simplex_base::codec::error::Error;
+use simplex_base::codec::fixed_bytes::{FixedBytes, Role};
 use simplex_base::codec::parts::{size_both, write_both};
 use simplex_base::codec::{EncodeSize, Fixed, FixedSize, MaxEncodeSize, Read, Spell, Write};
 use simplex_base::positions::Participant;
+use simplex_base::values::EqByParts;
 use std::alloc::{AllocError, Global};
 use std::hash::Hash;
 
@@ -23,6 +28,12 @@ pub trait Signature: Fixed {}
 
 /// The key of a participant.
 pub trait PublicKey: Fixed {}
+
+impl<R: Role<N>, const N: usize> Digest for FixedBytes<R, N> {}
+
+impl<R: Role<N>, const N: usize> Signature for FixedBytes<R, N> {}
+
+impl<R: Role<N>, const N: usize> PublicKey for FixedBytes<R, N> {}
 
 /// The types of keys and signatures.
 pub trait SchemeTypes {
@@ -52,6 +63,12 @@ impl<S: SchemeTypes> Clone for Attestation<S> {
     }
 }
 
+impl<S: SchemeTypes> EqByParts for Attestation<S> {
+    ghost same = { λ x y. nat_eq x.signer y.signer && S.Signature.eq x.signature y.signature };
+
+    ghost equal = { λ x y. refl };
+}
+
 /// Why attestations make no certificate.
 #[derive(Clone, Copy, Debug, PartialEq, Eq, thiserror::Error)]
 pub enum AssemblyError {
@@ -61,6 +78,19 @@ pub enum AssemblyError {
     /// Memory was refused.
     #[error("out of memory")]
     OutOfMemory,
+}
+
+impl EqByParts for AssemblyError {
+    ghost use Rattle.std.specs.Prelude.{refl};
+    ghost use Rattle.simplex_scheme.specs.Errors.{same_assembly_error};
+    ghost use Rattle.simplex_scheme.specs.declared.scheme.AssemblyError.TheVariants.{InsufficientAttestations, OutOfMemory};
+
+    ghost same = { same_assembly_error };
+
+    ghost equal = { elim [
+        InsufficientAttestations _ _ ↦ elim [ InsufficientAttestations _ _ ↦ refl | _ ↦ refl ]
+        | OutOfMemory ↦ elim [ OutOfMemory ↦ refl | _ ↦ refl ]
+    ] };
 }
 
 /// A committee, who of it this is, and the certificates that it makes.

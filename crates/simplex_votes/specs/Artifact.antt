@@ -1,12 +1,18 @@
 -- The union of what a node stores: votes, certificate messages and what it certified.
 use Rattle.std.proofs.Common.{◌≡◌, ℕ, Bool, true, false, List, ◌∷◌, ◌++◌, refl, Ok}
-use Rattle.std.specs.Prelude.{codes, ⊤}
+use Rattle.std.specs.Prelude.{codes, ◌&&◌, ⊤}
 use Rattle.simplex_base.specs.Reading.{Refusal, invalid, Reading}
 use Rattle.simplex_base.specs.Format.{Format, IsLawful, both, truth}
 use Rattle.simplex_base.specs.FormatLaws.{both_lawful, truth_lawful}
 use Rattle.simplex_base.specs.Union.{union_at, branch_at, no_branch, branch_takes, no_branch_takes, union_lawful}
 use Rattle.simplex_base.specs.Positions.{Round, round_format, round_lawful}
 use Rattle.simplex_votes.specs.Spellings.{notarize_format, notarize_lawful, nullify_format, nullify_lawful, finalize_format, finalize_lawful, notarization_format, IsNotarization, notarization_spelling, notarization_lawful, nullification_format, IsNullification, nullification_spelling, nullification_lawful, finalization_format, IsFinalization, finalization_spelling, finalization_lawful}
+use Rattle.simplex_votes.specs.declared.types.notarize.Notarize.{Notarize}
+use Rattle.simplex_votes.specs.declared.types.nullify.Nullify.{Nullify}
+use Rattle.simplex_votes.specs.declared.types.finalize.Finalize.{Finalize}
+use Rattle.simplex_votes.specs.declared.types.notarization.Notarization.{Notarization}
+use Rattle.simplex_votes.specs.declared.types.nullification.Nullification.{Nullification}
+use Rattle.simplex_votes.specs.declared.types.finalization.Finalization.{Finalization}
 use Rattle.simplex_votes.specs.declared.types.vote.Vote.{Vote}
 use Rattle.simplex_votes.specs.declared.types.vote.Vote.TheVariants as vote
 use Rattle.simplex_votes.specs.declared.types.certificate.Certificate.{Certificate}
@@ -35,6 +41,19 @@ artifact_round (artifact.Nullify v) = v.round
 artifact_round (artifact.Nullification n) = n.round
 artifact_round (artifact.Finalize v) = v.proposal.round
 artifact_round (artifact.Finalization n) = n.proposal.round
+
+-- the same member, equal by its type's equality
+abbrev pub same_artifact : {S D C P G : Type 0} → (Notarize S D P G → Notarize S D P G → Bool) → (Notarization S D C P G → Notarization S D C P G → Bool) → (Round → Round → Bool) → (Bool → Bool → Bool) →
+    (Nullify S P G → Nullify S P G → Bool) → (Nullification S C P G → Nullification S C P G → Bool) → (Finalize S D P G → Finalize S D P G → Bool) → (Finalization S D C P G → Finalization S D C P G → Bool) →
+    Artifact S D C P G → Artifact S D C P G → Bool
+same_artifact notarizes notarizations rounds truths nullifies nullifications finalizes finalizations (artifact.Notarize v) (artifact.Notarize w) = notarizes v w
+same_artifact notarizes notarizations rounds truths nullifies nullifications finalizes finalizations (artifact.Notarization n) (artifact.Notarization m) = notarizations n m
+same_artifact notarizes notarizations rounds truths nullifies nullifications finalizes finalizations (artifact.Certification r b) (artifact.Certification s c) = rounds r s && truths b c
+same_artifact notarizes notarizations rounds truths nullifies nullifications finalizes finalizations (artifact.Nullify v) (artifact.Nullify w) = nullifies v w
+same_artifact notarizes notarizations rounds truths nullifies nullifications finalizes finalizations (artifact.Nullification n) (artifact.Nullification m) = nullifications n m
+same_artifact notarizes notarizations rounds truths nullifies nullifications finalizes finalizations (artifact.Finalize v) (artifact.Finalize w) = finalizes v w
+same_artifact notarizes notarizations rounds truths nullifies nullifications finalizes finalizations (artifact.Finalization n) (artifact.Finalization m) = finalizations n m
+same_artifact notarizes notarizations rounds truths nullifies nullifications finalizes finalizations _ _ = false
 
 -- whether an artifact has a certificate
 abbrev pub has_certificate : {S D C P G : Type 0} → Artifact S D C P G → Bool

@@ -1,5 +1,5 @@
 -- The unions of votes and of certificate messages: what each member is about, and how it is spelled.
-use Rattle.std.proofs.Common.{◌≡◌, ℕ, List, ◌∷◌, ◌++◌, ◌+◌, refl, Ok, arith}
+use Rattle.std.proofs.Common.{◌≡◌, ℕ, Bool, true, false, List, ◌∷◌, ◌++◌, ◌+◌, refl, Ok, arith}
 use Rattle.std.specs.Prelude.{codes}
 use Rattle.simplex_base.specs.Reading.{Refusal, invalid, Reading}
 use Rattle.simplex_base.specs.Format.{Format, IsLawful}
@@ -9,6 +9,12 @@ use Rattle.simplex_base.specs.Positions.{Round}
 use Rattle.simplex_scheme.specs.declared.scheme.Attestation.{Attestation}
 use Rattle.simplex_scheme.specs.Subject.{SubjectValue, Notarizes, Nullifies, Finalizes}
 use Rattle.simplex_votes.specs.Spellings.{notarize_format, notarize_lawful, notarize_within, notarize_longest, nullify_format, nullify_lawful, nullify_within, finalize_format, finalize_lawful, finalize_within, notarization_format, IsNotarization, notarization_spelling, notarization_lawful, nullification_format, IsNullification, nullification_spelling, nullification_lawful, finalization_format, IsFinalization, finalization_spelling, finalization_lawful}
+use Rattle.simplex_votes.specs.declared.types.notarize.Notarize.{Notarize}
+use Rattle.simplex_votes.specs.declared.types.nullify.Nullify.{Nullify}
+use Rattle.simplex_votes.specs.declared.types.finalize.Finalize.{Finalize}
+use Rattle.simplex_votes.specs.declared.types.notarization.Notarization.{Notarization}
+use Rattle.simplex_votes.specs.declared.types.nullification.Nullification.{Nullification}
+use Rattle.simplex_votes.specs.declared.types.finalization.Finalization.{Finalization}
 use Rattle.simplex_votes.specs.declared.types.vote.Vote.{Vote}
 use Rattle.simplex_votes.specs.declared.types.vote.Vote.TheVariants as vote
 use Rattle.simplex_votes.specs.declared.types.certificate.Kind.{Kind}
@@ -29,6 +35,14 @@ abbrev pub vote_attestation : {S D P G : Type 0} → Vote S D P G → Attestatio
 vote_attestation (vote.Notarize v) = v.attestation
 vote_attestation (vote.Nullify v) = v.attestation
 vote_attestation (vote.Finalize v) = v.attestation
+
+-- the same member, equal by its type's equality
+abbrev pub same_vote : {S D P G : Type 0} → (Notarize S D P G → Notarize S D P G → Bool) → (Nullify S P G → Nullify S P G → Bool) → (Finalize S D P G → Finalize S D P G → Bool) →
+    Vote S D P G → Vote S D P G → Bool
+same_vote notarizes nullifies finalizes (vote.Notarize v) (vote.Notarize w) = notarizes v w
+same_vote notarizes nullifies finalizes (vote.Nullify v) (vote.Nullify w) = nullifies v w
+same_vote notarizes nullifies finalizes (vote.Finalize v) (vote.Finalize w) = finalizes v w
+same_vote notarizes nullifies finalizes _ _ = false
 
 -- the refusal of a tag that no vote has
 abbrev pub unknown_vote : Refusal
@@ -92,6 +106,21 @@ vote_longest {S} {D} {P} {G} payload signature m n payloads signatures =
     (vote.Notarize longest.0, longest.1, omega (arith, most))
 
 -- ---- certificate messages
+
+-- the same kind
+abbrev pub same_kind : Kind → Kind → Bool
+same_kind kind.Notarization kind.Notarization = true
+same_kind kind.Nullification kind.Nullification = true
+same_kind kind.Finalization kind.Finalization = true
+same_kind _ _ = false
+
+-- the same member, equal by its type's equality
+abbrev pub same_certificate : {S D C P G : Type 0} → (Notarization S D C P G → Notarization S D C P G → Bool) → (Nullification S C P G → Nullification S C P G → Bool) → (Finalization S D C P G → Finalization S D C P G → Bool) →
+    Certificate S D C P G → Certificate S D C P G → Bool
+same_certificate notarizations nullifications finalizations (certificate.Notarization n) (certificate.Notarization m) = notarizations n m
+same_certificate notarizations nullifications finalizations (certificate.Nullification n) (certificate.Nullification m) = nullifications n m
+same_certificate notarizations nullifications finalizations (certificate.Finalization n) (certificate.Finalization m) = finalizations n m
+same_certificate notarizations nullifications finalizations _ _ = false
 
 -- the kind of a certificate message
 abbrev pub certificate_kind : {S D C P G : Type 0} → Certificate S D C P G → Kind

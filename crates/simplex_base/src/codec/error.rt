@@ -1,5 +1,6 @@
 //! Why bytes are no value.
 
+use crate::values::EqByParts;
 use thiserror::Error as ThisError;
 
 /// Why a value can't be read.
@@ -23,4 +24,21 @@ pub enum Error {
     /// A growth was refused.
     #[error("out of memory")]
     OutOfMemory,
+}
+
+impl EqByParts for Error {
+    ghost use Rattle.std.specs.Prelude.{refl};
+    ghost use Rattle.simplex_base.specs.Errors.{same_error};
+    ghost use Rattle.simplex_base.specs.declared.codec.error.Error.TheVariants.{EndOfBuffer, InvalidVarint, InvalidBool, Invalid, ExtraData, OutOfMemory};
+
+    ghost same = { same_error };
+
+    ghost equal = { elim [
+        EndOfBuffer ↦ elim [ EndOfBuffer ↦ refl | _ ↦ refl ]
+        | InvalidVarint ↦ elim [ InvalidVarint ↦ refl | _ ↦ refl ]
+        | InvalidBool ↦ elim [ InvalidBool ↦ refl | _ ↦ refl ]
+        | Invalid _ _ ↦ elim [ Invalid _ _ ↦ refl | _ ↦ refl ]
+        | ExtraData ↦ elim [ ExtraData ↦ refl | _ ↦ refl ]
+        | OutOfMemory ↦ elim [ OutOfMemory ↦ refl | _ ↦ refl ]
+    ] };
 }

@@ -40,7 +40,7 @@ impl OrdByParts for TermLength {
 }
 
 impl TermLength {
-    /// Terms of one view each.
+    /// Terms of one view each: the length is 1.
     pub const ONE: TermLength = TermLength(1);
 
     /// Terms of so many views each.
@@ -61,6 +61,8 @@ impl TermLength {
     }
 }
 
+const _: () = prove!(TermLength::ONE.0 == 1);
+
 #[tactic(auto, using(crate::specs::TermLaws::term_facts))]
 impl View {
     /// The number of the term that holds the view.
@@ -68,29 +70,33 @@ impl View {
         ensures value { result ≡ term_of length self }
         ensures holds { HoldsView length result self }
         ensures only { (term : ℕ) → HoldsView length term self → term ≡ result }
+        ensures some { 1 ≤ length }
     {
+        let views = length.get();
         if self.is_zero() {
-            0
-        } else {
-            (self.get() - 1) / length.get() + 1
+            return 0;
         }
+        (self.get() - 1) / views + 1
     }
 
     /// The first view of the term that holds the view.
     pub fn term_start(self, length: TermLength) -> Self
         ensures value { result ≡ term_start length self }
         ensures first { (term : ℕ) → HoldsView length term self → result ≡ first_view length term }
+        ensures some { 1 ≤ length }
     {
+        let views = length.get();
         if self.is_zero() {
             return View::zero();
         }
-        View::new((self.get() - 1) / length.get() * length.get() + 1)
+        View::new((self.get() - 1) / views * views + 1)
     }
 
     /// Whether the view is the first of its term, as view 0 is.
     pub fn is_term_start(self, length: TermLength) -> bool
         ensures value { IsTrue result ↔ (self ≡ term_start length self) }
         ensures first { (term : ℕ) → HoldsView length term self → IsTrue result ↔ (self ≡ first_view length term) }
+        ensures some { 1 ≤ length }
     {
         self == self.term_start(length)
     }
@@ -98,9 +104,11 @@ impl View {
     /// Whether the start of the next term is a view, so at most 2^64 - 1: the condition of `term_end`,
     /// `next_term_start` and `admits`.
     pub fn term_fits(self, length: TermLength) -> bool
-        ensures { IsTrue result ↔ (term_end length self + 1 < 2 ^ 64) }
+        ensures value { IsTrue result ↔ (term_end length self + 1 < 2 ^ 64) }
+        ensures some { 1 ≤ length }
     {
-        self.is_zero() || length.get() <= u64::MAX - self.term_start(length).get()
+        let views = length.get();
+        self.is_zero() || views <= u64::MAX - self.term_start(length).get()
     }
 
     /// The last view of the term that holds the view.
@@ -108,11 +116,13 @@ impl View {
         requires { term_end length self + 1 < 2 ^ 64 }
         ensures value { result ≡ term_end length self }
         ensures last { (term : ℕ) → HoldsView length term self → result ≡ last_view length term }
+        ensures some { 1 ≤ length }
     {
+        let views = length.get();
         if self.is_zero() {
             return View::zero();
         }
-        View::new(self.term_start(length).get() + (length.get() - 1))
+        View::new(self.term_start(length).get() + (views - 1))
     }
 
     /// The first view of the term after the one that holds the view.
@@ -120,6 +130,7 @@ impl View {
         requires { term_end length self + 1 < 2 ^ 64 }
         ensures value { result ≡ term_end length self + 1 }
         ensures first { (term : ℕ) → HoldsView length term self → result ≡ first_view length (term + 1) }
+        ensures some { 1 ≤ length }
     {
         View::new(self.term_end(length).get() + 1)
     }
@@ -128,8 +139,10 @@ impl View {
     /// up to this view, of the next view and of the next term's first view.
     pub fn admits(self, pending: View, length: TermLength) -> bool
         requires { term_end length self + 1 < 2 ^ 64 }
-        ensures { IsTrue result ↔ ((pending ≤ self) ⊎ (pending ≡ self + 1) ⊎ (pending ≡ term_end length self + 1)) }
+        ensures value { IsTrue result ↔ ((pending ≤ self) ⊎ (pending ≡ self + 1) ⊎ (pending ≡ term_end length self + 1)) }
+        ensures some { 1 ≤ length }
     {
+        let _views = length.get();
         pending <= self
             || pending.get() - 1 == self.get()
             || pending == self.next_term_start(length)

@@ -3,7 +3,7 @@
 ghost use Rattle.std.specs.Prelude.{◌≡◌, ◌<◌, IfOk, length, map};
 ghost use Rattle.simplex_scheme.specs.Subject.{subject_value};
 
-use simplex_scheme::proposal::Subject;
+use simplex_scheme::subject::Subject;
 use simplex_scheme::scheme::{CertificateVerifier, Digest};
 use std::alloc::{AllocError, Global};
 

@@ -10,7 +10,6 @@ use crate::types::finalize::Finalize;
 use crate::types::nullify::Nullify;
 use crate::types::attributable::Attributable;
 use crate::types::notarize::Notarize;
-use simplex_base::codec::Fixed;
 use simplex_base::positions::{Participant, Round};
 use simplex_scheme::faults::quorum;
 use simplex_scheme::proposal::Proposal;
@@ -42,15 +41,6 @@ pub trait Attested<S: SchemeTypes>: Attributable {
     ghost attests: { (vote : Self) → Self.signer_of vote ≡ (attestation_of vote).signer };
 }
 
-/// Whether two proposals are the same.
-fn are_same<D: Digest>(one: &Proposal<D>, other: &Proposal<D>) -> bool
-    ensures { IsTrue result ↔ (one.now ≡ other.now) }
-{
-    one.round == other.round
-        && one.parent == other.parent
-        && one.payload.as_bytes() == other.payload.as_bytes()
-}
-
 impl<S: SchemeTypes, D: Digest> Attested<S> for Notarize<S, D> {
     type Subject = Proposal<D>;
 
@@ -63,7 +53,7 @@ impl<S: SchemeTypes, D: Digest> Attested<S> for Notarize<S, D> {
     }
 
     fn agrees_with(&self, other: &Self) -> bool {
-        are_same(&self.proposal, &other.proposal)
+        self.proposal.is_same(&other.proposal)
     }
 
     ghost attests = { λ _. refl };
@@ -99,7 +89,7 @@ impl<S: SchemeTypes, D: Digest> Attested<S> for Finalize<S, D> {
     }
 
     fn agrees_with(&self, other: &Self) -> bool {
-        are_same(&self.proposal, &other.proposal)
+        self.proposal.is_same(&other.proposal)
     }
 
     ghost attests = { λ _. refl };

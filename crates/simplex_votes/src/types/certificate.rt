@@ -10,6 +10,7 @@ use simplex_base::codec::error::Error;
 use simplex_base::codec::unions::{Tagged, read_tagged, write_tagged};
 use simplex_base::codec::{EncodeSize, Fixed, FixedSize, MaxEncodeSize, Read, Spell, Write};
 use simplex_base::positions::{Round, Roundable};
+use simplex_base::values::EqByParts;
 use simplex_scheme::proposal::Proposal;
 use simplex_scheme::scheme::{CertificateScheme, CertificateVerifier, Digest};
 use std::alloc::{AllocError, Global};
@@ -36,6 +37,20 @@ impl Kind {
             Kind::Finalization => "finalization",
         }
     }
+}
+
+impl EqByParts for Kind {
+    ghost use Rattle.std.specs.Prelude.{refl};
+    ghost use Rattle.simplex_votes.specs.Unions.{same_kind};
+    ghost use Rattle.simplex_votes.specs.declared.types.certificate.Kind.TheVariants.{Notarization, Nullification, Finalization};
+
+    ghost same = { same_kind };
+
+    ghost equal = { elim [
+        Notarization ↦ elim [ Notarization ↦ refl | _ ↦ refl ]
+        | Nullification ↦ elim [ Nullification ↦ refl | _ ↦ refl ]
+        | Finalization ↦ elim [ Finalization ↦ refl | _ ↦ refl ]
+    ] };
 }
 
 impl fmt::Display for Kind {
@@ -116,6 +131,20 @@ impl<S: CertificateVerifier<D>, D: Digest> Certificate<S, D> {
             Certificate::Finalization(message) => message.verify(scheme),
         }
     }
+}
+
+impl<S: CertificateScheme, D: Digest> EqByParts for Certificate<S, D> {
+    ghost use Rattle.std.specs.Prelude.{refl};
+    ghost use Rattle.simplex_votes.specs.Unions.{same_certificate};
+    ghost use Rattle.simplex_votes.specs.declared.types.certificate.Certificate.TheVariants.{Notarization, Nullification, Finalization};
+
+    ghost same = { same_certificate ⟦<Notarization<S, D> as PartialEq>⟧.eq ⟦<Nullification<S> as PartialEq>⟧.eq ⟦<Finalization<S, D> as PartialEq>⟧.eq };
+
+    ghost equal = { elim [
+        Notarization _ ↦ elim [ Notarization _ ↦ refl | _ ↦ refl ]
+        | Nullification _ ↦ elim [ Nullification _ ↦ refl | _ ↦ refl ]
+        | Finalization _ ↦ elim [ Finalization _ ↦ refl | _ ↦ refl ]
+    ] };
 }
 
 impl<S: CertificateScheme, D: Digest> Roundable for Certificate<S, D> {

@@ -1,12 +1,13 @@
 //! What a payload is built on.
 
-ghost use Rattle.std.specs.Prelude.{◌≡◌, ⊤, ◌+◌, false};
+ghost use Rattle.std.specs.Prelude.{◌≡◌, ⊤, ◌+◌, false, ◌&&◌, nat_eq, refl};
 ghost use Rattle.simplex_base.specs.Readable.{format_of};
 
 use simplex_base::codec::error::Error;
 use simplex_base::codec::parts::{size_both, write_both};
 use simplex_base::codec::{EncodeSize, Fixed, FixedSize, MaxEncodeSize, Read, Spell, Write};
 use simplex_base::positions::{Round, Roundable, View};
+use simplex_base::values::EqByParts;
 use simplex_scheme::scheme::{Digest, PublicKey};
 use std::alloc::{AllocError, Global};
 
@@ -31,6 +32,13 @@ impl<D: Copy + Drop, P: Copy + Drop> Clone for Context<D, P> {
             parent: self.parent,
         })
     }
+}
+
+impl<D: Eq, P: Eq> EqByParts for Context<D, P> {
+    ghost same = { λ x y. ⟦<Round as PartialEq>⟧.eq x.round y.round && (P.eq x.leader y.leader &&
+        (nat_eq x.parent.0 y.parent.0 && D.eq x.parent.1 y.parent.1)) };
+
+    ghost equal = { λ x y. refl };
 }
 
 impl<D, P> Roundable for Context<D, P> {

@@ -1,6 +1,6 @@
 //! Certificates that a proposal is finalized.
 
-ghost use Rattle.std.specs.Prelude.{◌≡◌, ◌↔◌, ◌+◌, ◌<◌, ◌≤◌, ◌^◌, true, Err, IsTrue, IfOk, IfErr, All, length, map};
+ghost use Rattle.std.specs.Prelude.{◌≡◌, ◌↔◌, ◌+◌, ◌<◌, ◌≤◌, ◌^◌, true, Err, IsTrue, IfOk, IfErr, All, length, map, ◌&&◌, refl};
 ghost use Rattle.simplex_base.specs.Readable.{format_of, format_under};
 ghost use Rattle.simplex_scheme.specs.Committee.{quorum_of};
 ghost use Rattle.simplex_scheme.specs.Subject.{Finalizes};
@@ -11,7 +11,9 @@ use simplex_base::codec::error::Error;
 use simplex_base::codec::parts::{size_both, write_both};
 use simplex_base::codec::{EncodeSize, Fixed, FixedSize, MaxEncodeSize, Read, Spell, Write};
 use simplex_base::positions::{Round, Roundable, View};
-use simplex_scheme::proposal::{Proposal, Subject};
+use simplex_base::values::EqByParts;
+use simplex_scheme::proposal::Proposal;
+use simplex_scheme::subject::Subject;
 use simplex_scheme::scheme::{
     AssemblyError, CertificateScheme, CertificateVerifier, Digest, Scheme,
 };
@@ -127,6 +129,12 @@ impl<S: Scheme<D>, D: Digest> Finalization<S, D> {
     {
         Finalization::from_finalizes(alloc, scheme, votes.as_slice())
     }
+}
+
+impl<S: CertificateScheme, D: Digest> EqByParts for Finalization<S, D> {
+    ghost same = { λ x y. ⟦<Proposal<D> as PartialEq>⟧.eq x.proposal y.proposal && S.Certificate.eq x.certificate y.certificate };
+
+    ghost equal = { λ x y. refl };
 }
 
 impl<S: CertificateScheme, D: Digest> Roundable for Finalization<S, D> {

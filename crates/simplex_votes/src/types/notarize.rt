@@ -1,6 +1,6 @@
 //! Votes to notarize a proposal.
 
-ghost use Rattle.std.specs.Prelude.{◌≡◌, ⊤, ◌+◌, ℕ, false, true, Ok, None, Some, IfOk, MatchOption};
+ghost use Rattle.std.specs.Prelude.{◌≡◌, ⊤, ◌+◌, ℕ, false, true, Ok, None, Some, IfOk, MatchOption, ◌&&◌, refl};
 ghost use Rattle.simplex_base.specs.Readable.{format_of};
 ghost use Rattle.simplex_scheme.specs.Subject.{Notarizes};
 
@@ -9,7 +9,9 @@ use simplex_base::codec::error::Error;
 use simplex_base::codec::parts::{size_both, write_both};
 use simplex_base::codec::{EncodeSize, Fixed, FixedSize, MaxEncodeSize, Read, Spell, Write};
 use simplex_base::positions::{Participant, Round, Roundable};
-use simplex_scheme::proposal::{Proposal, Subject};
+use simplex_base::values::EqByParts;
+use simplex_scheme::proposal::Proposal;
+use simplex_scheme::subject::Subject;
 use simplex_scheme::scheme::{Attestation, Digest, Scheme, SchemeTypes};
 use std::alloc::{AllocError, Global};
 
@@ -79,6 +81,12 @@ impl<S: Scheme<D>, D: Digest> Notarize<S, D> {
         };
         scheme.verify_attestation(subject, &self.attestation)
     }
+}
+
+impl<S: SchemeTypes, D: Digest> EqByParts for Notarize<S, D> {
+    ghost same = { λ x y. ⟦<Proposal<D> as PartialEq>⟧.eq x.proposal y.proposal && ⟦<Attestation<S> as PartialEq>⟧.eq x.attestation y.attestation };
+
+    ghost equal = { λ x y. refl };
 }
 
 impl<S: SchemeTypes, D: Digest> Attributable for Notarize<S, D> {

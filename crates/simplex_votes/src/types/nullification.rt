@@ -1,6 +1,6 @@
 //! Certificates that a round is nullified.
 
-ghost use Rattle.std.specs.Prelude.{◌≡◌, ◌↔◌, ◌+◌, ◌<◌, ◌≤◌, ◌^◌, true, Err, IsTrue, IfOk, IfErr, All, length, map};
+ghost use Rattle.std.specs.Prelude.{◌≡◌, ◌↔◌, ◌+◌, ◌<◌, ◌≤◌, ◌^◌, true, Err, IsTrue, IfOk, IfErr, All, length, map, ◌&&◌, refl};
 ghost use Rattle.simplex_base.specs.Readable.{format_under};
 ghost use Rattle.simplex_scheme.specs.Committee.{quorum_of};
 ghost use Rattle.simplex_scheme.specs.Subject.{Nullifies};
@@ -11,7 +11,8 @@ use simplex_base::codec::error::Error;
 use simplex_base::codec::parts::{size_both, write_both};
 use simplex_base::codec::{EncodeSize, MaxEncodeSize, Read, Spell, Write};
 use simplex_base::positions::{Round, Roundable};
-use simplex_scheme::proposal::Subject;
+use simplex_base::values::EqByParts;
+use simplex_scheme::subject::Subject;
 use simplex_scheme::scheme::{
     AssemblyError, CertificateScheme, CertificateVerifier, Digest, Scheme,
 };
@@ -127,6 +128,12 @@ impl<S: CertificateScheme> Nullification<S> {
     {
         Nullification::from_nullifies(alloc, scheme, votes.as_slice())
     }
+}
+
+impl<S: CertificateScheme> EqByParts for Nullification<S> {
+    ghost same = { λ x y. ⟦<Round as PartialEq>⟧.eq x.round y.round && S.Certificate.eq x.certificate y.certificate };
+
+    ghost equal = { λ x y. refl };
 }
 
 impl<S: CertificateScheme> Roundable for Nullification<S> {

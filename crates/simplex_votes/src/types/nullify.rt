@@ -1,6 +1,6 @@
 //! Votes to nullify a round.
 
-ghost use Rattle.std.specs.Prelude.{◌≡◌, ⊤, ◌+◌, false, true, Ok, None, Some, IfOk, MatchOption};
+ghost use Rattle.std.specs.Prelude.{◌≡◌, ⊤, ◌+◌, false, true, Ok, None, Some, IfOk, MatchOption, ◌&&◌, refl};
 ghost use Rattle.simplex_base.specs.Readable.{format_of};
 ghost use Rattle.simplex_scheme.specs.Subject.{Nullifies};
 
@@ -9,7 +9,8 @@ use simplex_base::codec::error::Error;
 use simplex_base::codec::parts::{size_both, write_both};
 use simplex_base::codec::{EncodeSize, Fixed, FixedSize, MaxEncodeSize, Read, Spell, Write};
 use simplex_base::positions::{Participant, Round, Roundable};
-use simplex_scheme::proposal::Subject;
+use simplex_base::values::EqByParts;
+use simplex_scheme::subject::Subject;
 use simplex_scheme::scheme::{Attestation, Digest, Scheme, SchemeTypes};
 use std::alloc::{AllocError, Global};
 
@@ -74,6 +75,12 @@ impl<S: SchemeTypes> Clone for Nullify<S> {
     fn clone(&self) -> Result<Self, AllocError> {
         Ok(self.copy())
     }
+}
+
+impl<S: SchemeTypes> EqByParts for Nullify<S> {
+    ghost same = { λ x y. ⟦<Round as PartialEq>⟧.eq x.round y.round && ⟦<Attestation<S> as PartialEq>⟧.eq x.attestation y.attestation };
+
+    ghost equal = { λ x y. refl };
 }
 
 impl<S: SchemeTypes> Attributable for Nullify<S> {

@@ -11,6 +11,7 @@ use simplex_base::codec::error::Error;
 use simplex_base::codec::unions::{Tagged, read_tagged, write_tagged};
 use simplex_base::codec::{EncodeSize, Fixed, FixedSize, MaxEncodeSize, Read, Spell, Write};
 use simplex_base::positions::{Participant, Round, Roundable};
+use simplex_base::values::EqByParts;
 use simplex_scheme::scheme::{Digest, SchemeTypes};
 use std::alloc::{AllocError, Global};
 
@@ -38,6 +39,20 @@ impl<S: SchemeTypes, D: Digest> Clone for Vote<S, D> {
             Vote::Finalize(vote) => Vote::Finalize(vote.copy()),
         })
     }
+}
+
+impl<S: SchemeTypes, D: Digest> EqByParts for Vote<S, D> {
+    ghost use Rattle.std.specs.Prelude.{refl};
+    ghost use Rattle.simplex_votes.specs.Unions.{same_vote};
+    ghost use Rattle.simplex_votes.specs.declared.types.vote.Vote.TheVariants.{Notarize, Nullify, Finalize};
+
+    ghost same = { same_vote ⟦<Notarize<S, D> as PartialEq>⟧.eq ⟦<Nullify<S> as PartialEq>⟧.eq ⟦<Finalize<S, D> as PartialEq>⟧.eq };
+
+    ghost equal = { elim [
+        Notarize _ ↦ elim [ Notarize _ ↦ refl | _ ↦ refl ]
+        | Nullify _ ↦ elim [ Nullify _ ↦ refl | _ ↦ refl ]
+        | Finalize _ ↦ elim [ Finalize _ ↦ refl | _ ↦ refl ]
+    ] };
 }
 
 impl<S: SchemeTypes, D: Digest> Attributable for Vote<S, D> {

@@ -3,7 +3,8 @@ use simplex_base::codec::{Fixed, decode_cfg};
 use simplex_base::positions::{Epoch, Round, View};
 use simplex_scheme::listed::Listed;
 use simplex_scheme::marked::{Marked, MarkedDigest};
-use simplex_scheme::proposal::{Proposal, Subject};
+use simplex_scheme::proposal::Proposal;
+use simplex_scheme::subject::Subject;
 use std::process::Abort;
 
 /// Verifies a good certificate between two of one participant too few. Answers whether memory was refused; then

@@ -6,4 +6,4 @@ use Rattle.simplex_base.proofs.positions.view.View.term_start.Goals as goal
 pub returns-clause-first : goal.returns-clause-first
 returns-clause-first c term holds =
     let is : c.new.result ≡ term_start c.args.length c.args.self = grind (arith, term_facts) in
-    is ∙ term_start-one _ _ _ c.get-2.ensures.some holds
+    is ∙ term_start-one _ _ _ c.get-views.ensures.some holds

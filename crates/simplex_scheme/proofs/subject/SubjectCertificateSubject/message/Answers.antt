@@ -2,8 +2,8 @@ use Rattle.simplex_base.specs.Format.{fixed, IsLawful}
 use Rattle.simplex_base.specs.FormatLaws.{fixed_lawful}
 use Rattle.simplex_scheme.specs.Subject.{subject_value}
 use Rattle.simplex_scheme.proofs.SubjectLemmas.{one_subject}
-use Rattle.simplex_scheme.proofs.proposal.SubjectCertificateSubject.message.Given as given
-use Rattle.simplex_scheme.proofs.proposal.SubjectCertificateSubject.message.Goals as goal
+use Rattle.simplex_scheme.proofs.subject.SubjectCertificateSubject.message.Given as given
+use Rattle.simplex_scheme.proofs.subject.SubjectCertificateSubject.message.Goals as goal
 
 -- a digest's format is lawful
 law : (g : given.Over) → IsLawful (fixed g.D.FixedSize.SIZE g.D.Fixed.bytes_of g.D.Fixed.of_bytes)
