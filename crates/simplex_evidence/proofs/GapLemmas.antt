@@ -1,9 +1,10 @@
 -- What halving finds among items in the order of their signers, and what an item put into its gap leaves.
 use Rattle.std.proofs.Common.{◌≡◌, ℕ, zero, suc, ◌+◌, ◌-◌, ◌<◌, ◌≤◌, inl, inr, List, [], ◌∷◌, length, get_or, Some, None, IsSome, Result, Ok, Err, IfOk, IfErr, sym, ap, subst, refl, arith}
 use Rattle.std.specs.List.{insert}
-use Rattle.std.specs.List.Sorted.{IsSearchInRange, IsBinarySearchResult, IsNonDecreasingBy}
+use Rattle.std.specs.List.Sorted.{IsPermutation, IsSearchInRange, IsBinarySearchResult, IsNonDecreasingBy}
 use Rattle.std.specs.Ordering.{nat_cmp, ordering_index}
 use Rattle.std.proofs.lemmas.Cmp.{ranked}
+use Rattle.std.proofs.lemmas.List.Sorted.{IsPermutation-insert}
 use Rattle.std.proofs.lemmas.List.Edits.{length-insert, get_or-insert_below, get_or-insert_at, get_or-insert_above}
 use Rattle.std.proofs.lemmas.Bool.{cases_lt}
 use Rattle.std.proofs.lemmas.Bool.Decides.{nat_tests}
@@ -121,6 +122,7 @@ module _ {X : Type 0} (signer : X → ℕ) where
     pub within : AreParticipants signer n new
     pub adds : AddsOnly signer old new item
     pub fresh : item_of signer old (signer item) ≡ None
+    pub more : IsPermutation (item ∷ old) new
     pub room : length old < n
 
   -- `searched_in` and `reserved` are the items as the steps before see them
@@ -135,5 +137,6 @@ module _ {X : Type 0} (signer : X → ℕ) where
         within = within_new;
         adds = adds_only xs place item gap_here;
         fresh = item_in_gap xs _ place gap_here;
+        more = IsPermutation-insert xs place item;
         room = omega (arith, length_le n (insert xs place item) ordered_new within_new, length-insert xs place item gap_here.in_range);
       })

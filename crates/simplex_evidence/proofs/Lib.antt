@@ -1,3 +1,4 @@
 pub mod GapLemmas
 pub mod FirstsLemmas
 pub mod BisectionLemmas
+pub mod CountLemmas

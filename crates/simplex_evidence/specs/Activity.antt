@@ -9,7 +9,13 @@ use Rattle.simplex_scheme.specs.declared.scheme.Attestation.{Attestation}
 use Rattle.simplex_scheme.specs.Subject.{SubjectValue, Notarizes, Nullifies, Finalizes}
 use Rattle.simplex_votes.specs.Votes.{Vote, notarize_vote, nullify_vote, finalize_vote, notarization_votes, nullification_votes, finalization_votes}
 use Rattle.simplex_votes.specs.Spellings.{notarize_format, notarize_lawful, nullify_format, nullify_lawful, finalize_format, finalize_lawful, notarization_format, IsNotarization, notarization_spelling, notarization_lawful, nullification_format, IsNullification, nullification_spelling, nullification_lawful, finalization_format, IsFinalization, finalization_spelling, finalization_lawful}
-use Rattle.simplex_evidence.specs.Conflict.{conflicting_notarize_format, conflicting_notarize_lawful, conflicting_finalize_format, conflicting_finalize_lawful, nullify_finalize_format, nullify_finalize_lawful}
+use Rattle.simplex_evidence.specs.Conflict.{Conflict, conflicting_notarize_format, conflicting_notarize_lawful, conflicting_finalize_format, conflicting_finalize_lawful, nullify_finalize_format, nullify_finalize_lawful}
+use Rattle.simplex_votes.specs.declared.types.notarize.Notarize.{Notarize}
+use Rattle.simplex_votes.specs.declared.types.nullify.Nullify.{Nullify}
+use Rattle.simplex_votes.specs.declared.types.finalize.Finalize.{Finalize}
+use Rattle.simplex_votes.specs.declared.types.notarization.Notarization.{Notarization}
+use Rattle.simplex_votes.specs.declared.types.nullification.Nullification.{Nullification}
+use Rattle.simplex_votes.specs.declared.types.finalization.Finalization.{Finalization}
 use Rattle.simplex_evidence.specs.declared.types.activity.Activity.{Activity}
 use Rattle.simplex_evidence.specs.declared.types.activity.Activity.TheVariants as activity
 
@@ -25,6 +31,29 @@ activity_round (activity.Finalization n) = n.proposal.round
 activity_round (activity.ConflictingNotarize c) = c.first.proposal.round
 activity_round (activity.ConflictingFinalize c) = c.first.proposal.round
 activity_round (activity.NullifyFinalize c) = c.first.round
+
+-- the same member, equal by its type's equality
+abbrev pub same_activity : {S D C P G : Type 0} → (Notarize S D P G → Notarize S D P G → Bool) →
+    (Notarization S D C P G → Notarization S D C P G → Bool) →
+    (Nullify S P G → Nullify S P G → Bool) →
+    (Nullification S C P G → Nullification S C P G → Bool) →
+    (Finalize S D P G → Finalize S D P G → Bool) →
+    (Finalization S D C P G → Finalization S D C P G → Bool) →
+    (Conflict (Notarize S D P G) (Notarize S D P G) → Conflict (Notarize S D P G) (Notarize S D P G) → Bool) →
+    (Conflict (Finalize S D P G) (Finalize S D P G) → Conflict (Finalize S D P G) (Finalize S D P G) → Bool) →
+    (Conflict (Nullify S P G) (Finalize S D P G) → Conflict (Nullify S P G) (Finalize S D P G) → Bool) →
+    Activity S D C P G → Activity S D C P G → Bool
+same_activity notarizes notarizations nullifies nullifications finalizes finalizations conflicting_notarizes conflicting_finalizes nullify_finalizes (activity.Notarize a) (activity.Notarize b) = notarizes a b
+same_activity notarizes notarizations nullifies nullifications finalizes finalizations conflicting_notarizes conflicting_finalizes nullify_finalizes (activity.Notarization a) (activity.Notarization b) = notarizations a b
+same_activity notarizes notarizations nullifies nullifications finalizes finalizations conflicting_notarizes conflicting_finalizes nullify_finalizes (activity.Certification a) (activity.Certification b) = notarizations a b
+same_activity notarizes notarizations nullifies nullifications finalizes finalizations conflicting_notarizes conflicting_finalizes nullify_finalizes (activity.Nullify a) (activity.Nullify b) = nullifies a b
+same_activity notarizes notarizations nullifies nullifications finalizes finalizations conflicting_notarizes conflicting_finalizes nullify_finalizes (activity.Nullification a) (activity.Nullification b) = nullifications a b
+same_activity notarizes notarizations nullifies nullifications finalizes finalizations conflicting_notarizes conflicting_finalizes nullify_finalizes (activity.Finalize a) (activity.Finalize b) = finalizes a b
+same_activity notarizes notarizations nullifies nullifications finalizes finalizations conflicting_notarizes conflicting_finalizes nullify_finalizes (activity.Finalization a) (activity.Finalization b) = finalizations a b
+same_activity notarizes notarizations nullifies nullifications finalizes finalizations conflicting_notarizes conflicting_finalizes nullify_finalizes (activity.ConflictingNotarize a) (activity.ConflictingNotarize b) = conflicting_notarizes a b
+same_activity notarizes notarizations nullifies nullifications finalizes finalizations conflicting_notarizes conflicting_finalizes nullify_finalizes (activity.ConflictingFinalize a) (activity.ConflictingFinalize b) = conflicting_finalizes a b
+same_activity notarizes notarizations nullifies nullifications finalizes finalizations conflicting_notarizes conflicting_finalizes nullify_finalizes (activity.NullifyFinalize a) (activity.NullifyFinalize b) = nullify_finalizes a b
+same_activity notarizes notarizations nullifies nullifications finalizes finalizations conflicting_notarizes conflicting_finalizes nullify_finalizes _ _ = false
 
 -- ---- the votes that a message holds
 

@@ -1,6 +1,7 @@
 -- The first item of each signer: a finite map from signers, walked in their order.
-use Rattle.std.specs.Prelude.{◌≡◌, ℕ, ◌+◌, ◌<◌, ◌==◌, List, length, All, Option, Some, find}
-use Rattle.std.specs.List.{AllPairs}
+use Rattle.std.specs.Prelude.{◌≡◌, ℕ, ◌+◌, ◌<◌, ◌==◌, List, length, All, Option, Some, find, map, nat_eq, nat_lt}
+use Rattle.std.specs.List.{AllPairs, filter}
+use Rattle.std.specs.Set.{distinct_count}
 
 -- how many participants there are, and the items of those that have one, in the order of their numbers
 pub record VoteMap (X : Type 0) : Type 0 where
@@ -32,3 +33,7 @@ module _ {X : Type 0} (signer : X → ℕ) where
     pub ordered : IsBySigner items
     pub within : AreParticipants n items
     pub first : (s : ℕ) → s < n → item_of items s ≡ item_of inserted s
+
+  -- how many of n participants signed some of these
+  abbrev pub signers_among : ℕ → List X → ℕ
+  signers_among n items = distinct_count nat_eq (filter (λ s. nat_lt s n) (map signer items))

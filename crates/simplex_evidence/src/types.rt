@@ -9,7 +9,9 @@ pub mod nullify_finalize;
 
 pub use activity::Activity;
 pub use attributable_map::{AttributableIter, AttributableMap};
-pub use bisection::verify_certificates;
+pub use bisection::{
+    verify_certificates, verify_finalizations, verify_notarizations, verify_nullifications,
+};
 pub use conflicting_finalize::ConflictingFinalize;
 pub use conflicting_notarize::ConflictingNotarize;
 pub use nullify_finalize::NullifyFinalize;

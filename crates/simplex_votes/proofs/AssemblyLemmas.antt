@@ -7,7 +7,10 @@ use Rattle.std.proofs.lemmas.Simd.{map-map}
 use Rattle.std.proofs.lemmas.List.Elements.{All-nil, All-push, All-head, All-tail, All-weaker, All-map}
 use Rattle.simplex_scheme.specs.declared.scheme.Attestation.{Attestation}
 use Rattle.simplex_scheme.specs.Subject.{SubjectValue}
-use Rattle.simplex_votes.specs.Assembly.{CanAssemble}
+use Rattle.std.proofs.lemmas.Bool.Decides.{nat_tests}
+use Rattle.std.proofs.lemmas.List.{get_or-map, length-map}
+use Rattle.std.proofs.lemmas.Map.Keys.{IsDistinct-from_apart}
+use Rattle.simplex_votes.specs.Assembly.{CanAssemble, StandInOrder}
 
 -- what is numbered has distinct numbers, each below n and below a limit
 pub record AreDistinctBelow {X : Type 0} (number : X → ℕ) (n limit : ℕ) (xs : List X) : Type 0 where
@@ -114,3 +117,26 @@ distinct_from_can subject attestation n votes can =
 pub good_for : {V X S D P G : Type 0} (good : SubjectValue D → ℕ → G → Bool) (says : X → SubjectValue D) (subject : V → X) (attestation : V → Attestation S P G) (votes : List V) (x : X) → All (λ v. subject v ≡ x) votes → All (λ v. good (says (subject v)) (attestation v).signer (attestation v).signature ≡ true) votes → All (λ v. good (says x) (attestation v).signer (attestation v).signature ≡ true) votes
 good_for good says subject attestation votes x same each k d lt =
     let vote = get_or votes k d in subst (λ y. good (says y) (attestation vote).signer (attestation vote).signature ≡ true) (same k d lt) (each k d lt)
+
+-- ---- votes in the order of their signers
+
+module _ {V S P G : Type 0} (attestation : V → Attestation S P G) where
+  differ : (m n : ℕ) → m < n → nat_eq m n ≡ false
+  differ m n less = grind (arith, nat_tests)
+
+  distinct_in_order : (votes : List V) → AllPairs (λ v w. (attestation v).signer < (attestation w).signer) votes → IsDistinct nat_eq (map (λ v. (attestation v).signer) votes)
+  distinct_in_order [] ordered = IsDistinct-from_apart nat_eq [] (λ i j d before within. absurd (omega arith))
+  distinct_in_order (v ∷ vs) ordered =
+      let number : V → ℕ = λ w. (attestation w).signer in
+      IsDistinct-from_apart nat_eq (map number (v ∷ vs)) (λ i j d before within.
+      let inside : j < length (v ∷ vs) = omega (arith, length-map (v ∷ vs) number) in
+      rw (get_or-map number (v ∷ vs) i v d (omega arith), get_or-map number (v ∷ vs) j v d inside) (differ _ _ (ordered i j v before inside)))
+
+  -- a certificate can be made of them
+  pub can_in_order : {X : Type 0} (subject : V → X) (n : ℕ) (votes : List V) → StandInOrder subject attestation n votes → CanAssemble subject attestation n votes
+  can_in_order subject n votes stand = record {
+    some = stand.some;
+    same = stand.same;
+    distinct = subst (IsDistinct nat_eq) (sym (map-map (λ a. a.signer) attestation votes)) (distinct_in_order votes stand.ordered);
+    members = All-map (λ a. a.signer < n) attestation votes stand.members;
+  }

@@ -15,6 +15,13 @@ pub record CanAssemble {V X S P G : Type 0} (subject : V → X) (attestation : V
   pub distinct : IsDistinct nat_eq (signers_of (map attestation votes))
   pub members : All (λ a. a.signer < n) (map attestation votes)
 
+-- votes of one subject by participants out of n, in the order of their signers, as a vote map holds them
+pub record StandInOrder {V X S P G : Type 0} (subject : V → X) (attestation : V → Attestation S P G) (n : ℕ) (votes : List V) : Type 0 where
+  pub some : 1 ≤ length votes
+  pub same : AllPairs (λ v w. subject v ≡ subject w) votes
+  pub ordered : AllPairs (λ v w. (attestation v).signer < (attestation w).signer) votes
+  pub members : All (λ v. (attestation v).signer < n) votes
+
 -- notarizes of which a notarization can be made: all are for one proposal
 abbrev pub CanNotarize : {S D P G : Type 0} → ℕ → List (Notarize S D P G) → Type 0
 CanNotarize n votes = CanAssemble (λ v. v.proposal) (λ v. v.attestation) n votes

@@ -1,9 +1,9 @@
 //! The first item of each participant.
 
-ghost use Rattle.std.specs.Prelude.{◌≡◌, ◌==◌, ◌+◌, ◌^◌, ◌<◌, ◌≤◌, ◌⊎◌, List, [], ◌∷◌, ◌++◌, length, true, false, Ok, None, IsSome, IfOk, IfErr, OnErr, MatchResult, slice_index_or};
+ghost use Rattle.std.specs.Prelude.{◌≡◌, ◌==◌, ◌+◌, ◌^◌, ◌<◌, ◌≤◌, ◌⊎◌, List, [], ◌∷◌, ◌++◌, length, true, false, Ok, None, IsSome, IfOk, IfErr, OnErr, MatchResult, slice_index_or, IsPermutation};
 ghost use Rattle.std.specs.Iterator.{YieldsFirstRef, item_count};
 ghost use Rattle.std.specs.Option.{option_copied};
-ghost use Rattle.simplex_evidence.specs.VoteMap.{item_of, IsBySigner, AreParticipants, AddsOnly, IsFirsts};
+ghost use Rattle.simplex_evidence.specs.VoteMap.{item_of, IsBySigner, AreParticipants, AddsOnly, IsFirsts, signers_among};
 ghost use Rattle.simplex_evidence.specs.Gap.{IsGap};
 
 use simplex_base::positions::Participant;
@@ -56,6 +56,11 @@ impl<T: Attributable> AttributableMap<T> {
         T: Drop,
         ensures participants { self.new.participants ≡ self.old.participants }
         ensures added { result ≡ Ok true → AddsOnly T.signer_of self.old.items self.new.items item }
+        // The items are the old ones and this one,
+        ensures more { result ≡ Ok true → IsPermutation (item ∷ self.old.items) self.new.items }
+        // in the order of their signers, who are participants.
+        ensures ordered { IsBySigner T.signer_of self.new.items }
+        ensures within { AreParticipants T.signer_of self.new.participants self.new.items }
         ensures fresh { result ≡ Ok true → (T.signer_of item < self.old.participants) × (item_of T.signer_of self.old.items (T.signer_of item) ≡ None) }
         ensures kept { result ≡ Ok false → self.new.items ≡ self.old.items }
         ensures taken { result ≡ Ok false → (self.old.participants ≤ T.signer_of item) ⊎ IsSome (item_of T.signer_of self.old.items (T.signer_of item)) }
@@ -93,6 +98,9 @@ impl<T: Attributable> AttributableMap<T> {
     pub fn len(&self) -> usize
         ensures items { result ≡ length self.now.items }
         ensures most { result ≤ self.now.participants }
+        // So many participants are signers of what was inserted.
+        ensures signers { (inserted : List T) → IsFirsts T.signer_of self.now.participants inserted self.now.items →
+            result ≡ signers_among T.signer_of self.now.participants inserted }
     {
         self.items.len()
     }
@@ -116,6 +124,15 @@ impl<T: Attributable> AttributableMap<T> {
     }
 
     /// The items, in the order of their signers.
+    pub fn as_slice(&self) -> &[T]
+        ensures items { result.now ≡ self.now.items }
+        ensures ordered { IsBySigner T.signer_of self.now.items }
+        ensures within { AreParticipants T.signer_of self.now.participants self.now.items }
+    {
+        self.items.as_slice()
+    }
+
+    /// The items one by one, in the order of their signers.
     pub fn iter(&self) -> AttributableIter<'_, T>
         ensures items { result ≡ self.now.items }
         ensures ordered { IsBySigner T.signer_of self.now.items }

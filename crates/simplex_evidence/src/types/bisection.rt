@@ -1,10 +1,11 @@
 //! Many certificates verified at once.
 
 ghost use Rattle.std.specs.Prelude.{◌≡◌, ◌<◌, IfOk, length, map};
-ghost use Rattle.simplex_scheme.specs.Subject.{subject_value};
+ghost use Rattle.simplex_scheme.specs.Subject.{subject_value, Notarizes, Nullifies, Finalizes};
 
 use simplex_scheme::subject::Subject;
 use simplex_scheme::scheme::{CertificateVerifier, Digest};
+use simplex_votes::types::{Finalization, Notarization, Nullification};
 use std::alloc::{AllocError, Global};
 
 /// Whether each certificate certifies its subject: item by item what `verify_certificate` answers.
@@ -26,6 +27,49 @@ pub fn verify_certificates<'a, S: CertificateVerifier<D>, D: Digest>(
         bisect(scheme, items, &mut answers);
     }
     Ok(answers)
+}
+
+/// Whether each notarization is certified, for who owns the messages: item by item what `verify` answers.
+/// `AllocError` comes only where the room for the answers is refused.
+pub fn verify_notarizations<S: CertificateVerifier<D>, D: Digest>(
+    alloc: Global,
+    scheme: &S,
+    messages: &[Notarization<S, D>],
+) -> Result<Vec<bool>, AllocError>
+    ensures { IfOk result (λ answers. answers.items ≡ map (λ n. S.certified scheme.now (Notarizes n.proposal) n.certificate) messages.now) }
+{
+    messages
+        .iter()
+        .map(|message| message.verify(scheme))
+        .collect(alloc)
+}
+
+/// Whether each nullification is certified, as [`verify_notarizations`] answers.
+pub fn verify_nullifications<S: CertificateVerifier<D>, D: Digest>(
+    alloc: Global,
+    scheme: &S,
+    messages: &[Nullification<S>],
+) -> Result<Vec<bool>, AllocError>
+    ensures { IfOk result (λ answers. answers.items ≡ map (λ n. S.certified scheme.now (Nullifies n.round) n.certificate) messages.now) }
+{
+    messages
+        .iter()
+        .map(|message| message.verify::<D>(scheme))
+        .collect(alloc)
+}
+
+/// Whether each finalization is certified, as [`verify_notarizations`] answers.
+pub fn verify_finalizations<S: CertificateVerifier<D>, D: Digest>(
+    alloc: Global,
+    scheme: &S,
+    messages: &[Finalization<S, D>],
+) -> Result<Vec<bool>, AllocError>
+    ensures { IfOk result (λ answers. answers.items ≡ map (λ n. S.certified scheme.now (Finalizes n.proposal) n.certificate) messages.now) }
+{
+    messages
+        .iter()
+        .map(|message| message.verify(scheme))
+        .collect(alloc)
 }
 
 /// Answers for the items of a part that is not empty. A part that the scheme accepts is true throughout, and an

@@ -1,6 +1,6 @@
 //! Two finalizes that contradict.
 
-ghost use Rattle.std.specs.Prelude.{◌≡◌, ◌&&◌, ◌+◌, ◌*◌, ⊤, false, IsTrue};
+ghost use Rattle.std.specs.Prelude.{◌≡◌, ◌&&◌, ◌+◌, ◌*◌, ⊤, false, IsTrue, refl};
 ghost use Rattle.simplex_base.specs.Readable.{format_of};
 ghost use Rattle.simplex_scheme.specs.Subject.{Finalizes};
 ghost use Rattle.simplex_votes.specs.Votes.{finalize_vote};
@@ -10,6 +10,7 @@ use simplex_base::codec::error::Error;
 use simplex_base::codec::parts::{size_both, write_both};
 use simplex_base::codec::{EncodeSize, Fixed, Read, Spell, Write};
 use simplex_base::positions::{Participant, Round, Roundable};
+use simplex_base::values::EqByParts;
 use simplex_scheme::scheme::{Digest, Scheme, SchemeTypes};
 use simplex_votes::types::{Attributable, Finalize};
 use std::alloc::{AllocError, Global};
@@ -52,7 +53,9 @@ impl<S: SchemeTypes, D: Digest> ConflictingFinalize<S, D> {
     /// The evidence of two finalizes that contradict, as [`conflicts`](ConflictingFinalize::conflicts) tells.
     pub fn new(finalize_1: Finalize<S, D>, finalize_2: Finalize<S, D>) -> Self
         requires { IsTrue (contradicts D.eq Conflicting_finalize (finalize_vote finalize_1) (finalize_vote finalize_2)) }
-        ensures { result ≡ record { first = finalize_1; second = finalize_2 } }
+        ensures value { result ≡ record { first = finalize_1; second = finalize_2 } }
+        // With its votes swapped it is another value.
+        ensures swapped { ⟦<ConflictingFinalize<S, D> as PartialEq>⟧.eq result (record { first = finalize_2; second = finalize_1 }) ≡ false }
     {
         ConflictingFinalize {
             finalize_1,
@@ -98,6 +101,12 @@ impl<S: SchemeTypes, D: Digest> Clone for ConflictingFinalize<S, D> {
             finalize_2: self.finalize_2.copy(),
         })
     }
+}
+
+impl<S: SchemeTypes, D: Digest> EqByParts for ConflictingFinalize<S, D> {
+    ghost same = { λ x y. ⟦<Finalize<S, D> as PartialEq>⟧.eq x.first y.first && ⟦<Finalize<S, D> as PartialEq>⟧.eq x.second y.second };
+
+    ghost equal = { λ x y. refl };
 }
 
 impl<S: SchemeTypes, D: Digest> Attributable for ConflictingFinalize<S, D> {

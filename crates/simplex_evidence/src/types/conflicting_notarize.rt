@@ -1,6 +1,6 @@
 //! Two votes that contradict.
 
-ghost use Rattle.std.specs.Prelude.{◌≡◌, ◌&&◌, ◌+◌, ◌*◌, ⊤, false, IsTrue};
+ghost use Rattle.std.specs.Prelude.{◌≡◌, ◌&&◌, ◌+◌, ◌*◌, ⊤, false, IsTrue, refl};
 ghost use Rattle.simplex_base.specs.Readable.{format_of};
 ghost use Rattle.simplex_scheme.specs.Subject.{Notarizes};
 ghost use Rattle.simplex_votes.specs.Votes.{notarize_vote};
@@ -10,6 +10,7 @@ use simplex_base::codec::error::Error;
 use simplex_base::codec::parts::{size_both, write_both};
 use simplex_base::codec::{EncodeSize, Fixed, Read, Spell, Write};
 use simplex_base::positions::{Participant, Round, Roundable};
+use simplex_base::values::EqByParts;
 use simplex_scheme::scheme::{Digest, Scheme, SchemeTypes};
 use simplex_votes::types::{Attributable, Notarize};
 use std::alloc::{AllocError, Global};
@@ -52,7 +53,9 @@ impl<S: SchemeTypes, D: Digest> ConflictingNotarize<S, D> {
     /// The evidence of two notarizes that contradict, as [`conflicts`](ConflictingNotarize::conflicts) tells.
     pub fn new(notarize_1: Notarize<S, D>, notarize_2: Notarize<S, D>) -> Self
         requires { IsTrue (contradicts D.eq Conflicting_notarize (notarize_vote notarize_1) (notarize_vote notarize_2)) }
-        ensures { result ≡ record { first = notarize_1; second = notarize_2 } }
+        ensures value { result ≡ record { first = notarize_1; second = notarize_2 } }
+        // With its votes swapped it is another value.
+        ensures swapped { ⟦<ConflictingNotarize<S, D> as PartialEq>⟧.eq result (record { first = notarize_2; second = notarize_1 }) ≡ false }
     {
         ConflictingNotarize {
             notarize_1,
@@ -98,6 +101,12 @@ impl<S: SchemeTypes, D: Digest> Clone for ConflictingNotarize<S, D> {
             notarize_2: self.notarize_2.copy(),
         })
     }
+}
+
+impl<S: SchemeTypes, D: Digest> EqByParts for ConflictingNotarize<S, D> {
+    ghost same = { λ x y. ⟦<Notarize<S, D> as PartialEq>⟧.eq x.first y.first && ⟦<Notarize<S, D> as PartialEq>⟧.eq x.second y.second };
+
+    ghost equal = { λ x y. refl };
 }
 
 impl<S: SchemeTypes, D: Digest> Attributable for ConflictingNotarize<S, D> {

@@ -1,6 +1,6 @@
 //! A nullify and a finalize that contradict.
 
-ghost use Rattle.std.specs.Prelude.{◌≡◌, ◌&&◌, ◌+◌, ◌*◌, ⊤, false, IsTrue};
+ghost use Rattle.std.specs.Prelude.{◌≡◌, ◌&&◌, ◌+◌, ◌*◌, ⊤, false, IsTrue, refl};
 ghost use Rattle.simplex_base.specs.Readable.{format_of};
 ghost use Rattle.simplex_scheme.specs.Subject.{Nullifies, Finalizes};
 ghost use Rattle.simplex_votes.specs.Votes.{nullify_vote, finalize_vote};
@@ -10,6 +10,7 @@ use simplex_base::codec::error::Error;
 use simplex_base::codec::parts::{size_both, write_both};
 use simplex_base::codec::{EncodeSize, Fixed, Read, Spell, Write};
 use simplex_base::positions::{Participant, Round, Roundable};
+use simplex_base::values::EqByParts;
 use simplex_scheme::scheme::{Digest, Scheme, SchemeTypes};
 use simplex_votes::types::{Attributable, Finalize, Nullify};
 use std::alloc::{AllocError, Global};
@@ -95,6 +96,12 @@ impl<S: SchemeTypes, D: Digest> Clone for NullifyFinalize<S, D> {
             finalize: self.finalize.copy(),
         })
     }
+}
+
+impl<S: SchemeTypes, D: Digest> EqByParts for NullifyFinalize<S, D> {
+    ghost same = { λ x y. ⟦<Nullify<S> as PartialEq>⟧.eq x.first y.first && ⟦<Finalize<S, D> as PartialEq>⟧.eq x.second y.second };
+
+    ghost equal = { λ x y. refl };
 }
 
 impl<S: SchemeTypes, D: Digest> Attributable for NullifyFinalize<S, D> {

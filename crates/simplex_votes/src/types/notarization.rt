@@ -71,13 +71,15 @@ impl<S: CertificateVerifier<D>, D: Digest> Notarization<S, D> {
 }
 
 impl<S: Scheme<D>, D: Digest> Notarization<S, D> {
-    ghost use Rattle.simplex_votes.specs.Assembly.{CanNotarize};
+    ghost use Rattle.simplex_votes.specs.Assembly.{CanNotarize, StandInOrder};
 
     /// Whether a notarization can be made of the votes, a quorum of them provided: there is at least one, all are
     /// for one proposal, and the signers are distinct and in the committee. Votes whose signers ascend are looked
     /// at once each, and one that is out of order is compared to all before it; no memory is taken.
     pub fn can_assemble(scheme: &S, votes: &[Notarize<S, D>]) -> bool
-        ensures { IsTrue result ↔ CanNotarize (length (S.keys scheme.now)) votes.now }
+        ensures can { IsTrue result ↔ CanNotarize (length (S.keys scheme.now)) votes.now }
+        // So are votes for one proposal in the order of their signers.
+        ensures ordered { StandInOrder (λ v. v.proposal) (λ v. v.attestation) (length (S.keys scheme.now)) votes.now → IsTrue result }
     {
         stand_together(votes, scheme.participants().len())
     }

@@ -29,7 +29,7 @@ pub struct Nullification<S: CertificateScheme> {
 
 impl<S: CertificateScheme> Nullification<S> {
     ghost use Rattle.simplex_votes.specs.Spellings.{IsNullification, nullification_spelling};
-    ghost use Rattle.simplex_votes.specs.Assembly.{CanNullify};
+    ghost use Rattle.simplex_votes.specs.Assembly.{CanNullify, StandInOrder};
 
     /// The same round with a clone of the certificate.
     pub fn clone(&self) -> Result<Self, AllocError>
@@ -72,7 +72,9 @@ impl<S: CertificateScheme> Nullification<S> {
     pub fn can_assemble<'a, D: Digest + 'a>(scheme: &'a S, votes: &[Nullify<S>]) -> bool
     where
         S: Scheme<D>,
-        ensures { IsTrue result ↔ CanNullify (length (S.keys scheme.now)) votes.now }
+        ensures can { IsTrue result ↔ CanNullify (length (S.keys scheme.now)) votes.now }
+        // So are votes for one round in the order of their signers.
+        ensures ordered { StandInOrder (λ v. v.round) (λ v. v.attestation) (length (S.keys scheme.now)) votes.now → IsTrue result }
     {
         stand_together(votes, scheme.participants().len())
     }

@@ -46,3 +46,12 @@ pub returns-clause-firsts : goal.returns-clause-firsts
 returns-clause-firsts g c inserted firsts =
     let is_put = put_here g c in
     firsts_added g.T.Attributable.signer_of _ inserted _ _ c.args.item (rw (← ap (λ m. m.items) c.self.view_is, ← ap (λ m. m.participants) c.self.view_is) at firsts) (omega arith) is_put.fresh is_put.adds is_put.ordered is_put.within
+
+pub returns-clause-more : goal.returns-clause-more
+returns-clause-more g c _ = rw (← ap (λ m. m.items) c.self.view_is) (put_here g c).more
+
+pub returns-clause-ordered : goal.returns-clause-ordered
+returns-clause-ordered g c = (put_here g c).ordered
+
+pub returns-clause-within : goal.returns-clause-within
+returns-clause-within g c = (put_here g c).within
