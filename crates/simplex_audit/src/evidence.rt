@@ -6,7 +6,7 @@ ghost use Rattle.simplex_evidence.specs.Conflict.{notarize_evidence};
 ghost use Rattle.simplex_audit.specs.Line.{line_of, parted, with_proposal};
 
 use simplex_base::codec::Fixed;
-use simplex_base::positions::{Participant, Round};
+use simplex_base::positions::{Participant, Round, Roundable};
 use simplex_evidence::types::ConflictingNotarize;
 use simplex_scheme::proposal::Proposal;
 use simplex_scheme::scheme::{Digest, SchemeTypes};

@@ -1,6 +1,5 @@
 use Rattle.std.proofs.Common.{ℕ, length, Result, Ok, Err, IfOk}
 use Rattle.simplex_base.specs.Format.{fixed, IsLawful}
-use Rattle.simplex_base.specs.FormatLaws.{fixed_lawful}
 use Rattle.simplex_evidence.specs.Activity.{activity_format, votes_in}
 use Rattle.simplex_audit.specs.Audited.{audited}
 use Rattle.simplex_audit.proofs.EvidenceLemmas.{all_equivocations, evidence_is_unique}
@@ -18,7 +17,7 @@ if_ok P Q f (Err e) h = tt
 
 -- the format of messages is lawful
 law : (g : given.Over) (bound : ℕ) → IsLawful (audited (activity_format {S = g.row.S.Denot} {P = g.row.S-PublicKey.Denot} g.D.PartialEq.eq (fixed g.D.FixedSize.SIZE g.D.Fixed.bytes_of g.D.Fixed.of_bytes) (record { is_value = g.S.Certificate.Read.fits bound; spelling = g.S.Certificate.Spell.spelling; reading = g.S.Certificate.Read.reading bound }) (fixed g.S.Signature.FixedSize.SIZE g.S.Signature.Fixed.bytes_of g.S.Signature.Fixed.of_bytes)))
-law g bound = audited_lawful g.D.PartialEq.eq _ _ _ (fixed_lawful _ _ _ g.met.D.Fixed.back g.met.D.Fixed.forth) (g.met.S.Certificate.Read.lawful bound) (fixed_lawful _ _ _ g.met.S.Signature.Fixed.back g.met.S.Signature.Fixed.forth)
+law g bound = audited_lawful g.D.PartialEq.eq _ _ _ g.met.D.Fixed.lawful (g.met.S.Certificate.Read.lawful bound) g.met.S.Signature.Fixed.lawful
 
 pub returns-clause-single : goal.returns-clause-single
 returns-clause-single g c messages others rest left are are' = messages_once _ (law g (length (g.S.CertificateScheme.keys c.args.scheme.now))) c.args.stream.now rest left messages others are are'

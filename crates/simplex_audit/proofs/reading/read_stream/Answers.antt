@@ -4,7 +4,6 @@ use Rattle.simplex_base.specs.declared.codec.error.Error.{Error}
 use Rattle.simplex_base.specs.declared.codec.error.Error.TheVariants as errors
 use Rattle.simplex_base.specs.Reading.{Refusal, Fails}
 use Rattle.simplex_base.specs.Format.{Format, fixed, IsLawful}
-use Rattle.simplex_base.specs.FormatLaws.{fixed_lawful}
 use Rattle.simplex_evidence.specs.Activity.{activity_format, votes_in}
 use Rattle.simplex_evidence.specs.declared.types.activity.Activity.{Activity}
 use Rattle.simplex_audit.specs.Memory.{Holds}
@@ -21,7 +20,7 @@ format g bound = audited (activity_format g.D.PartialEq.eq (fixed g.D.FixedSize.
 
 -- it is lawful
 law : (g : given.Over) (bound : ℕ) → IsLawful (format g bound)
-law g bound = audited_lawful g.D.PartialEq.eq _ _ _ (fixed_lawful _ _ _ g.met.D.Fixed.back g.met.D.Fixed.forth) (g.met.S.Certificate.Read.lawful bound) (fixed_lawful _ _ _ g.met.S.Signature.Fixed.back g.met.S.Signature.Fixed.forth)
+law g bound = audited_lawful g.D.PartialEq.eq _ _ _ g.met.D.Fixed.lawful (g.met.S.Certificate.Read.lawful bound) g.met.S.Signature.Fixed.lawful
 
 positive : (n : ℕ) → ((n ≡ 0) → ⊥) → 0 < n
 positive n h = omega (arith, h)
