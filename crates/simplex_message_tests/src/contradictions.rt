@@ -4,7 +4,7 @@ use crate::committee::{Committee, finalize, notarize, nullify, payload};
 use crate::reading::{is_refused, read, spelled};
 use simplex_base::codec::error::Error;
 use simplex_base::codec::{Write, decode};
-use simplex_base::positions::{Epoch, Epochable, Participant, Round, View, Viewable};
+use simplex_base::positions::{Epoch, Epochable, Participant, Round, Roundable, View, Viewable};
 use simplex_evidence::types::{ConflictingFinalize, ConflictingNotarize, NullifyFinalize};
 use simplex_scheme::marked::{Marked, MarkedDigest};
 use simplex_scheme::scheme::{Digest, Scheme};
