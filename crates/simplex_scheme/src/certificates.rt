@@ -89,6 +89,3 @@ pub fn assembled<S: CertificateScheme>(
     sort_by_signers(&mut attestations);
     Ok(Listed::from_ascending(attestations))
 }
-
-#[cfg(test)]
-mod tests;

@@ -94,6 +94,3 @@ fn bisect<'a, S: CertificateVerifier<D>, D: Digest>(
     bisect(scheme, first, first_answers);
     bisect(scheme, second, second_answers);
 }
-
-#[cfg(test)]
-mod tests;

@@ -7,14 +7,14 @@ use std::alloc::{AllocError, Global};
 
 /// What `AttributableMap` is, by a slot for each participant.
 #[derive(Drop)]
-pub(super) struct SlotMap<T> {
+pub(crate) struct SlotMap<T> {
     alloc: Global,
     participants: usize,
     slots: Vec<Option<T>>,
 }
 
 impl<T: Attributable + Drop> SlotMap<T> {
-    pub(super) fn new(alloc: Global, participants: usize) -> Self {
+    pub(crate) fn new(alloc: Global, participants: usize) -> Self {
         SlotMap {
             alloc,
             participants,
@@ -22,7 +22,7 @@ impl<T: Attributable + Drop> SlotMap<T> {
         }
     }
 
-    pub(super) fn insert(&mut self, item: T) -> Result<bool, AllocError> {
+    pub(crate) fn insert(&mut self, item: T) -> Result<bool, AllocError> {
         let place = item.signer().get() as usize;
         if place >= self.participants {
             return Ok(false);
@@ -39,24 +39,24 @@ impl<T: Attributable + Drop> SlotMap<T> {
         }
     }
 
-    pub(super) fn get(&self, signer: Participant) -> Option<&T> {
+    pub(crate) fn get(&self, signer: Participant) -> Option<&T> {
         self.slots.get(signer.get() as usize)?.as_ref()
     }
 
-    pub(super) fn len(&self) -> usize {
+    pub(crate) fn len(&self) -> usize {
         self.slots.iter().flatten().count()
     }
 
-    pub(super) fn is_empty(&self) -> bool {
+    pub(crate) fn is_empty(&self) -> bool {
         self.len() == 0
     }
 
-    pub(super) fn clear(&mut self) {
+    pub(crate) fn clear(&mut self) {
         self.slots = Vec::new(self.alloc);
     }
 
     /// The items in the order of the slots.
-    pub(super) fn walk(&self) -> Result<Vec<&T>, AllocError> {
+    pub(crate) fn walk(&self) -> Result<Vec<&T>, AllocError> {
         self.slots.iter().flatten().collect(self.alloc)
     }
 }
