@@ -51,7 +51,10 @@ fn sizes<S: CertificateScheme, D: Digest>() -> [usize; 6] {
 
 #[test]
 fn no_value_is_longer(rt: HostRuntime) {
-    assert_eq!(rt; sizes::<Plain, Sha256Digest>(), [62, 100, 94, 153, 215, 216]);
+    assert_eq!(rt;
+        sizes::<Plain, Sha256Digest>(),
+        [62, 100, 94, 153, 215, 216]
+    );
     assert_eq!(rt; sizes::<Marked, MarkedDigest>(), [31, 38, 35, 29, 60, 61]);
 }
 

@@ -146,7 +146,11 @@ fn ample_strangers(rt: HostRuntime) -> Result<(), Fail> {
     let subject = Subject::Notarize {
         proposal: &unsigned,
     };
-    assert!(rt; marked.sign(alloc, subject)?.is_some_and(|own| own.signer == Participant::new(3)));
+    assert!(rt;
+        marked
+            .sign(alloc, subject)?
+            .is_some_and(|own| own.signer == Participant::new(3))
+    );
     let committee = Set::try_from_vec(Vec::from_array(alloc, [key])?)?;
     assert_eq!(rt; committee.len(), 1);
     let stranger = PlainKey::from_bytes(&[9; 32]);

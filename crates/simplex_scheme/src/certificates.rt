@@ -8,8 +8,8 @@ ghost use Rattle.simplex_scheme.specs.Committee.{IsInOrder, is_quorum, quorum_of
 
 use crate::faults::quorum;
 use crate::listed::Listed;
-use crate::subject::Subject;
 use crate::scheme::{AssemblyError, Attestation, CertificateScheme, Digest, SchemeTypes};
+use crate::subject::Subject;
 
 /// A committee whose attestations are verified one by one.
 pub trait AttestationVerifier<D: Digest>: CertificateScheme {

@@ -11,8 +11,8 @@ use simplex_base::codec::{EncodeSize, Fixed, FixedSize, MaxEncodeSize, Read, Spe
 use simplex_base::positions::{Participant, Round, Roundable};
 use simplex_base::values::EqByParts;
 use simplex_scheme::proposal::Proposal;
-use simplex_scheme::subject::Subject;
 use simplex_scheme::scheme::{Attestation, Digest, Scheme, SchemeTypes};
+use simplex_scheme::subject::Subject;
 use std::alloc::{AllocError, Global};
 
 /// A vote to notarize a proposal, spelled as the proposal and the attestation.
