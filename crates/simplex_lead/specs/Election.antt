@@ -19,7 +19,9 @@ seen Dynamic certificate = certificate
 
 -- two electors elect alike: in one mode, in the same terms, of as many participants, and each round has one leader by
 -- both with the same certificate
-pub record ElectAlike {E C : Type 0} (mode_of : E → Mode) (terms_of : E → Terms) (participants_of : E → ℕ) (leader_of : E → Round → Option C → ℕ) (one other : E) : Type 0 where
+pub record ElectAlike {E C : Type 0}
+    (mode_of : E → Mode) (terms_of : E → Terms) (participants_of : E → ℕ) (leader_of : E → Round → Option C → ℕ)
+    (one other : E) : Type 0 where
   pub modes : mode_of one ≡ mode_of other
   pub terms : terms_of one ≡ terms_of other
   pub participants : participants_of one ≡ participants_of other

@@ -1,5 +1,6 @@
 -- An order is the single one that its description has.
-use Rattle.std.proofs.Common.{◌≡◌, ℕ, zero, suc, ◌<◌, inl, inr, refl, sym, ap, subst, arith, List, [], ◌∷◌, length, get_or, ◌∙◌, Ordering, Option, Some, None}
+use Rattle.std.proofs.Common.{◌≡◌, ℕ, zero, suc, inl, inr, refl, sym, subst, arith, ◌∙◌, Ordering, Option, Some, None}
+use Rattle.std.proofs.Common.{List, [], ◌∷◌}
 use Rattle.std.proofs.lemmas.List.Sorted.{Contains-permutation, IsPermutation-sym}
 use Rattle.std.proofs.lemmas.Cmp.{tied_itself, alike_right}
 use Rattle.std.proofs.lemmas.Grind.{get_or_default_zero}
@@ -34,13 +35,17 @@ module _ {D : Type 0} (compare : D → D → Ordering) (total : IsTotalOrder com
   not_head q y ys (zero, within, is) other = absurd (other (sym is))
   not_head q y ys (suc k, within, is) other = (k, omega arith, is)
 
-  same_head : (x y : ℕ) (xs ys : List ℕ) → RisesByHash compare hash seed (x ∷ xs) → RisesByHash compare hash seed (y ∷ ys) → Contains (y ∷ ys) x → Contains (x ∷ xs) y → x ≡ y
+  same_head : (x y : ℕ) (xs ys : List ℕ) →
+      RisesByHash compare hash seed (x ∷ xs) → RisesByHash compare hash seed (y ∷ ys) →
+      Contains (y ∷ ys) x → Contains (x ∷ xs) y → x ≡ y
   same_head x y xs ys rise_x rise_y (zero, _, is) there = sym is
   same_head x y xs ys rise_x rise_y (suc k, in_y, is_x) (zero, _, is) = is
   same_head x y xs ys rise_x rise_y (suc k, in_y, is_x) (suc m, in_x, is_y) =
       absurd (not_before_itself x (passes_on x y x (rises_head x y xs rise_x (m, omega arith, is_y)) (rises_head y x ys rise_y (k, omega arith, is_x))))
 
-  same_order : (xs ys : List ℕ) → RisesByHash compare hash seed xs → RisesByHash compare hash seed ys → ((q : ℕ) → Contains xs q → Contains ys q) → ((q : ℕ) → Contains ys q → Contains xs q) → xs ≡ ys
+  same_order : (xs ys : List ℕ) →
+      RisesByHash compare hash seed xs → RisesByHash compare hash seed ys →
+      ((q : ℕ) → Contains xs q → Contains ys q) → ((q : ℕ) → Contains ys q → Contains xs q) → xs ≡ ys
   same_order [] [] rise_x rise_y there back = refl
   same_order [] (y ∷ ys) rise_x rise_y there back = let (k, within, _) = back y (0, omega arith, refl) in absurd (omega arith)
   same_order (x ∷ xs) [] rise_x rise_y there back = let (k, within, _) = there x (0, omega arith, refl) in absurd (omega arith)
@@ -52,7 +57,9 @@ module _ {D : Type 0} (compare : D → D → Ordering) (total : IsTotalOrder com
       cc
 
   -- an order is the single one
-  pub single_order : (n : ℕ) (xs ys : List ℕ) → IsArrangement n xs → RisesByHash compare hash seed xs → IsArrangement n ys → RisesByHash compare hash seed ys → xs ≡ ys
+  pub single_order : (n : ℕ) (xs ys : List ℕ) →
+      IsArrangement n xs → RisesByHash compare hash seed xs →
+      IsArrangement n ys → RisesByHash compare hash seed ys → xs ≡ ys
   single_order n xs ys arranged_x rise_x arranged_y rise_y =
       same_order xs ys rise_x rise_y
       (λ q has. Contains-permutation _ _ q arranged_y (Contains-permutation _ _ q (IsPermutation-sym _ _ arranged_x) has))

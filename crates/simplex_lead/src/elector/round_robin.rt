@@ -8,7 +8,7 @@ ghost use Rattle.std.specs.Option.{option_copied};
 ghost use Rattle.simplex_base.specs.Positions as positions;
 ghost use Rattle.simplex_base.specs.Terms.{HoldsView};
 ghost use Rattle.simplex_lead.specs.Structure.{CanBeStable, rotating};
-ghost use Rattle.simplex_lead.specs.Rotation.{IsOrder, leader_of_round, EachLeadsOnce};
+ghost use Rattle.simplex_lead.specs.Rotation.{IsOrder, IsRotation, leader_of_round, EachLeadsOnce};
 
 use crate::elector::electing::{Config, Elector};
 use crate::elector::mode::Mode;
@@ -159,8 +159,7 @@ impl<S: CertificateScheme, H: Hasher> Config<S> for RoundRobin<H> {
 
     type Elector = RoundRobinElector<S>;
 
-    ghost builds = { λ settings keys elector.
-        IsOrder H.Digest.cmp H.digest_of settings.seed (length keys) elector.order × (elector.terms ≡ settings.terms) };
+    ghost builds = { λ settings keys elector. IsRotation H.Digest.cmp H.digest_of settings (length keys) elector };
 
     fn build(
         self,
@@ -188,9 +187,8 @@ impl<S: CertificateScheme, H: Hasher> Config<S> for RoundRobin<H> {
         })
     }
 
-    ghost agree = { λ settings keys one other is_one is_other.
-        one_alike _ _ _ _ one other
-        (one_rotation H.Digest.cmp H.Digest.total H.digest_of settings.seed (length keys) settings.terms one other is_one is_other) };
+    ghost agree = { λ settings keys one other is_one is_other. one_alike _ _ _ _ one other
+        (one_rotation H.Digest.cmp H.digest_of H.Digest.total settings (length keys) one other is_one is_other) };
 
     ghost clones = { λ settings copy keys elector same.
         same_rotations H.Digest.cmp H.digest_of settings copy (length keys) elector same };

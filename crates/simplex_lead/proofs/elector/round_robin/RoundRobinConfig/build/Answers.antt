@@ -1,4 +1,4 @@
-use Rattle.std.proofs.Common.{◌≡◌, ◌∙◌, ap, arith}
+use Rattle.std.proofs.Common.{◌≡◌, ◌∙◌, ap, arith, refl}
 use Rattle.std.specs.Option.{option_copied}
 use Rattle.simplex_lead.proofs.Orders.{order_arranged, arranged_long, each_leads_once}
 use Rattle.simplex_lead.specs.OrderLaws.{one_order}
@@ -14,7 +14,8 @@ invariant_of-result g c =
 pub returns-clause-participants : goal.returns-clause-participants
 returns-clause-participants g c =
     let arranged : IsArrangement c.len.result c.in_ok-order.order.items = order_arranged g.H.Digest.Ord.cmp g.met.H.Digest.Ord.total g.H.Hasher.digest_of _ _ _ c.in_ok-order.ensures in
-    arranged_long _ _ arranged ∙ c.len.ensures
+    let long = arranged_long _ _ arranged in
+    rw (long, c.len.ensures) refl
 
 pub returns-clause-single : goal.returns-clause-single
 returns-clause-single g c other is =
