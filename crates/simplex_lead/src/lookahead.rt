@@ -118,9 +118,9 @@ impl Lookahead {
                 && self.in_admission_window(current, pending)
     }
 
-    /// Whether the view `other` is in reach of `view`, so that a node in `view` may vote in it: of views up to
-    /// `view`, of those of its term that are at most the lookahead ahead, and of the next term's first view where
-    /// it is at most one view further ahead.
+    /// Whether the view `other` is in reach of `view`, so that a node in `view` may vote in it: it is at most
+    /// `view`, or of the term of `view` and at most the lookahead later, or the first view of the next term and
+    /// at most the lookahead and one view later. It is told for all views.
     pub fn reaches(&self, view: View, other: View) -> bool
         ensures { IsTrue result ↔ IsInReach self.now.term_length self.now.optimistic_views view other }
     {
@@ -143,8 +143,8 @@ impl Lookahead {
         // An earlier view is at least the floor exactly where at most the lookahead many views lie strictly between.
         ensures between { IfSome result (λ floor. (q : ℕ) → q < view →
             (floor ≤ q ↔ views_between q view ≤ self.now.optimistic_views)) }
-        // From the view after an earlier one, `view` is in reach exactly where the earlier one is at least the floor and
-        // `view` is of that term.
+        // `view` is in reach of the view after an earlier one exactly where the earlier one is at least the floor and
+        // `view` is of the term of the one after it.
         ensures reach { IfSome result (λ floor. (q : ℕ) → q < view →
             (IsInReach self.now.term_length self.now.optimistic_views (q + 1) view ↔
             ((floor ≤ q) × (view ≤ term_end self.now.term_length (q + 1))))) }

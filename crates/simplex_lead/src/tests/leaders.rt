@@ -366,3 +366,21 @@ fn another_elector_has_one_leader(rt: HostRuntime) -> Result<(), Fail> {
 fn mode_and_terms<E: Elector<Marked>>(elector: &E) -> (Mode, Terms) {
     (elector.mode(), elector.terms())
 }
+
+#[test]
+fn terms_are_rotating_or_stable(rt: HostRuntime) {
+    let second = Duration::from_secs(1);
+    assert!(rt; !can_be_stable(TermLength::ONE, second));
+    assert!(rt; !can_be_stable(TermLength::new(2), Duration::ZERO));
+    assert!(rt; can_be_stable(TermLength::new(2), Duration::from_nanos(1)));
+    assert_eq!(rt; Terms::default(), Terms::rotating());
+    assert_eq!(rt; Terms::rotating().length(), TermLength::ONE);
+    assert_eq!(rt; Terms::rotating().stall_timeout(), None);
+    assert_eq!(rt; Terms::rotating().optimistic_views(), ViewDelta::new(0));
+    for views in [0, 3, 4, 5, 6, u64::MAX] {
+        let terms = Terms::stable(TermLength::new(5), second, ViewDelta::new(views));
+        assert_eq!(rt; terms.length(), TermLength::new(5));
+        assert_eq!(rt; terms.stall_timeout(), Some(second));
+        assert_eq!(rt; terms.optimistic_views(), ViewDelta::new(views));
+    }
+}
