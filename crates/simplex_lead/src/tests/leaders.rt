@@ -1,12 +1,12 @@
 //! Who leads.
 
-ghost use Rattle.std.specs.Prelude.{◌≡◌, ◌≤◌, ◌-◌, ◌∷◌, [], refl};
+ghost use Rattle.std.specs.Prelude.{◌≡◌, ◌≤◌, ◌-◌, ◌∷◌, [], length, refl};
 ghost use Rattle.std.specs.List.{fold};
 ghost use Rattle.simplex_base.specs.Positions as positions;
 ghost use Rattle.simplex_lead.specs.Structure as structure;
-ghost use Rattle.simplex_lead.specs.declared.elector.modes.Mode.TheVariants.{Dynamic};
+ghost use Rattle.simplex_lead.specs.declared.elector.mode.Mode.TheVariants.{Dynamic};
 
-use crate::elector::{Config, Elector, Mode, RoundRobin, RoundRobinElector, Terms, can_be_stable};
+use crate::elector::{Config, Elector, Mode, RoundRobin, Terms, can_be_stable};
 use sha2::Digest as _;
 use simplex_base::codec::Fixed;
 use simplex_base::codec::fixed_bytes::FixedBytes;
@@ -70,7 +70,11 @@ struct First {
 }
 
 impl<S: CertificateScheme> Config<S> for FirstAlways {
+    ghost use Rattle.std.proofs.Common.{sym, ◌∙◌};
+
     type Elector = First;
+
+    ghost builds = { λ config keys elector. (elector.terms ≡ config.0) × (elector.participants ≡ length keys) };
 
     fn build(self, _alloc: Global, participants: &Set<S::PublicKey>) -> Result<First, AllocError> {
         Ok(First {
@@ -78,9 +82,22 @@ impl<S: CertificateScheme> Config<S> for FirstAlways {
             participants: participants.len() as u32,
         })
     }
+
+    ghost agree = { λ config keys one other is_one is_other. record {
+      modes = refl;
+      terms = is_one.0 ∙ sym is_other.0;
+      participants = is_one.1 ∙ sym is_other.1;
+      leaders = λ _ _. refl;
+    } };
+
+    ghost clones = { λ config copy keys elector same.
+        ((λ is. (is.0 ∙ same, is.1)), (λ is. (is.0 ∙ sym same, is.1))) };
 }
 
 impl<S: CertificateScheme> Elector<S> for First {
+    ghost use Rattle.std.proofs.Common.{sym};
+    ghost use Rattle.simplex_lead.specs.ElectionLaws.{one_alike};
+
     ghost mode_of = { λ _. Dynamic };
 
     ghost terms_of = { λ elector. elector.terms };
@@ -104,6 +121,8 @@ impl<S: CertificateScheme> Elector<S> for First {
     ghost ignores = { λ _ _ _ _ _. refl };
 
     ghost one_a_term = { λ _ _ _ _ _ _ _ _. refl };
+
+    ghost clones = { λ elector copy same. one_alike _ _ _ _ elector copy (sym same) };
 }
 
 /// The elector of so many participants.
@@ -346,16 +365,6 @@ fn another_elector_has_one_leader(rt: HostRuntime) -> Result<(), Fail> {
 /// How an elector goes by certificates and terms.
 fn mode_and_terms<E: Elector<Marked>>(elector: &E) -> (Mode, Terms) {
     (elector.mode(), elector.terms())
-}
-
-#[test]
-fn modes_pass_certificates_on(rt: HostRuntime) {
-    let certificate = 5u8;
-    assert_eq!(rt; Mode::Scheduled.input(Some(&certificate)), None);
-    assert_eq!(rt; Mode::Dynamic.input(Some(&certificate)), Some(&certificate));
-    assert_eq!(rt; Mode::Dynamic.input::<u8>(None), None);
-    assert_eq!(rt; Mode::Scheduled.early::<u8>(), Some(None));
-    assert_eq!(rt; Mode::Dynamic.early::<u8>(), None);
 }
 
 #[test]

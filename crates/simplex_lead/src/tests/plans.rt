@@ -1,6 +1,6 @@
 //! Plans, which hold what they are given.
 
-use crate::plans::{Plan, Recipients};
+use crate::plan::{Plan, Recipients};
 use simplex_base::codec::Fixed;
 use simplex_base::positions::{Epoch, Round, View};
 use simplex_scheme::marked::MarkedKey;
