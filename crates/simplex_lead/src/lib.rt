@@ -4,8 +4,6 @@
 pub mod elector;
 pub mod lookahead;
 pub mod plan;
-#[cfg(test)]
-mod tests;
 pub mod viewport;
 
 pub use lookahead::Lookahead;

@@ -10,6 +10,8 @@ mod committee;
 #[cfg(test)]
 mod given;
 #[cfg(test)]
+mod leaders;
+#[cfg(test)]
 mod memory;
 #[cfg(test)]
 mod reading;

@@ -5,7 +5,7 @@ use Rattle.std.proofs.lemmas.List.{take_more}
 use Rattle.std.proofs.lemmas.List.Sums.{fold-append}
 use Rattle.std.proofs.lemmas.Grind.{flat_map-append}
 use Rattle.simplex_scheme.specs.Parts.{joined}
-use Rattle.simplex_lead.proofs.tests.leaders.FallingHasher.hash.Goals as goal
+use Rattle.simplex_message_tests.proofs.leaders.FallingHasher.hash.Goals as goal
 
 -- one more part
 joined_more : (parts : List (Bor (List ℕ))) (i : ℕ) (d : Bor (List ℕ)) → i < length parts → joined (take (i + 1) parts) ≡ joined (take i parts) ++ (get_or parts i d).now

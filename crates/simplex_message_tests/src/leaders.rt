@@ -1,4 +1,4 @@
-//! Who leads.
+//! Who leads, by hashers and electors of the tests' own, and what a node's views reach.
 
 ghost use Rattle.std.specs.Prelude.{◌≡◌, ◌≤◌, ◌-◌, ◌∷◌, [], length, refl};
 ghost use Rattle.std.specs.List.{fold};
@@ -6,11 +6,12 @@ ghost use Rattle.simplex_base.specs.Positions as positions;
 ghost use Rattle.simplex_lead.specs.Structure as structure;
 ghost use Rattle.simplex_lead.specs.declared.elector.mode.Mode.TheVariants.{Dynamic};
 
-use crate::elector::{Config, Elector, Mode, RoundRobin, Terms, can_be_stable};
 use sha2::Digest as _;
 use simplex_base::codec::Fixed;
 use simplex_base::codec::fixed_bytes::FixedBytes;
 use simplex_base::positions::{Epoch, Participant, Round, TermLength, View, ViewDelta};
+use simplex_lead::Lookahead;
+use simplex_lead::elector::{Config, Elector, Mode, RoundRobin, Terms, can_be_stable};
 use simplex_scheme::hash::{Hasher, Sha256};
 use simplex_scheme::marked::{Marked, MarkedDigest, MarkedDigestRole};
 use simplex_scheme::scheme::CertificateScheme;
@@ -157,126 +158,8 @@ fn leaders<E: Elector<Marked>>(
     Ok(leaders)
 }
 
-/// A rotation by the numbers, in terms of so many views.
-fn rotation(length: u32) -> RoundRobin {
-    let config: RoundRobin = RoundRobin::default();
-    let stall = Duration::from_secs(10);
-    if length == 0 || !can_be_stable(TermLength::new(length), stall) {
-        return config;
-    }
-    config.with_term(TermLength::new(length), stall, ViewDelta::new(0))
-}
-
-/// The leaders of views of an epoch, where so many participants lead terms of so many views in the order of
-/// their numbers.
-struct Row {
-    participants: u32,
-    length: u32,
-    epoch: u64,
-    leaders: &'static [(u64, u32)],
-}
-
-const ROWS: [Row; 14] = [
-    Row {
-        participants: 5,
-        length: 1,
-        epoch: 0,
-        leaders: &[(1, 1), (2, 2), (3, 3), (4, 4), (5, 0)],
-    },
-    Row {
-        participants: 4,
-        length: 3,
-        epoch: 0,
-        leaders: &[(1, 1), (2, 1), (3, 1), (4, 2), (5, 2), (6, 2)],
-    },
-    Row {
-        participants: 4,
-        length: 3,
-        epoch: 1,
-        leaders: &[(1, 2), (3, 2)],
-    },
-    Row {
-        participants: 4,
-        length: 3,
-        epoch: 2,
-        leaders: &[(1, 3), (2, 3)],
-    },
-    Row {
-        participants: 5,
-        length: 1,
-        epoch: 4294967295,
-        leaders: &[(1, 1)],
-    },
-    Row {
-        participants: 5,
-        length: 5,
-        epoch: u64::MAX - 1,
-        leaders: &[(1, 0), (6, 0), (11, 1)],
-    },
-    Row {
-        participants: 5,
-        length: 1,
-        epoch: u64::MAX,
-        leaders: &[(0, 0), (1, 0), (2, 1)],
-    },
-    Row {
-        participants: 4,
-        length: 1,
-        epoch: 0,
-        leaders: &[(0, 0), (4, 0), (5, 1), (7, 3), (8, 0), (11, 3), (12, 0)],
-    },
-    Row {
-        participants: 5,
-        length: 1,
-        epoch: 1,
-        leaders: &[(1, 2)],
-    },
-    Row {
-        participants: 5,
-        length: 1,
-        epoch: 2,
-        leaders: &[(1, 3)],
-    },
-    Row {
-        participants: 5,
-        length: 1,
-        epoch: 3,
-        leaders: &[(1, 4)],
-    },
-    Row {
-        participants: 5,
-        length: 1,
-        epoch: 4,
-        leaders: &[(1, 0)],
-    },
-    Row {
-        participants: 1,
-        length: 1,
-        epoch: 7,
-        leaders: &[(0, 0), (1, 0), (u64::MAX, 0)],
-    },
-    Row {
-        participants: 1,
-        length: 9,
-        epoch: u64::MAX,
-        leaders: &[(0, 0), (9, 0), (u64::MAX, 0)],
-    },
-];
-
 #[test]
-fn participants_take_turns(rt: HostRuntime) -> Result<(), Fail> {
-    for row in &ROWS {
-        let elector = built(&rt, rt.alloc(), rotation(row.length), row.participants)?;
-        for (view, expected) in row.leaders {
-            let found = leader(&elector, row.epoch, *view);
-            assert_eq!(rt; found, *expected, "of view {view} in epoch {}", row.epoch);
-        }
-    }
-    Ok(())
-}
-
-#[test]
-fn ties_are_broken_by_the_number(rt: HostRuntime) -> Result<(), Fail> {
+fn ample_ties(rt: HostRuntime) -> Result<(), Fail> {
     let same: RoundRobin<Same> = RoundRobin::shuffled(rt.alloc(), b"s")?;
     let elector = built(&rt, rt.alloc(), same, 5)?;
     let found = leaders(rt.alloc(), &elector, 0, 6)?;
@@ -285,7 +168,7 @@ fn ties_are_broken_by_the_number(rt: HostRuntime) -> Result<(), Fail> {
 }
 
 #[test]
-fn a_lower_hash_leads_earlier(rt: HostRuntime) -> Result<(), Fail> {
+fn ample_falling_hashes(rt: HostRuntime) -> Result<(), Fail> {
     let falling: RoundRobin<Falling> = RoundRobin::shuffled(rt.alloc(), b"s")?;
     let copy = falling.clone()?;
     for config in [falling, copy] {
@@ -313,7 +196,7 @@ fn by_digest(alloc: Global, seed: &[u8], participants: u32) -> Result<Vec<u32>, 
 }
 
 #[test]
-fn seeds_order_by_sha_256(rt: HostRuntime) -> Result<(), Fail> {
+fn ample_seeds(rt: HostRuntime) -> Result<(), Fail> {
     let seeds: [&[u8]; 2] = [b"seed1", b"seed2"];
     for seed in seeds {
         let shuffled: RoundRobin = RoundRobin::shuffled(rt.alloc(), seed)?;
@@ -329,20 +212,7 @@ fn seeds_order_by_sha_256(rt: HostRuntime) -> Result<(), Fail> {
 }
 
 #[test]
-fn one_participant_leads_always(rt: HostRuntime) -> Result<(), Fail> {
-    let seeds: [&[u8]; 3] = [b"", b"s", b"seed1"];
-    for seed in seeds {
-        let shuffled: RoundRobin = RoundRobin::shuffled(rt.alloc(), seed)?;
-        let elector = built(&rt, rt.alloc(), shuffled, 1)?;
-        for (epoch, view) in [(0, 0), (0, 1), (7, 9), (u64::MAX, u64::MAX)] {
-            assert_eq!(rt; leader(&elector, epoch, view), 0, "of {view} in {epoch}");
-        }
-    }
-    Ok(())
-}
-
-#[test]
-fn another_elector_has_one_leader(rt: HostRuntime) -> Result<(), Fail> {
+fn ample_elector_of_its_own(rt: HostRuntime) -> Result<(), Fail> {
     let terms = Terms::stable(
         TermLength::new(3),
         Duration::from_secs(10),
@@ -354,7 +224,7 @@ fn another_elector_has_one_leader(rt: HostRuntime) -> Result<(), Fail> {
         [0; 4].as_slice()
     );
     assert_eq!(rt; mode_and_terms(&elector), (Mode::Dynamic, terms));
-    let elector = built(&rt, rt.alloc(), rotation(1), 4)?;
+    let elector = built(&rt, rt.alloc(), RoundRobin::<Sha256>::default(), 4)?;
     assert_eq!(rt;
         mode_and_terms(&elector),
         (Mode::Scheduled, Terms::rotating())
@@ -373,14 +243,23 @@ fn terms_are_rotating_or_stable(rt: HostRuntime) {
     assert!(rt; !can_be_stable(TermLength::ONE, second));
     assert!(rt; !can_be_stable(TermLength::new(2), Duration::ZERO));
     assert!(rt; can_be_stable(TermLength::new(2), Duration::from_nanos(1)));
-    assert_eq!(rt; Terms::default(), Terms::rotating());
-    assert_eq!(rt; Terms::rotating().length(), TermLength::ONE);
-    assert_eq!(rt; Terms::rotating().stall_timeout(), None);
-    assert_eq!(rt; Terms::rotating().optimistic_views(), ViewDelta::new(0));
-    for views in [0, 3, 4, 5, 6, u64::MAX] {
-        let terms = Terms::stable(TermLength::new(5), second, ViewDelta::new(views));
-        assert_eq!(rt; terms.length(), TermLength::new(5));
-        assert_eq!(rt; terms.stall_timeout(), Some(second));
-        assert_eq!(rt; terms.optimistic_views(), ViewDelta::new(views));
+}
+
+/// The last view that fits, of terms of these lengths.
+#[test]
+fn the_last_view_that_fits(rt: HostRuntime) {
+    let rows: [(u32, u64); 3] = [
+        (1, u64::MAX - 3),
+        (5, 18446744073709551605),
+        (4294967295, 18446744065119617025),
+    ];
+    for (length, last) in rows {
+        let look = Lookahead {
+            term_length: TermLength::new(if length == 0 { 1 } else { length }),
+            optimistic_views: ViewDelta::new(3),
+        };
+        assert!(rt; look.fits(View::new(last)), "at {last}");
+        let next = View::new(last).saturating_add(ViewDelta::new(1));
+        assert!(rt; !look.fits(next), "at {next:?}");
     }
 }
