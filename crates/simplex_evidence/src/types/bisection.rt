@@ -40,7 +40,7 @@ pub fn verify_notarizations<S: CertificateVerifier<D>, D: Digest>(
 {
     messages
         .iter()
-        .map(|message| message.verify(scheme))
+        .map(|notarization| notarization.verify(scheme))
         .collect(alloc)
 }
 
@@ -68,7 +68,7 @@ pub fn verify_finalizations<S: CertificateVerifier<D>, D: Digest>(
 {
     messages
         .iter()
-        .map(|message| message.verify(scheme))
+        .map(|finalization| finalization.verify(scheme))
         .collect(alloc)
 }
 

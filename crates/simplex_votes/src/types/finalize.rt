@@ -60,10 +60,10 @@ impl<S: Scheme<D>, D: Digest> Finalize<S, D> {
             (vote.proposal ≡ proposal) × (S.own scheme.now ≡ Some vote.attestation.signer) ×
             (S.good scheme.now (Finalizes proposal) vote.attestation.signer vote.attestation.signature ≡ true))) }
     {
-        let subject = Subject::Finalize {
+        let to_sign = Subject::Finalize {
             proposal: &proposal,
         };
-        match scheme.sign(alloc, subject)? {
+        match scheme.sign(alloc, to_sign)? {
             Some(attestation) => Ok(Some(Finalize {
                 proposal,
                 attestation,

@@ -60,10 +60,10 @@ impl<S: Scheme<D>, D: Digest> Notarize<S, D> {
             (vote.proposal ≡ proposal) × (S.own scheme.now ≡ Some vote.attestation.signer) ×
             (S.good scheme.now (Notarizes proposal) vote.attestation.signer vote.attestation.signature ≡ true))) }
     {
-        let subject = Subject::Notarize {
+        let to_sign = Subject::Notarize {
             proposal: &proposal,
         };
-        match scheme.sign(alloc, subject)? {
+        match scheme.sign(alloc, to_sign)? {
             Some(attestation) => Ok(Some(Notarize {
                 proposal,
                 attestation,
