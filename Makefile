@@ -5,9 +5,11 @@
 run:
 	cd crates/audit && rt run -- $$(cat args) < stdin
 
-# Refuses each growth of the program, of the vote map and of verify_certificates in turn, and then proves
-# everything from nothing, tries the wrong bodies, and runs the tests and the program.
+# Runs the program as a user would, refuses each growth of the program, of its tests, of the vote map's and of
+# verify_certificates' in turn, and then proves everything from nothing, tries the wrong bodies, and runs the tests and
+# the program.
 test:
+	.ci/runs
 	.ci/refusals audit
 	.ci/refusals simplex_evidence
 	rt ci

@@ -20,7 +20,9 @@ use std::io::ErrorKind;
 fn without_name(alloc: Global, given: Args) -> Result<Vec<String>, AllocError>
     ensures { IfOk result (λ words. map string_bytes words.items ≡ words_of (into_iter_items given)) }
 {
-    given.skip(1).collect(alloc)
+    let mut words = Vec::with_capacity(alloc, given.len())?;
+    words.extend(given.skip(1))?;
+    Ok(words)
 }
 
 /// Why arguments can't be had: for want of memory, or because one of them is not UTF-8.
