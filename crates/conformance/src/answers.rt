@@ -3,12 +3,10 @@
 use crate::leaders::leader;
 use crate::maps::map;
 use crate::reads::read;
-use crate::rows::{
-    Unanswered, bytes, committee, delta, epoch, participant, small, term_length, view,
-};
+use crate::rows::{Unanswered, bytes, committee, delta, epoch, small, term_length, view};
 use crate::terms::term;
 use crate::verifying::verify;
-use crate::windows::{admits, floor, limit, lookahead, outbound, viewport};
+use crate::windows::{admits, floor_row, limit_row, lookahead, outbound, truth, viewport_row};
 use simplex_base::positions::Round;
 use simplex_lead::Viewport;
 use std::alloc::{AllocError, Global};
@@ -60,17 +58,21 @@ fn window(alloc: Global, words: &[&str]) -> Result<String, Unanswered> {
     match words {
         ["admits", length, ahead, current, pending] => {
             let lookahead = lookahead(*length, *ahead)?;
-            Ok(admits(alloc, lookahead, view(*current)?, view(*pending)?)?)
+            let taken = admits(lookahead, view(*current)?, view(*pending)?);
+            Ok(truth(alloc, taken)?)
         }
         ["outbound", length, ahead, current, pending] => {
             let lookahead = lookahead(*length, *ahead)?;
-            Ok(outbound(alloc, lookahead, view(*current)?, view(*pending)?)?)
+            let sent = outbound(lookahead, view(*current)?, view(*pending)?);
+            Ok(truth(alloc, sent)?)
         }
         ["limit", length, ahead, current] => {
-            Ok(limit(alloc, lookahead(*length, *ahead)?, view(*current)?)?)
+            let lookahead = lookahead(*length, *ahead)?;
+            Ok(limit_row(alloc, lookahead, view(*current)?)?)
         }
         ["floor", length, ahead, place] => {
-            Ok(floor(alloc, lookahead(*length, *ahead)?, view(*place)?)?)
+            let lookahead = lookahead(*length, *ahead)?;
+            Ok(floor_row(alloc, lookahead, view(*place)?)?)
         }
         [
             "viewport",
@@ -81,13 +83,13 @@ fn window(alloc: Global, words: &[&str]) -> Result<String, Unanswered> {
             ahead,
             place,
         ] => {
-            let viewport_of = Viewport {
+            let viewport = Viewport {
                 finalized: view(*finalized)?,
                 current: view(*current)?,
                 view_retention: delta(*retention)?,
                 lookahead: lookahead(*length, *ahead)?,
             };
-            Ok(viewport(alloc, viewport_of, view(*place)?)?)
+            Ok(viewport_row(alloc, viewport, view(*place)?)?)
         }
         _ => Err(Unanswered::NoRow),
     }

@@ -1,5 +1,7 @@
 //! Leaders of rounds.
 
+ghost use Rattle.std.specs.Prelude.{◌≡◌, IfOk};
+
 use crate::rows::{Unanswered, bytes};
 use simplex_base::positions::{Round, TermLength, ViewDelta};
 use simplex_lead::elector::{Config, Elector, RoundRobin, can_be_stable};
@@ -13,7 +15,9 @@ use std::time::Duration;
 const NO_SEED: &str = "-";
 
 /// A rotation by this seed, in terms of so many views.
-fn rotation(alloc: Global, seed: &str, length: TermLength) -> Result<RoundRobin, Unanswered> {
+fn rotation(alloc: Global, seed: &str, length: TermLength) -> Result<RoundRobin, Unanswered>
+    ensures { IfOk result (λ settings. settings.terms.term_length ≡ length) }
+{
     let rotation: RoundRobin<Sha256> = if seed == NO_SEED {
         RoundRobin::default()
     } else {

@@ -79,11 +79,11 @@ pub fn committee(alloc: Global, word: &str) -> Result<Marked, Unanswered> {
     Ok(Marked::new(alloc, participants, None)?)
 }
 
-/// The bytes that some words spell together, by two digits each.
+/// The bytes that some words spell, each of them whole bytes by two digits a byte.
 pub fn bytes(alloc: Global, words: &[&str]) -> Result<Vec<u8>, Unanswered> {
-    let mut digits = String::new(alloc);
+    let mut bytes = Vec::new(alloc);
     for word in words {
-        digits.push_str(*word)?;
+        bytes.extend_from_slice(hex::decode(alloc, *word)?.as_slice())?;
     }
-    Ok(hex::decode(alloc, digits.as_str())?)
+    Ok(bytes)
 }
