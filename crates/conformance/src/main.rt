@@ -1,0 +1,22 @@
+//! `conformance`: answers each row of standard input by one line of standard output (docs/CONFORMANCE.md).
+#![tactic(auto)]
+
+mod answers;
+mod leaders;
+mod maps;
+mod reads;
+mod refusals;
+mod rows;
+mod terms;
+mod verifying;
+mod windows;
+
+use std::io;
+
+fn main(rt: HostRuntime) -> io::Result<()> {
+    for line in rt.lines(rt.alloc()) {
+        let answer = answers::answer(rt.alloc(), line?.as_str())?;
+        println!(rt; "{answer}")?;
+    }
+    Ok(())
+}

@@ -1,0 +1,89 @@
+//! Rows: a word that says what is asked, and then numbers in decimal and bytes in hexadecimal.
+
+use simplex_base::positions::{Epoch, Participant, TermLength, View, ViewDelta};
+use simplex_scheme::marked::Marked;
+use std::alloc::{AllocError, Global};
+
+/// Why a line is not answered as a row.
+#[derive(Clone, Copy, Debug)]
+pub enum Unanswered {
+    /// It is no row.
+    NoRow,
+    /// Memory was refused.
+    OutOfMemory,
+}
+
+impl From<AllocError> for Unanswered {
+    fn from(_error: AllocError) -> Self {
+        Unanswered::OutOfMemory
+    }
+}
+
+impl From<hex::FromHexError> for Unanswered {
+    fn from(error: hex::FromHexError) -> Self {
+        match error {
+            hex::FromHexError::OutOfMemory => Unanswered::OutOfMemory,
+            _ => Unanswered::NoRow,
+        }
+    }
+}
+
+/// A number of at most 2^64 - 1, in decimal digits and nothing else.
+fn number(word: &str) -> Result<u64, Unanswered> {
+    if !word.bytes().all(|byte| byte.is_ascii_digit()) {
+        return Err(Unanswered::NoRow);
+    }
+    word.parse::<u64>().map_err(|_| Unanswered::NoRow)
+}
+
+/// A number of at most 2^32 - 1: a bound, a number of participants, or one of a participant.
+pub fn small(word: &str) -> Result<u32, Unanswered> {
+    u32::try_from(number(word)?).map_err(|_| Unanswered::NoRow)
+}
+
+/// An epoch.
+pub fn epoch(word: &str) -> Result<Epoch, Unanswered> {
+    Ok(Epoch::new(number(word)?))
+}
+
+/// A view.
+pub fn view(word: &str) -> Result<View, Unanswered> {
+    Ok(View::new(number(word)?))
+}
+
+/// A number of views.
+pub fn delta(word: &str) -> Result<ViewDelta, Unanswered> {
+    Ok(ViewDelta::new(number(word)?))
+}
+
+/// A participant.
+pub fn participant(word: &str) -> Result<Participant, Unanswered> {
+    Ok(Participant::new(small(word)?))
+}
+
+/// The number of views of a term, at least 1.
+pub fn term_length(word: &str) -> Result<TermLength, Unanswered> {
+    let views = small(word)?;
+    if views == 0 {
+        return Err(Unanswered::NoRow);
+    }
+    Ok(TermLength::new(views))
+}
+
+/// The marked committee of so many participants, at least 1, for who only verifies.
+pub fn committee(alloc: Global, word: &str) -> Result<Marked, Unanswered> {
+    let participants = small(word)?;
+    if participants == 0 {
+        return Err(Unanswered::NoRow);
+    }
+    Ok(Marked::new(alloc, participants, None)?)
+}
+
+/// The bytes that some words spell, each of them whole bytes by two digits a byte.
+pub fn bytes(alloc: Global, words: &[&str]) -> Result<Vec<u8>, Unanswered> {
+    let mut bytes = Vec::new(alloc);
+    for word in words {
+        bytes.extend_from_slice(hex::decode(alloc, *word)?.as_slice())?;
+    }
+    Ok(bytes)
+}
