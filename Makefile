@@ -11,6 +11,7 @@ test:
 	.ci/runs
 	.ci/refusals audit
 	.ci/refusals simplex_message_tests
+	.ci/refusals conformance 200
 	rt ci
 
 # Answers the stored rows, without proving anything.
