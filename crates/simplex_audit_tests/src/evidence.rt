@@ -65,10 +65,10 @@ fn a_plain_signer_of_two_proposals_is_named(rt: HostRuntime) -> Result<(), Fail>
          00 000a05 0707070707070707070707070707070707070707070707070707070707070707 00 \
          85c5f612872154ca52e992a79aec3bfdc407bf2873f7f4372e33b4be6de3d71b",
     )?;
-    let round = Round::new(Epoch::new(0), View::new(10));
+    let voted_in = Round::new(Epoch::new(0), View::new(10));
     let payloads = [6, 7].map(|byte| Sha256Digest::from_bytes(&[byte; 32]));
     assert_eq!(rt;
-        equivocation(alloc, &scheme, round, payloads)?.as_slice(),
+        equivocation(alloc, &scheme, voted_in, payloads)?.as_slice(),
         stream.as_slice()
     );
     let found = outcome_of::<Plain, Sha256Digest>(alloc, &scheme, stream.as_slice())?;
