@@ -64,41 +64,56 @@ const NULLIFIED: [u8; 32] = [
     0xa9, 0xcb, 0x67, 0x83, 0x13, 0x24, 0x52, 0x47, 0x59, 0x97, 0x70, 0x22, 0x85, 0xb2, 0x8f, 0x8e,
 ];
 
+/// The attestation is to the nullification of the round, whose message is these bytes.
+fn check_nullify<S: Scheme<D>, D: Digest + 'static>(
+    rt: &impl Abort,
+    alloc: Global,
+    scheme: &S,
+    round: Round,
+    attestation: &Attestation<S>,
+    message: &[u8],
+) -> Result<(), Fail> {
+    let subject: Subject<'static, D> = Subject::Nullify { round };
+    assert!(rt; subject.is_message(message) && !subject.is_message(&[0xcd, 2]));
+    assert!(rt; subject.message(alloc)?.as_slice() == message);
+    let subject: Subject<'static, D> = Subject::Nullify { round };
+    assert!(rt; scheme.verify_attestation(subject, attestation));
+    Ok(())
+}
+
 #[test]
 fn ample_plain_signature(rt: HostRuntime) -> Result<(), Fail> {
     let alloc = rt.alloc();
     let plain = member(&rt, alloc, b"test", [3, 2, 1, 0], 0)?;
-    let far: Subject<'static, Sha256Digest> = Subject::Nullify {
-        round: Round::new(Epoch::new(333), View::new(10)),
-    };
-    assert_eq!(rt; far.message(alloc)?.as_slice(), [0xcd, 2, 10].as_slice());
-    assert!(rt; far.is_message(&[0xcd, 2, 10]) && !far.is_message(&[0xcd, 2]));
+    let far = Round::new(Epoch::new(333), View::new(10));
     let signed = Attestation::<Plain> {
         signer: Participant::new(0),
         signature: PlainSignature::from_bytes(&NULLIFIED),
     };
-    assert!(rt; plain.verify_attestation(far, &signed));
-    Ok(())
+    check_nullify::<Plain, Sha256Digest>(&rt, alloc, &plain, far, &signed, &[0xcd, 2, 10])
 }
 
 /// Three notarizes of five are fewer than a quorum; four make a notarization.
 fn check_quorum<S: Scheme<D>, D: Digest>(
     rt: &impl Abort,
     alloc: Global,
-    members: [&S; 4],
+    members: &[S],
     payload: D,
 ) -> Result<(), Fail> {
+    let [home, ..] = members else {
+        return Err("nobody signs".into());
+    };
     let mut votes = Vec::new(alloc);
     for member in members {
         let vote = Notarize::sign(alloc, member, proposal(payload))?;
         votes.push(vote.ok_or("nobody signs")?)?;
     }
-    assert!(rt; Notarization::can_assemble(members[0], votes.as_slice()));
-    let made = Notarization::from_notarizes(alloc, members[0], votes.as_slice());
-    assert!(rt; made.is_ok_and(|made| made.verify(members[0])));
+    assert!(rt; Notarization::can_assemble(home, votes.as_slice()));
+    let made = Notarization::from_notarizes(alloc, home, votes.as_slice());
+    assert!(rt; made.is_ok_and(|made| made.verify(home)));
     let _ = votes.pop();
-    assert!(rt; Notarization::can_assemble(members[0], votes.as_slice()));
-    let few = Notarization::from_owned_notarizes(alloc, members[0], votes);
+    assert!(rt; Notarization::can_assemble(home, votes.as_slice()));
+    let few = Notarization::from_owned_notarizes(alloc, home, votes);
     assert!(rt; few.err() == Some(AssemblyError::InsufficientAttestations(4, 3)));
     Ok(())
 }
@@ -106,13 +121,11 @@ fn check_quorum<S: Scheme<D>, D: Digest>(
 #[test]
 fn ample_quorum(rt: HostRuntime) -> Result<(), Fail> {
     let alloc = rt.alloc();
-    let [a, b, c, d] = [
-        Marked::new(alloc, 5, Some(Participant::new(4)))?,
-        Marked::new(alloc, 5, Some(Participant::new(0)))?,
-        Marked::new(alloc, 5, Some(Participant::new(2)))?,
-        Marked::new(alloc, 5, Some(Participant::new(1)))?,
-    ];
-    check_quorum(&rt, alloc, [&a, &b, &c, &d], MarkedDigest::from_bytes(&[6]))
+    let mut members = Vec::new(alloc);
+    for signer in [4, 0, 2, 1] {
+        members.push(Marked::new(alloc, 5, Some(Participant::new(signer)))?)?;
+    }
+    check_quorum(&rt, alloc, members.as_slice(), MarkedDigest::from_bytes(&[6]))
 }
 
 /// The same round and payload are other proposals on other parents.

@@ -6,18 +6,15 @@ use crate::committee::{
     notarize, nullification, nullify, nullify_finalize, payload, proposal, round,
 };
 use simplex_base::codec::Fixed;
-use simplex_base::positions::{Participant, View};
+use simplex_base::positions::View;
 use simplex_evidence::types::{
     Activity, verify_finalizations, verify_notarizations, verify_nullifications,
 };
-use simplex_scheme::marked::Marked;
 use simplex_scheme::namespace::Namespace;
 use simplex_scheme::plain::{Plain, PlainKey};
-use simplex_scheme::scheme::{
-    CertificateNamespace, CertificateSubject, Digest, Listing, Scheme, Subject,
-};
+use simplex_scheme::scheme::{CertificateNamespace, Digest, Listing, Scheme};
 use simplex_scheme::set::Set;
-use simplex_votes::types::{Artifact, Certificate, Context, Vote};
+use simplex_votes::types::{Artifact, Certificate, Context, Notarize, Vote};
 use std::alloc::Global;
 use std::process::Abort;
 use std::test::Fail;
@@ -75,18 +72,20 @@ fn check_many<S: Listing<D>, D: Digest + 'static>(
     payload: D,
 ) -> Result<(), Fail> {
     let [home, ..] = &committee.quorum;
-    let mut messages = [
-        notarization(rt, alloc, committee, payload)?,
-        notarization(rt, alloc, committee, payload)?,
-    ];
-    messages[0].proposal.parent = View::new(6);
-    let answers = verify_notarizations(alloc, home, &messages)?;
+    let mut other = notarization(rt, alloc, committee, payload)?;
+    other.proposal.parent = View::new(6);
+    let mut messages = Vec::new(alloc);
+    messages.push(other)?;
+    messages.push(notarization(rt, alloc, committee, payload)?)?;
+    let answers = verify_notarizations(alloc, home, messages.as_slice())?;
     assert_eq!(rt; answers.as_slice(), [false, true].as_slice());
-    let messages = [nullification::<S, D>(rt, alloc, committee)?];
-    let answers = verify_nullifications::<S, D>(alloc, home, &messages)?;
+    let mut messages = Vec::new(alloc);
+    messages.push(nullification::<S, D>(rt, alloc, committee)?)?;
+    let answers = verify_nullifications::<S, D>(alloc, home, messages.as_slice())?;
     assert_eq!(rt; answers.as_slice(), [true].as_slice());
-    let messages = [finalization(rt, alloc, committee, payload)?];
-    let answers = verify_finalizations(alloc, home, &messages)?;
+    let mut messages = Vec::new(alloc);
+    messages.push(finalization(rt, alloc, committee, payload)?)?;
+    let answers = verify_finalizations(alloc, home, messages.as_slice())?;
     assert_eq!(rt; answers.as_slice(), [true].as_slice());
     Ok(())
 }
@@ -136,21 +135,7 @@ fn ample_strangers(rt: HostRuntime) -> Result<(), Fail> {
     let committee = Set::try_from_vec(Vec::from_array(alloc, [key])?)?;
     assert_eq!(rt; committee.len(), 1);
     let plain = Plain::verifier(alloc, b"", committee)?;
-    let unsigned = proposal(payload(6));
-    let subject = Subject::Notarize {
-        proposal: &unsigned,
-    };
-    assert!(rt; subject.message(alloc)?.as_slice().len() == 35);
-    assert!(rt; plain.sign(alloc, subject)?.is_none());
-    let marked = Marked::new(alloc, 4, Some(Participant::new(3)))?;
-    let subject = Subject::Notarize {
-        proposal: &unsigned,
-    };
-    assert!(rt;
-        marked
-            .sign(alloc, subject)?
-            .is_some_and(|own| own.signer == Participant::new(3))
-    );
+    assert!(rt; Notarize::sign(alloc, &plain, proposal(payload(6)))?.is_none());
     let committee = Set::try_from_vec(Vec::from_array(alloc, [key])?)?;
     assert_eq!(rt; committee.len(), 1);
     let stranger = PlainKey::from_bytes(&[9; 32]);
