@@ -1,6 +1,6 @@
 //! The arguments of the program: a namespace and the keys of a committee.
 
-ghost use Rattle.std.specs.Prelude.{◌≡◌, ◌↔◌, ◌≤◌, ◌<◌, ◌^◌, ℕ, List, ◌∷◌, Some, Ok, Err, IfOk, IfErr, None, ◌⊎◌, map, length, string_bytes, IsTrue, IsPermutation};
+ghost use Rattle.std.specs.Prelude.{◌≡◌, ◌↔◌, ◌≤◌, ◌<◌, ◌^◌, ℕ, List, Some, Ok, Err, IfOk, IfErr, None, ◌⊎◌, map, length, string_bytes, IsTrue, IsPermutation};
 ghost use Rattle.std.specs.List.Sorted.{IsStrictlySortedBy};
 ghost use Rattle.audit.specs.Arguments.{AreArguments, AreNoArguments, key_named, keys_named};
 

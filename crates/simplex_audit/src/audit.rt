@@ -1,6 +1,6 @@
 //! The audit of a whole stream.
 
-ghost use Rattle.std.specs.Prelude.{◌≡◌, ◌↔◌, ℕ, List, ◌++◌, map, length, IfOk, IsTrue, IsPermutation, Contains, All};
+ghost use Rattle.std.specs.Prelude.{◌≡◌, ◌↔◌, ℕ, List, ◌++◌, map, length, IfOk, IsTrue, Contains, All};
 ghost use Rattle.simplex_base.specs.Readable.{format_under};
 ghost use Rattle.simplex_evidence.specs.Activity.{votes_in};
 ghost use Rattle.simplex_audit.specs.Audited.{audited};

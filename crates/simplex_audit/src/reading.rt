@@ -16,8 +16,8 @@ use simplex_base::codec::error::Error;
 use simplex_base::codec::{Fixed, Read};
 use simplex_evidence::types::Activity;
 use simplex_scheme::proposal::Proposal;
-use simplex_scheme::subject::Subject;
 use simplex_scheme::scheme::{Attestation, Digest, Listing, Scheme, SchemeTypes};
+use simplex_scheme::subject::Subject;
 use simplex_votes::types::{Notarization, Notarize};
 use std::alloc::{AllocError, Global};
 

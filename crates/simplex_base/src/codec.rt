@@ -1,6 +1,6 @@
 //! Values as bytes: each value has one spelling, and reading finds it wherever it begins the input.
 
-ghost use Rattle.std.specs.Prelude.{◌≡◌, ◌↔◌, true, ℕ, Bool, Ok, Err, List, ◌++◌, length, OnOk, OnErr, IfOk, IfErr, IsTrue, ◌≤◌, ◌<◌};
+ghost use Rattle.std.specs.Prelude.{◌≡◌, ◌↔◌, true, ℕ, Bool, Ok, Err, List, ◌++◌, length, OnOk, OnErr, IfOk, ◌≤◌, ◌<◌};
 ghost use Rattle.std.specs.Ordering.{nat_cmp};
 ghost use Rattle.std.specs.Cmp.Lexicographic.{slice_cmp};
 ghost use Rattle.simplex_base.specs.Reading.{Reading, Gives, GivesAll, all_of};

@@ -1,6 +1,6 @@
 //! What a node plans to send of a round's proposal, and to whom.
 
-ghost use Rattle.std.specs.Prelude.{◌≡◌, refl};
+ghost use Rattle.std.specs.Prelude.{refl};
 
 use simplex_base::positions::Round;
 use simplex_base::values::EqByParts;

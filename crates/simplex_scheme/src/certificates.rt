@@ -1,7 +1,7 @@
 //! What lists of attestations certify, and how they are made, for each scheme that verifies attestations one by one. A
 //! scheme of one's own whose certificates are [`Listed`] is an [`AttestationVerifier`], and answers by these calls.
 
-ghost use Rattle.std.specs.Prelude.{◌≡◌, ℕ, Bool, true, List, length, nat_eq, All, Ok, Err, IsOk, IfOk, ◌<◌, ◌≤◌};
+ghost use Rattle.std.specs.Prelude.{◌≡◌, ℕ, Bool, true, length, nat_eq, All, Ok, Err, IsOk, IfOk, ◌<◌, ◌≤◌};
 ghost use Rattle.std.specs.List.{IsDistinct, list_all};
 ghost use Rattle.simplex_scheme.specs.Subject.{SubjectValue, subject_value};
 ghost use Rattle.simplex_scheme.specs.Committee.{IsInOrder, is_quorum, quorum_of, signers_of};

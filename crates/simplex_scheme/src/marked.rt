@@ -1,6 +1,6 @@
 //! A scheme for tests: a signature is the byte `aa`, whoever signs whatever.
 
-ghost use Rattle.std.specs.Prelude.{◌≡◌, ◌↔◌, ◌+◌, ◌*◌, ◌<◌, ◌≤◌, ◌^◌, List, [], ◌∷◌, Option, Some, None, Ok, Err, IsOk, IsTrue, IfOk, IfSome, MatchOption, All, length, nat_eq, nat_lt, ◌&&◌, true};
+ghost use Rattle.std.specs.Prelude.{◌≡◌, ◌↔◌, ◌+◌, ◌*◌, ◌<◌, ◌≤◌, ◌^◌, [], ◌∷◌, Option, Some, None, Ok, Err, IsOk, IsTrue, IfOk, MatchOption, All, length, nat_eq, nat_lt, ◌&&◌, true};
 ghost use Rattle.std.specs.Option.{ForSome};
 ghost use Rattle.std.specs.Str.{bytes_eq};
 ghost use Rattle.std.proofs.Common.{lit<, lit≤};

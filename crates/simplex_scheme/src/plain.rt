@@ -1,7 +1,7 @@
 //! A scheme without secrets: the signature of a participant is the SHA-256 of a namespace, its key and the
 //! message. It lets streams be made and judged by anyone, and binds nobody.
 
-ghost use Rattle.std.specs.Prelude.{◌≡◌, ◌≢◌, ◌↔◌, ◌&&◌, ◌+◌, ◌*◌, ℕ, List, [], Option, Some, None, Ok, Err, IsOk, IsTrue, IfOk, IfSome, MatchOption, All, length, nat_eq, nat_lt, slice_get, option_copied, option_map, option_and_then, ◌++◌, ◌<◌, ◌≤◌, ◌^◌, true};
+ghost use Rattle.std.specs.Prelude.{◌≡◌, ◌≢◌, ◌↔◌, ◌+◌, ◌*◌, ℕ, List, Option, Some, None, Ok, Err, IsOk, IsTrue, IfOk, MatchOption, All, length, nat_eq, slice_get, option_copied, option_map, option_and_then, ◌++◌, ◌<◌, ◌≤◌, ◌^◌, true};
 ghost use Rattle.std.proofs.Common.{lit<, lit≤};
 ghost use Rattle.simplex_base.specs.Readable.{format_of};
 ghost use Rattle.simplex_base.specs.Varint.{number_64};
@@ -10,7 +10,7 @@ ghost use Rattle.simplex_scheme.specs.Subject.{SubjectValue, subject_value};
 ghost use Rattle.simplex_scheme.specs.Committee.{IsInOrder, IsQuorum, is_quorum, quorum_of, signers_of};
 ghost use Rattle.simplex_scheme.specs.CommitteeLaws.{quorum_meaning, fixed_within};
 ghost use Rattle.std.specs.List.{IsDistinct};
-ghost use Rattle.simplex_scheme.specs.Plain.{hashed, plain_signature, plain_good, good_members};
+ghost use Rattle.simplex_scheme.specs.Plain.{hashed, plain_good, good_members};
 ghost use Rattle.simplex_scheme.specs.Proposal.{proposal_format};
 ghost use Rattle.simplex_base.specs.Positions.{round_format};
 ghost use Rattle.sha2.specs.Sha256.{sha256};

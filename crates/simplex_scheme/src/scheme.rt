@@ -1,6 +1,6 @@
 //! The schemes that sign and verify.
 
-ghost use Rattle.std.specs.Prelude.{◌≡◌, ⊤, ◌+◌, ℕ, Bool, true, false, List, Option, Some, None, Ok, Err, IsTrue, IfOk, IfErr, IfSome, MatchOption, All, length, nat_eq, ◌&&◌, ◌<◌, ◌≤◌, ◌^◌, refl};
+ghost use Rattle.std.specs.Prelude.{◌≡◌, ⊤, ◌+◌, ℕ, Bool, true, false, List, Option, Some, None, Ok, Err, IfOk, IfErr, IfSome, MatchOption, All, length, nat_eq, ◌&&◌, ◌<◌, ◌≤◌, ◌^◌, refl};
 ghost use Rattle.std.specs.List.{IsDistinct, list_all};
 ghost use Rattle.simplex_base.specs.Readable.{format_of};
 ghost use Rattle.simplex_scheme.specs.Subject.{SubjectValue, subject_value};

@@ -1,7 +1,7 @@
 //! Numbers in groups of seven bits, the lowest group first, as in LEB128. The top bit is set on each byte
 //! but the last, and the last is not zero unless it is the only one, so each number has one spelling.
 
-ghost use Rattle.std.specs.Prelude.{◌≡◌, ◌≢◌, ℕ, length, ◌++◌, OnOk, OnErr, IfOk, List, take, ◌≤◌, ◌<◌, ◌+◌, ◌*◌, ◌^◌, false};
+ghost use Rattle.std.specs.Prelude.{◌≡◌, ℕ, length, ◌++◌, OnOk, OnErr, IfOk, List, take, ◌≤◌, ◌<◌, ◌+◌, ◌*◌, ◌^◌, false};
 ghost use Rattle.simplex_base.specs.Reading.{Gives, GivesRest, IsBytes};
 ghost use Rattle.simplex_base.specs.Varint.{IsNumber, ReadsNumber, groups, groups_at, number_at, number_32, number_64};
 

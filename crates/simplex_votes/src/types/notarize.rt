@@ -1,6 +1,6 @@
 //! Votes to notarize a proposal.
 
-ghost use Rattle.std.specs.Prelude.{◌≡◌, ⊤, ◌+◌, ℕ, false, true, Ok, None, Some, IfOk, MatchOption, ◌&&◌, refl};
+ghost use Rattle.std.specs.Prelude.{◌≡◌, ⊤, ◌+◌, false, true, Ok, None, Some, IfOk, MatchOption, ◌&&◌, refl};
 ghost use Rattle.simplex_base.specs.Readable.{format_of};
 ghost use Rattle.simplex_scheme.specs.Subject.{Notarizes};
 
