@@ -1,13 +1,19 @@
-# The two commands of the README.
-.PHONY: run test
+# The two commands of the README, and two for work on the code.
+.PHONY: run test quick check
 
 # Proves and builds the program, and runs it on the sample stream of crates/audit.
 run:
 	cd crates/audit && rt run -- $$(cat args) < stdin
 
-# Refuses each growth of the program, of the vote map and of verify_certificates in turn, and then proves
-# everything from nothing, tries the wrong bodies, and runs the tests and the program.
+# The gate: proves everything from nothing, tries the wrong bodies, runs the tests and the programs, and then tries what was
+# built as its users would, and with each growth refused in turn.
 test:
-	.ci/refusals audit
-	.ci/refusals simplex_evidence
-	rt ci
+	.ci/gate
+
+# Answers the stored rows, without proving anything.
+quick:
+	.ci/quick
+
+# Proves what changed.
+check:
+	rt all check

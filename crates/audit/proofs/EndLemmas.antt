@@ -4,7 +4,9 @@ use Rattle.std.specs.Io.KnownBytes.{Keeps}
 use Rattle.simplex_scheme.specs.Plain.{PlainScheme}
 use Rattle.audit.specs.Answer.{IsCommittee, Ending, Ends, status_of}
 use Rattle.audit.specs.Arguments.{AreNoArguments}
+use Rattle.audit.specs.Status.{number_of}
 use Rattle.audit.specs.Streams.{ReaderUse, WriterUse}
+use Rattle.audit.specs.declared.status.Status.{Status}
 use Rattle.audit.specs.declared.status.Status.TheVariants as statuses
 use Rattle.audit.specs.declared.status.Failure.{Failure}
 use Rattle.audit.specs.declared.status.Failure.TheVariants as failures
@@ -37,3 +39,9 @@ pub refused-status : (ending : Ending) → (ending ≡ Err failures.Usage) ⊎ (
     → (status_of ending ≡ statuses.Usage) ⊎ (status_of ending ≡ statuses.Failed)
 refused-status ending (inl e) = inl (ap status_of e)
 refused-status ending (inr e) = inr (ap status_of e)
+
+-- the numbers of these two
+pub refused-number : (status : Status) → (status ≡ statuses.Usage) ⊎ (status ≡ statuses.Failed)
+    → (number_of status ≡ 2) ⊎ (number_of status ≡ 3)
+refused-number status (inl e) = inl (ap number_of e)
+refused-number status (inr e) = inr (ap number_of e)

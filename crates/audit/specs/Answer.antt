@@ -16,7 +16,7 @@ use Rattle.simplex_audit.specs.Audit.{IsReport}
 use Rattle.simplex_audit.specs.Line.{line_of}
 use Rattle.simplex_audit.specs.declared.audit.Fault.{Fault}
 use Rattle.std.specs.Str.{bytes_eq}
-use Rattle.audit.specs.Arguments.{AreArguments, AreNoArguments}
+use Rattle.audit.specs.Arguments.{AreArguments, AreNoArguments, Ascend}
 use Rattle.audit.specs.Status.{status_after, complaint_of, complaint_at}
 use Rattle.audit.specs.Streams.{AppendsBeginning, ReaderUse, WriterUse}
 use Rattle.audit.specs.Text.{text_of}
@@ -25,13 +25,15 @@ use Rattle.audit.specs.declared.status.Status.TheVariants as statuses
 use Rattle.audit.specs.declared.status.Failure.{Failure}
 use Rattle.audit.specs.declared.status.Failure.TheVariants.{Usage, Read, Write, OutOfMemory}
 
--- the scheme verifies for the committee that the arguments name, whatever the order of its keys
+-- the scheme verifies for the committee that the arguments name: whatever the order of its keys there, a
+-- participant's number is the place of its key among them in ascending order
 pub record IsCommittee (words : List (List ℕ)) (scheme : PlainScheme) : Type 0 where
   pub namespace : List ℕ
   pub keys : List (List ℕ)
   pub participants : List (List ℕ)
   pub named : AreArguments words namespace keys
   pub same : IsPermutation keys participants
+  pub ascending : Ascend participants
   pub verifies : scheme ≡ record { names = names_of namespace; keys = participants; me = None }
 
 -- 32 bytes: a digest, a key or a signature

@@ -1,7 +1,15 @@
 -- What the arguments of the program name.
-use Rattle.std.specs.Prelude.{◌≡◌, ◌≢◌, ℕ, ◌<◌, ◌≤◌, ◌^◌, List, [], ◌∷◌, length, Option, Some, None, Result, Ok, Err, AllPairs}
+use Rattle.std.specs.Cmp.Lexicographic.{slice_cmp}
+use Rattle.std.specs.List.Sorted.{IsStrictlySortedBy}
+use Rattle.std.specs.Ordering.{nat_cmp}
+use Rattle.std.specs.Prelude.{◌≡◌, ◌≢◌, ℕ, ◌<◌, ◌≤◌, ◌^◌, List, [], ◌∷◌, length, Option, Some, None, Result, Ok, Err, AllPairs, String, string_bytes, drop, map}
+use Rattle.std.specs.Global.{Global}
 use Rattle.hex.specs.Hex.{decode_sized}
 use Rattle.hex.specs.declared.error.FromHexError.{FromHexError}
+
+-- the words of the arguments of a process: those after the program's name
+abbrev pub words_of : List (String Global) → List (List ℕ)
+words_of given = map string_bytes (drop 1 given)
 
 -- the key of these bytes
 abbrev pub key_of : Result (List ℕ) FromHexError → Option (List ℕ)
@@ -35,3 +43,7 @@ pub record AreArguments (words : List (List ℕ)) (namespace : List ℕ) (keys :
 -- the arguments are no namespace and keys
 abbrev pub AreNoArguments : List (List ℕ) → Type 0
 AreNoArguments words = (namespace : List ℕ) (keys : List (List ℕ)) → AreArguments words namespace keys → ⊥
+
+-- these keys ascend: each is before the next by the first byte in which they differ
+abbrev pub Ascend : List (List ℕ) → Type 0
+Ascend = IsStrictlySortedBy (slice_cmp nat_cmp)

@@ -5,6 +5,14 @@ use Rattle.audit.specs.declared.status.Status.TheVariants as statuses
 use Rattle.audit.specs.declared.status.Failure.{Failure}
 use Rattle.audit.specs.declared.status.Failure.TheVariants.{Usage, Read, Write, OutOfMemory}
 
+-- the number that the process ends with: 0 where the whole stream was read, 1 where there is a fault in it, 2 where
+-- the arguments are no namespace and keys, 3 where a read, a write or memory failed
+abbrev pub number_of : Status → ℕ
+number_of statuses.Whole = 0
+number_of statuses.Fault = 1
+number_of statuses.Usage = 2
+number_of statuses.Failed = 3
+
 -- the status after a failure
 abbrev pub status_after : Failure → Status
 status_after Usage = statuses.Usage

@@ -1,11 +1,9 @@
 //! The program as a function over its arguments and streams.
 
-ghost use Rattle.std.specs.Prelude.{◌≡◌, ◌≢◌, ◌⊎◌, Err, IfOk, IfErr, map, string_bytes};
-ghost use Rattle.std.specs.IoError.{error_kind};
+ghost use Rattle.std.specs.Prelude.{◌≡◌, ◌⊎◌, Err, IfOk, IfErr, map, string_bytes};
 ghost use Rattle.std.specs.Option.{option_map};
 ghost use Rattle.audit.specs.Arguments.{AreNoArguments};
 ghost use Rattle.audit.specs.Answer.{IsCommittee, IsAnswer, Ends, Ending, ending_of, status_of, said_of};
-ghost use Rattle.audit.specs.Status.{complaint_of};
 ghost use Rattle.audit.specs.Streams.{AppendsBeginning};
 
 use crate::arguments;
@@ -18,8 +16,6 @@ use simplex_audit::audit::audit;
 use simplex_scheme::hash::Sha256Digest;
 use simplex_scheme::plain::Plain;
 use std::alloc::{AllocError, Global};
-use std::io;
-use std::io::ErrorKind;
 
 /// What is to be printed and said of a stream.
 #[derive(Drop)]
@@ -72,7 +68,7 @@ fn run<R: Input, W: Output>(
 }
 
 /// Says on standard error how a run ended, and gives its status. That it can't be said changes nothing.
-fn conclude<E: Output>(errors: &mut E, ended: Result<Option<String>, Failure>) -> Status
+pub(crate) fn conclude<E: Output>(errors: &mut E, ended: Result<Option<String>, Failure>) -> Status
     ensures status { result ≡ status_of (ending_of ended) }
     ensures said { AppendsBeginning (E.contents errors.old) (E.contents errors.new) (said_of (ending_of ended)) }
 {
@@ -87,21 +83,6 @@ fn conclude<E: Output>(errors: &mut E, ended: Result<Option<String>, Failure>) -
             failure.status()
         }
     }
-}
-
-/// How the program ends where its arguments can't be had: `Failed` for want of memory, else `Usage`.
-pub fn without_arguments<E: Output>(error: io::Error, errors: &mut E) -> Status
-    ensures memory { error_kind error ≡ ErrorKind.OutOfMemory → (result ≡ Status.Failed)
-        × AppendsBeginning (E.contents errors.old) (E.contents errors.new) (complaint_of Failure.OutOfMemory) }
-    ensures usage { error_kind error ≢ ErrorKind.OutOfMemory → (result ≡ Status.Usage)
-        × AppendsBeginning (E.contents errors.old) (E.contents errors.new) (complaint_of Failure.Usage) }
-{
-    let failure = if error.kind() == ErrorKind::OutOfMemory {
-        Failure::OutOfMemory
-    } else {
-        Failure::Usage
-    };
-    conclude(errors, Err(failure))
 }
 
 /// Runs the program over its arguments, without the program's name, and its three streams.

@@ -6,30 +6,24 @@ mod arguments;
 mod command;
 mod printing;
 mod reading;
+mod start;
 mod status;
 mod streams;
 #[cfg(test)]
 mod tests;
 mod text;
 
-use crate::command::{command, without_arguments};
+use crate::start::start;
 use std::env;
 use std::process::ExitCode;
 
 fn main(rt: HostRuntime) -> ExitCode {
-    let mut errors = rt.stderr();
-    let status = match env::args(&rt) {
-        Ok(arguments) => match arguments.skip(1).collect::<Vec<String>>(rt.alloc()) {
-            Ok(arguments) => command(
-                rt.alloc(),
-                arguments.as_slice(),
-                &mut rt.stdin(),
-                &mut rt.stdout(),
-                &mut errors,
-            ),
-            Err(error) => without_arguments(error.into(), &mut errors),
-        },
-        Err(error) => without_arguments(error, &mut errors),
-    };
-    ExitCode::from(status as u8)
+    let number = start(
+        rt.alloc(),
+        env::args(&rt),
+        &mut rt.stdin(),
+        &mut rt.stdout(),
+        &mut rt.stderr(),
+    );
+    ExitCode::from(number)
 }

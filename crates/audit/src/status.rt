@@ -1,21 +1,35 @@
 //! How the program ends, and what it says then.
 
 ghost use Rattle.std.specs.Prelude.{◌≡◌};
-ghost use Rattle.audit.specs.Status.{status_after, complaint_of};
+ghost use Rattle.audit.specs.Status.{number_of, status_after, complaint_of};
 
 use std::alloc::AllocError;
 
-/// How the program ends. Its number is the exit status.
+/// How the program ends.
 #[derive(Clone, Copy, Debug, PartialEq, Eq)]
 pub enum Status {
     /// The whole stream was read as messages.
-    Whole = 0,
+    Whole,
     /// The stream stops being messages somewhere. What stands before was audited.
-    Fault = 1,
+    Fault,
     /// The arguments are no namespace and keys.
-    Usage = 2,
+    Usage,
     /// A read, a write or memory failed.
-    Failed = 3,
+    Failed,
+}
+
+impl Status {
+    /// The number that the process ends with: 0 to 3, in the order of the variants.
+    pub fn number(self) -> u8
+        ensures { result ≡ number_of self }
+    {
+        match self {
+            Status::Whole => 0,
+            Status::Fault => 1,
+            Status::Usage => 2,
+            Status::Failed => 3,
+        }
+    }
 }
 
 /// Why the program gives up.

@@ -1,3 +1,5 @@
+mod thousand_lines;
+
 use crate::command::command;
 use crate::status::Status;
 use devices::{Source, Target, Trouble};

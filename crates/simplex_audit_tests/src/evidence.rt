@@ -30,19 +30,16 @@ fn evidence_tells_its_round_and_signer(rt: HostRuntime) -> Result<(), Fail> {
     Ok(())
 }
 
-/// The bytes of two messages: a participant signs two payloads for one round.
-fn equivocation<S: Scheme<D>, D: Digest>(
+/// The bytes of two messages: a participant signs two payloads for one round, after view 5.
+pub(crate) fn equivocation<S: Scheme<D>, D: Digest>(
     alloc: Global,
     scheme: &S,
+    round: Round,
     payloads: [D; 2],
 ) -> Result<Vec<u8>, Fail> {
     let mut stream = Vec::new(alloc);
     for payload in payloads {
-        let proposal = Proposal::new(
-            Round::new(Epoch::new(0), View::new(10)),
-            View::new(5),
-            payload,
-        );
+        let proposal = Proposal::new(round, View::new(5), payload);
         let vote = Notarize::sign(alloc, scheme, proposal)?.ok_or("nobody signs")?;
         stream.extend_from_slice(Activity::Notarize(vote).encode(alloc)?.as_slice())?;
     }
@@ -68,9 +65,10 @@ fn a_plain_signer_of_two_proposals_is_named(rt: HostRuntime) -> Result<(), Fail>
          00 000a05 0707070707070707070707070707070707070707070707070707070707070707 00 \
          85c5f612872154ca52e992a79aec3bfdc407bf2873f7f4372e33b4be6de3d71b",
     )?;
+    let voted_in = Round::new(Epoch::new(0), View::new(10));
     let payloads = [6, 7].map(|byte| Sha256Digest::from_bytes(&[byte; 32]));
     assert_eq!(rt;
-        equivocation(alloc, &scheme, payloads)?.as_slice(),
+        equivocation(alloc, &scheme, voted_in, payloads)?.as_slice(),
         stream.as_slice()
     );
     let found = outcome_of::<Plain, Sha256Digest>(alloc, &scheme, stream.as_slice())?;

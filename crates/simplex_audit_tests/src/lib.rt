@@ -6,6 +6,8 @@ mod against_model;
 #[cfg(test)]
 mod evidence;
 #[cfg(test)]
+mod large;
+#[cfg(test)]
 mod model;
 #[cfg(test)]
 mod outcome;

@@ -16,7 +16,9 @@ pub IsBytes-after : (front rest : List ℕ) → IsBytes (front ++ rest) → IsBy
 IsBytes-after [] rest h = h
 IsBytes-after (b ∷ front) rest h = IsBytes-after front rest (λ i. h (suc i))
 
-pub both_lawful : {A B : Type 0} {is_a : A → Type 0} {is_b : B → Type 0} {s : A → List ℕ} {t : B → List ℕ} {read_a : List ℕ → Reading A} {read_b : List ℕ → Reading B} → Lawful is_a s read_a → Lawful is_b t read_b → Lawful (BothAre is_a is_b) (both_spelled s t) (both_at read_a read_b)
+pub both_lawful : {A B : Type 0} {is_a : A → Type 0} {is_b : B → Type 0} {s : A → List ℕ} {t : B → List ℕ} {read_a : List ℕ →
+    Reading A} {read_b : List ℕ → Reading B} → Lawful is_a s read_a → Lawful is_b t read_b →
+    Lawful (BothAre is_a is_b) (both_spelled s t) (both_at read_a read_b)
 both_lawful {A} {B} {is_a} {is_b} {s} {t} {read_a} {read_b} la lb = record {
   takes = λ bytes x rest fit e.
       let p = bind_ok (read_a bytes) (λ a. read_b a.1 >>= λ b. Ok ((a.0, b.0), b.1)) (x, rest) e in
@@ -34,7 +36,9 @@ both_lawful {A} {B} {is_a} {is_b} {s} {t} {read_a} {read_b} la lb = record {
       rw (append_assoc (s x.0) (t x.1) rest, la.again x.0 (t x.1 ++ rest) v.0, lb.again x.1 rest v.1) refl;
 }
 
-pub made_lawful : {A B : Type 0} {is_a : A → Type 0} {s : A → List ℕ} {read_a : List ℕ → Reading A} (make : A → B) (parts : B → A) → ((b : B) → make (parts b) ≡ b) → ((a : A) → parts (make a) ≡ a) → Lawful is_a s read_a → Lawful (λ b. is_a (parts b)) (λ b. s (parts b)) (made_at make read_a)
+pub made_lawful : {A B : Type 0} {is_a : A → Type 0} {s : A → List ℕ} {read_a : List ℕ → Reading A} (make : A → B) (parts : B → A) →
+    ((b : B) → make (parts b) ≡ b) → ((a : A) → parts (make a) ≡ a) → Lawful is_a s read_a →
+    Lawful (λ b. is_a (parts b)) (λ b. s (parts b)) (made_at make read_a)
 made_lawful {A} {B} {is_a} {s} {read_a} make parts mp pm la = record {
   takes = λ bytes x rest fit e.
       let p = bind_ok (read_a bytes) (λ a. Ok (make a.0, a.1)) (x, rest) e in
@@ -50,7 +54,9 @@ passed_test : {A : Type 0} (b : Bool) (y z : A) (refusal : Refusal) → ◌≡�
 passed_test true y z refusal e = (refl, cc)
 passed_test false y z refusal e = absurd cc
 
-pub tested_lawful : {T : Type 0} {is_value : T → Type 0} {spelling : T → List ℕ} {read : List ℕ → Reading T} (test : T → Bool) (refusal : Refusal) → Lawful is_value spelling read → Lawful (λ x. is_value x × IsTrue (test x)) spelling (tested_at test refusal read)
+pub tested_lawful : {T : Type 0} {is_value : T → Type 0} {spelling : T → List ℕ} {read : List ℕ → Reading T} (test : T →
+    Bool) (refusal : Refusal) → Lawful is_value spelling read →
+    Lawful (λ x. is_value x × IsTrue (test x)) spelling (tested_at test refusal read)
 tested_lawful {T} {is_value} {spelling} {read} test refusal law = record {
   takes = λ bytes x rest fit e.
       let p = bind_ok (read bytes) (λ x. if test x.0 then Ok x else Err refusal) (x, rest) e in
@@ -64,7 +70,9 @@ tested_lawful {T} {is_value} {spelling} {read} test refusal law = record {
 pub truth_lawful : IsLawful truth
 truth_lawful = record { takes = taken; again = again }
   where
-    go : (b : ℕ) (bytes : List ℕ) (s t : Bool) (x : Bool) (rest : List ℕ) → (b == 0) ≡ s → (b == 1) ≡ t → cond {A = Reading Bool} s (Ok (false, bytes)) (cond {A = Reading Bool} t (Ok (true, bytes)) (Err invalid_bool)) ≡ Ok (x, rest) → Spelled (λ b. ⊤) truth_spelling (b ∷ bytes) x rest
+    go : (b : ℕ) (bytes : List ℕ) (s t : Bool) (x : Bool) (rest : List ℕ) → (b == 0) ≡ s → (b == 1) ≡ t →
+        cond {A = Reading Bool} s (Ok (false, bytes)) (cond {A = Reading Bool} t (Ok (true, bytes)) (Err invalid_bool)) ≡ Ok (x, rest) →
+        Spelled (λ b. ⊤) truth_spelling (b ∷ bytes) x rest
     go b bytes true t x rest h k e =
         let same : ◌≡◌ {A = Bool × List ℕ} (false, bytes) (x, rest) = cc in
         subst (λ (r : Bool × List ℕ). Spelled (λ b. ⊤) truth_spelling (b ∷ bytes) r.0 r.1) same (record { value = tt; parts = rw (eqb-true b 0 h) refl })
@@ -86,7 +94,8 @@ rest_none [] e = refl
 rest_none (x ∷ xs) e = absurd (omega (arith, eqb-true (length (x ∷ xs)) 0 e))
 
 -- all of the bytes were read, where reading is lawful
-pub all_of_takes : {T : Type 0} {fits : T → Type 0} {spelling : T → List ℕ} {read : List ℕ → Reading T} → Lawful fits spelling read → (bytes : List ℕ) (x : T) → IsBytes bytes → all_of read bytes ≡ Ok x → fits x × (bytes ≡ spelling x)
+pub all_of_takes : {T : Type 0} {fits : T → Type 0} {spelling : T → List ℕ} {read : List ℕ → Reading T} → Lawful fits spelling read →
+    (bytes : List ℕ) (x : T) → IsBytes bytes → all_of read bytes ≡ Ok x → fits x × (bytes ≡ spelling x)
 all_of_takes {T} {fits} {spelling} {read} law bytes x fit e =
     let p = bind_ok (read bytes) (λ x. if length x.1 == 0 then Ok x.0 else Err extra_data) x e in
     let q = passed (length p.0.1 == 0) p.0.0 x p.2 in
@@ -98,12 +107,15 @@ all_of_takes {T} {fits} {spelling} {read} law bytes x fit e =
     passed true v w e = (refl, cc)
     passed false v w e = absurd cc
 
-pub all_of_again : {T : Type 0} {fits : T → Type 0} {spelling : T → List ℕ} {read : List ℕ → Reading T} → Lawful fits spelling read → (bytes : List ℕ) (x : T) → fits x → bytes ≡ spelling x → all_of read bytes ≡ Ok x
+pub all_of_again : {T : Type 0} {fits : T → Type 0} {spelling : T → List ℕ} {read : List ℕ → Reading T} → Lawful fits spelling read →
+    (bytes : List ℕ) (x : T) → fits x → bytes ≡ spelling x → all_of read bytes ≡ Ok x
 all_of_again {T} {fits} {spelling} {read} law bytes x v e =
     let h = rw (append-nil (spelling x)) at (law.again x [] v) in rw (e, h) refl
 
 -- what a call that read all of the bytes returned
-pub gave_all : {T : Type 0} {fits : T → Type 0} {spelling : T → List ℕ} {read : List ℕ → Reading T} (memory : Bool) → Lawful fits spelling read → (bytes : List ℕ) → IsBytes bytes → (r : Result T Error) → GivesAll memory r (all_of read bytes) → IfOk r (λ x. fits x × (bytes ≡ spelling x))
+pub gave_all : {T : Type 0} {fits : T → Type 0} {spelling : T → List ℕ} {read : List ℕ → Reading T} (memory : Bool) →
+    Lawful fits spelling read → (bytes : List ℕ) → IsBytes bytes → (r : Result T Error) → GivesAll memory r (all_of read bytes) →
+    IfOk r (λ x. fits x × (bytes ≡ spelling x))
 gave_all memory law bytes fit (Ok x) h = all_of_takes law bytes x fit h
 gave_all memory law bytes fit (Err e) h = tt
 
@@ -114,7 +126,9 @@ IsBytes-take n bytes h i =
       | inr le ↦ rw (get_or_past (take n bytes) i 0 (omega (arith, length-take n bytes))) (omega arith)
     ]
 
-pub fixed_lawful : {T : Type 0} (size : ℕ) (bytes_of : T → List ℕ) (of_bytes : List ℕ → T) → ((bs : List ℕ) → IsFixed size bs → bytes_of (of_bytes bs) ≡ bs) → ((x : T) → IsFixed size (bytes_of x) → of_bytes (bytes_of x) ≡ x) → Lawful (λ x. IsFixed size (bytes_of x)) bytes_of (fixed_at size of_bytes)
+pub fixed_lawful : {T : Type 0} (size : ℕ) (bytes_of : T → List ℕ) (of_bytes : List ℕ → T) →
+    ((bs : List ℕ) → IsFixed size bs → bytes_of (of_bytes bs) ≡ bs) → ((x : T) → IsFixed size (bytes_of x) → of_bytes (bytes_of x) ≡ x) →
+    Lawful (λ x. IsFixed size (bytes_of x)) bytes_of (fixed_at size of_bytes)
 fixed_lawful {T} size bytes_of of_bytes back forth = record {
   takes = λ bytes x rest fit e.
       let g = guarded (nat_lt (length bytes) size) (of_bytes (take size bytes)) (drop size bytes) x rest e in
@@ -128,12 +142,14 @@ fixed_lawful {T} size bytes_of of_bytes back forth = record {
       rw (long, take_at (bytes_of x) rest size v.len, drop_at (bytes_of x) rest size v.len, forth x v) refl;
 }
   where
-    guarded : {T : Type 0} (b : Bool) (v : T) (r : List ℕ) (w : T) (s : List ℕ) → ◌≡◌ {A = Reading T} (cond b (Err end_of_buffer) (Ok (v, r))) (Ok (w, s)) → (b ≡ false) × (◌≡◌ {A = T × List ℕ} (v, r) (w, s))
+    guarded : {T : Type 0} (b : Bool) (v : T) (r : List ℕ) (w : T) (s : List ℕ) →
+        ◌≡◌ {A = Reading T} (cond b (Err end_of_buffer) (Ok (v, r))) (Ok (w, s)) → (b ≡ false) × (◌≡◌ {A = T × List ℕ} (v, r) (w, s))
     guarded true v r w s e = absurd cc
     guarded false v r w s e = (refl, cc)
 
 -- no spelling begins another's
-pub one_spelling : {T : Type 0} {fits : T → Type 0} {spelling : T → List ℕ} {read : List ℕ → Reading T} → Lawful fits spelling read → (x y : T) (rest more : List ℕ) → fits x → fits y → spelling x ++ rest ≡ spelling y ++ more → (x ≡ y) × (rest ≡ more)
+pub one_spelling : {T : Type 0} {fits : T → Type 0} {spelling : T → List ℕ} {read : List ℕ → Reading T} → Lawful fits spelling read →
+    (x y : T) (rest more : List ℕ) → fits x → fits y → spelling x ++ rest ≡ spelling y ++ more → (x ≡ y) × (rest ≡ more)
 one_spelling {T} {fits} {spelling} {read} law x y rest more fx fy e =
     let p : ◌≡◌ {A = Reading T} (Ok (x, rest)) (Ok (y, more)) = sym (law.again x rest fx) ∙ (ap read e ∙ law.again y more fy) in
     let q : ◌≡◌ {A = T × List ℕ} (x, rest) (y, more) = cc in

@@ -80,7 +80,8 @@ same_parts : (a b : ℕ) (r s : List ℕ) → read a r ≡ read b s → (a ≡ b
 same_parts a b r s e = let q : ◌≡◌ {A = ℕ × List ℕ} (a, r) (b, s) = cc in (ap (λ (p : ℕ × List ℕ). p.0) q, ap (λ (p : ℕ × List ℕ). p.1) q)
 
 -- a last group
-last_group : (b : ℕ) (bytes : List ℕ) (k top n : ℕ) (rest : List ℕ) → 0 < b → b < top * 128 ^ k → groups k b ≡ b ∷ [] → read b bytes ≡ read n rest → Grouped (b ∷ bytes) k top n rest
+last_group : (b : ℕ) (bytes : List ℕ) (k top n : ℕ) (rest : List ℕ) → 0 < b → b < top * 128 ^ k → groups k b ≡ b ∷ [] →
+    read b bytes ≡ read n rest → Grouped (b ∷ bytes) k top n rest
 last_group b bytes k top n rest p q g e =
     let both = same_parts b n bytes rest e in
     let same = both.0 in
@@ -88,7 +89,8 @@ last_group b bytes k top n rest p q g e =
     record { parts = rw (← same, g, ← left) refl; some = rw (← same) p; below = rw (← same) q }
 
 -- a group with others above it
-lower_group : (b : ℕ) (bytes : List ℕ) (k top high n : ℕ) (rest rest' : List ℕ) → 128 ≤ b → b < 256 → Grouped bytes k top high rest' → read ((b - 128) + 128 * high) rest' ≡ read n rest → Grouped (b ∷ bytes) (suc k) top n rest
+lower_group : (b : ℕ) (bytes : List ℕ) (k top high n : ℕ) (rest rest' : List ℕ) → 128 ≤ b → b < 256 → Grouped bytes k top high rest' →
+    read ((b - 128) + 128 * high) rest' ≡ read n rest → Grouped (b ∷ bytes) (suc k) top n rest
 unfolding groups
 lower_group b bytes k top high n rest rest' p q h e =
     let both = same_parts ((b - 128) + 128 * high) n rest' rest e in
@@ -107,7 +109,8 @@ lower_group b bytes k top high n rest rest' p q h e =
 IsBytes-tail : (b : ℕ) (bytes : List ℕ) → IsBytes (b ∷ bytes) → IsBytes bytes
 IsBytes-tail b bytes h i = h (suc i)
 
-pub groups_takes : (bytes : List ℕ) (k top n : ℕ) (rest : List ℕ) → top ≤ 128 → 1 ≤ top → IsBytes bytes → groups_at bytes k top ≡ read n rest → Grouped bytes k top n rest
+pub groups_takes : (bytes : List ℕ) (k top n : ℕ) (rest : List ℕ) → top ≤ 128 → 1 ≤ top → IsBytes bytes →
+    groups_at bytes k top ≡ read n rest → Grouped bytes k top n rest
 unfolding groups groups_at
 groups_takes [] k top n rest t t' fit e = absurd cc
 groups_takes (b ∷ bytes) zero top n rest t t' fit e =
@@ -125,10 +128,12 @@ groups_takes (b ∷ bytes) (suc k) top n rest t t' fit e =
           last_group b bytes (suc k) top n rest (ltb-true 0 b q.0) (let s = some_of_power top (suc k) (omega arith) t' in omega arith) (rw (p.0) refl) q.1
       | inr p ↦
           let r = bind_ok (groups_at bytes k top) (λ high. read ((b - 128) + 128 * high.0) high.1) (n, rest) p.1 in
-          lower_group b bytes k top r.0.0 n rest r.0.1 (ltb-false b 128 p.0) (fit 0) (groups_takes bytes k top r.0.0 r.0.1 t t' (IsBytes-tail b bytes fit) r.1) r.2
+          lower_group b bytes k top r.0.0 n rest r.0.1 (ltb-false b 128 p.0) (fit 0)
+          (groups_takes bytes k top r.0.0 r.0.1 t t' (IsBytes-tail b bytes fit) r.1) r.2
     ]
 
-number_takes : (k top : ℕ) → top ≤ 128 → 1 ≤ top → (bytes : List ℕ) (n : ℕ) (rest : List ℕ) → IsBytes bytes → number_at (suc k) top bytes ≡ read n rest → Spelled (λ n. n < top * 128 ^ suc k) (groups (suc k)) bytes n rest
+number_takes : (k top : ℕ) → top ≤ 128 → 1 ≤ top → (bytes : List ℕ) (n : ℕ) (rest : List ℕ) → IsBytes bytes →
+    number_at (suc k) top bytes ≡ read n rest → Spelled (λ n. n < top * 128 ^ suc k) (groups (suc k)) bytes n rest
 unfolding groups number_at
 number_takes k top t t' [] n rest fit e = absurd cc
 number_takes k top t t' (b ∷ bytes) n rest fit e =
@@ -143,11 +148,13 @@ number_takes k top t t' (b ∷ bytes) n rest fit e =
           record { value = let s = some_of_power top (suc k) (omega arith) t' in omega arith; parts = rw (← same, ← left) (rw (p.0) refl) }
       | inr p ↦
           let r = bind_ok (groups_at bytes k top) (λ high. read ((b - 128) + 128 * high.0) high.1) (n, rest) p.1 in
-          let h = lower_group b bytes k top r.0.0 n rest r.0.1 (ltb-false b 128 p.0) (fit 0) (groups_takes bytes k top r.0.0 r.0.1 t t' (IsBytes-tail b bytes fit) r.1) r.2 in
+          let h = lower_group b bytes k top r.0.0 n rest r.0.1 (ltb-false b 128 p.0) (fit 0)
+          (groups_takes bytes k top r.0.0 r.0.1 t t' (IsBytes-tail b bytes fit) r.1) r.2 in
           record { value = h.below; parts = h.parts }
     ]
 
-number_again : (k top : ℕ) → top ≤ 128 → 1 ≤ top → (n : ℕ) (rest : List ℕ) → n < top * 128 ^ suc k → number_at (suc k) top (groups (suc k) n ++ rest) ≡ read n rest
+number_again : (k top : ℕ) → top ≤ 128 → 1 ≤ top → (n : ℕ) (rest : List ℕ) → n < top * 128 ^ suc k →
+    number_at (suc k) top (groups (suc k) n ++ rest) ≡ read n rest
 unfolding groups number_at
 number_again k top t t' n rest q =
     elim (cases_lt n 128) [
@@ -217,7 +224,8 @@ groups_number (suc k) n lt =
       | inr le ↦
           let q : 128 ^ suc k ≡ 128 * 128 ^ k = omega arith in
           let lt' : n < 128 * (128 * 128 ^ k) = rw q at lt in
-          rw (le-ltb n 128 le) (cons_number (n % 128 + 128) (groups k (n / 128)) (n / 128) n (omega arith) (omega arith) (omega arith) (omega arith) (groups_number k (n / 128) (omega arith)))
+          rw (le-ltb n 128 le) (cons_number (n % 128 + 128) (groups k (n / 128)) (n / 128) n (omega arith) (omega arith) (omega arith)
+          (omega arith) (groups_number k (n / 128) (omega arith)))
     ]
 
 -- and nothing else does
@@ -272,7 +280,8 @@ longest_32 = refl
 -- ---- what reading a number answers, in the words of the grammar
 
 -- one more group in front of some missing ones
-cut_off_group : (b : ℕ) (bytes missing : List ℕ) (high : ℕ) → 128 ≤ b → b < 256 → 0 < high → IsNumber (bytes ++ missing) high → IsNumber (b ∷ bytes ++ missing) ((b - 128) + 128 * high)
+cut_off_group : (b : ℕ) (bytes missing : List ℕ) (high : ℕ) → 128 ≤ b → b < 256 → 0 < high → IsNumber (bytes ++ missing) high →
+    IsNumber (b ∷ bytes ++ missing) ((b - 128) + 128 * high)
 cut_off_group b bytes missing high p q some h = cons_number b (bytes ++ missing) high ((b - 128) + 128 * high) p q some (omega arith) h
 
 record Completed (limit : ℕ) (bytes : List ℕ) : Type 0 where
@@ -293,19 +302,33 @@ bind_err (Err d) f e _ h = let same : d ≡ e = cc in ap (λ x. Err x) same
 -- groups that end too early can be completed
 groups_cut : (bytes : List ℕ) (k top : ℕ) → 2 ≤ top → IsBytes bytes → groups_at bytes k top ≡ Err end_of_buffer → Completed (top * 128 ^ k) bytes
 unfolding groups_at
-groups_cut [] k top t fit e = record { n = 1; some = omega arith; below = let p = top_of_power top k (omega arith) in omega arith; missing = 1 ∷ []; more = one_missing; number = (omega arith, refl) }
+groups_cut [] k top t fit e =
+    record {
+      n = 1;
+      some =
+          omega arith;
+      below = let p =
+          top_of_power top k (omega arith) in omega arith;
+      missing = 1 ∷ [];
+      more = one_missing;
+      number = (omega arith, refl);
+    }
 groups_cut (b ∷ bytes) zero top t fit e =
     elim (chosen (ltb 0 b) (cond (ltb b top) (Ok (b, bytes)) (Err invalid_varint)) (Err invalid_varint) (Err end_of_buffer) e) [
-      | inl p ↦ elim (chosen (ltb b top) (Ok (b, bytes)) (Err invalid_varint) (Err end_of_buffer) p.1) [ inl q ↦ absurd (let h = q.1 in cc) | inr q ↦ absurd (let h = q.1 in cc) ]
+      | inl p ↦ elim (chosen (ltb b top) (Ok (b, bytes)) (Err invalid_varint) (Err end_of_buffer) p.1)
+          [ inl q ↦ absurd (let h = q.1 in cc) | inr q ↦ absurd (let h = q.1 in cc) ]
       | inr p ↦ absurd (let h = p.1 in cc)
     ]
 groups_cut (b ∷ bytes) (suc k) top t fit e =
     let one : suc k - 1 ≡ k = omega arith in
     let e' = rw (eqb-suc-zero k, one) at e in
     elim (chosen (ltb b 128) (cond (ltb 0 b) (Ok (b, bytes)) (Err invalid_varint)) (with_group b (groups_at bytes k top)) (Err end_of_buffer) e') [
-      | inl p ↦ elim (chosen (ltb 0 b) (Ok (b, bytes)) (Err invalid_varint) (Err end_of_buffer) p.1) [ inl q ↦ absurd (let h = q.1 in cc) | inr q ↦ absurd (let h = q.1 in cc) ]
+      | inl p ↦ elim (chosen (ltb 0 b) (Ok (b, bytes)) (Err invalid_varint) (Err end_of_buffer) p.1)
+          [ inl q ↦ absurd (let h = q.1 in cc) | inr q ↦ absurd (let h = q.1 in cc) ]
       | inr p ↦
-          let c = groups_cut bytes k top t (IsBytes-tail b bytes fit) (bind_err (groups_at bytes k top) (λ high. read ((b - 128) + 128 * high.0) high.1) end_of_buffer (λ x h. let e : read ((b - 128) + 128 * x.0) x.1 ≡ Err end_of_buffer = h in cc) p.1) in
+          let c = groups_cut bytes k top t (IsBytes-tail b bytes fit)
+          (bind_err (groups_at bytes k top) (λ high. read ((b - 128) + 128 * high.0) high.1) end_of_buffer
+          (λ x h. let e : read ((b - 128) + 128 * x.0) x.1 ≡ Err end_of_buffer = h in cc) p.1) in
           let big = ltb-false b 128 p.0 in
           let small = fit 0 in
           let e2 : 128 ^ suc k ≡ 128 * 128 ^ k = omega arith in
@@ -313,7 +336,16 @@ groups_cut (b ∷ bytes) (suc k) top t fit e =
           let cs = c.some in
           let f : (b - 128) + 128 * c.n < 128 * (top * 128 ^ k) = omega arith in
           let g : top * (128 * 128 ^ k) ≡ 128 * (top * 128 ^ k) = omega arith in
-          record { n = (b - 128) + 128 * c.n; some = omega arith; below = rw (e2, g) f; missing = c.missing; more = c.more; number = cut_off_group b bytes c.missing c.n big small c.some c.number }
+          record {
+            n = (b - 128) + 128 * c.n;
+            some =
+                omega arith;
+            below = rw (e2, g) f;
+            missing =
+                c.missing;
+            more = c.more;
+            number = cut_off_group b bytes c.missing c.n big small c.some c.number;
+          }
     ]
 
 -- a byte in front of bytes that miss some is no last group
@@ -331,7 +363,8 @@ higher b [] (c ∷ missing) n some h = record { big = h.0; byte = h.1; high = h.
 higher b (c ∷ bytes) missing n some h = record { big = h.0; byte = h.1; high = h.2; some = h.3; sum = h.4; number = h.5 }
 
 -- groups that can be completed end too early
-groups_ended : (bytes missing : List ℕ) (k top n : ℕ) → top ≤ 128 → missing ≢ [] → n < top * 128 ^ k → IsNumber (bytes ++ missing) n → groups_at bytes k top ≡ Err end_of_buffer
+groups_ended : (bytes missing : List ℕ) (k top n : ℕ) → top ≤ 128 → missing ≢ [] → n < top * 128 ^ k → IsNumber (bytes ++ missing) n →
+    groups_at bytes k top ≡ Err end_of_buffer
 unfolding groups_at
 groups_ended [] missing k top n t some lt h = refl
 groups_ended (b ∷ bytes) missing zero top n t some lt h =
@@ -349,21 +382,38 @@ groups_ended (b ∷ bytes) missing (suc k) top n t some lt h =
 -- what is cut off ends too early, and only that
 number_cut : (bytes : List ℕ) (k top : ℕ) → 2 ≤ top → IsBytes bytes → number_at (suc k) top bytes ≡ Err end_of_buffer → IsCutOff (top * 128 ^ suc k) bytes
 unfolding number_at
-number_cut [] k top t fit e = record { n = 1; below = let p = top_of_power top (suc k) (omega arith) in omega arith; missing = 1 ∷ []; some = one_missing; number = (omega arith, refl) }
+number_cut [] k top t fit e =
+    record {
+      n = 1;
+      below =
+          let p = top_of_power top (suc k) (omega arith) in omega arith;
+      missing = 1 ∷ [];
+      some = one_missing;
+      number = (omega arith, refl);
+    }
 number_cut (b ∷ bytes) k top t fit e =
     let one : suc k - 1 ≡ k = omega arith in
     let e' = rw one at e in
     elim (chosen (ltb b 128) (read b bytes) (with_group b (groups_at bytes k top)) (Err end_of_buffer) e') [
       | inl p ↦ absurd (let h = p.1 in cc)
       | inr p ↦
-          let c = groups_cut bytes k top t (IsBytes-tail b bytes fit) (bind_err (groups_at bytes k top) (λ high. read ((b - 128) + 128 * high.0) high.1) end_of_buffer (λ x h. let e : read ((b - 128) + 128 * x.0) x.1 ≡ Err end_of_buffer = h in cc) p.1) in
+          let c = groups_cut bytes k top t (IsBytes-tail b bytes fit)
+          (bind_err (groups_at bytes k top) (λ high. read ((b - 128) + 128 * high.0) high.1) end_of_buffer
+          (λ x h. let e : read ((b - 128) + 128 * x.0) x.1 ≡ Err end_of_buffer = h in cc) p.1) in
           let big = ltb-false b 128 p.0 in
           let small = fit 0 in
           let e2 : 128 ^ suc k ≡ 128 * 128 ^ k = omega arith in
           let cb = c.below in
           let f : (b - 128) + 128 * c.n < 128 * (top * 128 ^ k) = omega arith in
           let g : top * (128 * 128 ^ k) ≡ 128 * (top * 128 ^ k) = omega arith in
-          record { n = (b - 128) + 128 * c.n; below = rw (e2, g) f; missing = c.missing; some = c.more; number = cut_off_group b bytes c.missing c.n big small c.some c.number }
+          record {
+            n = (b - 128) + 128 * c.n;
+            below =
+                rw (e2, g) f;
+            missing = c.missing;
+            some = c.more;
+            number = cut_off_group b bytes c.missing c.n big small c.some c.number;
+          }
     ]
 
 number_ended : (bytes : List ℕ) (k top : ℕ) → top ≤ 128 → IsCutOff (top * 128 ^ suc k) bytes → number_at (suc k) top bytes ≡ Err end_of_buffer
@@ -430,21 +480,24 @@ wrong_fails (errors.Invalid a b) h = absurd cc
 wrong_fails errors.ExtraData h = absurd cc
 wrong_fails errors.OutOfMemory h = absurd cc
 
-begins : (k top : ℕ) → top ≤ 128 → 2 ≤ top → (bytes : List ℕ) (n : ℕ) (rest : List ℕ) → IsBytes bytes → number_at (suc k) top bytes ≡ Ok (n, rest) → BeginsWith (top * 128 ^ suc k) bytes n rest
+begins : (k top : ℕ) → top ≤ 128 → 2 ≤ top → (bytes : List ℕ) (n : ℕ) (rest : List ℕ) → IsBytes bytes →
+    number_at (suc k) top bytes ≡ Ok (n, rest) → BeginsWith (top * 128 ^ suc k) bytes n rest
 begins k top t t' bytes n rest fit e =
     let s = number_takes k top t (omega arith) bytes n rest fit e in
     let p = s.value in
     let more : top * 128 ^ suc k ≤ 128 * 128 ^ suc k = omega (arith, mul-le-mul_left (128 ^ suc k) t) in
     record { below = s.value; front = groups (suc k) n; number = groups_number (suc k) n (omega arith); parts = s.parts }
 
-begun : (k top : ℕ) → top ≤ 128 → 2 ≤ top → (bytes : List ℕ) (n : ℕ) (rest : List ℕ) → BeginsWith (top * 128 ^ suc k) bytes n rest → number_at (suc k) top bytes ≡ Ok (n, rest)
+begun : (k top : ℕ) → top ≤ 128 → 2 ≤ top → (bytes : List ℕ) (n : ℕ) (rest : List ℕ) → BeginsWith (top * 128 ^ suc k) bytes n rest →
+    number_at (suc k) top bytes ≡ Ok (n, rest)
 begun k top t t' bytes n rest b =
     let p = b.below in
     let more : top * 128 ^ suc k ≤ 128 * 128 ^ suc k = omega (arith, mul-le-mul_left (128 ^ suc k) t) in
     let same = number_groups b.front (suc k) n (omega arith) b.number in
     rw (b.parts, same, number_again k top t (omega arith) n rest p) refl
 
-pub reads_number : (k top : ℕ) → top ≤ 128 → 2 ≤ top → (r : Result ℕ Error) (old new : List ℕ) → IsBytes old → Gives false r old new (number_at (suc k) top old) → ReadsNumber (top * 128 ^ suc k) r old new
+pub reads_number : (k top : ℕ) → top ≤ 128 → 2 ≤ top → (r : Result ℕ Error) (old new : List ℕ) → IsBytes old →
+    Gives false r old new (number_at (suc k) top old) → ReadsNumber (top * 128 ^ suc k) r old new
 reads_number k top t t' (Ok n) old new fit g = record {
   taken = begins k top t t' old n new fit g;
   again = λ m rest b.
@@ -464,7 +517,9 @@ reads_number k top t t' (Err x) old new fit g = record {
   otherwise = λ never uncut. ap (λ y. Err y) (last (number_at (suc k) top old) refl (number_outcome old (suc k) top) never uncut g.1);
 }
   where
-    last : (r : Reading ℕ) → number_at (suc k) top old ≡ r → Outcome r → ((n : ℕ) (rest : List ℕ) → BeginsWith (top * 128 ^ suc k) old n rest → ⊥) → (IsCutOff (top * 128 ^ suc k) old → ⊥) → Fails false x r → x ≡ errors.InvalidVarint
+    last : (r : Reading ℕ) → number_at (suc k) top old ≡ r → Outcome r →
+        ((n : ℕ) (rest : List ℕ) → BeginsWith (top * 128 ^ suc k) old n rest → ⊥) → (IsCutOff (top * 128 ^ suc k) old → ⊥) →
+        Fails false x r → x ≡ errors.InvalidVarint
     last r e (gave n rest) never uncut f = absurd (never n rest (begins k top t t' old n rest fit e))
     last r e ended never uncut f = absurd (uncut (number_cut old k top t' fit e))
     last r e wrong never uncut f = wrong_fails x f

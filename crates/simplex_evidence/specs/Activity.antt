@@ -33,27 +33,28 @@ activity_round (activity.ConflictingFinalize c) = c.first.proposal.round
 activity_round (activity.NullifyFinalize c) = c.first.round
 
 -- the same member, equal by its type's equality
-abbrev pub same_activity : {S D C P G : Type 0} → (Notarize S D P G → Notarize S D P G → Bool) →
-    (Notarization S D C P G → Notarization S D C P G → Bool) →
-    (Nullify S P G → Nullify S P G → Bool) →
-    (Nullification S C P G → Nullification S C P G → Bool) →
-    (Finalize S D P G → Finalize S D P G → Bool) →
-    (Finalization S D C P G → Finalization S D C P G → Bool) →
-    (Conflict (Notarize S D P G) (Notarize S D P G) → Conflict (Notarize S D P G) (Notarize S D P G) → Bool) →
-    (Conflict (Finalize S D P G) (Finalize S D P G) → Conflict (Finalize S D P G) (Finalize S D P G) → Bool) →
-    (Conflict (Nullify S P G) (Finalize S D P G) → Conflict (Nullify S P G) (Finalize S D P G) → Bool) →
-    Activity S D C P G → Activity S D C P G → Bool
-same_activity notarizes notarizations nullifies nullifications finalizes finalizations conflicting_notarizes conflicting_finalizes nullify_finalizes (activity.Notarize a) (activity.Notarize b) = notarizes a b
-same_activity notarizes notarizations nullifies nullifications finalizes finalizations conflicting_notarizes conflicting_finalizes nullify_finalizes (activity.Notarization a) (activity.Notarization b) = notarizations a b
-same_activity notarizes notarizations nullifies nullifications finalizes finalizations conflicting_notarizes conflicting_finalizes nullify_finalizes (activity.Certification a) (activity.Certification b) = notarizations a b
-same_activity notarizes notarizations nullifies nullifications finalizes finalizations conflicting_notarizes conflicting_finalizes nullify_finalizes (activity.Nullify a) (activity.Nullify b) = nullifies a b
-same_activity notarizes notarizations nullifies nullifications finalizes finalizations conflicting_notarizes conflicting_finalizes nullify_finalizes (activity.Nullification a) (activity.Nullification b) = nullifications a b
-same_activity notarizes notarizations nullifies nullifications finalizes finalizations conflicting_notarizes conflicting_finalizes nullify_finalizes (activity.Finalize a) (activity.Finalize b) = finalizes a b
-same_activity notarizes notarizations nullifies nullifications finalizes finalizations conflicting_notarizes conflicting_finalizes nullify_finalizes (activity.Finalization a) (activity.Finalization b) = finalizations a b
-same_activity notarizes notarizations nullifies nullifications finalizes finalizations conflicting_notarizes conflicting_finalizes nullify_finalizes (activity.ConflictingNotarize a) (activity.ConflictingNotarize b) = conflicting_notarizes a b
-same_activity notarizes notarizations nullifies nullifications finalizes finalizations conflicting_notarizes conflicting_finalizes nullify_finalizes (activity.ConflictingFinalize a) (activity.ConflictingFinalize b) = conflicting_finalizes a b
-same_activity notarizes notarizations nullifies nullifications finalizes finalizations conflicting_notarizes conflicting_finalizes nullify_finalizes (activity.NullifyFinalize a) (activity.NullifyFinalize b) = nullify_finalizes a b
-same_activity notarizes notarizations nullifies nullifications finalizes finalizations conflicting_notarizes conflicting_finalizes nullify_finalizes _ _ = false
+module _ {S D C P G : Type 0}
+    (notarizes : Notarize S D P G → Notarize S D P G → Bool)
+    (notarizations : Notarization S D C P G → Notarization S D C P G → Bool)
+    (nullifies : Nullify S P G → Nullify S P G → Bool)
+    (nullifications : Nullification S C P G → Nullification S C P G → Bool)
+    (finalizes : Finalize S D P G → Finalize S D P G → Bool)
+    (finalizations : Finalization S D C P G → Finalization S D C P G → Bool)
+    (conflicting_notarizes : Conflict (Notarize S D P G) (Notarize S D P G) → Conflict (Notarize S D P G) (Notarize S D P G) → Bool)
+    (conflicting_finalizes : Conflict (Finalize S D P G) (Finalize S D P G) → Conflict (Finalize S D P G) (Finalize S D P G) → Bool)
+    (nullify_finalizes : Conflict (Nullify S P G) (Finalize S D P G) → Conflict (Nullify S P G) (Finalize S D P G) → Bool) where
+  abbrev pub same_activity : Activity S D C P G → Activity S D C P G → Bool
+  same_activity (activity.Notarize a) (activity.Notarize b) = notarizes a b
+  same_activity (activity.Notarization a) (activity.Notarization b) = notarizations a b
+  same_activity (activity.Certification a) (activity.Certification b) = notarizations a b
+  same_activity (activity.Nullify a) (activity.Nullify b) = nullifies a b
+  same_activity (activity.Nullification a) (activity.Nullification b) = nullifications a b
+  same_activity (activity.Finalize a) (activity.Finalize b) = finalizes a b
+  same_activity (activity.Finalization a) (activity.Finalization b) = finalizations a b
+  same_activity (activity.ConflictingNotarize a) (activity.ConflictingNotarize b) = conflicting_notarizes a b
+  same_activity (activity.ConflictingFinalize a) (activity.ConflictingFinalize b) = conflicting_finalizes a b
+  same_activity (activity.NullifyFinalize a) (activity.NullifyFinalize b) = nullify_finalizes a b
+  same_activity _ _ = false
 
 -- ---- the votes that a message holds
 
@@ -184,23 +185,47 @@ activity_format eq payload certificate signature = record {
   reading = union_at (activity_branches eq payload certificate signature);
 }
 
-pub activity_lawful : {S D C P G : Type 0} (eq : D → D → Bool) (payload : Format D) (certificate : Format C) (signature : Format G) → IsLawful payload → IsLawful certificate → IsLawful signature → IsLawful (activity_format {S = S} {P = P} eq payload certificate signature)
+pub activity_lawful : {S D C P G : Type 0} (eq : D → D → Bool) (payload : Format D) (certificate : Format C) (signature : Format G) →
+    IsLawful payload → IsLawful certificate → IsLawful signature →
+    IsLawful (activity_format {S = S} {P = P} eq payload certificate signature)
 activity_lawful {S} {D} {C} {P} {G} eq payload certificate signature payloads certificates signatures =
     union_lawful
-    (branch_takes (IsActivity {S = S} {P = P} eq payload certificate.is_value signature) activity_tag (activity_body eq payload certificate.spelling signature) 0 (λ v. activity.Notarize v) _ (notarize_lawful payload signature payloads signatures) (λ v. refl) (λ v. refl) (λ v h. h)
-    (branch_takes (IsActivity {S = S} {P = P} eq payload certificate.is_value signature) activity_tag (activity_body eq payload certificate.spelling signature) 1 (λ n. activity.Notarization n) _ (notarization_lawful payload certificate payloads certificates) (λ n. refl) (λ n. refl) (λ n h. h)
-    (branch_takes (IsActivity {S = S} {P = P} eq payload certificate.is_value signature) activity_tag (activity_body eq payload certificate.spelling signature) 2 (λ n. activity.Certification n) _ (notarization_lawful payload certificate payloads certificates) (λ n. refl) (λ n. refl) (λ n h. h)
-    (branch_takes (IsActivity {S = S} {P = P} eq payload certificate.is_value signature) activity_tag (activity_body eq payload certificate.spelling signature) 3 (λ v. activity.Nullify v) _ (nullify_lawful signature signatures) (λ v. refl) (λ v. refl) (λ v h. h)
-    (branch_takes (IsActivity {S = S} {P = P} eq payload certificate.is_value signature) activity_tag (activity_body eq payload certificate.spelling signature) 4 (λ n. activity.Nullification n) _ (nullification_lawful certificate certificates) (λ n. refl) (λ n. refl) (λ n h. h)
-    (branch_takes (IsActivity {S = S} {P = P} eq payload certificate.is_value signature) activity_tag (activity_body eq payload certificate.spelling signature) 5 (λ v. activity.Finalize v) _ (finalize_lawful payload signature payloads signatures) (λ v. refl) (λ v. refl) (λ v h. h)
-    (branch_takes (IsActivity {S = S} {P = P} eq payload certificate.is_value signature) activity_tag (activity_body eq payload certificate.spelling signature) 6 (λ n. activity.Finalization n) _ (finalization_lawful payload certificate payloads certificates) (λ n. refl) (λ n. refl) (λ n h. h)
-    (branch_takes (IsActivity {S = S} {P = P} eq payload certificate.is_value signature) activity_tag (activity_body eq payload certificate.spelling signature) 7 (λ c. activity.ConflictingNotarize c) _ (conflicting_notarize_lawful eq payload signature payloads signatures) (λ c. refl) (λ c. refl) (λ c h. h)
-    (branch_takes (IsActivity {S = S} {P = P} eq payload certificate.is_value signature) activity_tag (activity_body eq payload certificate.spelling signature) 8 (λ c. activity.ConflictingFinalize c) _ (conflicting_finalize_lawful eq payload signature payloads signatures) (λ c. refl) (λ c. refl) (λ c h. h)
-    (branch_takes (IsActivity {S = S} {P = P} eq payload certificate.is_value signature) activity_tag (activity_body eq payload certificate.spelling signature) 9 (λ c. activity.NullifyFinalize c) _ (nullify_finalize_lawful eq payload signature payloads signatures) (λ c. refl) (λ c. refl) (λ c h. h)
+    (branch_takes (IsActivity {S = S} {P = P} eq payload certificate.is_value signature) activity_tag
+    (activity_body eq payload certificate.spelling signature) 0 (λ v. activity.Notarize v) _
+    (notarize_lawful payload signature payloads signatures) (λ v. refl) (λ v. refl) (λ v h. h)
+    (branch_takes (IsActivity {S = S} {P = P} eq payload certificate.is_value signature) activity_tag
+    (activity_body eq payload certificate.spelling signature) 1 (λ n. activity.Notarization n) _
+    (notarization_lawful payload certificate payloads certificates) (λ n. refl) (λ n. refl) (λ n h. h)
+    (branch_takes (IsActivity {S = S} {P = P} eq payload certificate.is_value signature) activity_tag
+    (activity_body eq payload certificate.spelling signature) 2 (λ n. activity.Certification n) _
+    (notarization_lawful payload certificate payloads certificates) (λ n. refl) (λ n. refl) (λ n h. h)
+    (branch_takes (IsActivity {S = S} {P = P} eq payload certificate.is_value signature) activity_tag
+    (activity_body eq payload certificate.spelling signature) 3 (λ v. activity.Nullify v) _ (nullify_lawful signature signatures)
+    (λ v. refl) (λ v. refl) (λ v h. h)
+    (branch_takes (IsActivity {S = S} {P = P} eq payload certificate.is_value signature) activity_tag
+    (activity_body eq payload certificate.spelling signature) 4 (λ n. activity.Nullification n) _
+    (nullification_lawful certificate certificates) (λ n. refl) (λ n. refl) (λ n h. h)
+    (branch_takes (IsActivity {S = S} {P = P} eq payload certificate.is_value signature) activity_tag
+    (activity_body eq payload certificate.spelling signature) 5 (λ v. activity.Finalize v) _
+    (finalize_lawful payload signature payloads signatures) (λ v. refl) (λ v. refl) (λ v h. h)
+    (branch_takes (IsActivity {S = S} {P = P} eq payload certificate.is_value signature) activity_tag
+    (activity_body eq payload certificate.spelling signature) 6 (λ n. activity.Finalization n) _
+    (finalization_lawful payload certificate payloads certificates) (λ n. refl) (λ n. refl) (λ n h. h)
+    (branch_takes (IsActivity {S = S} {P = P} eq payload certificate.is_value signature) activity_tag
+    (activity_body eq payload certificate.spelling signature) 7 (λ c. activity.ConflictingNotarize c) _
+    (conflicting_notarize_lawful eq payload signature payloads signatures) (λ c. refl) (λ c. refl) (λ c h. h)
+    (branch_takes (IsActivity {S = S} {P = P} eq payload certificate.is_value signature) activity_tag
+    (activity_body eq payload certificate.spelling signature) 8 (λ c. activity.ConflictingFinalize c) _
+    (conflicting_finalize_lawful eq payload signature payloads signatures) (λ c. refl) (λ c. refl) (λ c h. h)
+    (branch_takes (IsActivity {S = S} {P = P} eq payload certificate.is_value signature) activity_tag
+    (activity_body eq payload certificate.spelling signature) 9 (λ c. activity.NullifyFinalize c) _
+    (nullify_finalize_lawful eq payload signature payloads signatures) (λ c. refl) (λ c. refl) (λ c h. h)
     (no_branch_takes unknown_activity)))))))))))
     again
   where
-    again : (m : Activity S D C P G) (rest : List ℕ) → IsActivity eq payload certificate.is_value signature m → activity_branches eq payload certificate signature (activity_tag m) (activity_body eq payload certificate.spelling signature m ++ rest) ≡ Ok (m, rest)
+    again : (m : Activity S D C P G) (rest : List ℕ) → IsActivity eq payload certificate.is_value signature m →
+        activity_branches eq payload certificate signature (activity_tag m)
+        (activity_body eq payload certificate.spelling signature m ++ rest) ≡ Ok (m, rest)
     again (activity.Notarize v) rest h = rw ((notarize_lawful payload signature payloads signatures).again v rest h) refl
     again (activity.Notarization n) rest h = rw ((notarization_lawful {S = S} {P = P} {G = G} payload certificate payloads certificates).again n rest h) refl
     again (activity.Certification n) rest h = rw ((notarization_lawful {S = S} {P = P} {G = G} payload certificate payloads certificates).again n rest h) refl
@@ -208,6 +233,8 @@ activity_lawful {S} {D} {C} {P} {G} eq payload certificate signature payloads ce
     again (activity.Nullification n) rest h = rw ((nullification_lawful {S = S} {P = P} {G = G} certificate certificates).again n rest h) refl
     again (activity.Finalize v) rest h = rw ((finalize_lawful payload signature payloads signatures).again v rest h) refl
     again (activity.Finalization n) rest h = rw ((finalization_lawful {S = S} {P = P} {G = G} payload certificate payloads certificates).again n rest h) refl
-    again (activity.ConflictingNotarize c) rest h = rw ((conflicting_notarize_lawful {S = S} {P = P} eq payload signature payloads signatures).again c rest h) refl
-    again (activity.ConflictingFinalize c) rest h = rw ((conflicting_finalize_lawful {S = S} {P = P} eq payload signature payloads signatures).again c rest h) refl
+    again (activity.ConflictingNotarize c) rest h =
+        rw ((conflicting_notarize_lawful {S = S} {P = P} eq payload signature payloads signatures).again c rest h) refl
+    again (activity.ConflictingFinalize c) rest h =
+        rw ((conflicting_finalize_lawful {S = S} {P = P} eq payload signature payloads signatures).again c rest h) refl
     again (activity.NullifyFinalize c) rest h = rw ((nullify_finalize_lawful {S = S} {P = P} eq payload signature payloads signatures).again c rest h) refl

@@ -1,10 +1,10 @@
 -- How many views are admitted, and what leads to them.
-use Rattle.std.proofs.Common.{◌≡◌, ℕ, ◌+◌, ◌*◌, ◌-◌, ◌^◌, ◌<◌, ◌≤◌, ◌⊎◌, min, max, inl, inr, arith}
+use Rattle.std.proofs.Common.{◌≡◌, ℕ, ◌+◌, ◌*◌, ◌-◌, ◌^◌, ◌<◌, ◌≤◌, ◌↔◌, ◌⊎◌, min, max, inl, inr, arith}
 use Rattle.std.proofs.lemmas.Bool.{cases_lt}
-use Rattle.simplex_base.specs.Terms.{term_end}
-use Rattle.simplex_lead.specs.Windows.{FitsWindow, IsAdmitted, Leads, admitted_above, next_start}
+use Rattle.simplex_base.specs.Terms.{term_start, term_end}
+use Rattle.simplex_lead.specs.Windows.{FitsWindow, IsAdmitted, IsInReach, Leads, admitted_above, next_start}
 use Rattle.simplex_lead.specs.Counting.{NumberExactly}
-use Rattle.simplex_base.specs.TermLaws.{end_after, end_same, end_next, end_rises}
+use Rattle.simplex_base.specs.TermLaws.{end_after, end_same, end_next, end_rises, start_to_end}
 use Rattle.simplex_lead.proofs.Counting.{number_between, number_both, number_same}
 
 -- the views above c up to the limit in its own term, and those from the next term's start on
@@ -64,3 +64,19 @@ admitted_led l k c q positive above within admitted =
 -- what is admitted is a view
 pub admitted_small : (l k c q : ℕ) → 1 ≤ l → FitsWindow l c → IsAdmitted l k c q → q < 2 ^ 64
 admitted_small l k c q positive fits admitted = let after = end_after l c positive in grind arith
+
+-- a later view that starts no term is in reach of the view after q exactly where q is at most the lookahead many views
+-- before it, and it is of that term
+pub floor_reach : (l k q v : ℕ) → 1 ≤ l → q < v → ¬ (v ≡ term_start l v) → IsInReach l k (q + 1) v ↔ ((v - k - 1 ≤ q) × (v ≤ term_end l (q + 1)))
+floor_reach l k q v positive later inside =
+    let after = end_after l (q + 1) positive in
+    let next = end_next l (q + 1) positive in
+    let whole = start_to_end l v (omega arith) in
+    let starts : v ≡ term_end l (q + 1) + 1 → v ≡ term_start l v = λ e. let end : term_end l v ≡ term_end l (q + 1) + l = rw e next in omega arith in (
+      (λ reach. elim reach as (λ _. (v - k - 1 ≤ q) × (v ≤ term_end l (q + 1))) [
+        | inl up ↦ (omega arith, omega arith)
+        | inr (inl own) ↦ (omega arith, omega arith)
+        | inr (inr start) ↦ absurd (inside (starts start.0))
+      ]),
+      (λ (near, own). inr (inl (omega arith))),
+    )

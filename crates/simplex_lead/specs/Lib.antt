@@ -2,5 +2,8 @@ pub mod Counting
 pub mod Windows
 pub mod Structure
 pub mod Election
+pub mod ElectionLaws
 pub mod Rotation
+pub mod OrderLaws
 pub mod RotationLaws
+pub mod Plans

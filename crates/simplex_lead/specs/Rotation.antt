@@ -13,6 +13,16 @@ use Rattle.simplex_lead.specs.Structure.{Terms}
 abbrev pub IsArrangement : ℕ → List ℕ → Type 0
 IsArrangement n order = IsPermutation (range_with_len 0 n) order
 
+-- what a rotation is made of: the seed of its order, and the structure of terms
+pub record Settings : Type 0 where
+  pub seed : Option (List ℕ)
+  pub terms : Terms
+
+-- a rotation: the order, and the structure of terms
+pub record Rotation : Type 0 where
+  pub order : List ℕ
+  pub terms : Terms
+
 module _ {D : Type 0} (compare : D → D → Ordering) (hash : List ℕ → D) where
   -- the hash by which participant i is placed: of the seed and the number in four bytes, the most significant first
   abbrev pub ticket : List ℕ → ℕ → D
@@ -31,6 +41,10 @@ module _ {D : Type 0} (compare : D → D → Ordering) (hash : List ℕ → D) w
   IsOrder None n order = order ≡ range_with_len 0 n
   IsOrder (Some seed) n order = IsArrangement n order × RisesByHash seed order
 
+  -- the rotation that settings make of n participants: in their order, and in terms of their structure
+  abbrev pub IsRotation : Settings → ℕ → Rotation → Type 0
+  IsRotation settings n rotation = IsOrder settings.seed n rotation.order × (rotation.terms ≡ settings.terms)
+
 -- who leads a term of an epoch, the sum being taken of 64 bits
 abbrev pub leader : List ℕ → ℕ → ℕ → ℕ
 leader order epoch term = slice_index order (((epoch + term) % 2 ^ 64) % length order)
@@ -39,16 +53,6 @@ leader order epoch term = slice_index order (((epoch + term) % 2 ^ 64) % length 
 abbrev pub EachLeadsOnce : List ℕ → ℕ → ℕ → Type 0
 EachLeadsOnce order epoch first =
     IsArrangement (length order) (map (λ i. leader order epoch (first + i)) (range_with_len 0 (length order)))
-
--- what a rotation is made of: the seed of its order, and the structure of terms
-pub record Settings : Type 0 where
-  pub seed : Option (List ℕ)
-  pub terms : Terms
-
--- a rotation: the order, and the structure of terms
-pub record Rotation : Type 0 where
-  pub order : List ℕ
-  pub terms : Terms
 
 -- who leads a round
 abbrev pub leader_of_round : Rotation → Round → ℕ

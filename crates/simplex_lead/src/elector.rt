@@ -1,11 +1,11 @@
 //! Who leads a view.
 
 pub mod electing;
-pub mod modes;
-pub mod rotation;
-pub mod structure;
+pub mod mode;
+pub mod round_robin;
+pub mod terms;
 
 pub use electing::{Config, Elector};
-pub use modes::Mode;
-pub use rotation::{RoundRobin, RoundRobinElector};
-pub use structure::{Terms, can_be_stable};
+pub use mode::Mode;
+pub use round_robin::{RoundRobin, RoundRobinElector};
+pub use terms::{Terms, can_be_stable};

@@ -1,13 +1,11 @@
-//! Who leads which views, and which views a node takes messages of: terms, electors and windows.
+//! Who leads which views, and which views a node takes messages of: terms, electors, lookaheads, viewports and plans.
 #![tactic(auto)]
 
 pub mod elector;
-pub mod plans;
-#[cfg(test)]
-mod tests;
-pub mod viewports;
-pub mod windows;
+pub mod lookahead;
+pub mod plan;
+pub mod viewport;
 
-pub use plans::{Plan, Recipients};
-pub use viewports::Viewport;
-pub use windows::Lookahead;
+pub use lookahead::Lookahead;
+pub use plan::{Plan, Recipients};
+pub use viewport::Viewport;

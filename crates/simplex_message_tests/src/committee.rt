@@ -1,6 +1,5 @@
 //! A committee of four, and what it signs for the round (0, 10).
 
-use crate::certificates;
 use simplex_base::codec::Fixed;
 use simplex_base::positions::{Epoch, Round, View};
 use simplex_evidence::types::{ConflictingFinalize, ConflictingNotarize, NullifyFinalize};
@@ -145,7 +144,8 @@ pub(crate) fn notarization<S: Listing<D>, D: Digest>(
 ) -> Result<Notarization<S, D>, Fail> {
     let [home, ..] = &committee.quorum;
     let votes = notarizes(alloc, &committee.quorum, payload)?;
-    let Ok(made) = certificates::notarization(rt, alloc, home, votes) else {
+    assert!(rt; Notarization::can_assemble(home, votes.as_slice()));
+    let Ok(made) = Notarization::from_owned_notarizes(alloc, home, votes) else {
         return Err("a quorum was refused".into());
     };
     Ok(made)
@@ -159,7 +159,8 @@ pub(crate) fn nullification<S: Listing<D>, D: Digest + 'static>(
 ) -> Result<Nullification<S>, Fail> {
     let [home, ..] = &committee.quorum;
     let votes = nullifies::<S, D>(alloc, &committee.quorum)?;
-    let Ok(made) = certificates::nullification::<S, D>(rt, alloc, home, votes) else {
+    assert!(rt; Nullification::can_assemble::<D>(home, votes.as_slice()));
+    let Ok(made) = Nullification::from_owned_nullifies::<D>(alloc, home, votes) else {
         return Err("a quorum was refused".into());
     };
     Ok(made)
@@ -174,7 +175,8 @@ pub(crate) fn finalization<S: Listing<D>, D: Digest>(
 ) -> Result<Finalization<S, D>, Fail> {
     let [home, ..] = &committee.quorum;
     let votes = finalizes(alloc, &committee.quorum, payload)?;
-    let Ok(made) = certificates::finalization(rt, alloc, home, votes) else {
+    assert!(rt; Finalization::can_assemble(home, votes.as_slice()));
+    let Ok(made) = Finalization::from_owned_finalizes(alloc, home, votes) else {
         return Err("a quorum was refused".into());
     };
     Ok(made)

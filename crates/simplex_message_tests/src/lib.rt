@@ -1,25 +1,25 @@
-//! Tests of the message types that cross the crates: what committees sign and list, its bytes, and what verifies.
+//! Tests of the message types: what neither a contract nor a row says. Votes and certificates of the plain scheme,
+//! whose meaning rests on digests that differ; every call that takes memory, once with ample memory; the vote map
+//! beside a plainer one; and numbers that are given.
 #![tactic(auto)]
 
 #[cfg(test)]
-mod activities;
-#[cfg(test)]
 mod bisection;
-#[cfg(test)]
-mod certificates;
 #[cfg(test)]
 mod committee;
 #[cfg(test)]
-mod contradictions;
+mod given;
+#[cfg(test)]
+mod leaders;
+#[cfg(test)]
+mod memory;
 #[cfg(test)]
 mod reading;
 #[cfg(test)]
 mod signed;
 #[cfg(test)]
-mod signing;
+mod slots;
 #[cfg(test)]
-mod spelling;
-#[cfg(test)]
-mod unions;
+mod values;
 #[cfg(test)]
 mod vote_map;

@@ -1,66 +1,147 @@
-//! The map of first votes, as a caller walks it.
+//! The map of first votes: random calls beside a plainer map, many inserts, and refused growths.
 
-ghost use Rattle.std.specs.Prelude.{◌≡◌, IfOk, map};
-
-use simplex_base::codec::Fixed;
-use simplex_base::positions::{Epoch, Participant, Round, View};
+use crate::slots::SlotMap;
+use simplex_base::positions::Participant;
 use simplex_evidence::types::AttributableMap;
-use simplex_scheme::marked::{Marked, MarkedDigest, MarkedSignature};
-use simplex_scheme::proposal::Proposal;
-use simplex_scheme::scheme::Attestation;
-use simplex_votes::types::{Attributable, Notarize};
+use simplex_votes::types::Attributable;
 use std::alloc::{AllocError, Global};
+use std::process::Abort;
 use std::test::Fail;
 
-type Vote = Notarize<Marked, MarkedDigest>;
+/// An item whose number tells it from others of its signer.
+#[derive(Clone, Copy, Debug, PartialEq, Eq)]
+struct Ballot {
+    signer: u32,
+    number: u32,
+}
 
-fn vote(signer: u32, payload: u8) -> Vote {
-    let round = Round::new(Epoch::new(1), View::new(8));
-    Notarize {
-        proposal: Proposal::new(round, View::new(5), MarkedDigest::from_bytes(&[payload])),
-        attestation: Attestation {
-            signer: Participant::new(signer),
-            signature: MarkedSignature::from_bytes(&[0xaa]),
-        },
+impl Ballot {
+    fn of(signer: u32) -> Self {
+        Ballot { signer, number: 0 }
     }
 }
 
-/// The signers of a map's items, in the order of the walk.
-fn signers<T: Attributable>(
+impl Attributable for Ballot {
+    ghost signer_of = { λ ballot. ballot.signer };
+
+    fn signer(&self) -> Participant {
+        Participant::new(self.signer)
+    }
+}
+
+/// Numbers that look random, the same in every run: Knuth's 64-bit linear congruence.
+#[derive(Drop)]
+struct Numbers(u64);
+
+impl Numbers {
+    fn below(&mut self, end: u32) -> u32 {
+        self.0 = self
+            .0
+            .wrapping_mul(6_364_136_223_846_793_005)
+            .wrapping_add(1_442_695_040_888_963_407);
+        let high = (self.0 >> 32) as u32;
+        high.checked_rem(end).unwrap_or(0)
+    }
+}
+
+/// The items of a map, by `collect`.
+fn walk<T: Attributable>(alloc: Global, map: &AttributableMap<T>) -> Result<Vec<&T>, AllocError> {
+    map.iter().collect(alloc)
+}
+
+/// A map and its slots answer alike for each participant up to a number.
+fn assert_same(
+    rt: &impl Abort,
     alloc: Global,
-    items: &AttributableMap<T>,
-) -> Result<Vec<Participant>, AllocError>
-    ensures { IfOk result (λ signers. signers.items ≡ map T.signer_of items.now.items) }
-{
-    items.iter().map(|item| item.signer()).collect(alloc)
-}
-
-/// The payloads of a map's votes, in the order of the walk.
-fn payloads(alloc: Global, votes: &AttributableMap<Vote>) -> Result<Vec<MarkedDigest>, AllocError> {
-    let mut payloads = Vec::new(alloc);
-    for vote in votes.iter() {
-        payloads.push(vote.proposal.payload)?;
+    map: &AttributableMap<Ballot>,
+    slots: &SlotMap<Ballot>,
+    end: u32,
+) -> Result<(), Fail> {
+    assert_eq!(rt; walk(alloc, map)?, slots.walk()?);
+    assert_eq!(rt;
+        (map.len(), map.is_empty()),
+        (slots.len(), slots.is_empty())
+    );
+    for signer in 0..end {
+        let signer = Participant::new(signer);
+        assert_eq!(rt; map.get(signer), slots.get(signer), "of {signer:?}");
     }
-    Ok(payloads)
+    Ok(())
 }
 
 #[test]
-fn a_map_holds_the_first_vote_of_each_signer(rt: HostRuntime) -> Result<(), Fail> {
+fn ample_random_calls(rt: HostRuntime) -> Result<(), Fail> {
     let alloc = rt.alloc();
-    let mut votes = AttributableMap::new(alloc, 4);
-    let rows = [
-        (2, 6, true),
-        (0, 7, true),
-        (2, 8, false),
-        (4, 6, false),
-        (3, 6, true),
-    ];
-    for (signer, payload, kept) in rows {
-        assert_eq!(rt; votes.insert(vote(signer, payload))?, kept, "of {signer}");
+    let mut numbers = Numbers(0);
+    for participants in [0, 1, 2, 5, 16] {
+        let mut map = AttributableMap::new(alloc, participants as usize);
+        let mut slots = SlotMap::new(alloc, participants as usize);
+        for number in 0..2000 {
+            // Numbers past the last participant come too, and one call in 32 is a clear.
+            let signer = numbers.below(participants + 2);
+            let item = Ballot { signer, number };
+            if numbers.below(32) == 0 {
+                map.clear();
+                slots.clear();
+            } else {
+                assert_eq!(rt; map.insert(item)?, slots.insert(item)?, "of {item:?}");
+            }
+            assert_same(&rt, alloc, &map, &slots, participants + 2)?;
+        }
     }
-    let walked = [0, 2, 3].map(Participant::new);
-    assert_eq!(rt; signers(alloc, &votes)?.as_slice(), walked.as_slice());
-    let first = [7, 6, 6].map(|payload| MarkedDigest::from_bytes(&[payload]));
-    assert_eq!(rt; payloads(alloc, &votes)?.as_slice(), first.as_slice());
     Ok(())
+}
+
+/// After the first insert none takes memory, as many as there may be.
+#[test]
+fn ample_million_inserts(rt: HostRuntime) -> Result<(), Fail> {
+    let mut map = AttributableMap::new(rt.alloc(), 1000);
+    let mut numbers = Numbers(0);
+    assert!(rt; map.insert(Ballot::of(numbers.below(1000)))?);
+    for _ in 1..1_000_000 {
+        map.insert(Ballot::of(numbers.below(1000)))?;
+    }
+    assert_eq!(rt; map.len(), 1000);
+    Ok(())
+}
+
+/// Fills a map twice, with a clear between. Answers whether memory was refused; then the map was as before, and
+/// took the item when it came again.
+fn is_refused(rt: &(impl Abort + AllocGlobal)) -> bool {
+    let mut map = AttributableMap::new(rt.alloc(), 5);
+    let mut refused = false;
+    for _ in 0..2 {
+        assert!(rt; matches!(map.insert(Ballot::of(5)), Ok(false)));
+        if map.insert(Ballot::of(3)).is_err() {
+            refused = true;
+            assert!(rt; map.is_empty());
+            assert_eq!(rt; map.get(Participant::new(3)), None);
+            assert!(rt; matches!(map.insert(Ballot::of(3)), Ok(true)));
+        }
+        assert!(rt; matches!(map.insert(Ballot::of(3)), Ok(false)));
+        assert!(rt; matches!(map.insert(Ballot::of(1)), Ok(true)));
+        assert_eq!(rt; map.len(), 2);
+        map.clear();
+    }
+    refused
+}
+
+#[test]
+fn ample(rt: HostRuntime) {
+    assert!(rt; !is_refused(&rt));
+}
+
+/// Where the room is refused the map is as before.
+#[test]
+fn refused(rt: HostRuntime) {
+    let _ = is_refused(&rt);
+}
+
+/// No memory has room for so many participants.
+#[test]
+fn too_many_participants(rt: HostRuntime) {
+    let mut map = AttributableMap::new(rt.alloc(), usize::MAX);
+    assert!(rt; map.insert(Ballot::of(3)).is_err());
+    assert!(rt; map.is_empty());
+    assert!(rt; map.insert(Ballot::of(3)).is_err());
 }

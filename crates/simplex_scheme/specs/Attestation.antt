@@ -16,7 +16,8 @@ attestation_lawful signature law = made_lawful _ _ (λ a. refl) (λ p. refl) (bo
 
 -- ---- greatest sizes, with a signature of n bytes at most
 
-pub attestation_within : {S P G : Type 0} (signature : Format G) (n : ℕ) → IsWithin signature n → IsWithin (attestation_format {S = S} {P = P} signature) (5 + n)
+pub attestation_within : {S P G : Type 0} (signature : Format G) (n : ℕ) → IsWithin signature n →
+    IsWithin (attestation_format {S = S} {P = P} signature) (5 + n)
 attestation_within signature n within a h = both_within number_32 signature number_32_within within (a.signer, a.signature) h
 
 pub attestation_longest : {S P G : Type 0} (signature : Format G) (n : ℕ) → Longest signature n → Longest (attestation_format {S = S} {P = P} signature) (5 + n)

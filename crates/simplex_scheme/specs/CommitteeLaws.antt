@@ -18,7 +18,8 @@ both_true true b h = (refl, h)
 both_true false b h = absurd cc
 
 -- the test answers true exactly where they are a quorum
-pub quorum_meaning : {S P G : Type 0} (n : ℕ) (good : ℕ → G → Bool) (attestations : List (Attestation S P G)) → (is_quorum n good attestations ≡ true) ↔ IsQuorum n good attestations
+pub quorum_meaning : {S P G : Type 0} (n : ℕ) (good : ℕ → G → Bool) (attestations : List (Attestation S P G)) →
+    (is_quorum n good attestations ≡ true) ↔ IsQuorum n good attestations
 quorum_meaning n good attestations = (
   λ h.
       let counted = both_true _ _ h in
@@ -35,6 +36,8 @@ quorum_meaning n good attestations = (
 )
 
 -- signatures of one size: a certificate under a bound has at most five bytes, and for each participant five and a signature
-pub fixed_within : {S P G : Type 0} (size : ℕ) (bytes_of : G → List ℕ) (of_bytes : List ℕ → G) (bound : ℕ) (attestations : List (Attestation S P G)) → ListedFits (fixed size bytes_of of_bytes) bound attestations → length (listed_spelling (fixed size bytes_of of_bytes) attestations) ≤ 5 + bound * (5 + size)
+pub fixed_within : {S P G : Type 0} (size : ℕ) (bytes_of : G → List ℕ) (of_bytes : List ℕ →
+    G) (bound : ℕ) (attestations : List (Attestation S P G)) → ListedFits (fixed size bytes_of of_bytes) bound attestations →
+    length (listed_spelling (fixed size bytes_of of_bytes) attestations) ≤ 5 + bound * (5 + size)
 fixed_within size bytes_of of_bytes bound attestations fits =
     listed_within (fixed size bytes_of of_bytes) size bound (λ signature is. omega arith) attestations fits

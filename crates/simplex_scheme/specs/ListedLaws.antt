@@ -36,9 +36,12 @@ pub record Taken {S P G : Type 0} (signature : Format G) (bound least : ℕ) (by
   pub high : a.signer < bound
   pub spelled : Spelled (attestation_format signature).is_value (attestation_format signature).spelling bytes a rest
 
-pub attestation_takes : {S P G : Type 0} (signature : Format G) → IsLawful signature → (bound least : ℕ) (bytes : List ℕ) (a : Attestation S P G) (rest : List ℕ) → IsBytes bytes → attestation_at signature bound least bytes ≡ Ok (a, rest) → Taken signature bound least bytes a rest
+pub attestation_takes : {S P G : Type 0} (signature : Format G) → IsLawful signature →
+    (bound least : ℕ) (bytes : List ℕ) (a : Attestation S P G) (rest : List ℕ) → IsBytes bytes →
+    attestation_at signature bound least bytes ≡ Ok (a, rest) → Taken signature bound least bytes a rest
 attestation_takes {S} {P} {G} signature law bound least bytes a rest fit e =
-    let p = bind_ok ((attestation_format {S = S} {P = P} signature).reading bytes) (λ read. cond (nat_lt read.0.signer least || nat_le bound read.0.signer) (Err bad_signer) (Ok read)) (a, rest) e in
+    let p = bind_ok ((attestation_format {S = S} {P = P} signature).reading bytes)
+    (λ read. cond (nat_lt read.0.signer least || nat_le bound read.0.signer) (Err bad_signer) (Ok read)) (a, rest) e in
     elim (chosen (nat_lt p.0.0.signer least || nat_le bound p.0.0.signer) (Err bad_signer) (Ok p.0) (Ok (a, rest)) p.2) [
       | inl q ↦ absurd (let h = q.1 in cc)
       | inr q ↦
@@ -52,7 +55,8 @@ attestation_takes {S} {P} {G} signature law bound least bytes a rest fit e =
     ]
 
 -- attestations that were read, their signers from least on and below the bound
-pub record AllTaken {S P G : Type 0} (signature : Format G) (bound least count : ℕ) (bytes : List ℕ) (xs : List (Attestation S P G)) (rest : List ℕ) : Type 0 where
+pub record AllTaken {S P G : Type 0} (signature : Format G) (bound least count : ℕ) (bytes : List ℕ) (xs : List (Attestation S P G))
+    (rest : List ℕ) : Type 0 where
   pub len : length xs ≡ count
   pub low : All (λ a. least ≤ a.signer) xs
   pub below : All (λ a. a.signer < bound) xs
@@ -60,7 +64,9 @@ pub record AllTaken {S P G : Type 0} (signature : Format G) (bound least count :
   pub each : All (attestation_format signature).is_value xs
   pub parts : bytes ≡ flat_map (attestation_format signature).spelling xs ++ rest
 
-pub attestations_take : {S P G : Type 0} (signature : Format G) → IsLawful signature → (bound least count : ℕ) (bytes : List ℕ) (xs : List (Attestation S P G)) (rest : List ℕ) → IsBytes bytes → attestations_at signature bound least count bytes ≡ Ok (xs, rest) → AllTaken signature bound least count bytes xs rest
+pub attestations_take : {S P G : Type 0} (signature : Format G) → IsLawful signature →
+    (bound least count : ℕ) (bytes : List ℕ) (xs : List (Attestation S P G)) (rest : List ℕ) → IsBytes bytes →
+    attestations_at signature bound least count bytes ≡ Ok (xs, rest) → AllTaken signature bound least count bytes xs rest
 unfolding attestations_at
 attestations_take {S} {P} {G} signature law bound least zero bytes xs rest fit e =
     let same : ◌≡◌ {A = List (Attestation S P G) × List ℕ} ([], bytes) (xs, rest) = cc in
@@ -68,7 +74,9 @@ attestations_take {S} {P} {G} signature law bound least zero bytes xs rest fit e
     (record { len = refl; low = All-nil _; below = All-nil _; ascending = λ i j d lt within. absurd (omega arith); each = All-nil _; parts = refl })
 attestations_take {S} {P} {G} signature law bound least (suc count) bytes xs rest fit e =
     let form = attestation_format {S = S} {P = P} signature in
-    let p = bind_ok (attestation_at {S = S} {P = P} signature bound least bytes) (λ first. attestations_at signature bound (first.0.signer + 1) count first.1 >>= λ others. Ok (first.0 ∷ others.0, others.1)) (xs, rest) e in
+    let p = bind_ok (attestation_at {S = S} {P = P} signature bound least bytes)
+    (λ first. attestations_at signature bound (first.0.signer + 1) count first.1 >>= λ others. Ok (first.0 ∷ others.0, others.1))
+    (xs, rest) e in
     let a = p.0.0 in
     let first = attestation_takes signature law bound least bytes a p.0.1 fit p.1 in
     let r = bind_ok (attestations_at signature bound (a.signer + 1) count p.0.1) (λ others. Ok (a ∷ others.0, others.1)) (xs, rest) p.2 in
@@ -86,7 +94,10 @@ attestations_take {S} {P} {G} signature law bound least (suc count) bytes xs res
       parts = joined bytes (form.spelling a) p.0.1 (flat_map form.spelling r.0.0) r.0.1 first.spelled.parts others.parts;
     })
 
-pub attestations_again : {S P G : Type 0} (signature : Format G) → IsLawful signature → (bound least : ℕ) (xs : List (Attestation S P G)) (rest : List ℕ) → All (λ a. least ≤ a.signer) xs → All (λ a. a.signer < bound) xs → SignersAscend xs → All (attestation_format signature).is_value xs → attestations_at signature bound least (length xs) (flat_map (attestation_format signature).spelling xs ++ rest) ≡ Ok (xs, rest)
+pub attestations_again : {S P G : Type 0} (signature : Format G) → IsLawful signature →
+    (bound least : ℕ) (xs : List (Attestation S P G)) (rest : List ℕ) → All (λ a. least ≤ a.signer) xs → All (λ a. a.signer < bound) xs →
+    SignersAscend xs → All (attestation_format signature).is_value xs →
+    attestations_at signature bound least (length xs) (flat_map (attestation_format signature).spelling xs ++ rest) ≡ Ok (xs, rest)
 unfolding attestations_at
 attestations_again signature law bound least [] rest low below ascending each = refl
 attestations_again {S} {P} {G} signature law bound least (a ∷ xs) rest low below ascending each =
@@ -96,12 +107,23 @@ attestations_again {S} {P} {G} signature law bound least (a ∷ xs) rest low bel
     let last = lt-leb bound a.signer under in
     let above : All (λ b. a.signer + 1 ≤ b.signer) xs = λ k d lt. let h = ascending 0 (suc k) d (omega arith) (omega arith) in omega arith in
     let after : SignersAscend xs = λ i j d lt within. ascending (suc i) (suc j) d (omega arith) (omega arith) in
-    rw (append_assoc (form.spelling a) (flat_map form.spelling xs) rest, (attestation_lawful signature law).again a (flat_map form.spelling xs ++ rest) (All-head form.is_value a xs each), first, last, attestations_again signature law bound (a.signer + 1) xs rest above (All-tail (λ b. b.signer < bound) a xs below) after (All-tail form.is_value a xs each)) refl
+    rw (
+      append_assoc (form.spelling a) (flat_map form.spelling xs) rest,
+      (attestation_lawful signature law).again a
+          (flat_map form.spelling xs ++ rest) (All-head form.is_value a xs each),
+      first,
+      last,
+      attestations_again signature law bound
+          (a.signer + 1) xs rest above (All-tail (λ b. b.signer < bound) a xs below) after (All-tail form.is_value a xs each),
+    ) refl
 
-listed_take : {S P G : Type 0} (signature : Format G) (bound : ℕ) → IsLawful signature → (bytes : List ℕ) (xs : List (Attestation S P G)) (rest : List ℕ) → IsBytes bytes → listed_at signature bound bytes ≡ Ok (xs, rest) → Spelled (ListedFits signature bound) (listed_spelling signature) bytes xs rest
+listed_take : {S P G : Type 0} (signature : Format G) (bound : ℕ) → IsLawful signature →
+    (bytes : List ℕ) (xs : List (Attestation S P G)) (rest : List ℕ) → IsBytes bytes → listed_at signature bound bytes ≡ Ok (xs, rest) →
+    Spelled (ListedFits signature bound) (listed_spelling signature) bytes xs rest
 listed_take {S} {P} {G} signature bound law bytes xs rest fit e =
     let form = attestation_format {S = S} {P = P} signature in
-    let p = bind_ok (number_32.reading bytes) (λ count. cond (count.0 == 0 || nat_lt bound count.0) (Err bad_count) (attestations_at signature bound 0 count.0 count.1)) (xs, rest) e in
+    let p = bind_ok (number_32.reading bytes) (λ count. cond (count.0 == 0 || nat_lt bound count.0) (Err bad_count)
+    (attestations_at signature bound 0 count.0 count.1)) (xs, rest) e in
     let count = p.0 in
     elim (chosen (count.0 == 0 || nat_lt bound count.0) (Err bad_count) (attestations_at signature bound 0 count.0 count.1) (Ok (xs, rest)) p.2) [
       | inl q ↦ absurd (let h = q.1 in cc)
@@ -115,7 +137,14 @@ listed_take {S} {P} {G} signature bound law bytes xs rest fit e =
           let l = attestations_take signature law bound 0 count.0 count.1 xs rest fit' q.1 in
           let len = l.len in
           record {
-            value = record { listed = record { some = omega (arith, some); few = omega arith; ascending = l.ascending }; count = omega arith; below = l.below; each = l.each };
+            value = record {
+              listed =
+                  record { some = omega (arith, some); few = omega arith; ascending = l.ascending };
+              count =
+                  omega arith;
+              below = l.below;
+              each = l.each;
+            };
             parts = rw len (joined bytes (number_32.spelling count.0) count.1 (flat_map form.spelling xs) rest n.parts l.parts);
           }
     ]
@@ -124,13 +153,22 @@ positive_not_zero : (n : ℕ) → 0 < n → (n == 0) ≡ false
 positive_not_zero zero h = absurd (omega arith)
 positive_not_zero (suc n) h = eqb-suc-zero n
 
-listed_again : {S P G : Type 0} (signature : Format G) (bound : ℕ) → IsLawful signature → (xs : List (Attestation S P G)) (rest : List ℕ) → ListedFits signature bound xs → listed_at signature bound (listed_spelling signature xs ++ rest) ≡ Ok (xs, rest)
+listed_again : {S P G : Type 0} (signature : Format G) (bound : ℕ) → IsLawful signature → (xs : List (Attestation S P G)) (rest : List ℕ) →
+    ListedFits signature bound xs → listed_at signature bound (listed_spelling signature xs ++ rest) ≡ Ok (xs, rest)
 listed_again {S} {P} {G} signature bound law xs rest v =
     let form = attestation_format {S = S} {P = P} signature in
     let within = le-ltb bound (length xs) v.count in
-    rw (append_assoc (number_32.spelling (length xs)) (flat_map form.spelling xs) rest, number_32_lawful.again (length xs) (flat_map form.spelling xs ++ rest) v.listed.few, positive_not_zero (length xs) v.listed.some, within) (attestations_again signature law bound 0 xs rest (λ k d lt. omega arith) v.below v.listed.ascending v.each)
+    rw (
+      append_assoc (number_32.spelling (length xs)) (flat_map form.spelling xs) rest,
+      number_32_lawful.again (length xs)
+          (flat_map form.spelling xs ++ rest) v.listed.few,
+      positive_not_zero (length xs) v.listed.some,
+      within,
+    )
+    (attestations_again signature law bound 0 xs rest (λ k d lt. omega arith) v.below v.listed.ascending v.each)
 
-pub listed_lawful : {S P G : Type 0} (signature : Format G) (bound : ℕ) → IsLawful signature → Lawful (ListedFits {S = S} {P = P} signature bound) (listed_spelling signature) (listed_at signature bound)
+pub listed_lawful : {S P G : Type 0} (signature : Format G) (bound : ℕ) → IsLawful signature →
+    Lawful (ListedFits {S = S} {P = P} signature bound) (listed_spelling signature) (listed_at signature bound)
 listed_lawful signature bound law = record { takes = listed_take signature bound law; again = listed_again signature bound law }
 
 -- no signer stands twice
@@ -139,16 +177,35 @@ ascending_distinct xs ascending i j d lt within e = let less = ascending i j d l
 
 -- ---- how long a spelling is
 
-attestations_within : {S P G : Type 0} (signature : Format G) (size : ℕ) → ((g : G) → signature.is_value g → length (signature.spelling g) ≤ size) → (xs : List (Attestation S P G)) → All (attestation_format signature).is_value xs → length (flat_map (attestation_format signature).spelling xs) ≤ length xs * (5 + size)
+attestations_within : {S P G : Type 0} (signature : Format G) (size : ℕ) →
+    ((g : G) → signature.is_value g → length (signature.spelling g) ≤ size) → (xs : List (Attestation S P G)) →
+    All (attestation_format signature).is_value xs → length (flat_map (attestation_format signature).spelling xs) ≤ length xs * (5 + size)
 attestations_within signature size small [] each = omega arith
 attestations_within {S} {P} {G} signature size small (a ∷ xs) each =
     let form = attestation_format {S = S} {P = P} signature in
     let first = (All-head form.is_value a xs each).1 in
     let more = attestations_within signature size small xs (All-tail form.is_value a xs each) in
-    omega (arith, length-append (form.spelling a) (flat_map form.spelling xs), length-append (number_32.spelling a.signer) (signature.spelling a.signature), groups_len_32 a.signer, small a.signature first, more)
+    omega (
+      arith,
+      length-append (form.spelling a) (flat_map form.spelling xs),
+      length-append (number_32.spelling a.signer)
+          (signature.spelling a.signature),
+      groups_len_32 a.signer,
+      small a.signature first,
+      more,
+    )
 
 -- what fits a bound is no longer than so many attestations of the greatest size
-pub listed_within : {S P G : Type 0} (signature : Format G) (size bound : ℕ) → ((g : G) → signature.is_value g → length (signature.spelling g) ≤ size) → (xs : List (Attestation S P G)) → ListedFits signature bound xs → length (listed_spelling signature xs) ≤ 5 + bound * (5 + size)
+pub listed_within : {S P G : Type 0} (signature : Format G) (size bound : ℕ) →
+    ((g : G) → signature.is_value g → length (signature.spelling g) ≤ size) → (xs : List (Attestation S P G)) →
+    ListedFits signature bound xs → length (listed_spelling signature xs) ≤ 5 + bound * (5 + size)
 listed_within {S} {P} {G} signature size bound small xs v =
     let form = attestation_format {S = S} {P = P} signature in
-    omega (arith, length-append (number_32.spelling (length xs)) (flat_map form.spelling xs), groups_len_32 (length xs), attestations_within signature size small xs v.each, mul-le-mul_left (5 + size) v.count)
+    omega (
+      arith,
+      length-append (number_32.spelling (length xs)) (flat_map form.spelling xs),
+      groups_len_32 (length xs),
+      attestations_within
+          signature size small xs v.each,
+      mul-le-mul_left (5 + size) v.count,
+    )

@@ -21,5 +21,6 @@ abbrev pub marked_good : {D : Type 0} → ℕ → SubjectValue D → ℕ → Lis
 marked_good n subject signer signature = nat_lt signer n && bytes_eq signature (170 ∷ [])
 
 -- whose signature is good is in the committee
-pub marked_members : {D : Type 0} (n : ℕ) (subject : SubjectValue D) (signer : ℕ) (signature : List ℕ) → marked_good n subject signer signature ≡ true → signer < n
+pub marked_members : {D : Type 0} (n : ℕ) (subject : SubjectValue D) (signer : ℕ) (signature : List ℕ) →
+    marked_good n subject signer signature ≡ true → signer < n
 marked_members n subject signer signature h = grind (arith, nat_tests)

@@ -29,10 +29,13 @@ plain_good payload scheme subject signer signature =
     option_map_or (λ key. bytes_eq signature (plain_signature payload scheme.names key subject)) (slice_get scheme.keys signer) false
 
 -- whose signature is good is in the committee
-pub good_members : {D : Type 0} (payload : Format D) (scheme : PlainScheme) (subject : SubjectValue D) (signer : ℕ) (signature : List ℕ) → plain_good payload scheme subject signer signature ≡ true → signer < length scheme.keys
+pub good_members : {D : Type 0} (payload : Format D) (scheme : PlainScheme) (subject : SubjectValue D) (signer : ℕ) (signature : List ℕ) →
+    plain_good payload scheme subject signer signature ≡ true → signer < length scheme.keys
 good_members payload scheme subject signer signature h = inside scheme.keys signer h
   where
-    inside : (keys : List (List ℕ)) (place : ℕ) → option_map_or (λ key. bytes_eq signature (plain_signature payload scheme.names key subject)) (slice_get keys place) false ≡ true → place < length keys
+    inside : (keys : List (List ℕ)) (place : ℕ) →
+        option_map_or (λ key. bytes_eq signature (plain_signature payload scheme.names key subject)) (slice_get keys place) false ≡ true →
+        place < length keys
     inside [] place h = absurd cc
     inside (key ∷ keys) zero h = omega arith
     inside (key ∷ keys) (suc place) h = let less = inside keys place h in omega arith

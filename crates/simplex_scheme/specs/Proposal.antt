@@ -10,7 +10,9 @@ use Rattle.simplex_scheme.specs.declared.proposal.Proposal.{Proposal}
 
 -- the round, the parent's view, the payload
 abbrev pub proposal_format : {D : Type 0} → Format D → Format (Proposal D)
-proposal_format payload = made (λ p. record { round = p.0; parent = p.1.0; payload = p.1.1 }) (λ p. (p.round, (p.parent, p.payload))) (both round_format (both number_64 payload))
+proposal_format payload =
+    made (λ p. record { round = p.0; parent = p.1.0; payload = p.1.1 }) (λ p. (p.round, (p.parent, p.payload)))
+    (both round_format (both number_64 payload))
 
 pub proposal_lawful : {D : Type 0} (payload : Format D) → IsLawful payload → IsLawful (proposal_format payload)
 proposal_lawful payload law = made_lawful _ _ (λ p. refl) (λ p. refl) (both_lawful round_lawful (both_lawful number_64_lawful law))
@@ -19,7 +21,8 @@ proposal_lawful payload law = made_lawful _ _ (λ p. refl) (λ p. refl) (both_la
 
 pub proposal_within : {D : Type 0} (payload : Format D) (n : ℕ) → IsWithin payload n → IsWithin (proposal_format payload) (30 + n)
 proposal_within payload n within p h =
-    let most = both_within round_format (both number_64 payload) round_within (both_within number_64 payload number_64_within within) (p.round, (p.parent, p.payload)) h in
+    let most = both_within round_format (both number_64 payload) round_within (both_within number_64 payload number_64_within within)
+    (p.round, (p.parent, p.payload)) h in
     omega (arith, most)
 
 pub proposal_longest : {D : Type 0} (payload : Format D) (n : ℕ) → Longest payload n → Longest (proposal_format payload) (30 + n)

@@ -8,8 +8,8 @@ ghost use Rattle.simplex_scheme.specs.Committee.{IsInOrder, is_quorum, quorum_of
 
 use crate::faults::quorum;
 use crate::listed::Listed;
-use crate::subject::Subject;
 use crate::scheme::{AssemblyError, Attestation, CertificateScheme, Digest, SchemeTypes};
+use crate::subject::Subject;
 
 /// A committee whose attestations are verified one by one.
 pub trait AttestationVerifier<D: Digest>: CertificateScheme {
@@ -89,6 +89,3 @@ pub fn assembled<S: CertificateScheme>(
     sort_by_signers(&mut attestations);
     Ok(Listed::from_ascending(attestations))
 }
-
-#[cfg(test)]
-mod tests;

@@ -25,20 +25,3 @@ pub fn quorum(n: u32) -> u32
 {
     n - max_faults(n)
 }
-
-#[cfg(test)]
-mod tests {
-    use super::*;
-
-    #[test]
-    fn one_of_four_may_lie(rt: HostRuntime) {
-        let rows: [(u32, u32); 7] = [(0, 1), (0, 2), (0, 3), (1, 3), (1, 4), (1, 5), (2, 5)];
-        for (place, (faults, signers)) in rows.into_iter().enumerate() {
-            let n = place as u32 + 1;
-            assert_eq!(rt; max_faults(n), faults, "of {n}");
-            assert_eq!(rt; quorum(n), signers, "of {n}");
-        }
-        assert_eq!(rt; max_faults(100), 33);
-        assert_eq!(rt; quorum(100), 67);
-    }
-}

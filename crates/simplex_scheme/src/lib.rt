@@ -14,5 +14,3 @@ pub mod proposal;
 pub mod scheme;
 pub mod set;
 pub mod subject;
-#[cfg(test)]
-mod tests;

@@ -212,6 +212,3 @@ fn read_attestation<S: SchemeTypes>(
     *input = rest;
     Ok(attestation)
 }
-
-#[cfg(test)]
-mod tests;

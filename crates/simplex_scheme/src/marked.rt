@@ -12,12 +12,12 @@ ghost use Rattle.simplex_scheme.specs.Marked.{numbered, marked_good, marked_memb
 
 use crate::certificates::{AttestationVerifier, are_certified, assembled, is_certified};
 use crate::listed::Listed;
-use crate::subject::Subject;
 use crate::scheme::{
     AssemblyError, Attestation, CertificateScheme, CertificateVerifier, Digest, Listing, PublicKey,
     Scheme, SchemeTypes, Signature,
 };
 use crate::set::Set;
+use crate::subject::Subject;
 use simplex_base::codec::Fixed;
 use simplex_base::codec::fixed_bytes::{FixedBytes, Role};
 use simplex_base::positions::Participant;

@@ -87,34 +87,3 @@ fn with_suffix(alloc: Global, base: &[u8], suffix: &[u8]) -> Result<Vec<u8>, All
     name.extend_from_slice(suffix)?;
     Ok(name)
 }
-
-#[cfg(test)]
-mod tests {
-    use super::*;
-    use std::test::Fail;
-
-    fn derived<N: CertificateNamespace>(alloc: Global, base: &[u8]) -> Result<N, AllocError> {
-        N::derive(alloc, base)
-    }
-
-    #[test]
-    fn each_kind_has_its_suffix(rt: HostRuntime) -> Result<(), Fail> {
-        let namespace = Namespace::new(rt.alloc(), b"test")?;
-        let copy = namespace.clone()?;
-        for one in [&namespace, &copy] {
-            assert_eq!(rt; one.notarize.as_slice(), b"test_NOTARIZE".as_slice());
-            assert_eq!(rt; one.nullify.as_slice(), b"test_NULLIFY".as_slice());
-            assert_eq!(rt; one.finalize.as_slice(), b"test_FINALIZE".as_slice());
-            assert_eq!(rt; one.seed.as_slice(), b"test_SEED".as_slice());
-        }
-        Ok(())
-    }
-
-    #[test]
-    fn a_base_may_be_empty(rt: HostRuntime) -> Result<(), Fail> {
-        let namespace: Namespace = derived(rt.alloc(), b"")?;
-        assert_eq!(rt; namespace.notarize.as_slice(), b"_NOTARIZE".as_slice());
-        assert_eq!(rt; namespace.seed.as_slice(), b"_SEED".as_slice());
-        Ok(())
-    }
-}

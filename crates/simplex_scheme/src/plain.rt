@@ -20,12 +20,12 @@ use crate::hash::{Hasher, Sha256};
 use crate::listed::Listed;
 use crate::namespace::Namespace;
 use crate::proposal::Proposal;
-use crate::subject::Subject;
 use crate::scheme::{
     AssemblyError, Attestation, CertificateScheme, CertificateVerifier, Digest, Listing, PublicKey,
     Scheme, SchemeTypes, Signature,
 };
 use crate::set::Set;
+use crate::subject::Subject;
 use simplex_base::codec::fixed_bytes::{FixedBytes, Role};
 use simplex_base::codec::varint::Varint;
 use simplex_base::codec::{Fixed, Read};

@@ -88,8 +88,8 @@ impl EqByParts for AssemblyError {
     ghost same = { same_assembly_error };
 
     ghost equal = { elim [
-        InsufficientAttestations _ _ ↦ elim [ InsufficientAttestations _ _ ↦ refl | _ ↦ refl ]
-        | OutOfMemory ↦ elim [ OutOfMemory ↦ refl | _ ↦ refl ]
+      | InsufficientAttestations _ _ ↦ elim [ InsufficientAttestations _ _ ↦ refl | _ ↦ refl ]
+      | OutOfMemory ↦ elim [ OutOfMemory ↦ refl | _ ↦ refl ]
     ] };
 }
 

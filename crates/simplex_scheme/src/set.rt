@@ -100,35 +100,3 @@ impl<K: Ord> Set<K> {
         self.keys.binary_search(key).ok()
     }
 }
-
-#[cfg(test)]
-mod tests {
-    use super::*;
-    use std::test::Fail;
-
-    #[test]
-    fn places_follow_the_order_of_the_keys(rt: HostRuntime) -> Result<(), Fail> {
-        let keys = Vec::from_array(rt.alloc(), [[7, 0], [2, 9], [2, 1]])?;
-        let set = Set::try_from_vec(keys)?;
-        assert_eq!(rt; set.len(), 3);
-        assert!(rt; !set.is_empty());
-        let rows: [(usize, [u8; 2]); 3] = [(0, [2, 1]), (1, [2, 9]), (2, [7, 0])];
-        for (place, key) in rows {
-            assert_eq!(rt; set.get(place), Some(&key), "at {place}");
-            assert_eq!(rt; set.position(&key), Some(place), "of {key:?}");
-        }
-        assert_eq!(rt; set.get(3), None);
-        assert_eq!(rt; set.position(&[2, 5]), None);
-        Ok(())
-    }
-
-    #[test]
-    fn no_key_stands_twice(rt: HostRuntime) -> Result<(), Fail> {
-        let keys = Vec::from_array(rt.alloc(), [5u32, 8, 5])?;
-        assert!(rt; matches!(Set::try_from_vec(keys), Err(SetError::Repeated)));
-        let none: Set<u32> = Set::try_from_vec(Vec::new(rt.alloc()))?;
-        assert!(rt; none.is_empty());
-        assert_eq!(rt; none.position(&5), None);
-        Ok(())
-    }
-}

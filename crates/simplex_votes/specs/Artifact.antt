@@ -43,17 +43,22 @@ artifact_round (artifact.Finalize v) = v.proposal.round
 artifact_round (artifact.Finalization n) = n.proposal.round
 
 -- the same member, equal by its type's equality
-abbrev pub same_artifact : {S D C P G : Type 0} → (Notarize S D P G → Notarize S D P G → Bool) → (Notarization S D C P G → Notarization S D C P G → Bool) → (Round → Round → Bool) → (Bool → Bool → Bool) →
-    (Nullify S P G → Nullify S P G → Bool) → (Nullification S C P G → Nullification S C P G → Bool) → (Finalize S D P G → Finalize S D P G → Bool) → (Finalization S D C P G → Finalization S D C P G → Bool) →
-    Artifact S D C P G → Artifact S D C P G → Bool
-same_artifact notarizes notarizations rounds truths nullifies nullifications finalizes finalizations (artifact.Notarize v) (artifact.Notarize w) = notarizes v w
-same_artifact notarizes notarizations rounds truths nullifies nullifications finalizes finalizations (artifact.Notarization n) (artifact.Notarization m) = notarizations n m
-same_artifact notarizes notarizations rounds truths nullifies nullifications finalizes finalizations (artifact.Certification r b) (artifact.Certification s c) = rounds r s && truths b c
-same_artifact notarizes notarizations rounds truths nullifies nullifications finalizes finalizations (artifact.Nullify v) (artifact.Nullify w) = nullifies v w
-same_artifact notarizes notarizations rounds truths nullifies nullifications finalizes finalizations (artifact.Nullification n) (artifact.Nullification m) = nullifications n m
-same_artifact notarizes notarizations rounds truths nullifies nullifications finalizes finalizations (artifact.Finalize v) (artifact.Finalize w) = finalizes v w
-same_artifact notarizes notarizations rounds truths nullifies nullifications finalizes finalizations (artifact.Finalization n) (artifact.Finalization m) = finalizations n m
-same_artifact notarizes notarizations rounds truths nullifies nullifications finalizes finalizations _ _ = false
+module _ {S D C P G : Type 0}
+    (notarizes : Notarize S D P G → Notarize S D P G → Bool)
+    (notarizations : Notarization S D C P G → Notarization S D C P G → Bool) (rounds : Round → Round → Bool)
+    (truths : Bool → Bool → Bool) (nullifies : Nullify S P G → Nullify S P G → Bool)
+    (nullifications : Nullification S C P G → Nullification S C P G → Bool)
+    (finalizes : Finalize S D P G → Finalize S D P G → Bool)
+    (finalizations : Finalization S D C P G → Finalization S D C P G → Bool) where
+  abbrev pub same_artifact : Artifact S D C P G → Artifact S D C P G → Bool
+  same_artifact (artifact.Notarize a) (artifact.Notarize b) = notarizes a b
+  same_artifact (artifact.Notarization a) (artifact.Notarization b) = notarizations a b
+  same_artifact (artifact.Certification r a) (artifact.Certification s b) = rounds r s && truths a b
+  same_artifact (artifact.Nullify a) (artifact.Nullify b) = nullifies a b
+  same_artifact (artifact.Nullification a) (artifact.Nullification b) = nullifications a b
+  same_artifact (artifact.Finalize a) (artifact.Finalize b) = finalizes a b
+  same_artifact (artifact.Finalization a) (artifact.Finalization b) = finalizations a b
+  same_artifact _ _ = false
 
 -- whether an artifact has a certificate
 abbrev pub has_certificate : {S D C P G : Type 0} → Artifact S D C P G → Bool
@@ -131,20 +136,36 @@ artifact_format payload inner signature = record {
   reading = union_at (artifact_branches payload inner signature);
 }
 
-pub artifact_lawful : {S D C P G : Type 0} (payload : Format D) (inner : Format C) (signature : Format G) → IsLawful payload → IsLawful inner → IsLawful signature → IsLawful (artifact_format {S = S} {P = P} payload inner signature)
+pub artifact_lawful : {S D C P G : Type 0} (payload : Format D) (inner : Format C) (signature : Format G) → IsLawful payload →
+    IsLawful inner → IsLawful signature → IsLawful (artifact_format {S = S} {P = P} payload inner signature)
 artifact_lawful {S} {D} {C} {P} {G} payload inner signature payloads inners signatures =
     union_lawful
-    (branch_takes (IsArtifact {S = S} {P = P} payload inner.is_value signature) artifact_tag (artifact_body payload inner.spelling signature) 0 (λ v. artifact.Notarize v) _ (notarize_lawful payload signature payloads signatures) (λ v. refl) (λ v. refl) (λ v h. h)
-    (branch_takes (IsArtifact {S = S} {P = P} payload inner.is_value signature) artifact_tag (artifact_body payload inner.spelling signature) 1 (λ n. artifact.Notarization n) _ (notarization_lawful payload inner payloads inners) (λ n. refl) (λ n. refl) (λ n h. h)
-    (branch_takes (IsArtifact {S = S} {P = P} payload inner.is_value signature) artifact_tag (artifact_body payload inner.spelling signature) 2 (λ p. artifact.Certification p.0 p.1) _ (both_lawful round_lawful truth_lawful) (λ p. refl) (λ p. refl) (λ p h. h)
-    (branch_takes (IsArtifact {S = S} {P = P} payload inner.is_value signature) artifact_tag (artifact_body payload inner.spelling signature) 3 (λ v. artifact.Nullify v) _ (nullify_lawful signature signatures) (λ v. refl) (λ v. refl) (λ v h. h)
-    (branch_takes (IsArtifact {S = S} {P = P} payload inner.is_value signature) artifact_tag (artifact_body payload inner.spelling signature) 4 (λ n. artifact.Nullification n) _ (nullification_lawful inner inners) (λ n. refl) (λ n. refl) (λ n h. h)
-    (branch_takes (IsArtifact {S = S} {P = P} payload inner.is_value signature) artifact_tag (artifact_body payload inner.spelling signature) 5 (λ v. artifact.Finalize v) _ (finalize_lawful payload signature payloads signatures) (λ v. refl) (λ v. refl) (λ v h. h)
-    (branch_takes (IsArtifact {S = S} {P = P} payload inner.is_value signature) artifact_tag (artifact_body payload inner.spelling signature) 6 (λ n. artifact.Finalization n) _ (finalization_lawful payload inner payloads inners) (λ n. refl) (λ n. refl) (λ n h. h)
+    (branch_takes (IsArtifact {S = S} {P = P} payload inner.is_value signature) artifact_tag
+    (artifact_body payload inner.spelling signature) 0 (λ v. artifact.Notarize v) _
+    (notarize_lawful payload signature payloads signatures) (λ v. refl) (λ v. refl) (λ v h. h)
+    (branch_takes (IsArtifact {S = S} {P = P} payload inner.is_value signature) artifact_tag
+    (artifact_body payload inner.spelling signature) 1 (λ n. artifact.Notarization n) _
+    (notarization_lawful payload inner payloads inners) (λ n. refl) (λ n. refl) (λ n h. h)
+    (branch_takes (IsArtifact {S = S} {P = P} payload inner.is_value signature) artifact_tag
+    (artifact_body payload inner.spelling signature) 2 (λ p. artifact.Certification p.0 p.1) _ (both_lawful round_lawful truth_lawful)
+    (λ p. refl) (λ p. refl) (λ p h. h)
+    (branch_takes (IsArtifact {S = S} {P = P} payload inner.is_value signature) artifact_tag
+    (artifact_body payload inner.spelling signature) 3 (λ v. artifact.Nullify v) _ (nullify_lawful signature signatures) (λ v. refl)
+    (λ v. refl) (λ v h. h)
+    (branch_takes (IsArtifact {S = S} {P = P} payload inner.is_value signature) artifact_tag
+    (artifact_body payload inner.spelling signature) 4 (λ n. artifact.Nullification n) _ (nullification_lawful inner inners) (λ n. refl)
+    (λ n. refl) (λ n h. h)
+    (branch_takes (IsArtifact {S = S} {P = P} payload inner.is_value signature) artifact_tag
+    (artifact_body payload inner.spelling signature) 5 (λ v. artifact.Finalize v) _
+    (finalize_lawful payload signature payloads signatures) (λ v. refl) (λ v. refl) (λ v h. h)
+    (branch_takes (IsArtifact {S = S} {P = P} payload inner.is_value signature) artifact_tag
+    (artifact_body payload inner.spelling signature) 6 (λ n. artifact.Finalization n) _
+    (finalization_lawful payload inner payloads inners) (λ n. refl) (λ n. refl) (λ n h. h)
     (no_branch_takes unknown_artifact))))))))
     again
   where
-    again : (a : Artifact S D C P G) (rest : List ℕ) → IsArtifact payload inner.is_value signature a → artifact_branches payload inner signature (artifact_tag a) (artifact_body payload inner.spelling signature a ++ rest) ≡ Ok (a, rest)
+    again : (a : Artifact S D C P G) (rest : List ℕ) → IsArtifact payload inner.is_value signature a →
+        artifact_branches payload inner signature (artifact_tag a) (artifact_body payload inner.spelling signature a ++ rest) ≡ Ok (a, rest)
     again (artifact.Notarize v) rest h = rw ((notarize_lawful payload signature payloads signatures).again v rest h) refl
     again (artifact.Notarization n) rest h = rw ((notarization_lawful {S = S} {P = P} {G = G} payload inner payloads inners).again n rest h) refl
     again (artifact.Certification round certified) rest h = rw ((both_lawful round_lawful truth_lawful).again (round, certified) rest h) refl

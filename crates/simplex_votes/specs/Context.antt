@@ -10,20 +10,28 @@ use Rattle.simplex_votes.specs.declared.types.context.Context.{Context}
 
 -- the round, the leader, the parent's view and its payload
 abbrev pub context_format : {D P : Type 0} → Format D → Format P → Format (Context D P)
-context_format payload key = made (λ p. record { round = p.0; leader = p.1.0; parent = p.1.1 }) (λ c. (c.round, (c.leader, c.parent))) (both round_format (both key (both number_64 payload)))
+context_format payload key =
+    made (λ p. record { round = p.0; leader = p.1.0; parent = p.1.1 }) (λ c. (c.round, (c.leader, c.parent)))
+    (both round_format (both key (both number_64 payload)))
 
 pub context_lawful : {D P : Type 0} (payload : Format D) (key : Format P) → IsLawful payload → IsLawful key → IsLawful (context_format payload key)
-context_lawful payload key payloads keys = made_lawful _ _ (λ c. refl) (λ p. refl) (both_lawful round_lawful (both_lawful keys (both_lawful number_64_lawful payloads)))
+context_lawful payload key payloads keys =
+    made_lawful _ _ (λ c. refl) (λ p. refl) (both_lawful round_lawful (both_lawful keys (both_lawful number_64_lawful payloads)))
 
 -- ---- greatest sizes, with a payload of m bytes and a key of n bytes at most
 
-pub context_within : {D P : Type 0} (payload : Format D) (key : Format P) (m n : ℕ) → IsWithin payload m → IsWithin key n → IsWithin (context_format payload key) (30 + n + m)
+pub context_within : {D P : Type 0} (payload : Format D) (key : Format P) (m n : ℕ) → IsWithin payload m → IsWithin key n →
+    IsWithin (context_format payload key) (30 + n + m)
 context_within payload key m n payloads keys c h =
-    let most = both_within round_format (both key (both number_64 payload)) round_within (both_within key (both number_64 payload) keys (both_within number_64 payload number_64_within payloads)) (c.round, (c.leader, c.parent)) h in
+    let most = both_within round_format (both key (both number_64 payload)) round_within
+    (both_within key (both number_64 payload) keys (both_within number_64 payload number_64_within payloads))
+    (c.round, (c.leader, c.parent)) h in
     omega (arith, most)
 
-pub context_longest : {D P : Type 0} (payload : Format D) (key : Format P) (m n : ℕ) → Longest payload m → Longest key n → Longest (context_format payload key) (30 + n + m)
+pub context_longest : {D P : Type 0} (payload : Format D) (key : Format P) (m n : ℕ) → Longest payload m → Longest key n →
+    Longest (context_format payload key) (30 + n + m)
 context_longest payload key m n payloads keys =
     same_longest (context_format payload key) (omega arith)
     (made_longest (both round_format (both key (both number_64 payload))) _ _ (λ p. refl)
-    (both_longest round_format (both key (both number_64 payload)) longest_round (both_longest key (both number_64 payload) keys (both_longest number_64 payload number_64_longest payloads))))
+    (both_longest round_format (both key (both number_64 payload)) longest_round
+    (both_longest key (both number_64 payload) keys (both_longest number_64 payload number_64_longest payloads))))

@@ -37,12 +37,14 @@ vote_attestation (vote.Nullify v) = v.attestation
 vote_attestation (vote.Finalize v) = v.attestation
 
 -- the same member, equal by its type's equality
-abbrev pub same_vote : {S D P G : Type 0} → (Notarize S D P G → Notarize S D P G → Bool) → (Nullify S P G → Nullify S P G → Bool) → (Finalize S D P G → Finalize S D P G → Bool) →
-    Vote S D P G → Vote S D P G → Bool
-same_vote notarizes nullifies finalizes (vote.Notarize v) (vote.Notarize w) = notarizes v w
-same_vote notarizes nullifies finalizes (vote.Nullify v) (vote.Nullify w) = nullifies v w
-same_vote notarizes nullifies finalizes (vote.Finalize v) (vote.Finalize w) = finalizes v w
-same_vote notarizes nullifies finalizes _ _ = false
+module _ {S D P G : Type 0}
+    (notarizes : Notarize S D P G → Notarize S D P G → Bool) (nullifies : Nullify S P G → Nullify S P G → Bool)
+    (finalizes : Finalize S D P G → Finalize S D P G → Bool) where
+  abbrev pub same_vote : Vote S D P G → Vote S D P G → Bool
+  same_vote (vote.Notarize a) (vote.Notarize b) = notarizes a b
+  same_vote (vote.Nullify a) (vote.Nullify b) = nullifies a b
+  same_vote (vote.Finalize a) (vote.Finalize b) = finalizes a b
+  same_vote _ _ = false
 
 -- the refusal of a tag that no vote has
 abbrev pub unknown_vote : Refusal
@@ -79,27 +81,36 @@ vote_format payload signature = record {
   reading = union_at (vote_branches payload signature);
 }
 
-pub vote_lawful : {S D P G : Type 0} (payload : Format D) (signature : Format G) → IsLawful payload → IsLawful signature → IsLawful (vote_format {S = S} {P = P} payload signature)
+pub vote_lawful : {S D P G : Type 0} (payload : Format D) (signature : Format G) → IsLawful payload → IsLawful signature →
+    IsLawful (vote_format {S = S} {P = P} payload signature)
 vote_lawful {S} {D} {P} {G} payload signature payloads signatures =
     union_lawful
-    (branch_takes (IsVote {S = S} {P = P} payload signature) vote_tag (vote_body payload signature) 0 (λ v. vote.Notarize v) _ (notarize_lawful payload signature payloads signatures) (λ v. refl) (λ v. refl) (λ v h. h)
-    (branch_takes (IsVote {S = S} {P = P} payload signature) vote_tag (vote_body payload signature) 1 (λ v. vote.Nullify v) _ (nullify_lawful signature signatures) (λ v. refl) (λ v. refl) (λ v h. h)
-    (branch_takes (IsVote {S = S} {P = P} payload signature) vote_tag (vote_body payload signature) 2 (λ v. vote.Finalize v) _ (finalize_lawful payload signature payloads signatures) (λ v. refl) (λ v. refl) (λ v h. h)
+    (branch_takes (IsVote {S = S} {P = P} payload signature) vote_tag (vote_body payload signature) 0 (λ v. vote.Notarize v) _
+    (notarize_lawful payload signature payloads signatures) (λ v. refl) (λ v. refl) (λ v h. h)
+    (branch_takes (IsVote {S = S} {P = P} payload signature) vote_tag (vote_body payload signature) 1 (λ v. vote.Nullify v) _
+    (nullify_lawful signature signatures) (λ v. refl) (λ v. refl) (λ v h. h)
+    (branch_takes (IsVote {S = S} {P = P} payload signature) vote_tag (vote_body payload signature) 2 (λ v. vote.Finalize v) _
+    (finalize_lawful payload signature payloads signatures) (λ v. refl) (λ v. refl) (λ v h. h)
     (no_branch_takes unknown_vote))))
     again
   where
-    again : (v : Vote S D P G) (rest : List ℕ) → IsVote payload signature v → vote_branches payload signature (vote_tag v) (vote_body payload signature v ++ rest) ≡ Ok (v, rest)
+    again : (v : Vote S D P G) (rest : List ℕ) → IsVote payload signature v →
+        vote_branches payload signature (vote_tag v) (vote_body payload signature v ++ rest) ≡ Ok (v, rest)
     again (vote.Notarize v) rest h = rw ((notarize_lawful payload signature payloads signatures).again v rest h) refl
     again (vote.Nullify v) rest h = rw ((nullify_lawful {S = S} {P = P} signature signatures).again v rest h) refl
     again (vote.Finalize v) rest h = rw ((finalize_lawful payload signature payloads signatures).again v rest h) refl
 
 -- with a payload of m bytes and a signature of n bytes at most, a vote is longest with a proposal
-pub vote_within : {S D P G : Type 0} (payload : Format D) (signature : Format G) (m n : ℕ) → IsWithin payload m → IsWithin signature n → IsWithin (vote_format {S = S} {P = P} payload signature) (36 + m + n)
-vote_within payload signature m n payloads signatures (vote.Notarize v) h = let most = notarize_within payload signature m n payloads signatures v h in omega (arith, most)
+pub vote_within : {S D P G : Type 0} (payload : Format D) (signature : Format G) (m n : ℕ) → IsWithin payload m → IsWithin signature n →
+    IsWithin (vote_format {S = S} {P = P} payload signature) (36 + m + n)
+vote_within payload signature m n payloads signatures (vote.Notarize v) h =
+    let most = notarize_within payload signature m n payloads signatures v h in omega (arith, most)
 vote_within payload signature m n payloads signatures (vote.Nullify v) h = let most = nullify_within signature n signatures v h in omega (arith, most)
-vote_within payload signature m n payloads signatures (vote.Finalize v) h = let most = finalize_within payload signature m n payloads signatures v h in omega (arith, most)
+vote_within payload signature m n payloads signatures (vote.Finalize v) h =
+    let most = finalize_within payload signature m n payloads signatures v h in omega (arith, most)
 
-pub vote_longest : {S D P G : Type 0} (payload : Format D) (signature : Format G) (m n : ℕ) → Longest payload m → Longest signature n → Longest (vote_format {S = S} {P = P} payload signature) (36 + m + n)
+pub vote_longest : {S D P G : Type 0} (payload : Format D) (signature : Format G) (m n : ℕ) → Longest payload m → Longest signature n →
+    Longest (vote_format {S = S} {P = P} payload signature) (36 + m + n)
 vote_longest {S} {D} {P} {G} payload signature m n payloads signatures =
     let longest = notarize_longest {S = S} {P = P} payload signature m n payloads signatures in
     let most = longest.2 in
@@ -115,12 +126,15 @@ same_kind kind.Finalization kind.Finalization = true
 same_kind _ _ = false
 
 -- the same member, equal by its type's equality
-abbrev pub same_certificate : {S D C P G : Type 0} → (Notarization S D C P G → Notarization S D C P G → Bool) → (Nullification S C P G → Nullification S C P G → Bool) → (Finalization S D C P G → Finalization S D C P G → Bool) →
-    Certificate S D C P G → Certificate S D C P G → Bool
-same_certificate notarizations nullifications finalizations (certificate.Notarization n) (certificate.Notarization m) = notarizations n m
-same_certificate notarizations nullifications finalizations (certificate.Nullification n) (certificate.Nullification m) = nullifications n m
-same_certificate notarizations nullifications finalizations (certificate.Finalization n) (certificate.Finalization m) = finalizations n m
-same_certificate notarizations nullifications finalizations _ _ = false
+module _ {S D C P G : Type 0}
+    (notarizations : Notarization S D C P G → Notarization S D C P G → Bool)
+    (nullifications : Nullification S C P G → Nullification S C P G → Bool)
+    (finalizations : Finalization S D C P G → Finalization S D C P G → Bool) where
+  abbrev pub same_certificate : Certificate S D C P G → Certificate S D C P G → Bool
+  same_certificate (certificate.Notarization a) (certificate.Notarization b) = notarizations a b
+  same_certificate (certificate.Nullification a) (certificate.Nullification b) = nullifications a b
+  same_certificate (certificate.Finalization a) (certificate.Finalization b) = finalizations a b
+  same_certificate _ _ = false
 
 -- the kind of a certificate message
 abbrev pub certificate_kind : {S D C P G : Type 0} → Certificate S D C P G → Kind
@@ -191,16 +205,21 @@ certificate_format payload inner = record {
   reading = union_at (certificate_branches payload inner);
 }
 
-pub certificate_lawful : {S D C P G : Type 0} (payload : Format D) (inner : Format C) → IsLawful payload → IsLawful inner → IsLawful (certificate_format {S = S} {P = P} {G = G} payload inner)
+pub certificate_lawful : {S D C P G : Type 0} (payload : Format D) (inner : Format C) → IsLawful payload → IsLawful inner →
+    IsLawful (certificate_format {S = S} {P = P} {G = G} payload inner)
 certificate_lawful {S} {D} {C} {P} {G} payload inner payloads inners =
     union_lawful
-    (branch_takes (IsCertificate {S = S} {P = P} {G = G} payload inner.is_value) certificate_tag (certificate_body payload inner.spelling) 0 (λ n. certificate.Notarization n) _ (notarization_lawful payload inner payloads inners) (λ n. refl) (λ n. refl) (λ n h. h)
-    (branch_takes (IsCertificate {S = S} {P = P} {G = G} payload inner.is_value) certificate_tag (certificate_body payload inner.spelling) 1 (λ n. certificate.Nullification n) _ (nullification_lawful inner inners) (λ n. refl) (λ n. refl) (λ n h. h)
-    (branch_takes (IsCertificate {S = S} {P = P} {G = G} payload inner.is_value) certificate_tag (certificate_body payload inner.spelling) 2 (λ n. certificate.Finalization n) _ (finalization_lawful payload inner payloads inners) (λ n. refl) (λ n. refl) (λ n h. h)
+    (branch_takes (IsCertificate {S = S} {P = P} {G = G} payload inner.is_value) certificate_tag (certificate_body payload inner.spelling) 0
+    (λ n. certificate.Notarization n) _ (notarization_lawful payload inner payloads inners) (λ n. refl) (λ n. refl) (λ n h. h)
+    (branch_takes (IsCertificate {S = S} {P = P} {G = G} payload inner.is_value) certificate_tag (certificate_body payload inner.spelling) 1
+    (λ n. certificate.Nullification n) _ (nullification_lawful inner inners) (λ n. refl) (λ n. refl) (λ n h. h)
+    (branch_takes (IsCertificate {S = S} {P = P} {G = G} payload inner.is_value) certificate_tag (certificate_body payload inner.spelling) 2
+    (λ n. certificate.Finalization n) _ (finalization_lawful payload inner payloads inners) (λ n. refl) (λ n. refl) (λ n h. h)
     (no_branch_takes unknown_certificate))))
     again
   where
-    again : (c : Certificate S D C P G) (rest : List ℕ) → IsCertificate payload inner.is_value c → certificate_branches payload inner (certificate_tag c) (certificate_body payload inner.spelling c ++ rest) ≡ Ok (c, rest)
+    again : (c : Certificate S D C P G) (rest : List ℕ) → IsCertificate payload inner.is_value c →
+        certificate_branches payload inner (certificate_tag c) (certificate_body payload inner.spelling c ++ rest) ≡ Ok (c, rest)
     again (certificate.Notarization n) rest h = rw ((notarization_lawful {S = S} {P = P} {G = G} payload inner payloads inners).again n rest h) refl
     again (certificate.Nullification n) rest h = rw ((nullification_lawful {S = S} {P = P} {G = G} inner inners).again n rest h) refl
     again (certificate.Finalization n) rest h = rw ((finalization_lawful {S = S} {P = P} {G = G} payload inner payloads inners).again n rest h) refl

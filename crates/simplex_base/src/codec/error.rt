@@ -34,11 +34,11 @@ impl EqByParts for Error {
     ghost same = { same_error };
 
     ghost equal = { elim [
-        EndOfBuffer ↦ elim [ EndOfBuffer ↦ refl | _ ↦ refl ]
-        | InvalidVarint ↦ elim [ InvalidVarint ↦ refl | _ ↦ refl ]
-        | InvalidBool ↦ elim [ InvalidBool ↦ refl | _ ↦ refl ]
-        | Invalid _ _ ↦ elim [ Invalid _ _ ↦ refl | _ ↦ refl ]
-        | ExtraData ↦ elim [ ExtraData ↦ refl | _ ↦ refl ]
-        | OutOfMemory ↦ elim [ OutOfMemory ↦ refl | _ ↦ refl ]
+      | EndOfBuffer ↦ elim [ EndOfBuffer ↦ refl | _ ↦ refl ]
+      | InvalidVarint ↦ elim [ InvalidVarint ↦ refl | _ ↦ refl ]
+      | InvalidBool ↦ elim [ InvalidBool ↦ refl | _ ↦ refl ]
+      | Invalid _ _ ↦ elim [ Invalid _ _ ↦ refl | _ ↦ refl ]
+      | ExtraData ↦ elim [ ExtraData ↦ refl | _ ↦ refl ]
+      | OutOfMemory ↦ elim [ OutOfMemory ↦ refl | _ ↦ refl ]
     ] };
 }

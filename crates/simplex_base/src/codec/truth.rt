@@ -55,30 +55,3 @@ impl Read for bool {
 
     ghost lawful = { λ _. truth_lawful };
 }
-
-#[cfg(test)]
-mod tests {
-    use super::*;
-    use crate::codec::{Encode, decode};
-    use std::test::Fail;
-
-    #[test]
-    fn truth_values_are_one_byte(rt: HostRuntime) -> Result<(), Fail> {
-        let alloc = rt.alloc();
-        let rows: [(bool, &[u8]); 2] = [(false, &[0]), (true, &[1])];
-        for (value, spelling) in rows {
-            assert_eq!(rt; value.encode(alloc)?.as_slice(), spelling);
-            assert_eq!(rt; value.encode_size(), 1);
-            assert_eq!(rt; decode::<bool>(alloc, spelling), Ok(value));
-        }
-        let refused: [(&[u8], Error); 3] = [
-            (&[], Error::EndOfBuffer),
-            (&[2], Error::InvalidBool),
-            (&[1, 0], Error::ExtraData),
-        ];
-        for (bytes, error) in refused {
-            assert_eq!(rt; decode::<bool>(alloc, bytes), Err(error), "of {bytes:?}");
-        }
-        Ok(())
-    }
-}

@@ -9,8 +9,8 @@ ghost use Rattle.simplex_base.specs.VarintLaws.{number_64_lawful, longest_64, gr
 use crate::codec::error::Error;
 use crate::codec::varint::{read_u64, size_u64, write_u64};
 use crate::codec::{EncodeSize, MaxEncodeSize, Read, Spell, Write};
-use std::alloc::{AllocError, Global};
 use crate::values::{EqByParts, OrdByParts};
+use std::alloc::{AllocError, Global};
 use std::marker::Model;
 
 /// A period with one committee: a number from 0 to 2^64 - 1, spelled in 1 to 10 bytes.

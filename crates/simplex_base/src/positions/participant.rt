@@ -9,8 +9,8 @@ ghost use Rattle.simplex_base.specs.VarintLaws.{number_32_lawful, longest_32, gr
 use crate::codec::error::Error;
 use crate::codec::varint::{read_u32, size_u32, write_u32};
 use crate::codec::{EncodeSize, MaxEncodeSize, Read, Spell, Write};
-use std::alloc::{AllocError, Global};
 use crate::values::{EqByParts, OrdByParts};
+use std::alloc::{AllocError, Global};
 use std::marker::Model;
 
 /// The number of a member of the committee, from 0 to 2^32 - 1, spelled in 1 to 5 bytes.

@@ -9,8 +9,8 @@ use crate::codec::parts::{size_both, write_both};
 use crate::codec::{EncodeSize, MaxEncodeSize, Read, Spell, Write};
 use crate::positions::epoch::{Epoch, Epochable};
 use crate::positions::view::{View, Viewable};
-use std::alloc::{AllocError, Global};
 use crate::values::{EqByParts, OrdByParts};
+use std::alloc::{AllocError, Global};
 use std::marker::Model;
 
 /// A view of an epoch, ordered by epoch and then by view, spelled in 2 to 20 bytes.

@@ -10,8 +10,8 @@ use crate::codec::error::Error;
 use crate::codec::varint::{read_u64, size_u64, write_u64};
 use crate::codec::{EncodeSize, MaxEncodeSize, Read, Spell, Write};
 use crate::positions::view_delta::ViewDelta;
-use std::alloc::{AllocError, Global};
 use crate::values::{EqByParts, OrdByParts};
+use std::alloc::{AllocError, Global};
 use std::marker::Model;
 
 /// A place in the order of an epoch's proposals: a number from 0 (genesis) to 2^64 - 1, spelled in 1 to 10

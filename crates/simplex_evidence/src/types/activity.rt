@@ -127,16 +127,16 @@ impl<S: CertificateScheme, D: Digest> EqByParts for Activity<S, D> {
         ⟦<NullifyFinalize<S, D> as PartialEq>⟧.eq };
 
     ghost equal = { elim [
-        Notarize _ ↦ elim [ Notarize _ ↦ refl | _ ↦ refl ]
-        | Notarization _ ↦ elim [ Notarization _ ↦ refl | _ ↦ refl ]
-        | Certification _ ↦ elim [ Certification _ ↦ refl | _ ↦ refl ]
-        | Nullify _ ↦ elim [ Nullify _ ↦ refl | _ ↦ refl ]
-        | Nullification _ ↦ elim [ Nullification _ ↦ refl | _ ↦ refl ]
-        | Finalize _ ↦ elim [ Finalize _ ↦ refl | _ ↦ refl ]
-        | Finalization _ ↦ elim [ Finalization _ ↦ refl | _ ↦ refl ]
-        | ConflictingNotarize _ ↦ elim [ ConflictingNotarize _ ↦ refl | _ ↦ refl ]
-        | ConflictingFinalize _ ↦ elim [ ConflictingFinalize _ ↦ refl | _ ↦ refl ]
-        | NullifyFinalize _ ↦ elim [ NullifyFinalize _ ↦ refl | _ ↦ refl ]
+      | Notarize _ ↦ elim [ Notarize _ ↦ refl | _ ↦ refl ]
+      | Notarization _ ↦ elim [ Notarization _ ↦ refl | _ ↦ refl ]
+      | Certification _ ↦ elim [ Certification _ ↦ refl | _ ↦ refl ]
+      | Nullify _ ↦ elim [ Nullify _ ↦ refl | _ ↦ refl ]
+      | Nullification _ ↦ elim [ Nullification _ ↦ refl | _ ↦ refl ]
+      | Finalize _ ↦ elim [ Finalize _ ↦ refl | _ ↦ refl ]
+      | Finalization _ ↦ elim [ Finalization _ ↦ refl | _ ↦ refl ]
+      | ConflictingNotarize _ ↦ elim [ ConflictingNotarize _ ↦ refl | _ ↦ refl ]
+      | ConflictingFinalize _ ↦ elim [ ConflictingFinalize _ ↦ refl | _ ↦ refl ]
+      | NullifyFinalize _ ↦ elim [ NullifyFinalize _ ↦ refl | _ ↦ refl ]
     ] };
 }
 

@@ -182,8 +182,3 @@ fn place_of<T: Attributable>(items: &[T], signer: Participant) -> Result<usize, 
 {
     items.binary_search_by_key(&signer.get(), |item| item.signer().get())
 }
-
-#[cfg(test)]
-mod slots;
-#[cfg(test)]
-mod tests;

@@ -3,8 +3,8 @@
 ghost use Rattle.std.specs.Prelude.{◌≡◌, ◌<◌, IfOk, length, map};
 ghost use Rattle.simplex_scheme.specs.Subject.{subject_value, Notarizes, Nullifies, Finalizes};
 
-use simplex_scheme::subject::Subject;
 use simplex_scheme::scheme::{CertificateVerifier, Digest};
+use simplex_scheme::subject::Subject;
 use simplex_votes::types::{Finalization, Notarization, Nullification};
 use std::alloc::{AllocError, Global};
 
@@ -40,7 +40,7 @@ pub fn verify_notarizations<S: CertificateVerifier<D>, D: Digest>(
 {
     messages
         .iter()
-        .map(|message| message.verify(scheme))
+        .map(|notarization| notarization.verify(scheme))
         .collect(alloc)
 }
 
@@ -68,7 +68,7 @@ pub fn verify_finalizations<S: CertificateVerifier<D>, D: Digest>(
 {
     messages
         .iter()
-        .map(|message| message.verify(scheme))
+        .map(|finalization| finalization.verify(scheme))
         .collect(alloc)
 }
 
@@ -94,6 +94,3 @@ fn bisect<'a, S: CertificateVerifier<D>, D: Digest>(
     bisect(scheme, first, first_answers);
     bisect(scheme, second, second_answers);
 }
-
-#[cfg(test)]
-mod tests;

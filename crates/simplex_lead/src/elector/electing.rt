@@ -1,25 +1,29 @@
 //! What electors are, and what they are made of.
 
-ghost use Rattle.std.specs.Prelude.{◌≡◌, ℕ, ◌<◌, ◌≤◌, ◌^◌, Option, length, IfOk};
+ghost use Rattle.std.specs.Prelude.{◌≡◌, ℕ, ◌<◌, ◌≤◌, ◌^◌, ◌↔◌, List, Option, length, IfOk};
 ghost use Rattle.std.specs.Option.{option_copied};
 ghost use Rattle.simplex_base.specs.Positions as positions;
 ghost use Rattle.simplex_base.specs.Terms.{HoldsView};
+ghost use Rattle.simplex_lead.specs.Election.{ElectAlike};
 ghost use Rattle.simplex_lead.specs.Structure as structure;
-ghost use Rattle.simplex_lead.specs.declared.elector.modes.Mode as modes;
-ghost use Rattle.simplex_lead.specs.declared.elector.modes.Mode.TheVariants.{Scheduled};
+ghost use Rattle.simplex_lead.specs.declared.elector.mode.Mode as modes;
+ghost use Rattle.simplex_lead.specs.declared.elector.mode.Mode.TheVariants.{Scheduled};
 
-use crate::elector::modes::Mode;
-use crate::elector::structure::Terms;
+use crate::elector::mode::Mode;
+use crate::elector::terms::Terms;
 use simplex_base::positions::{Participant, Round};
 use simplex_scheme::scheme::CertificateScheme;
 use simplex_scheme::set::Set;
 use std::alloc::{AllocError, Global};
 
-/// What an elector is made of, once the committee is known. Nodes that hold equal ones of these elect the same
-/// leaders.
+/// What an elector is made of, once the committee is known. Nodes that hold equal ones of these, or clones, and
+/// the same keys elect the same leaders.
 pub trait Config<S: CertificateScheme>: Clone {
     /// The elector that is made.
     type Elector: Elector<S>;
+
+    /// The electors that are made of a configuration and the keys of a committee.
+    ghost builds: { Self → List S.PublicKey → Self.Elector → Type 0 };
 
     /// The elector of a committee of 1 to 2^32 - 1 participants, as [`Set::len`] tells, each leader being one of
     /// them. `AllocError` comes where it found no memory.
@@ -30,7 +34,17 @@ pub trait Config<S: CertificateScheme>: Clone {
     ) -> Result<Self::Elector, AllocError>
         requires some { 1 ≤ length participants.now }
         requires few { length participants.now < 2 ^ 32 }
-        ensures { IfOk result (λ elector. Self.Elector.participants_of elector ≡ length participants.now) };
+        ensures built { IfOk result (λ elector. builds self participants.now elector) }
+        ensures participants { IfOk result (λ elector. Self.Elector.participants_of elector ≡ length participants.now) };
+
+    /// Electors of one configuration and the same keys elect alike.
+    ghost agree: { (config : Self) (keys : List S.PublicKey) (one other : Self.Elector) →
+        builds config keys one → builds config keys other →
+        ElectAlike Self.Elector.mode_of Self.Elector.terms_of Self.Elector.participants_of Self.Elector.leader_of one other };
+
+    /// A clone makes the same electors.
+    ghost clones: { (config copy : Self) (keys : List S.PublicKey) (elector : Self.Elector) →
+        Self.is_clone config copy → (builds copy keys elector ↔ builds config keys elector) };
 }
 
 /// Who leads each round of a committee.
@@ -66,6 +80,12 @@ pub trait Elector<S: CertificateScheme>: Clone {
 
     /// A term of an epoch has one leader, with the same certificate.
     ghost one_a_term: { (elector : Self) (one other : positions.Round) (term : ℕ) (certificate : Option S.Certificate) →
-        one.epoch ≡ other.epoch → HoldsView (terms_of elector).term_length term one.view → HoldsView (terms_of elector).term_length term other.view →
+        one.epoch ≡ other.epoch →
+        HoldsView (terms_of elector).term_length term one.view →
+        HoldsView (terms_of elector).term_length term other.view →
         leader_of elector one certificate ≡ leader_of elector other certificate };
+
+    /// A clone elects alike.
+    ghost clones: { (elector copy : Self) →
+        Self.is_clone elector copy → ElectAlike mode_of terms_of participants_of leader_of elector copy };
 }

@@ -4,13 +4,13 @@ ghost use Rattle.std.specs.Prelude.{◌≡◌, ◌+◌, ◌^◌, IfOk, IfErr, Is
 ghost use Rattle.simplex_base.specs.Readable.{format_of, format_under};
 
 use crate::types::certificate::Certificate;
-use crate::types::vote::Vote;
-use crate::types::notarization::Notarization;
 use crate::types::finalization::Finalization;
 use crate::types::finalize::Finalize;
+use crate::types::notarization::Notarization;
+use crate::types::notarize::Notarize;
 use crate::types::nullification::Nullification;
 use crate::types::nullify::Nullify;
-use crate::types::notarize::Notarize;
+use crate::types::vote::Vote;
 use simplex_base::codec::error::Error;
 use simplex_base::codec::unions::{Tagged, read_tagged, write_tagged};
 use simplex_base::codec::{EncodeSize, Fixed, Read, Spell, Write};
@@ -72,13 +72,13 @@ impl<S: CertificateScheme, D: Digest> EqByParts for Artifact<S, D> {
     ghost same = { same_artifact ⟦<Notarize<S, D> as PartialEq>⟧.eq ⟦<Notarization<S, D> as PartialEq>⟧.eq ⟦<Round as PartialEq>⟧.eq ⟦<bool as PartialEq>⟧.eq ⟦<Nullify<S> as PartialEq>⟧.eq ⟦<Nullification<S> as PartialEq>⟧.eq ⟦<Finalize<S, D> as PartialEq>⟧.eq ⟦<Finalization<S, D> as PartialEq>⟧.eq };
 
     ghost equal = { elim [
-        Notarize _ ↦ elim [ Notarize _ ↦ refl | _ ↦ refl ]
-        | Notarization _ ↦ elim [ Notarization _ ↦ refl | _ ↦ refl ]
-        | Certification _ _ ↦ elim [ Certification _ _ ↦ refl | _ ↦ refl ]
-        | Nullify _ ↦ elim [ Nullify _ ↦ refl | _ ↦ refl ]
-        | Nullification _ ↦ elim [ Nullification _ ↦ refl | _ ↦ refl ]
-        | Finalize _ ↦ elim [ Finalize _ ↦ refl | _ ↦ refl ]
-        | Finalization _ ↦ elim [ Finalization _ ↦ refl | _ ↦ refl ]
+      | Notarize _ ↦ elim [ Notarize _ ↦ refl | _ ↦ refl ]
+      | Notarization _ ↦ elim [ Notarization _ ↦ refl | _ ↦ refl ]
+      | Certification _ _ ↦ elim [ Certification _ _ ↦ refl | _ ↦ refl ]
+      | Nullify _ ↦ elim [ Nullify _ ↦ refl | _ ↦ refl ]
+      | Nullification _ ↦ elim [ Nullification _ ↦ refl | _ ↦ refl ]
+      | Finalize _ ↦ elim [ Finalize _ ↦ refl | _ ↦ refl ]
+      | Finalization _ ↦ elim [ Finalization _ ↦ refl | _ ↦ refl ]
     ] };
 }
 

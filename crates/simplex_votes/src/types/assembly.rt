@@ -6,10 +6,10 @@ ghost use Rattle.simplex_scheme.specs.Committee.{quorum_of, signers_of};
 ghost use Rattle.simplex_scheme.specs.Subject.{SubjectValue};
 ghost use Rattle.simplex_votes.specs.Assembly.{CanAssemble};
 
-use crate::types::finalize::Finalize;
-use crate::types::nullify::Nullify;
 use crate::types::attributable::Attributable;
+use crate::types::finalize::Finalize;
 use crate::types::notarize::Notarize;
+use crate::types::nullify::Nullify;
 use simplex_base::positions::{Participant, Round};
 use simplex_scheme::faults::quorum;
 use simplex_scheme::proposal::Proposal;

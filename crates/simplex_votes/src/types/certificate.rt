@@ -3,8 +3,8 @@
 ghost use Rattle.std.specs.Prelude.{◌≡◌, ◌+◌, ◌≤◌, ◌^◌, IfOk, Some, length};
 ghost use Rattle.simplex_base.specs.Readable.{format_of, format_under};
 
-use crate::types::notarization::Notarization;
 use crate::types::finalization::Finalization;
+use crate::types::notarization::Notarization;
 use crate::types::nullification::Nullification;
 use simplex_base::codec::error::Error;
 use simplex_base::codec::unions::{Tagged, read_tagged, write_tagged};
@@ -47,9 +47,9 @@ impl EqByParts for Kind {
     ghost same = { same_kind };
 
     ghost equal = { elim [
-        Notarization ↦ elim [ Notarization ↦ refl | _ ↦ refl ]
-        | Nullification ↦ elim [ Nullification ↦ refl | _ ↦ refl ]
-        | Finalization ↦ elim [ Finalization ↦ refl | _ ↦ refl ]
+      | Notarization ↦ elim [ Notarization ↦ refl | _ ↦ refl ]
+      | Nullification ↦ elim [ Nullification ↦ refl | _ ↦ refl ]
+      | Finalization ↦ elim [ Finalization ↦ refl | _ ↦ refl ]
     ] };
 }
 
@@ -141,9 +141,9 @@ impl<S: CertificateScheme, D: Digest> EqByParts for Certificate<S, D> {
     ghost same = { same_certificate ⟦<Notarization<S, D> as PartialEq>⟧.eq ⟦<Nullification<S> as PartialEq>⟧.eq ⟦<Finalization<S, D> as PartialEq>⟧.eq };
 
     ghost equal = { elim [
-        Notarization _ ↦ elim [ Notarization _ ↦ refl | _ ↦ refl ]
-        | Nullification _ ↦ elim [ Nullification _ ↦ refl | _ ↦ refl ]
-        | Finalization _ ↦ elim [ Finalization _ ↦ refl | _ ↦ refl ]
+      | Notarization _ ↦ elim [ Notarization _ ↦ refl | _ ↦ refl ]
+      | Nullification _ ↦ elim [ Nullification _ ↦ refl | _ ↦ refl ]
+      | Finalization _ ↦ elim [ Finalization _ ↦ refl | _ ↦ refl ]
     ] };
 }
 

@@ -11,8 +11,8 @@ use simplex_base::codec::{EncodeSize, Fixed, FixedSize, MaxEncodeSize, Read, Spe
 use simplex_base::positions::{Participant, Round, Roundable};
 use simplex_base::values::EqByParts;
 use simplex_scheme::proposal::Proposal;
-use simplex_scheme::subject::Subject;
 use simplex_scheme::scheme::{Attestation, Digest, Scheme, SchemeTypes};
+use simplex_scheme::subject::Subject;
 use std::alloc::{AllocError, Global};
 
 /// A vote to finalize a proposal, spelled as the proposal and the attestation.
@@ -60,10 +60,10 @@ impl<S: Scheme<D>, D: Digest> Finalize<S, D> {
             (vote.proposal ≡ proposal) × (S.own scheme.now ≡ Some vote.attestation.signer) ×
             (S.good scheme.now (Finalizes proposal) vote.attestation.signer vote.attestation.signature ≡ true))) }
     {
-        let subject = Subject::Finalize {
+        let to_sign = Subject::Finalize {
             proposal: &proposal,
         };
-        match scheme.sign(alloc, subject)? {
+        match scheme.sign(alloc, to_sign)? {
             Some(attestation) => Ok(Some(Finalize {
                 proposal,
                 attestation,

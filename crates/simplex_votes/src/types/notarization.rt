@@ -13,10 +13,10 @@ use simplex_base::codec::{EncodeSize, Fixed, FixedSize, MaxEncodeSize, Read, Spe
 use simplex_base::positions::{Round, Roundable, View};
 use simplex_base::values::EqByParts;
 use simplex_scheme::proposal::Proposal;
-use simplex_scheme::subject::Subject;
 use simplex_scheme::scheme::{
     AssemblyError, CertificateScheme, CertificateVerifier, Digest, Scheme,
 };
+use simplex_scheme::subject::Subject;
 use std::alloc::{AllocError, Global};
 
 /// A proposal with a certificate of votes to notarize it, spelled in that order. It is read under the

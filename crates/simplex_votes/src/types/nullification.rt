@@ -12,10 +12,10 @@ use simplex_base::codec::parts::{size_both, write_both};
 use simplex_base::codec::{EncodeSize, MaxEncodeSize, Read, Spell, Write};
 use simplex_base::positions::{Round, Roundable};
 use simplex_base::values::EqByParts;
-use simplex_scheme::subject::Subject;
 use simplex_scheme::scheme::{
     AssemblyError, CertificateScheme, CertificateVerifier, Digest, Scheme,
 };
+use simplex_scheme::subject::Subject;
 use std::alloc::{AllocError, Global};
 
 /// A round with a certificate of votes to nullify it, spelled in that order. It is read under the committee's

@@ -10,8 +10,8 @@ use simplex_base::codec::parts::{size_both, write_both};
 use simplex_base::codec::{EncodeSize, Fixed, FixedSize, MaxEncodeSize, Read, Spell, Write};
 use simplex_base::positions::{Participant, Round, Roundable};
 use simplex_base::values::EqByParts;
-use simplex_scheme::subject::Subject;
 use simplex_scheme::scheme::{Attestation, Digest, Scheme, SchemeTypes};
+use simplex_scheme::subject::Subject;
 use std::alloc::{AllocError, Global};
 
 /// A vote to nullify a round, spelled as the round and the attestation.

@@ -3,10 +3,10 @@
 ghost use Rattle.std.specs.Prelude.{◌≡◌, ⊤, ◌+◌, false};
 ghost use Rattle.simplex_base.specs.Readable.{format_of};
 
-use crate::types::finalize::Finalize;
-use crate::types::nullify::Nullify;
 use crate::types::attributable::Attributable;
+use crate::types::finalize::Finalize;
 use crate::types::notarize::Notarize;
+use crate::types::nullify::Nullify;
 use simplex_base::codec::error::Error;
 use simplex_base::codec::unions::{Tagged, read_tagged, write_tagged};
 use simplex_base::codec::{EncodeSize, Fixed, FixedSize, MaxEncodeSize, Read, Spell, Write};
@@ -49,9 +49,9 @@ impl<S: SchemeTypes, D: Digest> EqByParts for Vote<S, D> {
     ghost same = { same_vote ⟦<Notarize<S, D> as PartialEq>⟧.eq ⟦<Nullify<S> as PartialEq>⟧.eq ⟦<Finalize<S, D> as PartialEq>⟧.eq };
 
     ghost equal = { elim [
-        Notarize _ ↦ elim [ Notarize _ ↦ refl | _ ↦ refl ]
-        | Nullify _ ↦ elim [ Nullify _ ↦ refl | _ ↦ refl ]
-        | Finalize _ ↦ elim [ Finalize _ ↦ refl | _ ↦ refl ]
+      | Notarize _ ↦ elim [ Notarize _ ↦ refl | _ ↦ refl ]
+      | Nullify _ ↦ elim [ Nullify _ ↦ refl | _ ↦ refl ]
+      | Finalize _ ↦ elim [ Finalize _ ↦ refl | _ ↦ refl ]
     ] };
 }
 

@@ -1,0 +1,74 @@
+//! The program as a function over what its process is given.
+
+ghost use Rattle.std.specs.Prelude.{◌≡◌, ◌≢◌, ◌⊎◌, IfOk, IfErr, OnErr, drop, map, string_bytes};
+ghost use Rattle.std.specs.IoError.{error_kind};
+ghost use Rattle.std.specs.Vec.Iter.{into_iter_items};
+ghost use Rattle.audit.specs.Arguments.{AreNoArguments, words_of};
+ghost use Rattle.audit.specs.Answer.{Ends, Ending, status_of, said_of};
+ghost use Rattle.audit.specs.Status.{complaint_of, number_of};
+ghost use Rattle.audit.specs.Streams.{AppendsBeginning};
+
+use crate::command::{command, conclude};
+use crate::status::{Failure, Status};
+use crate::streams::{Input, Output};
+use std::alloc::{AllocError, Global};
+use std::env::Args;
+use std::io;
+use std::io::ErrorKind;
+
+/// The arguments after the program's name.
+fn without_name(alloc: Global, given: Args) -> Result<Vec<String>, AllocError>
+    ensures { IfOk result (λ words. map string_bytes words.items ≡ words_of (into_iter_items given)) }
+{
+    let mut words = Vec::with_capacity(alloc, given.len())?;
+    words.extend(given.skip(1))?;
+    Ok(words)
+}
+
+/// Why arguments can't be had: for want of memory, or because one of them is not UTF-8.
+fn no_arguments(error: &io::Error) -> Failure
+    ensures memory { error_kind error.now ≡ ErrorKind.OutOfMemory → result ≡ Failure.OutOfMemory }
+    ensures usage { error_kind error.now ≢ ErrorKind.OutOfMemory → result ≡ Failure.Usage }
+{
+    if error.kind() == ErrorKind::OutOfMemory {
+        Failure::OutOfMemory
+    } else {
+        Failure::Usage
+    }
+}
+
+/// Runs the program over the arguments that its process is given, the program's name first, and its three
+/// streams, and answers the number that the process ends with.
+///
+/// Where the arguments can't be had nothing is read or written, and the number is that of a failure for want
+/// of memory, or else of arguments that are no namespace and keys.
+pub fn start<R: Input, W: Output, E: Output>(
+    alloc: Global,
+    given: io::Result<Args>,
+    input: &mut R,
+    output: &mut W,
+    errors: &mut E,
+) -> u8
+    ensures ends { IfOk given (λ given. (ending : Ending) × (result ≡ number_of (status_of ending))
+        × AppendsBeginning (E.contents errors.old) (E.contents errors.new) (said_of ending)
+        × Ends (words_of (into_iter_items given))
+        (record { before = R.remaining input.old; after = R.remaining input.new; failed = R.has_failed input.new })
+        (record { before = W.contents output.old; after = W.contents output.new; failed = W.has_failed output.new; flushed = W.is_flushed output.new })
+        ending) }
+    ensures refused { IfOk given (λ given. AreNoArguments (words_of (into_iter_items given)) → (result ≡ 2) ⊎ (result ≡ 3)) }
+    ensures untouched { IfOk given (λ given. AreNoArguments (words_of (into_iter_items given)) → (input.new ≡ input.old) × (output.new ≡ output.old)) }
+    ensures memory { IfErr given (λ error. error_kind error ≡ ErrorKind.OutOfMemory → (result ≡ 3)
+        × AppendsBeginning (E.contents errors.old) (E.contents errors.new) (complaint_of Failure.OutOfMemory)) }
+    ensures usage { IfErr given (λ error. error_kind error ≢ ErrorKind.OutOfMemory → (result ≡ 2)
+        × AppendsBeginning (E.contents errors.old) (E.contents errors.new) (complaint_of Failure.Usage)) }
+    ensures unused { OnErr given ((input.new ≡ input.old) × (output.new ≡ output.old)) }
+{
+    let given = match given {
+        Ok(given) => given,
+        Err(error) => return conclude(errors, Err(no_arguments(&error))).number(),
+    };
+    match without_name(alloc, given) {
+        Ok(words) => command(alloc, words.as_slice(), input, output, errors).number(),
+        Err(_) => conclude(errors, Err(Failure::OutOfMemory)).number(),
+    }
+}

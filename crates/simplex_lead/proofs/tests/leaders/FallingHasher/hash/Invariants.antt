@@ -1,7 +1,0 @@
-use Rattle.std.proofs.Common.{◌≡◌, take}
-use Rattle.std.specs.List.{fold}
-use Rattle.simplex_scheme.specs.Parts.{joined}
-use Rattle.simplex_lead.proofs.tests.leaders.FallingHasher.hash.Given as goal
-
-abbrev pub invariant-loop-part : goal.invariant-loop-part
-invariant-loop-part l = l.last ≡ fold (λ _ byte. byte) 0 (joined (take l.part-index l.parts))

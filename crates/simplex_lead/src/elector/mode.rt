@@ -1,0 +1,54 @@
+//! What electors go by.
+
+ghost use Rattle.std.specs.Prelude.{◌≡◌, refl};
+ghost use Rattle.std.specs.Option.{option_copied};
+
+use simplex_base::values::EqByParts;
+
+/// How an elector uses the certificate that leads to a view.
+#[derive(Clone, Copy, Debug, PartialEq, Eq)]
+pub enum Mode {
+    /// Leaders are fixed when the elector is built, whatever the certificate.
+    Scheduled,
+    /// Leaders may depend on the certificate.
+    Dynamic,
+}
+
+impl EqByParts for Mode {
+    ghost use Rattle.simplex_lead.specs.Election.{same_mode};
+    ghost use Rattle.simplex_lead.specs.declared.elector.mode.Mode.TheVariants.{Scheduled, Dynamic};
+
+    ghost same = { same_mode };
+
+    ghost equal = { elim [
+      | Scheduled ↦ elim [ Scheduled ↦ refl | Dynamic ↦ refl ]
+      | Dynamic ↦ elim [ Scheduled ↦ refl | Dynamic ↦ refl ]
+    ] };
+}
+
+impl Mode {
+    ghost use Rattle.simplex_lead.specs.Election.{seen};
+    ghost use Rattle.simplex_lead.specs.declared.elector.mode.Mode.TheVariants.{Scheduled, Dynamic};
+
+    /// What of the certificate the elector is given: the certificate where it may depend on it, else `None`.
+    pub fn input<C>(self, certificate: Option<&C>) -> Option<&C>
+        ensures { option_copied result ≡ seen self (option_copied certificate.entry) }
+    {
+        match self {
+            Mode::Scheduled => None,
+            Mode::Dynamic => certificate,
+        }
+    }
+
+    /// What the elector can be given before the certificate is there: `Some(None)` where it goes by none, and
+    /// `None` where it has to wait.
+    pub fn early<'a, C>(self) -> Option<Option<&'a C>>
+        ensures scheduled { self ≡ Scheduled → result ≡ Some None }
+        ensures dynamic { self ≡ Dynamic → result ≡ None }
+    {
+        match self {
+            Mode::Scheduled => Some(None),
+            Mode::Dynamic => None,
+        }
+    }
+}

@@ -1,0 +1,124 @@
+//! Numbers and bytes that are given, and that no row asks for.
+
+use crate::committee::{member, payload, proposal, round};
+use simplex_base::codec::{Fixed, MaxEncodeSize};
+use simplex_base::positions::{Epoch, Participant, Round, View};
+use simplex_scheme::faults::{max_faults, quorum};
+use simplex_scheme::marked::{Marked, MarkedDigest};
+use simplex_scheme::namespace::Namespace;
+use simplex_scheme::plain::{Plain, PlainSignature};
+use simplex_scheme::proposal::Proposal;
+use simplex_scheme::scheme::{
+    AssemblyError, Attestation, CertificateScheme, CertificateSubject, Digest, Scheme,
+    Sha256Digest, Subject,
+};
+use simplex_votes::types::{Certificate, Context, Notarization, Notarize, Vote};
+use std::alloc::Global;
+use std::process::Abort;
+use std::test::Fail;
+
+#[test]
+fn one_of_four_may_lie(rt: HostRuntime) {
+    let rows: [(u32, u32); 7] = [(0, 1), (0, 2), (0, 3), (1, 3), (1, 4), (1, 5), (2, 5)];
+    for (place, (faults, signers)) in rows.into_iter().enumerate() {
+        let n = place as u32 + 1;
+        assert_eq!(rt; (max_faults(n), quorum(n)), (faults, signers), "of {n}");
+    }
+}
+
+#[test]
+fn ample_namespaces(rt: HostRuntime) -> Result<(), Fail> {
+    let names = Namespace::new(rt.alloc(), b"test")?;
+    assert_eq!(rt; names.notarize.as_slice(), b"test_NOTARIZE".as_slice());
+    assert_eq!(rt; names.nullify.as_slice(), b"test_NULLIFY".as_slice());
+    assert_eq!(rt; names.finalize.as_slice(), b"test_FINALIZE".as_slice());
+    assert_eq!(rt; names.seed.as_slice(), b"test_SEED".as_slice());
+    Ok(())
+}
+
+/// Greatest sizes of a proposal, a vote, a context, and for four participants of a certificate, a notarization and a
+/// certificate message.
+fn sizes<S: CertificateScheme, D: Digest>() -> [usize; 6] {
+    [
+        Proposal::<D>::max_encode_size(),
+        Vote::<S, D>::max_encode_size(),
+        Context::<D, S::PublicKey>::max_encode_size(),
+        S::max_certificate_size(4),
+        Notarization::<S, D>::max_encode_size(4),
+        Certificate::<S, D>::max_encode_size(4),
+    ]
+}
+
+#[test]
+fn no_value_is_longer(rt: HostRuntime) {
+    assert_eq!(rt;
+        sizes::<Plain, Sha256Digest>(),
+        [62, 100, 94, 153, 215, 216]
+    );
+    assert_eq!(rt; sizes::<Marked, MarkedDigest>(), [31, 38, 35, 29, 60, 61]);
+}
+
+/// The SHA-256 of `0c`, `test_NULLIFY`, 32 bytes `00` and `cd 02 0a`.
+const NULLIFIED: [u8; 32] = [
+    0x4d, 0xf0, 0xf9, 0x54, 0x7d, 0x94, 0x96, 0xd4, 0x77, 0x77, 0x25, 0x10, 0x9d, 0x8a, 0xbb, 0x55,
+    0xa9, 0xcb, 0x67, 0x83, 0x13, 0x24, 0x52, 0x47, 0x59, 0x97, 0x70, 0x22, 0x85, 0xb2, 0x8f, 0x8e,
+];
+
+#[test]
+fn ample_plain_signature(rt: HostRuntime) -> Result<(), Fail> {
+    let alloc = rt.alloc();
+    let plain = member(&rt, alloc, b"test", [3, 2, 1, 0], 0)?;
+    let far: Subject<'static, Sha256Digest> = Subject::Nullify {
+        round: Round::new(Epoch::new(333), View::new(10)),
+    };
+    assert_eq!(rt; far.message(alloc)?.as_slice(), [0xcd, 2, 10].as_slice());
+    assert!(rt; far.is_message(&[0xcd, 2, 10]) && !far.is_message(&[0xcd, 2]));
+    let signed = Attestation::<Plain> {
+        signer: Participant::new(0),
+        signature: PlainSignature::from_bytes(&NULLIFIED),
+    };
+    assert!(rt; plain.verify_attestation(far, &signed));
+    Ok(())
+}
+
+/// Three notarizes of five are fewer than a quorum; four make a notarization.
+fn check_quorum<S: Scheme<D>, D: Digest>(
+    rt: &impl Abort,
+    alloc: Global,
+    members: [&S; 4],
+    payload: D,
+) -> Result<(), Fail> {
+    let mut votes = Vec::new(alloc);
+    for member in members {
+        let vote = Notarize::sign(alloc, member, proposal(payload))?;
+        votes.push(vote.ok_or("nobody signs")?)?;
+    }
+    assert!(rt; Notarization::can_assemble(members[0], votes.as_slice()));
+    let made = Notarization::from_notarizes(alloc, members[0], votes.as_slice());
+    assert!(rt; made.is_ok_and(|made| made.verify(members[0])));
+    let _ = votes.pop();
+    assert!(rt; Notarization::can_assemble(members[0], votes.as_slice()));
+    let few = Notarization::from_owned_notarizes(alloc, members[0], votes);
+    assert!(rt; few.err() == Some(AssemblyError::InsufficientAttestations(4, 3)));
+    Ok(())
+}
+
+#[test]
+fn ample_quorum(rt: HostRuntime) -> Result<(), Fail> {
+    let alloc = rt.alloc();
+    let [a, b, c, d] = [
+        Marked::new(alloc, 5, Some(Participant::new(4)))?,
+        Marked::new(alloc, 5, Some(Participant::new(0)))?,
+        Marked::new(alloc, 5, Some(Participant::new(2)))?,
+        Marked::new(alloc, 5, Some(Participant::new(1)))?,
+    ];
+    check_quorum(&rt, alloc, [&a, &b, &c, &d], MarkedDigest::from_bytes(&[6]))
+}
+
+/// The same round and payload are other proposals on other parents.
+#[test]
+fn proposals_are_the_same_where_all_their_parts_are(rt: HostRuntime) {
+    let one = proposal(payload(1));
+    assert!(rt; one.is_same(&proposal(payload(1))) && !one.is_same(&proposal(payload(2))));
+    assert!(rt; !one.is_same(&Proposal::new(round(), View::new(6), payload(1))));
+}

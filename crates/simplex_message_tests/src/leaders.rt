@@ -1,0 +1,265 @@
+//! Who leads, by hashers and electors of the tests' own, and what a node's views reach.
+
+ghost use Rattle.std.specs.Prelude.{◌≡◌, ◌≤◌, ◌-◌, ◌∷◌, [], length, refl};
+ghost use Rattle.std.specs.List.{fold};
+ghost use Rattle.simplex_base.specs.Positions as positions;
+ghost use Rattle.simplex_lead.specs.Structure as structure;
+ghost use Rattle.simplex_lead.specs.declared.elector.mode.Mode.TheVariants.{Dynamic};
+
+use sha2::Digest as _;
+use simplex_base::codec::Fixed;
+use simplex_base::codec::fixed_bytes::FixedBytes;
+use simplex_base::positions::{Epoch, Participant, Round, TermLength, View, ViewDelta};
+use simplex_lead::Lookahead;
+use simplex_lead::elector::{Config, Elector, Mode, RoundRobin, Terms, can_be_stable};
+use simplex_scheme::hash::{Hasher, Sha256};
+use simplex_scheme::marked::{Marked, MarkedDigest, MarkedDigestRole};
+use simplex_scheme::scheme::CertificateScheme;
+use simplex_scheme::set::Set;
+use std::alloc::{AllocError, Global};
+use std::process::Abort;
+use std::test::Fail;
+use std::time::Duration;
+
+/// A hash that is the same for everything.
+struct Same;
+
+impl Hasher for Same {
+    type Digest = FixedBytes<MarkedDigestRole, 1>;
+
+    ghost digest_of = { λ _. 0 ∷ [] };
+
+    fn hash(_parts: &[&[u8]]) -> MarkedDigest {
+        MarkedDigest::from_bytes(&[0])
+    }
+}
+
+/// A hash that falls as the last byte rises: 255 less that byte.
+struct Falling;
+
+impl Hasher for Falling {
+    type Digest = FixedBytes<MarkedDigestRole, 1>;
+
+    ghost digest_of = { λ bytes. (255 - fold (λ _ byte. byte) 0 bytes) ∷ [] };
+
+    fn hash(parts: &[&[u8]]) -> MarkedDigest {
+        let mut last = 0;
+        for part in parts {
+            last = last_of(part, last);
+        }
+        MarkedDigest::from_bytes(&[255 - last])
+    }
+}
+
+/// The last of the bytes, or what is given where there is none.
+fn last_of(bytes: &[u8], none: u8) -> u8
+    ensures { result ≡ fold (λ _ byte. byte) none bytes.now }
+{
+    bytes.iter().fold(none, |_, byte| *byte)
+}
+
+/// What makes electors by which participant 0 leads always, whatever the certificate.
+#[derive(Clone, Drop)]
+struct FirstAlways(Terms);
+
+/// An elector by which participant 0 leads always.
+#[derive(Clone, Copy)]
+struct First {
+    terms: Terms,
+    participants: u32,
+    ghost some: { 1 ≤ participants },
+}
+
+impl<S: CertificateScheme> Config<S> for FirstAlways {
+    ghost use Rattle.std.proofs.Common.{sym, ◌∙◌};
+
+    type Elector = First;
+
+    ghost builds = { λ config keys elector. (elector.terms ≡ config.0) × (elector.participants ≡ length keys) };
+
+    fn build(self, _alloc: Global, participants: &Set<S::PublicKey>) -> Result<First, AllocError> {
+        Ok(First {
+            terms: self.0,
+            participants: participants.len() as u32,
+        })
+    }
+
+    ghost agree = { λ config keys one other is_one is_other. record {
+      modes = refl;
+      terms = is_one.0 ∙ sym is_other.0;
+      participants = is_one.1 ∙ sym is_other.1;
+      leaders = λ _ _. refl;
+    } };
+
+    ghost clones = { λ config copy keys elector same.
+        ((λ is. (is.0 ∙ same, is.1)), (λ is. (is.0 ∙ sym same, is.1))) };
+}
+
+impl<S: CertificateScheme> Elector<S> for First {
+    ghost use Rattle.std.proofs.Common.{sym};
+    ghost use Rattle.simplex_lead.specs.ElectionLaws.{one_alike};
+
+    ghost mode_of = { λ _. Dynamic };
+
+    ghost terms_of = { λ elector. elector.terms };
+
+    ghost participants_of = { λ elector. elector.participants };
+
+    ghost leader_of = { λ _ _ _. 0 };
+
+    fn mode(&self) -> Mode {
+        Mode::Dynamic
+    }
+
+    fn terms(&self) -> Terms {
+        self.terms
+    }
+
+    fn elect(&self, _round: Round, _certificate: Option<&S::Certificate>) -> Participant {
+        Participant::new(0)
+    }
+
+    ghost ignores = { λ _ _ _ _ _. refl };
+
+    ghost one_a_term = { λ _ _ _ _ _ _ _ _. refl };
+
+    ghost clones = { λ elector copy same. one_alike _ _ _ _ elector copy (sym same) };
+}
+
+/// The elector of so many participants.
+fn built<C: Config<Marked>>(
+    rt: &impl Abort,
+    alloc: Global,
+    config: C,
+    participants: u32,
+) -> Result<C::Elector, Fail> {
+    assert!(rt; participants > 0);
+    let committee = Marked::new(alloc, participants, None)?;
+    Ok(config.build(alloc, committee.participants())?)
+}
+
+/// Who leads a view of an epoch.
+fn leader<E: Elector<Marked>>(elector: &E, epoch: u64, view: u64) -> u32 {
+    let leader = elector.elect(Round::new(Epoch::new(epoch), View::new(view)), None);
+    leader.get()
+}
+
+/// Who leads the first so many views of an epoch, from view 0 on.
+fn leaders<E: Elector<Marked>>(
+    alloc: Global,
+    elector: &E,
+    epoch: u64,
+    views: u64,
+) -> Result<Vec<u32>, AllocError> {
+    let mut leaders = Vec::new(alloc);
+    for view in 0..views {
+        leaders.push(leader(elector, epoch, view))?;
+    }
+    Ok(leaders)
+}
+
+#[test]
+fn ample_ties(rt: HostRuntime) -> Result<(), Fail> {
+    let same: RoundRobin<Same> = RoundRobin::shuffled(rt.alloc(), b"s")?;
+    let elector = built(&rt, rt.alloc(), same, 5)?;
+    let found = leaders(rt.alloc(), &elector, 0, 6)?;
+    assert_eq!(rt; found.as_slice(), [0, 1, 2, 3, 4, 0].as_slice());
+    Ok(())
+}
+
+#[test]
+fn ample_falling_hashes(rt: HostRuntime) -> Result<(), Fail> {
+    let falling: RoundRobin<Falling> = RoundRobin::shuffled(rt.alloc(), b"s")?;
+    let copy = falling.clone()?;
+    for config in [falling, copy] {
+        let elector = built(&rt, rt.alloc(), config, 5)?;
+        let found = leaders(rt.alloc(), &elector, 0, 6)?;
+        assert_eq!(rt; found.as_slice(), [4, 3, 2, 1, 0, 4].as_slice());
+    }
+    Ok(())
+}
+
+/// The participants by their SHA-256 with a seed.
+fn by_digest(alloc: Global, seed: &[u8], participants: u32) -> Result<Vec<u32>, AllocError> {
+    let mut digests = Vec::new(alloc);
+    for number in 0..participants {
+        let mut bytes = seed.to_vec(alloc)?;
+        bytes.extend_from_slice(&number.to_be_bytes())?;
+        digests.push((sha2::Sha256::digest(&bytes), number))?;
+    }
+    digests.sort_unstable();
+    let mut numbers = Vec::new(alloc);
+    for (_, number) in &digests {
+        numbers.push(*number)?;
+    }
+    Ok(numbers)
+}
+
+#[test]
+fn ample_seeds(rt: HostRuntime) -> Result<(), Fail> {
+    let seeds: [&[u8]; 2] = [b"seed1", b"seed2"];
+    for seed in seeds {
+        let shuffled: RoundRobin = RoundRobin::shuffled(rt.alloc(), seed)?;
+        let equal: RoundRobin = RoundRobin::shuffled(rt.alloc(), seed)?;
+        let elector = built(&rt, rt.alloc(), shuffled, 5)?;
+        let copy = elector.clone()?;
+        let order = by_digest(rt.alloc(), seed, 5)?;
+        for one in [elector, copy, built(&rt, rt.alloc(), equal, 5)?] {
+            assert_eq!(rt; leaders(rt.alloc(), &one, 0, 5)?, order);
+        }
+    }
+    Ok(())
+}
+
+#[test]
+fn ample_elector_of_its_own(rt: HostRuntime) -> Result<(), Fail> {
+    let terms = Terms::stable(
+        TermLength::new(3),
+        Duration::from_secs(10),
+        ViewDelta::new(1),
+    );
+    let elector = built(&rt, rt.alloc(), FirstAlways(terms), 4)?;
+    assert_eq!(rt;
+        leaders(rt.alloc(), &elector, 5, 4)?.as_slice(),
+        [0; 4].as_slice()
+    );
+    assert_eq!(rt; mode_and_terms(&elector), (Mode::Dynamic, terms));
+    let elector = built(&rt, rt.alloc(), RoundRobin::<Sha256>::default(), 4)?;
+    assert_eq!(rt;
+        mode_and_terms(&elector),
+        (Mode::Scheduled, Terms::rotating())
+    );
+    Ok(())
+}
+
+/// How an elector goes by certificates and terms.
+fn mode_and_terms<E: Elector<Marked>>(elector: &E) -> (Mode, Terms) {
+    (elector.mode(), elector.terms())
+}
+
+#[test]
+fn terms_are_rotating_or_stable(rt: HostRuntime) {
+    let second = Duration::from_secs(1);
+    assert!(rt; !can_be_stable(TermLength::ONE, second));
+    assert!(rt; !can_be_stable(TermLength::new(2), Duration::ZERO));
+    assert!(rt; can_be_stable(TermLength::new(2), Duration::from_nanos(1)));
+}
+
+/// The last view that fits, of terms of these lengths.
+#[test]
+fn the_last_view_that_fits(rt: HostRuntime) {
+    let rows: [(u32, u64); 3] = [
+        (1, u64::MAX - 3),
+        (5, 18446744073709551605),
+        (4294967295, 18446744065119617025),
+    ];
+    for (length, last) in rows {
+        let look = Lookahead {
+            term_length: TermLength::new(if length == 0 { 1 } else { length }),
+            optimistic_views: ViewDelta::new(3),
+        };
+        assert!(rt; look.fits(View::new(last)), "at {last}");
+        let next = View::new(last).saturating_add(ViewDelta::new(1));
+        assert!(rt; !look.fits(next), "at {next:?}");
+    }
+}
