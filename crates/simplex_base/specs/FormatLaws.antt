@@ -1,4 +1,5 @@
 -- Formats put together are lawful where their parts are, and what follows from being lawful.
+-- They stand beside the definitions because ghost members of impls cite them, and those see no proofs.
 use Rattle.std.specs.Prelude.{IfOk, IsTrue, ⊤}
 use Rattle.std.proofs.Common.{append-nil, ◌≡◌, ◌==◌, if◌then◌else◌, length, ℕ, suc, List, [], ◌∷◌, ◌++◌, Result, Ok, Err, refl, Bool, true, false, cond, nat_lt, take, drop, inl, inr, ◌≤◌, sym, ◌∙◌, ap, subst, append_assoc, arith}
 use Rattle.std.proofs.lemmas.Bool.{eqb-true, cases_lt, le-ltb, ltb-false}

@@ -1,4 +1,5 @@
 -- How long the spellings of a format are at most.
+-- They stand beside the definitions because ghost members of impls cite them, and those see no proofs.
 use Rattle.std.proofs.Common.{◌≡◌, ℕ, zero, suc, ◌+◌, ◌≤◌, ◌-◌, ◌^◌, List, length, replicate, arith, length-append, lit<}
 use Rattle.std.proofs.lemmas.List.{length-replicate}
 use Rattle.simplex_base.specs.Reading.{IsBytes}

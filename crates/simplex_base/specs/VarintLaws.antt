@@ -1,4 +1,5 @@
 -- A number that is read is the number that was written, and what was written is read again.
+-- They stand beside the definitions because ghost members of impls cite them, and those see no proofs.
 use Rattle.std.proofs.Math.Nat.{mul-le-mul_left}
 use Rattle.std.proofs.Common.{◌≡◌, ℕ, zero, suc, length, zero-add, ◌+◌, ◌-◌, ◌*◌, ◌/◌, ◌%◌, ◌^◌, ◌<◌, ◌≤◌, Bool, true, false, cond, List, [], ◌∷◌, ◌++◌, Result, Ok, Err, refl, sym, ap, subst, ◌∙◌, arith, inl, inr, ltb, eqb, ◌⊎◌}
 use Rattle.std.proofs.Math.Dec.{eqb-suc-zero}

@@ -1,4 +1,5 @@
 -- Laws of electors.
+-- They stand beside the definitions because ghost members of impls cite them, and those see no proofs.
 use Rattle.std.proofs.Common.{◌≡◌, ℕ, Option, ap}
 use Rattle.simplex_base.specs.Positions.{Round}
 use Rattle.simplex_lead.specs.Structure.{Terms}

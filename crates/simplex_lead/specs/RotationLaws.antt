@@ -1,4 +1,5 @@
 -- Laws of rotations.
+-- They stand beside the definitions because ghost members of impls cite them, and those see no proofs.
 use Rattle.std.proofs.Common.{◌≡◌, ◌∙◌, ◌↔◌, ℕ, List, Ordering, refl, sym, ap}
 use Rattle.std.specs.Cmp.{IsTotalOrder}
 use Rattle.simplex_base.specs.Positions.{Round}
