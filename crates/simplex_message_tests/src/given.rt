@@ -125,7 +125,12 @@ fn ample_quorum(rt: HostRuntime) -> Result<(), Fail> {
     for signer in [4, 0, 2, 1] {
         members.push(Marked::new(alloc, 5, Some(Participant::new(signer)))?)?;
     }
-    check_quorum(&rt, alloc, members.as_slice(), MarkedDigest::from_bytes(&[6]))
+    check_quorum(
+        &rt,
+        alloc,
+        members.as_slice(),
+        MarkedDigest::from_bytes(&[6]),
+    )
 }
 
 /// The same round and payload are other proposals on other parents.
