@@ -69,7 +69,15 @@ impl<S: CertificateScheme, D: Digest> EqByParts for Artifact<S, D> {
     ghost use Rattle.simplex_votes.specs.Artifact.{same_artifact};
     ghost use Rattle.simplex_votes.specs.declared.types.artifact.Artifact.TheVariants.{Notarize, Notarization, Certification, Nullify, Nullification, Finalize, Finalization};
 
-    ghost same = { same_artifact ⟦<Notarize<S, D> as PartialEq>⟧.eq ⟦<Notarization<S, D> as PartialEq>⟧.eq ⟦<Round as PartialEq>⟧.eq ⟦<bool as PartialEq>⟧.eq ⟦<Nullify<S> as PartialEq>⟧.eq ⟦<Nullification<S> as PartialEq>⟧.eq ⟦<Finalize<S, D> as PartialEq>⟧.eq ⟦<Finalization<S, D> as PartialEq>⟧.eq };
+    ghost same = { same_artifact
+        ⟦<Notarize<S, D> as PartialEq>⟧.eq
+        ⟦<Notarization<S, D> as PartialEq>⟧.eq
+        ⟦<Round as PartialEq>⟧.eq
+        ⟦<bool as PartialEq>⟧.eq
+        ⟦<Nullify<S> as PartialEq>⟧.eq
+        ⟦<Nullification<S> as PartialEq>⟧.eq
+        ⟦<Finalize<S, D> as PartialEq>⟧.eq
+        ⟦<Finalization<S, D> as PartialEq>⟧.eq };
 
     ghost equal = { elim [
       | Notarize _ ↦ elim [ Notarize _ ↦ refl | _ ↦ refl ]
