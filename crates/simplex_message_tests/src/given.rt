@@ -1,18 +1,20 @@
 //! Numbers and bytes that are given, and that no row asks for.
 
 use crate::committee::{member, payload, proposal, round};
-use simplex_base::codec::{Fixed, MaxEncodeSize};
+use crate::reading::{bytes, read, read_back};
+use simplex_base::codec::error::Error;
+use simplex_base::codec::{Encode, Fixed, MaxEncodeSize, decode};
 use simplex_base::positions::{Epoch, Participant, Round, View};
 use simplex_scheme::faults::{max_faults, quorum};
 use simplex_scheme::marked::{Marked, MarkedDigest};
 use simplex_scheme::namespace::Namespace;
-use simplex_scheme::plain::{Plain, PlainSignature};
+use simplex_scheme::plain::{Plain, PlainKey, PlainSignature};
 use simplex_scheme::proposal::Proposal;
 use simplex_scheme::scheme::{
     AssemblyError, Attestation, CertificateScheme, CertificateSubject, Digest, Scheme,
     Sha256Digest, Subject,
 };
-use simplex_votes::types::{Certificate, Context, Notarization, Notarize, Vote};
+use simplex_votes::types::{Artifact, Certificate, Context, Notarization, Notarize, Vote};
 use std::alloc::Global;
 use std::process::Abort;
 use std::test::Fail;
@@ -139,4 +141,38 @@ fn proposals_are_the_same_where_all_their_parts_are(rt: HostRuntime) {
     let one = proposal(payload(1));
     assert!(rt; one.is_same(&proposal(payload(1))) && !one.is_same(&proposal(payload(2))));
     assert!(rt; !one.is_same(&Proposal::new(round(), View::new(6), payload(1))));
+}
+
+/// A proposal and a context are so many bytes, and a byte more is no part of them.
+#[test]
+fn ample_proposal(rt: HostRuntime) -> Result<(), Fail> {
+    let alloc = rt.alloc();
+    let mut spelling = bytes(alloc, "000a05")?;
+    spelling.extend_from_slice(&[1; 32])?;
+    let one = read_back(&rt, alloc, &proposal(payload(1)), &(), 35)?;
+    assert_eq!(rt; one.encode(alloc)?.as_slice(), spelling.as_slice());
+    spelling.push(7)?;
+    let more = decode::<Proposal<Sha256Digest>>(alloc, spelling.as_slice());
+    assert!(rt; matches!(more, Err(Error::ExtraData)));
+    let context = Context {
+        round: round(),
+        leader: PlainKey::from_bytes(&[1; 32]),
+        parent: (View::new(5), payload(2)),
+    };
+    let _ = read_back(&rt, alloc, &context, &(), 67)?;
+    Ok(())
+}
+
+/// A vote is spelled with its tag, and the artifact that it becomes with the artifact's.
+fn check_stored<S: Scheme<D>, D: Digest>(rt: &impl Abort, alloc: Global) -> Result<(), Fail> {
+    let vote: Vote<S, D> = read(rt, alloc, &(), "01 000a 01aa")?;
+    let vote = read_back(rt, alloc, &vote, &(), 5)?;
+    let stored = Artifact::from(vote).encode(alloc)?;
+    assert_eq!(rt; stored.as_slice(), bytes(alloc, "03 000a 01aa")?.as_slice());
+    Ok(())
+}
+
+#[test]
+fn ample_stored(rt: HostRuntime) -> Result<(), Fail> {
+    check_stored::<Marked, MarkedDigest>(&rt, rt.alloc())
 }

@@ -212,6 +212,19 @@ fn ample_seeds(rt: HostRuntime) -> Result<(), Fail> {
 }
 
 #[test]
+fn ample_one_participant(rt: HostRuntime) -> Result<(), Fail> {
+    let seeds: [&[u8]; 3] = [b"", b"s", b"seed1"];
+    for seed in seeds {
+        let shuffled: RoundRobin = RoundRobin::shuffled(rt.alloc(), seed)?;
+        let elector = built(&rt, rt.alloc(), shuffled, 1)?;
+        for (epoch, view) in [(0, 0), (0, 1), (7, 9), (u64::MAX, u64::MAX)] {
+            assert_eq!(rt; leader(&elector, epoch, view), 0, "of {view} in {epoch}");
+        }
+    }
+    Ok(())
+}
+
+#[test]
 fn ample_elector_of_its_own(rt: HostRuntime) -> Result<(), Fail> {
     let terms = Terms::stable(
         TermLength::new(3),
