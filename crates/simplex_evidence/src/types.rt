@@ -3,6 +3,7 @@
 pub mod activity;
 pub mod attributable_map;
 pub mod bisection;
+mod conflict;
 pub mod conflicting_finalize;
 pub mod conflicting_notarize;
 pub mod nullify_finalize;

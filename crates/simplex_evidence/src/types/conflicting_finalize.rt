@@ -6,6 +6,7 @@ ghost use Rattle.simplex_scheme.specs.Subject.{Finalizes};
 ghost use Rattle.simplex_votes.specs.Votes.{finalize_vote};
 ghost use Rattle.simplex_evidence.specs.Contradiction.{contradicts, Conflicting_finalize};
 
+use crate::types::conflict::{Conflict, read_conflict};
 use simplex_base::codec::error::Error;
 use simplex_base::codec::parts::{size_both, write_both};
 use simplex_base::codec::{EncodeSize, Fixed, Read, Spell, Write};
@@ -147,6 +148,38 @@ impl<S: SchemeTypes, D: Digest> EncodeSize for ConflictingFinalize<S, D> {
     }
 }
 
+impl<S: SchemeTypes, D: Digest> Conflict for ConflictingFinalize<S, D> {
+    ghost use Rattle.std.specs.Prelude.{codes};
+    ghost use Rattle.simplex_base.specs.Reading.{invalid};
+    ghost use Rattle.simplex_votes.specs.Votes.{finalize_vote};
+    ghost use Rattle.simplex_evidence.specs.Contradiction.{contradicts, Conflicting_finalize};
+
+    type First = Finalize<S, D>;
+
+    type Second = Finalize<S, D>;
+
+    ghost made = { λ votes. record { first = votes.0; second = votes.1 } };
+
+    ghost holds = { λ conflict. contradicts D.eq Conflicting_finalize (finalize_vote conflict.first) (finalize_vote conflict.second) };
+
+    ghost refusal = { invalid (codes "consensus::simplex::ConflictingFinalize") (codes "invalid conflicting finalize") };
+
+    fn are_in_conflict(first: &Finalize<S, D>, second: &Finalize<S, D>) -> bool {
+        Self::conflicts(first, second)
+    }
+
+    fn of_votes(first: Finalize<S, D>, second: Finalize<S, D>) -> Self {
+        Self::new(first, second)
+    }
+
+    fn refused() -> Error {
+        Error::Invalid(
+            "consensus::simplex::ConflictingFinalize",
+            "invalid conflicting finalize",
+        )
+    }
+}
+
 impl<S: SchemeTypes, D: Digest> Read for ConflictingFinalize<S, D> {
     ghost use Rattle.simplex_evidence.specs.Conflict.{conflicting_finalize_format, conflicting_finalize_lawful};
 
@@ -158,21 +191,8 @@ impl<S: SchemeTypes, D: Digest> Read for ConflictingFinalize<S, D> {
 
     ghost takes_memory = { false };
 
-    fn read_cfg(alloc: Global, input: &mut &[u8], cfg: &()) -> Result<Self, Error> {
-        let mut rest: &[u8] = *input;
-        match <(Finalize<S, D>, Finalize<S, D>)>::read_cfg(alloc, &mut rest, cfg) {
-            Ok((finalize_1, finalize_2)) => {
-                if !Self::conflicts(&finalize_1, &finalize_2) {
-                    return Err(Error::Invalid(
-                        "consensus::simplex::ConflictingFinalize",
-                        "invalid conflicting finalize",
-                    ));
-                }
-                *input = rest;
-                Ok(Self::new(finalize_1, finalize_2))
-            }
-            Err(error) => Err(error),
-        }
+    fn read_cfg(alloc: Global, input: &mut &[u8], _cfg: &()) -> Result<Self, Error> {
+        read_conflict(alloc, input)
     }
 
     ghost lawful = { λ _. conflicting_finalize_lawful D.eq _ _ D.lawful S.Signature.lawful };

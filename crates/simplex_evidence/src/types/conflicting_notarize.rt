@@ -6,6 +6,7 @@ ghost use Rattle.simplex_scheme.specs.Subject.{Notarizes};
 ghost use Rattle.simplex_votes.specs.Votes.{notarize_vote};
 ghost use Rattle.simplex_evidence.specs.Contradiction.{contradicts, Conflicting_notarize};
 
+use crate::types::conflict::{Conflict, read_conflict};
 use simplex_base::codec::error::Error;
 use simplex_base::codec::parts::{size_both, write_both};
 use simplex_base::codec::{EncodeSize, Fixed, Read, Spell, Write};
@@ -147,6 +148,38 @@ impl<S: SchemeTypes, D: Digest> EncodeSize for ConflictingNotarize<S, D> {
     }
 }
 
+impl<S: SchemeTypes, D: Digest> Conflict for ConflictingNotarize<S, D> {
+    ghost use Rattle.std.specs.Prelude.{codes};
+    ghost use Rattle.simplex_base.specs.Reading.{invalid};
+    ghost use Rattle.simplex_votes.specs.Votes.{notarize_vote};
+    ghost use Rattle.simplex_evidence.specs.Contradiction.{contradicts, Conflicting_notarize};
+
+    type First = Notarize<S, D>;
+
+    type Second = Notarize<S, D>;
+
+    ghost made = { λ votes. record { first = votes.0; second = votes.1 } };
+
+    ghost holds = { λ conflict. contradicts D.eq Conflicting_notarize (notarize_vote conflict.first) (notarize_vote conflict.second) };
+
+    ghost refusal = { invalid (codes "consensus::simplex::ConflictingNotarize") (codes "invalid conflicting notarize") };
+
+    fn are_in_conflict(first: &Notarize<S, D>, second: &Notarize<S, D>) -> bool {
+        Self::conflicts(first, second)
+    }
+
+    fn of_votes(first: Notarize<S, D>, second: Notarize<S, D>) -> Self {
+        Self::new(first, second)
+    }
+
+    fn refused() -> Error {
+        Error::Invalid(
+            "consensus::simplex::ConflictingNotarize",
+            "invalid conflicting notarize",
+        )
+    }
+}
+
 impl<S: SchemeTypes, D: Digest> Read for ConflictingNotarize<S, D> {
     ghost use Rattle.simplex_evidence.specs.Conflict.{conflicting_notarize_format, conflicting_notarize_lawful};
 
@@ -158,21 +191,8 @@ impl<S: SchemeTypes, D: Digest> Read for ConflictingNotarize<S, D> {
 
     ghost takes_memory = { false };
 
-    fn read_cfg(alloc: Global, input: &mut &[u8], cfg: &()) -> Result<Self, Error> {
-        let mut rest: &[u8] = *input;
-        match <(Notarize<S, D>, Notarize<S, D>)>::read_cfg(alloc, &mut rest, cfg) {
-            Ok((notarize_1, notarize_2)) => {
-                if !Self::conflicts(&notarize_1, &notarize_2) {
-                    return Err(Error::Invalid(
-                        "consensus::simplex::ConflictingNotarize",
-                        "invalid conflicting notarize",
-                    ));
-                }
-                *input = rest;
-                Ok(Self::new(notarize_1, notarize_2))
-            }
-            Err(error) => Err(error),
-        }
+    fn read_cfg(alloc: Global, input: &mut &[u8], _cfg: &()) -> Result<Self, Error> {
+        read_conflict(alloc, input)
     }
 
     ghost lawful = { λ _. conflicting_notarize_lawful D.eq _ _ D.lawful S.Signature.lawful };

@@ -6,6 +6,7 @@ ghost use Rattle.simplex_scheme.specs.Subject.{Nullifies, Finalizes};
 ghost use Rattle.simplex_votes.specs.Votes.{nullify_vote, finalize_vote};
 ghost use Rattle.simplex_evidence.specs.Contradiction.{contradicts, Nullify_finalize};
 
+use crate::types::conflict::{Conflict, read_conflict};
 use simplex_base::codec::error::Error;
 use simplex_base::codec::parts::{size_both, write_both};
 use simplex_base::codec::{EncodeSize, Fixed, Read, Spell, Write};
@@ -142,6 +143,38 @@ impl<S: SchemeTypes, D: Digest> EncodeSize for NullifyFinalize<S, D> {
     }
 }
 
+impl<S: SchemeTypes, D: Digest> Conflict for NullifyFinalize<S, D> {
+    ghost use Rattle.std.specs.Prelude.{codes};
+    ghost use Rattle.simplex_base.specs.Reading.{invalid};
+    ghost use Rattle.simplex_votes.specs.Votes.{finalize_vote, nullify_vote};
+    ghost use Rattle.simplex_evidence.specs.Contradiction.{contradicts, Nullify_finalize};
+
+    type First = Nullify<S>;
+
+    type Second = Finalize<S, D>;
+
+    ghost made = { λ votes. record { first = votes.0; second = votes.1 } };
+
+    ghost holds = { λ conflict. contradicts D.eq Nullify_finalize (nullify_vote conflict.first) (finalize_vote conflict.second) };
+
+    ghost refusal = { invalid (codes "consensus::simplex::NullifyFinalize") (codes "mismatched signatures") };
+
+    fn are_in_conflict(first: &Nullify<S>, second: &Finalize<S, D>) -> bool {
+        Self::conflicts(first, second)
+    }
+
+    fn of_votes(first: Nullify<S>, second: Finalize<S, D>) -> Self {
+        Self::new(first, second)
+    }
+
+    fn refused() -> Error {
+        Error::Invalid(
+            "consensus::simplex::NullifyFinalize",
+            "mismatched signatures",
+        )
+    }
+}
+
 impl<S: SchemeTypes, D: Digest> Read for NullifyFinalize<S, D> {
     ghost use Rattle.simplex_evidence.specs.Conflict.{nullify_finalize_format, nullify_finalize_lawful};
 
@@ -153,21 +186,8 @@ impl<S: SchemeTypes, D: Digest> Read for NullifyFinalize<S, D> {
 
     ghost takes_memory = { false };
 
-    fn read_cfg(alloc: Global, input: &mut &[u8], cfg: &()) -> Result<Self, Error> {
-        let mut rest: &[u8] = *input;
-        match <(Nullify<S>, Finalize<S, D>)>::read_cfg(alloc, &mut rest, cfg) {
-            Ok((nullify, finalize)) => {
-                if !Self::conflicts(&nullify, &finalize) {
-                    return Err(Error::Invalid(
-                        "consensus::simplex::NullifyFinalize",
-                        "mismatched signatures",
-                    ));
-                }
-                *input = rest;
-                Ok(Self::new(nullify, finalize))
-            }
-            Err(error) => Err(error),
-        }
+    fn read_cfg(alloc: Global, input: &mut &[u8], _cfg: &()) -> Result<Self, Error> {
+        read_conflict(alloc, input)
     }
 
     ghost lawful = { λ _. nullify_finalize_lawful D.eq _ _ D.lawful S.Signature.lawful };

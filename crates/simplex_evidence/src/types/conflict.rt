@@ -1,0 +1,57 @@
+//! How evidence of two votes is read: the one vote, the other, and then whether they contradict.
+
+ghost use Rattle.std.specs.Prelude.{◌≡◌, ◌||◌, Bool, false, Err, IsTrue};
+ghost use Rattle.simplex_base.specs.Reading.{Refusal, Fails, Gives};
+ghost use Rattle.simplex_base.specs.Format.{both_at, made_at, tested_at};
+
+use simplex_base::codec::Read;
+use simplex_base::codec::error::Error;
+use std::alloc::Global;
+
+/// Evidence of two votes that contradict.
+pub trait Conflict: Sized {
+    /// The first vote.
+    type First: Read<Cfg = ()> + Drop;
+
+    /// The second vote.
+    type Second: Read<Cfg = ()> + Drop;
+
+    /// The evidence of two votes.
+    ghost made: { Self.First × Self.Second → Self };
+
+    /// Whether its votes contradict.
+    ghost holds: { Self → Bool };
+
+    /// The refusal of two votes that do not.
+    ghost refusal: { Refusal };
+
+    /// Whether two votes contradict.
+    fn are_in_conflict(first: &Self::First, second: &Self::Second) -> bool
+        ensures { result ≡ holds (made (first.now, second.now)) };
+
+    /// The evidence of two votes that contradict.
+    fn of_votes(first: Self::First, second: Self::Second) -> Self
+        requires { IsTrue (holds (made (first, second))) }
+        ensures { result ≡ made (first, second) };
+
+    /// The refusal of two votes that do not.
+    fn refused() -> Error
+        ensures { Fails {X = Self} false result (Err refusal) };
+}
+
+/// Reads two votes, and moves the slice past both if they contradict. After an error the slice is as before.
+pub fn read_conflict<T: Conflict>(alloc: Global, input: &mut &[u8]) -> Result<T, Error>
+    ensures { Gives (T.First.takes_memory || T.Second.takes_memory) result input.old.now input.new.now
+        (tested_at T.holds T.refusal (made_at T.made (both_at (T.First.reading tt) (T.Second.reading tt))) input.old.now) }
+{
+    let mut rest: &[u8] = *input;
+    let (first, second) = match <(T::First, T::Second)>::read_cfg(alloc, &mut rest, &()) {
+        Ok(votes) => votes,
+        Err(error) => return Err(error),
+    };
+    if !T::are_in_conflict(&first, &second) {
+        return Err(T::refused());
+    }
+    *input = rest;
+    Ok(T::of_votes(first, second))
+}
