@@ -1,6 +1,7 @@
 //! The lines that tell of two votes of one signer that contradict.
 
 use crate::outcome::{bytes, outcome_of};
+use example::named;
 use simplex_audit::audit::audit;
 use simplex_base::codec::{Encode, Fixed};
 use simplex_base::positions::{Epoch, Participant, Round, View};
@@ -54,17 +55,22 @@ fn lone_signer(rt: &impl Abort, alloc: Global) -> Result<Plain, Fail> {
     Ok(Plain::signer(alloc, b"test", committee, &key)?.ok_or("the key is not in the committee")?)
 }
 
-#[test]
-fn a_plain_signer_of_two_proposals_is_named(rt: HostRuntime) -> Result<(), Fail> {
-    let alloc = rt.alloc();
-    let scheme = lone_signer(&rt, alloc)?;
-    let stream = bytes(
+/// The bytes of two messages: the lone signer's notarizes of two payloads for view 10 of epoch 0, after view 5.
+fn lone_equivocation(alloc: Global) -> Result<Vec<u8>, Fail> {
+    bytes(
         alloc,
         "00 000a05 0606060606060606060606060606060606060606060606060606060606060606 00 \
          8c6774d2f68c567d3d7099353ba7b9a73b4a3919f00bf8571c6cf14b8b0e1fbc \
          00 000a05 0707070707070707070707070707070707070707070707070707070707070707 00 \
          85c5f612872154ca52e992a79aec3bfdc407bf2873f7f4372e33b4be6de3d71b",
-    )?;
+    )
+}
+
+#[test]
+fn a_plain_signer_of_two_proposals_is_named(rt: HostRuntime) -> Result<(), Fail> {
+    let alloc = rt.alloc();
+    let scheme = lone_signer(&rt, alloc)?;
+    let stream = lone_equivocation(alloc)?;
     let voted_in = Round::new(Epoch::new(0), View::new(10));
     let payloads = [6, 7].map(|byte| Sha256Digest::from_bytes(&[byte; 32]));
     assert_eq!(rt;
@@ -77,5 +83,22 @@ fn a_plain_signer_of_two_proposals_is_named(rt: HostRuntime) -> Result<(), Fail>
         found.text.as_str(),
         "0 10 0 conflicting-notarize 5 0606060606060606060606060606060606060606060606060606060606060606 5 0707070707070707070707070707070707070707070707070707070707070707\n"
     );
+    Ok(())
+}
+
+#[test]
+fn the_example_names_the_signer(rt: HostRuntime) -> Result<(), Fail> {
+    let alloc = rt.alloc();
+    let stream = lone_equivocation(alloc)?;
+    let key = PlainKey::from_bytes(&[0; 32]);
+    let keys = Vec::from_array(alloc, [key])?;
+    let found = named(alloc, b"test", keys, stream.as_slice())?.ok_or("no committee")?;
+    let voted_in = Round::new(Epoch::new(0), View::new(10));
+    assert_eq!(rt;
+        found.as_slice(),
+        [(voted_in, Participant::new(0))].as_slice()
+    );
+    let twice = Vec::from_array(alloc, [key, key])?;
+    assert!(rt; named(alloc, b"test", twice, stream.as_slice())?.is_none());
     Ok(())
 }
