@@ -14,10 +14,38 @@ use simplex_scheme::scheme::{
     AssemblyError, Attestation, CertificateScheme, CertificateSubject, Digest, Scheme,
     Sha256Digest, Subject,
 };
-use simplex_votes::types::{Artifact, Certificate, Context, Notarization, Notarize, Vote};
+use simplex_votes::types::{
+    Artifact, Attributable, Certificate, Context, Notarization, Notarize, Vote,
+};
 use std::alloc::Global;
 use std::process::Abort;
 use std::test::Fail;
+
+/// Numbers, each with its spelling.
+#[test]
+fn ample_numbers(rt: HostRuntime) -> Result<(), Fail> {
+    let alloc = rt.alloc();
+    let rows: [(u64, &str); 6] = [
+        (0, "00"),
+        (127, "7f"),
+        (128, "8001"),
+        (333, "cd02"),
+        (4294967295, "ffffffff0f"),
+        (18446744073709551615, "ffffffffffffffffff01"),
+    ];
+    for (number, spelling) in rows {
+        let spelled = bytes(alloc, spelling)?;
+        let view = View::new(number);
+        assert_eq!(rt; view.encode(alloc)?.as_slice(), spelled.as_slice());
+        assert_eq!(rt; read::<View>(&rt, alloc, &(), spelling)?, view);
+        if number <= 4294967295 {
+            let signer = Participant::new(number as u32);
+            assert_eq!(rt; signer.encode(alloc)?.as_slice(), spelled.as_slice());
+            assert_eq!(rt; read::<Participant>(&rt, alloc, &(), spelling)?, signer);
+        }
+    }
+    Ok(())
+}
 
 #[test]
 fn one_of_four_may_lie(rt: HostRuntime) {
@@ -163,12 +191,17 @@ fn ample_proposal(rt: HostRuntime) -> Result<(), Fail> {
     Ok(())
 }
 
-/// A vote is spelled with its tag, and the artifact that it becomes with the artifact's.
+/// A vote is spelled with its tag, and the artifact that it becomes with the artifact's. An artifact tells that a
+/// round was certified.
 fn check_stored<S: Scheme<D>, D: Digest>(rt: &impl Abort, alloc: Global) -> Result<(), Fail> {
     let vote: Vote<S, D> = read(rt, alloc, &(), "01 000a 01aa")?;
     let vote = read_back(rt, alloc, &vote, &(), 5)?;
+    assert!(rt; matches!(&vote, Vote::Nullify(nullify) if nullify.round == round()));
+    assert_eq!(rt; vote.signer(), Participant::new(1));
     let stored = Artifact::from(vote).encode(alloc)?;
     assert_eq!(rt; stored.as_slice(), bytes(alloc, "03 000a 01aa")?.as_slice());
+    let certified: Artifact<S, D> = read(rt, alloc, &4, "02 000a 01")?;
+    assert!(rt; certified == Artifact::Certification(round(), true));
     Ok(())
 }
 

@@ -2,19 +2,23 @@
 //! it had none.
 
 use crate::committee::{
-    Committee, conflicting_finalize, conflicting_notarize, finalization, finalize, notarization,
-    notarize, nullification, nullify, nullify_finalize, payload, proposal, round,
+    Committee, conflicting_finalize, conflicting_notarize, finalization, finalize, finalizes,
+    notarization, notarize, nullification, nullifies, nullify, nullify_finalize, payload, proposal,
+    round,
 };
 use simplex_base::codec::Fixed;
-use simplex_base::positions::View;
+use simplex_base::positions::{Participant, View};
 use simplex_evidence::types::{
     Activity, verify_finalizations, verify_notarizations, verify_nullifications,
 };
+use simplex_lead::{Plan, Recipients};
 use simplex_scheme::namespace::Namespace;
 use simplex_scheme::plain::{Plain, PlainKey};
 use simplex_scheme::scheme::{CertificateNamespace, Digest, Listing, Scheme};
 use simplex_scheme::set::Set;
-use simplex_votes::types::{Artifact, Certificate, Context, Notarize, Vote};
+use simplex_votes::types::{
+    Artifact, Certificate, Context, Finalization, Notarize, Nullification, Vote,
+};
 use std::alloc::Global;
 use std::process::Abort;
 use std::test::Fail;
@@ -64,6 +68,53 @@ fn check_certificates<S: Listing<D>, D: Digest + 'static>(
     Ok(())
 }
 
+/// Votes that are lent make what they make where they are handed over.
+fn check_lent<S: Listing<D>, D: Digest + 'static>(
+    rt: &impl Abort,
+    alloc: Global,
+    committee: &Committee<S>,
+    payload: D,
+) -> Result<(), Fail> {
+    let [home, ..] = &committee.quorum;
+    let votes = nullifies::<S, D>(alloc, &committee.quorum)?;
+    assert!(rt; Nullification::can_assemble::<D>(home, votes.as_slice()));
+    let lent = Nullification::from_nullifies::<D>(alloc, home, votes.as_slice());
+    let owned = nullification::<S, D>(rt, alloc, committee)?;
+    assert!(rt; lent.is_ok_and(|lent| lent == owned));
+    let votes = finalizes(alloc, &committee.quorum, payload)?;
+    assert!(rt; Finalization::can_assemble(home, votes.as_slice()));
+    let lent = Finalization::from_finalizes(alloc, home, votes.as_slice());
+    let owned = finalization(rt, alloc, committee, payload)?;
+    assert!(rt; lent.is_ok_and(|lent| lent == owned));
+    Ok(())
+}
+
+/// So do their attestations, of which a caller can tell that the signers are distinct and in the committee.
+fn check_assembled<S: Listing<D>, D: Digest>(
+    rt: &impl Abort,
+    alloc: Global,
+    committee: &Committee<S>,
+    payload: D,
+) -> Result<(), Fail> {
+    let [home, ..] = &committee.quorum;
+    let mut attestations = Vec::new(alloc);
+    for member in &committee.quorum {
+        attestations.push(notarize(alloc, member, payload)?.attestation)?;
+    }
+    let signers: Vec<Participant> = attestations.iter().map(|one| one.signer).collect(alloc)?;
+    assert!(rt; Set::try_from_vec(signers).is_ok());
+    let n = home.participants().len();
+    assert!(rt;
+        attestations
+            .iter()
+            .all(|one| (one.signer.get() as usize) < n)
+    );
+    let made = home.assemble(alloc, attestations);
+    let owned = notarization(rt, alloc, committee, payload)?;
+    assert!(rt; made.is_ok_and(|made| made == owned.certificate));
+    Ok(())
+}
+
 /// Owned certificate messages are answered for one by one.
 fn check_many<S: Listing<D>, D: Digest + 'static>(
     rt: &impl Abort,
@@ -105,6 +156,14 @@ fn ample_certificates(rt: HostRuntime) -> Result<(), Fail> {
 }
 
 #[test]
+fn ample_lent(rt: HostRuntime) -> Result<(), Fail> {
+    let alloc = rt.alloc();
+    let committee = Committee::plain(&rt, alloc)?;
+    check_lent(&rt, alloc, &committee, payload(6))?;
+    check_assembled(&rt, alloc, &committee, payload(6))
+}
+
+#[test]
 fn ample_many(rt: HostRuntime) -> Result<(), Fail> {
     let alloc = rt.alloc();
     let committee = Committee::plain(&rt, alloc)?;
@@ -124,6 +183,17 @@ fn ample_names(rt: HostRuntime) -> Result<(), Fail> {
         parent: (View::new(5), payload(2)),
     };
     assert!(rt; context.clone()? == context);
+    Ok(())
+}
+
+#[test]
+fn ample_plans(rt: HostRuntime) -> Result<(), Fail> {
+    let key = PlainKey::from_bytes(&[1; 32]);
+    let plan = Plan::Forward {
+        round: round(),
+        recipients: Recipients::Some(Vec::from_array(rt.alloc(), [key])?),
+    };
+    assert!(rt; plan.clone()? == plan);
     Ok(())
 }
 

@@ -74,7 +74,7 @@ fn ample_subjects(rt: HostRuntime) -> Result<(), Fail> {
     check_subjects(&rt, alloc, &committee, payload(3))
 }
 
-/// A message is read back, verifies at home and before no stranger.
+/// A message is read back and cloned, verifies at home and before no stranger.
 fn check_message<S: Listing<D>, D: Digest>(
     rt: &impl Abort,
     alloc: Global,
@@ -83,7 +83,8 @@ fn check_message<S: Listing<D>, D: Digest>(
     size: usize,
     verified: bool,
 ) -> Result<(), Fail> {
-    let again = read_back(rt, alloc, message, &4, size)?;
+    let again = read_back(rt, alloc, message, &4, size)?.clone()?;
+    assert!(rt; again == *message, "{size}");
     assert_eq!(rt; again.verified(), verified, "{size}");
     let [home, ..] = &committee.quorum;
     assert!(rt; again.verify(home), "{size}");

@@ -92,6 +92,24 @@ fn ample_random_calls(rt: HostRuntime) -> Result<(), Fail> {
     Ok(())
 }
 
+/// Who has no item, and a clear, of which no row tells.
+#[test]
+fn ample_clear(rt: HostRuntime) -> Result<(), Fail> {
+    let mut map = AttributableMap::new(rt.alloc(), 5);
+    for signer in [4, 0, 2] {
+        assert!(rt; map.insert(Ballot::of(signer))?, "of {signer}");
+    }
+    assert_eq!(rt; map.get(Participant::new(1)), None);
+    map.clear();
+    assert!(rt; map.insert(Ballot::of(3))? && map.insert(Ballot::of(1))?);
+    assert_eq!(rt; map.len(), 2);
+    map.clear();
+    assert!(rt; map.is_empty() && map.iter().next().is_none());
+    assert!(rt; map.insert(Ballot::of(2))?);
+    assert_eq!(rt; map.len(), 1);
+    Ok(())
+}
+
 /// After the first insert none takes memory, as many as there may be.
 #[test]
 fn ample_million_inserts(rt: HostRuntime) -> Result<(), Fail> {
