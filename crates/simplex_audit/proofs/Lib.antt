@@ -1,11 +1,2 @@
-pub mod Lists
-pub mod Places
-pub mod Entries
-pub mod EvidenceLemmas
-pub mod NamedLemmas
-pub mod KeptLemmas
-pub mod ReportLemmas
-pub mod MemoryLemmas
 pub mod StreamLemmas
-pub mod TagLemmas
 pub mod NamesLemmas

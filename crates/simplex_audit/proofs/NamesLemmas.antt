@@ -1,42 +1,50 @@
--- Whom the evidence names, and that names stay.
-use Rattle.std.proofs.Common.{◌≡◌, ◌↔◌, ℕ, Bool, true, List, ◌++◌, map, Option, Some, sym, ap, ◌∙◌, subst}
-use Rattle.std.specs.Prelude.{IsTrue, Contains}
-use Rattle.std.specs.Cmp.{IsEquivalence}
-use Rattle.std.specs.Option.{is_some}
-use Rattle.std.proofs.lemmas.List.Elements.{All-contains}
+-- What a report tells of any list of the stream's messages.
+use Rattle.std.proofs.Common.{ℕ, Bool, List, ◌++◌, Option, map, sym, subst}
+use Rattle.std.proofs.lemmas.List.Elements.{All-map, All-weaker}
+use Rattle.std.specs.Prelude.{All, IsTrue}
 use Rattle.simplex_base.specs.Format.{Format, IsLawful}
-use Rattle.simplex_scheme.specs.Subject.{SubjectValue}
-use Rattle.simplex_votes.specs.Votes.{Vote}
 use Rattle.simplex_evidence.specs.Contradiction.{Evidence}
-use Rattle.simplex_audit.specs.GoodVotes.{good_votes}
-use Rattle.simplex_audit.specs.Named.{Named, is_named, named_by}
-use Rattle.simplex_audit.specs.Evidence.{IsEvidence, evidence_of}
-use Rattle.simplex_audit.specs.Messages.{AreMessages}
+use Rattle.simplex_evidence.specs.Activity.{IsActivity}
+use Rattle.simplex_evidence.specs.declared.types.activity.Activity.{Activity}
+use Rattle.simplex_kept.specs.Evidence.{IsEvidence, IsEquivocation}
+use Rattle.simplex_kept.specs.Laws as laws
+use Rattle.simplex_kept.specs.Laws.{NamesExactly, EvidenceIsUnique}
+use Rattle.simplex_kept.specs.Named.{Named, is_named}
+use Rattle.simplex_kept.specs.Rules.{Rules, good_votes}
+use Rattle.simplex_kept.specs.Splits.{AreSplits}
+use Rattle.simplex_kept.specs.SplitLaws.{SplitsAreUnique, SplitsHaveNames}
+use Rattle.simplex_kept.specs.SpelledEvidence.{IsSpelled}
+use Rattle.simplex_kept.specs.Values.{message_of}
+use Rattle.simplex_kept.specs.declared.evidence.Evidence as declared
+use Rattle.simplex_kept.specs.declared.evidence.Evidence.TheVariants as variants
+use Rattle.simplex_kept.specs.declared.split.Split.{Split}
 use Rattle.simplex_audit.specs.Audit.{IsReport}
+use Rattle.simplex_audit.specs.AuditLaws.{AreVerdicts, TellsOf, NamesStay}
+use Rattle.simplex_audit.specs.Messages.{AreMessages}
+use Rattle.simplex_audit.specs.Setting.{Setting}
 use Rattle.simplex_audit.specs.declared.audit.Fault.{Fault}
-use Rattle.simplex_audit.proofs.Lists.{Contains-from_map}
-use Rattle.simplex_audit.proofs.EvidenceLemmas.{evidence_exists}
-use Rattle.simplex_audit.proofs.NamedLemmas.{named_stays}
 use Rattle.simplex_audit.proofs.StreamLemmas.{messages_once, messages_continue}
 
--- the evidence names exactly who is named
-pub names_exactly : {D G : Type 0} (eq : D → D → Bool) → IsEquivalence eq → (vs : List (Vote D G)) (es : List (Evidence D G)) → IsEvidence eq vs es → (n : Named) → Contains (map named_by es) n ↔ IsTrue (is_named eq vs n)
-names_exactly {D} {G} eq law vs es is n = (named, is.complete n)
-  where
-    named : Contains (map named_by es) n → is_named eq vs n ≡ true
-    named h =
-        let (e, e_in, same) = Contains-from_map named_by es n h in
-        let found = All-contains (λ x. evidence_of eq vs (named_by x) ≡ Some x) es e is.sound e_in in
-        subst (λ m. is_named eq vs m ≡ true) same (sym (evidence_exists eq law vs (named_by e)) ∙ ap is_some found)
+-- what is so of any later messages is so of the stream with anything appended
+pub names_stay : {S D C P G : Type 0} (setting : Setting S D C P G) → IsLawful setting.format → (stream : List ℕ) → ((messages : List (Activity S D C P G)) → laws.NamesStay setting.rules messages) → NamesStay setting stream
+names_stay setting law stream later_too more messages later rest left are are' n h =
+    let c = messages_continue setting.format law stream more rest left messages later are are' in
+    subst (λ ms. IsTrue (is_named setting.rules.eq (good_votes setting.rules ms) n)) (sym c.same) (later_too messages c.further n h)
 
--- who is named stays named in the stream with anything appended
-pub names_stay : {D G M : Type 0} (format : Format M) → IsLawful format → (eq : D → D → Bool) (good : SubjectValue D → ℕ → G → Bool) (votes_in : M → List (Vote D G)) (stream more rest left : List ℕ) (messages later : List M) → AreMessages format stream messages rest → AreMessages format (stream ++ more) later left → (n : Named) → IsTrue (is_named eq (good_votes good votes_in messages) n) → IsTrue (is_named eq (good_votes good votes_in later) n)
-names_stay format law eq good votes_in stream more rest left messages later are are' n h =
-    let c = messages_continue format law stream more rest left messages later are are' in
-    subst (λ ms. IsTrue (is_named eq (good_votes good votes_in ms) n)) (sym c.same) (named_stays eq good votes_in messages c.further n h)
+-- what is so of the messages of a report is so of any list of the stream's messages
+pub tells_of : {S D C P G : Type 0} (setting : Setting S D C P G) → IsLawful setting.format → (stream : List ℕ) (read : ℕ) (fault : Option Fault) (found : List (Evidence D G)) (splits : List Split) →
+    ((messages : List (Activity S D C P G)) → IsEvidence setting.rules.eq (good_votes setting.rules messages) found → AreSplits setting.rules messages splits → AreVerdicts setting.rules messages found splits) →
+    IsReport setting stream read fault found splits → TellsOf setting stream found splits
+tells_of setting law stream read fault found splits tells is messages rest are =
+    let once = messages_once setting.format law stream is.rest rest is.messages messages is.are_messages are in
+    tells messages (subst (λ ms. IsEvidence setting.rules.eq (good_votes setting.rules ms) found) once.0 is.evidence) (subst (λ ms. AreSplits setting.rules ms splits) once.0 is.are_splits)
 
--- the evidence of a report is that of any list of the stream's messages
-pub evidence_of_messages : {D G M : Type 0} (format : Format M) → IsLawful format → (votes_in : M → List (Vote D G)) (eq : D → D → Bool) (good : SubjectValue D → ℕ → G → Bool) (stream : List ℕ) (read : ℕ) (fault : Option Fault) (found : List (Evidence D G)) → IsReport format votes_in eq good stream read fault found → (messages : List M) (rest : List ℕ) → AreMessages format stream messages rest → IsEvidence eq (good_votes good votes_in messages) found
-evidence_of_messages format law votes_in eq good stream read fault found is messages rest are =
-    let same = messages_once format law stream is.rest rest is.messages messages is.are_messages are in
-    subst (λ ms. IsEvidence eq (good_votes good votes_in ms) found) same.0 is.evidence
+-- what can be spelled as a message is one under any bound
+are_value : {S D C P G : Type 0} (eq : D → D → Bool) (payload : Format D) (signature : Format G) (is_certificate : C → Type 0) (e : declared.Evidence S D P G) → IsSpelled eq payload signature e → IsActivity eq payload is_certificate signature (message_of e)
+are_value eq payload signature is_certificate (variants.ConflictingNotarize c) h = h
+are_value eq payload signature is_certificate (variants.ConflictingFinalize c) h = h
+are_value eq payload signature is_certificate (variants.NullifyFinalize c) h = h
+
+pub are_messages : {S D C P G : Type 0} (eq : D → D → Bool) (payload : Format D) (signature : Format G) (is_certificate : C → Type 0) (es : List (declared.Evidence S D P G)) → All (IsSpelled eq payload signature) es → All (IsActivity eq payload is_certificate signature) (map message_of es)
+are_messages eq payload signature is_certificate es spelled =
+    All-map (IsActivity eq payload is_certificate signature) message_of es (All-weaker (IsSpelled eq payload signature) (λ e. IsActivity eq payload is_certificate signature (message_of e)) (are_value eq payload signature is_certificate) es spelled)

@@ -32,10 +32,6 @@ IsNeverEmpty {M} format = (m : M) → 0 < length (format.spelling m)
 IsBytes-rest : {M : Type 0} (format : Format M) (stream rest : List ℕ) (messages : List M) → IsBytes stream → stream ≡ flat_map format.spelling messages ++ rest → IsBytes rest
 IsBytes-rest format stream rest messages fit whole = IsBytes-after (flat_map format.spelling messages) rest (subst IsBytes whole fit)
 
--- what was read is a message
-pub next_is_value : {M : Type 0} (format : Format M) (Kept : List M → Type 0) (stream rest rest' : List ℕ) (read : ℕ) (m : M) → IsLawful format → IsBytes stream → SoFar format Kept stream rest read → format.reading rest ≡ Ok (m, rest') → format.is_value m
-next_is_value format Kept stream rest rest' read m law fit far e = (law.takes rest m rest' (IsBytes-rest format stream rest far.messages fit far.whole) e).value
-
 -- one message was read
 pub so_far_next : {M : Type 0} (format : Format M) (Kept Kept' : List M → Type 0) (stream rest rest' : List ℕ) (read : ℕ) (m : M) → IsLawful format → IsNeverEmpty format → IsBytes stream → SoFar format Kept stream rest read → format.reading rest ≡ Ok (m, rest') → ((ms : List M) → Kept ms → Kept' (ms ++ m ∷ [])) → SoFar format Kept' stream rest' (read + 1)
 so_far_next format Kept Kept' stream rest rest' read m law some fit far e keep =
@@ -135,3 +131,11 @@ messages_once {M} format law stream rest left messages later are are' =
     go : (further : List M) → later ≡ messages ++ further → rest ≡ flat_map format.spelling further ++ left → ((m : M) (ms : List M) → further ≡ m ∷ ms → format.is_value m) → (messages ≡ later) × (rest ≡ left)
     go [] same after value = (sym (same ∙ append-nil messages), after)
     go (m ∷ ms) same after value = absurd (are.stuck m (flat_map format.spelling ms ++ left) (value m ms refl) (after ∙ append_assoc (format.spelling m) (flat_map format.spelling ms) left))
+
+-- messages that are joined in order are those of their stream
+pub are_joined : {M : Type 0} (format : Format M) → IsNeverEmpty format → (messages : List M) → All format.is_value messages → AreMessages format (flat_map format.spelling messages) messages []
+are_joined format some messages each = record {
+  whole = sym (append-nil (flat_map format.spelling messages));
+  each = each;
+  stuck = λ m more v p. let longer = some m in let len = ap length p in absurd (omega (arith, length-append (format.spelling m) more));
+}

@@ -1,12 +1,6 @@
-pub mod GoodVotes
-pub mod Named
-pub mod Evidence
-pub mod Kept
-pub mod Places
-pub mod Memory
-pub mod Laws
-pub mod Audited
+pub mod Setting
 pub mod Messages
-pub mod Audit
-pub mod Line
 pub mod Progress
+pub mod Audit
+pub mod AuditLaws
+pub mod Again
