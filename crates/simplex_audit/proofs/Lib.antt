@@ -1,11 +1,4 @@
-pub mod Lists
-pub mod Places
-pub mod Entries
-pub mod EvidenceLemmas
-pub mod NamedLemmas
-pub mod KeptLemmas
-pub mod ReportLemmas
-pub mod MemoryLemmas
 pub mod StreamLemmas
-pub mod TagLemmas
 pub mod NamesLemmas
+pub mod AuditorLemmas
+pub mod DeviceLemmas

@@ -1,9 +1,13 @@
 //! The auditor: reads a stream of consensus messages, and names exactly the participants who signed two
-//! contradictory votes in it, each once, with the two votes.
+//! contradictory votes in it, each once, with the two votes, and the rounds whose certificates contradict.
 #![tactic(auto)]
 
 pub mod audit;
-pub mod evidence;
-mod kept;
-mod place;
+pub mod auditor;
+pub mod basis;
+mod input;
 mod reading;
+mod reporting;
+pub mod run;
+mod text;
+pub mod watched;

@@ -1,161 +1,84 @@
-//! Reads the messages of a stream one after another, and keeps what has to be kept of their votes.
+//! Reads the messages of a stream one after another, and keeps what has to be kept of them.
 
-ghost use Rattle.std.specs.Prelude.{◌≡◌, ◌≢◌, List, [], ◌∷◌, ◌++◌, filter, IfOk, IsTrue, OnOk};
-ghost use Rattle.simplex_base.specs.Reading.{Gives};
-ghost use Rattle.simplex_base.specs.Readable.{format_under};
-ghost use Rattle.simplex_votes.specs.Votes.{Vote, notarize_vote, notarize_of, notarization_votes};
-ghost use Rattle.simplex_evidence.specs.Activity.{activity_tag, votes_in};
-ghost use Rattle.simplex_audit.specs.Audited.{audited, is_audited};
-ghost use Rattle.simplex_audit.specs.GoodVotes.{good_votes};
-ghost use Rattle.simplex_audit.specs.Memory.{Holds};
+ghost use Rattle.std.specs.Prelude.{◌≡◌, ◌≢◌, ◌+◌, ◌≤◌, length, IfOk};
+ghost use Rattle.simplex_base.specs.Format.{IsLawful};
 ghost use Rattle.simplex_audit.specs.Progress.{IsProgress};
+ghost use Rattle.simplex_kept.specs.Rules.{AreLawful};
+ghost use Rattle.simplex_kept.specs.Seen.{RecallsMore};
 
-use crate::audit::Fault;
-use crate::kept::Memory;
+use crate::basis::Audited;
+use simplex_base::codec::Read;
 use simplex_base::codec::error::Error;
-use simplex_base::codec::{Fixed, Read};
 use simplex_evidence::types::Activity;
-use simplex_scheme::proposal::Proposal;
-use simplex_scheme::scheme::{Attestation, Digest, Listing, Scheme, SchemeTypes};
-use simplex_scheme::subject::Subject;
-use simplex_votes::types::{Notarization, Notarize};
+use simplex_kept::committees::Committees;
+use simplex_kept::laws::committees_are_lawful;
+use simplex_kept::seen::Seen;
+use simplex_scheme::scheme::{Digest, Listing};
 use std::alloc::{AllocError, Global};
 
-/// What was read of a stream.
-#[derive(Drop)]
-pub struct Progress<S: SchemeTypes, D: Digest> {
-    pub memory: Memory<S, D>,
+/// What was read of some bytes.
+#[derive(Clone, Copy)]
+pub struct Progress<'a> {
+    /// How many messages were read.
     pub read: usize,
-    pub fault: Option<Fault>,
+    /// The bytes after the last.
+    pub rest: &'a [u8],
+    /// What reading a message there answers, if anything is left.
+    pub stop: Option<Error>,
 }
 
-/// Keeps a notarize, an attestation to a proposal, if it verifies. One that would change nothing is not verified,
-/// and only what is kept is copied.
-fn keep_notarize<S: Scheme<D>, D: Digest>(
-    scheme: &S,
-    proposal: &Proposal<D>,
-    attestation: &Attestation<S>,
-    memory: &mut Memory<S, D>,
-) -> Result<(), AllocError>
-    ensures { OnOk result ((vs : List (Vote D S.Signature)) → Holds D.eq vs memory.old →
-        Holds D.eq (vs ++ filter (λ v. S.good scheme.now v.subject v.signer v.signature) (notarize_of proposal.now attestation.now ∷ [])) memory.new) }
+/// The bound under which messages are read. That a stream has one list of messages, and that the committees judge lawfully,
+/// holds with it.
+pub fn reading_bound<S: Listing<D>, D: Digest>(committees: &Committees<S>) -> u32
+    ensures value { result ≡ (⟦<S as Audited<D>>⟧.basis committees.now).bound }
+    ensures readable { IsLawful (⟦<S as Audited<D>>⟧.basis committees.now).format }
+    ensures lawful { AreLawful (⟦<S as Audited<D>>⟧.basis committees.now).rules }
 {
-    let subject = Subject::Notarize { proposal };
-    if memory.is_news(proposal, attestation) && scheme.verify_attestation(subject, attestation) {
-        memory.keep(notarize(proposal, attestation))?;
-    }
-    Ok(())
+    committees_are_lawful::<S, D>();
+    committees.bound()
 }
 
-/// A copy of an attestation to a proposal, as a notarize.
-fn notarize<S: SchemeTypes, D: Digest>(
-    proposal: &Proposal<D>,
-    attestation: &Attestation<S>,
-) -> Notarize<S, D>
-    ensures { notarize_vote result ≡ notarize_of proposal.now attestation.now }
-{
-    Notarize {
-        proposal: *proposal,
-        attestation: Attestation {
-            signer: attestation.signer,
-            signature: attestation.signature,
-        },
-    }
-}
-
-/// Keeps the good votes among the attestations of a notarization, each judged by itself, whether the certificate
-/// verifies or not.
-fn keep_notarization<S: Listing<D>, D: Digest>(
-    scheme: &S,
-    notarization: &Notarization<S, D>,
-    memory: &mut Memory<S, D>,
-) -> Result<(), AllocError>
-    ensures { OnOk result ((vs : List (Vote D S.Signature)) → Holds D.eq vs memory.old →
-        Holds D.eq (vs ++ filter (λ v. S.good scheme.now v.subject v.signer v.signature) (notarization_votes S.listed notarization.now)) memory.new) }
-{
-    'listed: for attestation in S::attestations(&notarization.certificate) {
-        keep_notarize(scheme, &notarization.proposal, attestation, memory)?;
-    }
-    Ok(())
-}
-
-/// Keeps the good votes of a message that an audit reads.
-fn keep_votes<S: Listing<D>, D: Digest>(
-    scheme: &S,
-    message: Activity<S, D>,
-    memory: &mut Memory<S, D>,
-) -> Result<(), AllocError>
-    requires { IsTrue (is_audited (activity_tag message)) }
-    ensures { OnOk result ((vs : List (Vote D S.Signature)) → Holds D.eq vs memory.old →
-        Holds D.eq (vs ++ filter (λ v. S.good scheme.now v.subject v.signer v.signature) (votes_in S.listed message)) memory.new) }
-{
-    match message {
-        Activity::Notarize(vote) => {
-            keep_notarize(scheme, &vote.proposal, &vote.attestation, memory)
-        }
-        Activity::Notarization(notarization) => keep_notarization(scheme, &notarization, memory),
-        _ => unreachable!(),
-    }
-}
-
-/// The fault of a reading that failed at a place. For want of memory there is none.
-fn fault_at(place: usize, error: Error) -> Result<Fault, AllocError>
-    ensures { IfOk result (λ fault. (fault.place ≡ place) × (fault.error ≡ error) × (error ≢ Error.OutOfMemory)) }
+/// The error of a reading that failed, where it is no want of memory.
+fn refusal(error: Error) -> Result<Error, AllocError>
+    ensures { IfOk result (λ e. (e ≡ error) × (e ≢ Error.OutOfMemory)) }
 {
     match error {
         Error::OutOfMemory => Err(AllocError),
-        _ => Ok(Fault { place, error }),
+        _ => Ok(error),
     }
 }
 
-/// Reads the message at the front of the input under a bound, and moves the slice past it. A message that an audit
-/// does not read is refused by its tag alone. After an error the slice is as before.
-fn read_message<S: Listing<D>, D: Digest>(
+/// Reads the messages of some bytes, as many as there are, under the committees' bound, and keeps what has to be kept of
+/// them.
+pub fn read_messages<'a, S: Listing<D>, D: Digest>(
     alloc: Global,
-    input: &mut &[u8],
+    committees: &Committees<S>,
     bound: u32,
-) -> Result<Activity<S, D>, Error>
-    ensures { Gives S.Certificate.takes_memory result input.old.now input.new.now ((audited (format_under ⟦<Activity<S, D> as Read>⟧ bound)).reading input.old.now) }
+    bytes: &'a [u8],
+    seen: &mut Seen<S, D>,
+) -> Result<Progress<'a>, AllocError>
+    requires { bound ≡ (⟦<S as Audited<D>>⟧.basis committees.now).bound }
+    ensures progress { IfOk result (λ p. IsProgress (⟦<S as Audited<D>>⟧.basis committees.now).format
+        (λ messages. RecallsMore (⟦<S as Audited<D>>⟧.basis committees.now).rules messages seen.old seen.new) bytes.now p.rest.now p.read p.stop) }
+    ensures room { IfOk result (λ p. p.read + length p.rest.now ≤ length bytes.now) }
 {
-    match input.first() {
-        None | Some(0 | 1) => Activity::read_cfg(alloc, input, &bound),
-        Some(_) => Err(Error::Invalid("consensus::simplex::Activity", "Invalid type")),
-    }
-}
-
-/// Reads a stream under a bound up to its end or first fault, and keeps what has to be kept of its votes.
-pub fn read_stream<S: Listing<D>, D: Digest>(
-    alloc: Global,
-    scheme: &S,
-    bound: u32,
-    stream: &[u8],
-) -> Result<Progress<S, D>, AllocError>
-    ensures { IfOk result (λ p. IsProgress (audited (format_under ⟦<Activity<S, D> as Read>⟧ bound))
-        (λ messages. Holds D.eq (good_votes (S.good scheme.now) (votes_in S.listed) messages) p.memory) stream.now p.read p.fault) }
-{
-    let mut memory = Memory::new(alloc);
-    let mut rest: &[u8] = stream;
+    let mut rest: &[u8] = bytes;
     let mut read = 0;
     'messages: while !rest.is_empty() {
-        match read_message(alloc, &mut rest, bound) {
+        match Activity::<S, D>::read_cfg(alloc, &mut rest, &bound) {
             Ok(message) => {
                 read += 1;
-                keep_votes(scheme, message, &mut memory)?;
+                seen.see(alloc, committees, message)?;
             }
             Err(error) => {
-                let place = stream.len() - rest.len();
-                let fault = Some(fault_at(place, error)?);
-                return Ok(Progress {
-                    memory,
-                    read,
-                    fault,
-                });
+                let stop = Some(refusal(error)?);
+                return Ok(Progress { read, rest, stop });
             }
         }
     }
     Ok(Progress {
-        memory,
         read,
-        fault: None,
+        rest,
+        stop: None,
     })
 }
