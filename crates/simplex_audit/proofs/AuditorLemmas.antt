@@ -1,24 +1,21 @@
 -- What is kept from message to message, and what an auditor stands for from piece to piece.
-use Rattle.std.proofs.Common.{◌≡◌, ℕ, ◌+◌, List, [], ◌++◌, length, drop, Bor, Option, Ok, refl, sym, ap, subst, ◌∙◌, arith, length-append, append_assoc, append-nil}
+use Rattle.std.proofs.Common.{◌≡◌, ℕ, ◌+◌, List, [], ◌∷◌, ◌++◌, length, drop, Bor, Option, None, refl, sym, ap, subst, ◌∙◌, arith, length-append, append_assoc, append-nil}
 use Rattle.std.proofs.lemmas.List.Elements.{All-nil}
 use Rattle.std.proofs.Math.Seq.{drop-append_seam}
-use Rattle.simplex_base.specs.Reading.{IsBytes}
-use Rattle.simplex_base.specs.Format.{Format, IsLawful}
-use Rattle.simplex_evidence.specs.Contradiction.{Evidence}
+use Rattle.simplex_base.specs.Format.{Format}
+use Rattle.simplex_base.specs.declared.codec.error.Error.{Error}
 use Rattle.simplex_evidence.specs.declared.types.activity.Activity.{Activity}
-use Rattle.simplex_audit.specs.Audit.{IsReport}
-use Rattle.simplex_audit.specs.Auditor.{Stands}
 use Rattle.simplex_kept.specs.Committees.{Schedule}
-use Rattle.simplex_audit.specs.Messages.{IsStuck}
-use Rattle.simplex_audit.specs.Progress.{IsProgress}
-use Rattle.simplex_kept.specs.Rules.{Rules}
+use Rattle.simplex_kept.specs.Rules.{Rules, AreLawful}
 use Rattle.simplex_kept.specs.Seen.{Recalls, RecallsMore}
-use Rattle.simplex_audit.specs.Terms.{Terms}
-use Rattle.simplex_audit.specs.declared.audit.Fault.{Fault}
-use Rattle.simplex_audit.specs.declared.auditor.Auditor.{Auditor}
 use Rattle.simplex_kept.specs.declared.seen.Seen.{Seen}
-use Rattle.simplex_kept.specs.declared.split.Split.{Split}
-use Rattle.simplex_audit.proofs.StreamLemmas.{IsNeverEmpty, progress_of_pieces}
+use Rattle.simplex_audit.specs.Auditor.{Stands, Holds}
+use Rattle.simplex_audit.specs.Basis.{Basis}
+use Rattle.simplex_audit.specs.Progress.{IsProgress}
+use Rattle.simplex_audit.specs.Report.{IsReport}
+use Rattle.simplex_audit.specs.declared.audit.Report.{Report}
+use Rattle.simplex_audit.specs.declared.auditor.Auditor.{Auditor}
+use Rattle.simplex_audit.proofs.StreamLemmas.{IsNeverEmpty, nothing_stuck, progress_of_pieces}
 
 -- ---- from message to message
 
@@ -32,59 +29,104 @@ recalls_on rules ms ks old mid new keep next before held = subst (λ xs. Recalls
 
 -- ---- from piece to piece
 
--- no message stands in front of nothing
-nothing_stuck : {M : Type 0} (format : Format M) → IsNeverEmpty format → IsStuck format []
-nothing_stuck format some m more v p = let longer = some m in let len = ap length p in absurd (omega (arith, length-append (format.spelling m) more))
-
 -- of the empty stream nothing is read
-pub nothing_read : {M : Type 0} (format : Format M) (Kept : List M → Type 0) (rest : List ℕ) → rest ≡ [] → IsNeverEmpty format → Kept [] → IsProgress format Kept [] rest 0
+pub nothing_read : {M : Type 0} (format : Format M) (Kept : List M → Type 0) (rest : List ℕ) → rest ≡ [] → IsNeverEmpty format → Kept [] → IsProgress format Kept [] rest 0 None
 nothing_read format Kept rest none some kept = record {
   messages = [];
-  are_messages = record { whole = sym none; each = All-nil format.is_value; stuck = subst (IsStuck format) (sym none) (nothing_stuck format some) };
+  are_messages = record { whole = sym none; each = All-nil format.is_value; stuck = nothing_stuck format rest some none };
   read_is = refl;
+  stop_is = none;
   kept = kept;
 }
 
 -- what is kept of messages, and then of further ones, is kept of all
-pub read_more : {S D C P G : Type 0} (format : Format (Activity S D C P G)) (rules : Rules S D C P G) (stream piece rest left : List ℕ) (read more : ℕ) (old new : Seen S D P G) →
-    IsProgress format (λ ms. Recalls rules ms old) stream rest read →
-    IsProgress format (λ ms. RecallsMore rules ms old new) (rest ++ piece) left more →
-    IsProgress format (λ ms. Recalls rules ms new) (stream ++ piece) left (read + more)
-read_more format rules stream piece rest left read more old new before after =
-    progress_of_pieces format _ _ _ stream piece rest left read more before after (λ ms ks held next. next ms held)
+pub read_more : {S D C P G : Type 0} (format : Format (Activity S D C P G)) (rules : Rules S D C P G) (front unread rest left : List ℕ) (read more : ℕ) (stop stop' : Option Error) (old new : Seen S D P G) →
+    IsProgress format (λ ms. Recalls rules ms old) front rest read stop →
+    IsProgress format (λ ms. RecallsMore rules ms old new) (rest ++ unread) left more stop' →
+    IsProgress format (λ ms. Recalls rules ms new) (front ++ unread) left (read + more) stop'
+read_more format rules front unread rest left read more stop stop' old new before after =
+    progress_of_pieces format _ _ _ front unread rest left read more stop stop' before after (λ ms ks held next. next ms held)
 
 -- what is kept of a stream read at once
-pub read_at_once : {S D C P G : Type 0} (format : Format (Activity S D C P G)) (rules : Rules S D C P G) (stream left : List ℕ) (more : ℕ) (old new : Seen S D P G) →
+pub read_at_once : {S D C P G : Type 0} (format : Format (Activity S D C P G)) (rules : Rules S D C P G) (stream left : List ℕ) (more : ℕ) (stop : Option Error) (old new : Seen S D P G) →
     Recalls rules [] old →
-    IsProgress format (λ ms. RecallsMore rules ms old new) stream left more →
-    IsProgress format (λ ms. Recalls rules ms new) stream left more
-read_at_once format rules stream left more old new none after = record {
+    IsProgress format (λ ms. RecallsMore rules ms old new) stream left more stop →
+    IsProgress format (λ ms. Recalls rules ms new) stream left more stop
+read_at_once format rules stream left more stop old new none after = record {
   messages = after.messages;
   are_messages = after.are_messages;
   read_is = after.read_is;
+  stop_is = after.stop_is;
   kept = after.kept [] none;
 }
 
--- what is read does not begin with bytes in front of which no message stands
-pub read_from_stuck : {M : Type 0} (format : Format M) (rest left : List ℕ) (m : M) → IsLawful format → IsBytes rest → format.reading rest ≡ Ok (m, left) → IsStuck format rest → ⊥
-read_from_stuck format rest left m law fit e stuck = let t = law.takes rest m left fit e in stuck m left t.value t.parts
+-- what stands for a stream holds it
+pub stands_holds : {S D C P G : Type 0} (basis : Schedule S → Basis S D C P G) (committees : Schedule S) (auditor : Auditor S D P G) (stream : List ℕ) → Stands basis committees auditor stream → Holds basis committees auditor stream
+stands_holds basis committees auditor stream h = record {
+  fed = h.fed;
+  front = stream;
+  rest = auditor.taken.rest.items;
+  unread = [];
+  stop = auditor.taken.stop;
+  whole = sym (append-nil stream);
+  held = sym (append-nil auditor.taken.rest.items);
+  progress = h.progress;
+}
 
--- an auditor that goes on to read the rest with a piece behind it stands for the stream with the piece behind it
-pub stands_more : {S D C P G : Type 0} (terms : Schedule S → Terms S D C P G) (old next : Auditor S D P G) (piece bytes left : List ℕ) (more : ℕ) →
-    next.committees ≡ old.committees → next.taken.fed ≡ old.taken.fed + length piece → next.taken.read ≡ old.taken.read + more → next.taken.rest.items ≡ left → bytes ≡ old.taken.rest.items ++ piece →
-    IsProgress (terms old.committees.now).format (λ ms. RecallsMore (terms old.committees.now).rules ms old.seen next.seen) bytes left more →
-    (committees : Schedule S) (stream : List ℕ) → Stands terms committees old stream → Stands terms committees next (stream ++ piece)
-stands_more {S} {D} {C} {P} {G} terms old next piece bytes left more same fed read rest together after committees stream stands =
-    let after_of : Schedule S → List ℕ → Type 0 = λ s xs. IsProgress (terms s).format (λ ms. RecallsMore (terms s).rules ms old.seen next.seen) xs left more in
-    let further = subst (λ (s : Schedule S). after_of s (old.taken.rest.items ++ piece)) stands.committees_are (subst (λ (xs : List ℕ). after_of old.committees.now xs) together after) in
-    let all = read_more (terms committees).format (terms committees).rules stream piece old.taken.rest.items left old.taken.read more old.seen next.seen stands.progress further in
-    let kept = λ (ms : List (Activity S D C P G)). Recalls (terms committees).rules ms next.seen in
+-- an auditor that takes a piece and does not look at it holds the stream with the piece behind it
+pub holds_more : {S D C P G : Type 0} (basis : Schedule S → Basis S D C P G) (old next : Auditor S D P G) (piece : List ℕ) →
+    next.committees ≡ old.committees → next.bound ≡ old.bound → next.seen ≡ old.seen → next.taken.fed ≡ old.taken.fed + length piece → next.taken.read ≡ old.taken.read → next.taken.rest.items ≡ old.taken.rest.items ++ piece →
+    (committees : Schedule S) (stream : List ℕ) → Holds basis committees old stream → Holds basis committees next (stream ++ piece)
+holds_more {S} {D} {C} {P} {G} basis old next piece same bound seen fed read rest committees stream h =
+    let kept : Seen S D P G → List (Activity S D C P G) → Type 0 = λ s ms. Recalls (basis committees).rules ms s in
     record {
-      committees_are = ap (λ (s : Bor (Schedule S)). s.now) same ∙ stands.committees_are;
-      fed_is = let before = stands.fed_is in omega (arith, length-append stream piece);
-      progress = subst (λ (xs : List ℕ). IsProgress (terms committees).format kept (stream ++ piece) xs next.taken.read) (sym rest)
-          (subst (λ (n : ℕ). IsProgress (terms committees).format kept (stream ++ piece) left n) (sym read) all);
+      fed = record {
+        committees_are = ap (λ (s : Bor (Schedule S)). s.now) same ∙ h.fed.committees_are;
+        bound_is = bound ∙ h.fed.bound_is;
+        readable = h.fed.readable;
+        lawful = h.fed.lawful;
+        fed_is = let before = h.fed.fed_is in omega (arith, length-append stream piece);
+      };
+      front = h.front;
+      rest = h.rest;
+      unread = h.unread ++ piece;
+      stop = h.stop;
+      whole = ap (λ (xs : List ℕ). xs ++ piece) h.whole ∙ append_assoc h.front h.unread piece;
+      held = rest ∙ (ap (λ (xs : List ℕ). xs ++ piece) h.held ∙ append_assoc h.rest h.unread piece);
+      progress = subst (λ (s : Seen S D P G). IsProgress (basis committees).format (kept s) h.front h.rest next.taken.read h.stop) (sym seen)
+          (subst (λ (n : ℕ). IsProgress (basis committees).format (kept old.seen) h.front h.rest n h.stop) (sym read) h.progress);
     }
+
+-- an auditor that looks for messages in the bytes that it holds, with a piece behind them, stands for the stream with the
+-- piece behind it
+pub stands_after : {S D C P G : Type 0} (basis : Schedule S → Basis S D C P G) (old next : Auditor S D P G) (piece bytes left : List ℕ) (more : ℕ) (stop : Option Error) →
+    next.committees ≡ old.committees → next.bound ≡ old.bound → next.taken.fed ≡ old.taken.fed + length piece → next.taken.read ≡ old.taken.read + more → next.taken.stop ≡ stop → next.taken.rest.items ≡ left → bytes ≡ old.taken.rest.items ++ piece →
+    (old.bound ≡ (basis old.committees.now).bound → IsProgress (basis old.committees.now).format (λ ms. RecallsMore (basis old.committees.now).rules ms old.seen next.seen) bytes left more stop) →
+    (committees : Schedule S) (stream : List ℕ) → Holds basis committees old stream → Stands basis committees next (stream ++ piece)
+stands_after {S} {D} {C} {P} {G} basis old next piece bytes left more stop same bound fed read why rest together after committees stream h =
+    let after_of : Schedule S → List ℕ → Type 0 = λ s xs. old.bound ≡ (basis s).bound → IsProgress (basis s).format (λ ms. RecallsMore (basis s).rules ms old.seen next.seen) xs left more stop in
+    let parts : bytes ≡ h.rest ++ (h.unread ++ piece) = together ∙ (ap (λ (xs : List ℕ). xs ++ piece) h.held ∙ append_assoc h.rest h.unread piece) in
+    let further = subst (λ (s : Schedule S). after_of s (h.rest ++ (h.unread ++ piece))) h.fed.committees_are (subst (λ (xs : List ℕ). after_of old.committees.now xs) parts after) h.fed.bound_is in
+    let all = read_more (basis committees).format (basis committees).rules h.front (h.unread ++ piece) h.rest left old.taken.read more h.stop stop old.seen next.seen h.progress further in
+    let whole : h.front ++ (h.unread ++ piece) ≡ stream ++ piece = sym (append_assoc h.front h.unread piece) ∙ ap (λ (xs : List ℕ). xs ++ piece) (sym h.whole) in
+    let kept : List (Activity S D C P G) → Type 0 = λ ms. Recalls (basis committees).rules ms next.seen in
+    record {
+      fed = record {
+        committees_are = ap (λ (s : Bor (Schedule S)). s.now) same ∙ h.fed.committees_are;
+        bound_is = bound ∙ h.fed.bound_is;
+        readable = h.fed.readable;
+        lawful = h.fed.lawful;
+        fed_is = let before = h.fed.fed_is in omega (arith, length-append stream piece);
+      };
+      progress = subst (λ (o : Option Error). IsProgress (basis committees).format kept (stream ++ piece) next.taken.rest.items next.taken.read o) (sym why)
+          (subst (λ (n : ℕ). IsProgress (basis committees).format kept (stream ++ piece) next.taken.rest.items n stop) (sym read)
+          (subst (λ (xs : List ℕ). IsProgress (basis committees).format kept (stream ++ piece) xs (old.taken.read + more) stop) (sym rest)
+          (subst (λ (xs : List ℕ). IsProgress (basis committees).format kept xs left (old.taken.read + more) stop) whole all)));
+    }
+
+-- the same with no piece behind them
+pub stands_now : {S D C P G : Type 0} (basis : Schedule S → Basis S D C P G) (committees : Schedule S) (auditor : Auditor S D P G) (stream : List ℕ) → Stands basis committees auditor (stream ++ []) → Stands basis committees auditor stream
+stands_now basis committees auditor stream h = subst (λ (xs : List ℕ). Stands basis committees auditor xs) (append-nil stream) h
 
 -- what is left of bytes behind a front of them
 pub front_dropped : (all front left : List ℕ) (n : ℕ) → all ≡ front ++ left → n + length left ≡ length all → drop n all ≡ left
@@ -93,13 +135,11 @@ front_dropped all front left n whole len =
     ap (λ (xs : List ℕ). drop n xs) whole ∙ (ap (λ (k : ℕ). drop k (front ++ left)) same ∙ drop-append_seam front left)
 
 -- the report of what is kept is the report of each stream that the auditor stands for
-pub stands_reported : {S D C P G : Type 0} (terms : Schedule S → Terms S D C P G) (auditor : Auditor S D P G) (rest : List ℕ) (place read : ℕ) (fault : Option Fault) (found : List (Evidence D G)) (splits : List Split) →
-    rest ≡ auditor.taken.rest.items → place + length auditor.taken.rest.items ≡ auditor.taken.fed →
-    ((stream : List ℕ) → place + length rest ≡ length stream → IsProgress (terms auditor.committees.now).format (λ ms. Recalls (terms auditor.committees.now).rules ms auditor.seen) stream rest auditor.taken.read → IsReport (terms auditor.committees.now) stream read fault found splits) →
-    (committees : Schedule S) (stream : List ℕ) → Stands terms committees auditor stream → IsReport (terms committees) stream read fault found splits
-stands_reported {S} terms auditor rest place read fault found splits left at is committees stream stands =
-    let read_of : Schedule S → Type 0 = λ s. IsProgress (terms s).format (λ ms. Recalls (terms s).rules ms auditor.seen) stream auditor.taken.rest.items auditor.taken.read in
-    let here : read_of auditor.committees.now = subst read_of (sym stands.committees_are) stands.progress in
-    subst (λ (s : Schedule S). IsReport (terms s) stream read fault found splits) stands.committees_are
-    (is stream (ap (λ (xs : List ℕ). place + length xs) left ∙ (at ∙ stands.fed_is))
-    (subst (λ (xs : List ℕ). IsProgress (terms auditor.committees.now).format (λ ms. Recalls (terms auditor.committees.now).rules ms auditor.seen) stream xs auditor.taken.read) (sym left) here))
+pub stands_reported : {S D C P G : Type 0} (basis : Schedule S → Basis S D C P G) (auditor : Auditor S D P G) (place : ℕ) (report : Report S D P G) →
+    place + length auditor.taken.rest.items ≡ auditor.taken.fed →
+    ((stream rest : List ℕ) → AreLawful (basis auditor.committees.now).rules → place + length rest ≡ length stream → IsProgress (basis auditor.committees.now).format (λ ms. Recalls (basis auditor.committees.now).rules ms auditor.seen) stream rest auditor.taken.read auditor.taken.stop → IsReport (basis auditor.committees.now) stream report) →
+    (committees : Schedule S) (stream : List ℕ) → Stands basis committees auditor stream → IsReport (basis committees) stream report
+stands_reported {S} basis auditor place report at is committees stream h =
+    let reported : Schedule S → Type 0 = λ s. AreLawful (basis s).rules → IsProgress (basis s).format (λ ms. Recalls (basis s).rules ms auditor.seen) stream auditor.taken.rest.items auditor.taken.read auditor.taken.stop → IsReport (basis s) stream report in
+    let here : reported auditor.committees.now = λ lawful read. is stream auditor.taken.rest.items lawful (at ∙ h.fed.fed_is) read in
+    subst reported h.fed.committees_are here h.fed.lawful h.progress

@@ -1,4 +1,5 @@
 pub mod StreamLemmas
 pub mod NamesLemmas
+pub mod ReportLemmas
 pub mod AuditorLemmas
 pub mod DeviceLemmas

@@ -1,5 +1,6 @@
 -- What an auditor stands for.
 use Rattle.std.specs.Prelude.{◌≡◌, ℕ, List, ◌++◌, length, Option}
+use Rattle.simplex_base.specs.Format.{IsLawful}
 use Rattle.simplex_base.specs.declared.codec.error.Error.{Error}
 use Rattle.simplex_kept.specs.Committees.{Schedule}
 use Rattle.simplex_kept.specs.Rules.{AreLawful}
@@ -12,10 +13,11 @@ use Rattle.simplex_audit.specs.declared.auditor.Auditor.{Auditor}
 abbrev pub fed_of : {S D P G : Type 0} → Auditor S D P G → ℕ
 fed_of auditor = auditor.taken.fed
 
--- it is an auditor of these committees, which judge lawfully, and was fed the stream
+-- it is an auditor of these committees, under which reading and judging are lawful, and was fed the stream
 pub record IsFed {S D C P G : Type 0} (basis : Schedule S → Basis S D C P G) (committees : Schedule S) (auditor : Auditor S D P G) (stream : List ℕ) : Type 0 where
   pub committees_are : auditor.committees.now ≡ committees
   pub bound_is : auditor.bound ≡ (basis committees).bound
+  pub readable : IsLawful (basis committees).format
   pub lawful : AreLawful (basis committees).rules
   pub fed_is : auditor.taken.fed ≡ length stream
 

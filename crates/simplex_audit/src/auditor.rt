@@ -142,10 +142,32 @@ impl<'a, S: Listing<D>, D: Digest> Auditor<'a, S, D> {
         ensures holds { IfOk result (λ next. (committees : Schedule S) (stream : List ℕ) →
             Holds ⟦<S as Audited<D>>⟧.basis committees self.entry stream → Holds ⟦<S as Audited<D>>⟧.basis committees next (stream ++ piece.now)) }
     {
-        let mut next = self;
-        next.taken.rest.extend_from_slice(piece)?;
-        next.taken.fed += piece.len();
-        Ok(next)
+        let Auditor {
+            committees,
+            bound,
+            seen,
+            taken,
+        } = self;
+        let Taken {
+            mut rest,
+            tried,
+            fed,
+            read,
+            stop,
+        } = taken;
+        rest.extend_from_slice(piece)?;
+        Ok(Auditor {
+            committees,
+            bound,
+            seen,
+            taken: Taken {
+                rest,
+                tried,
+                fed: fed + piece.len(),
+                read,
+                stop,
+            },
+        })
     }
 
     /// Looks for messages in the bytes that it holds, and drops them.

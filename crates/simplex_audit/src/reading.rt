@@ -48,8 +48,8 @@ fn refusal(error: Error) -> Result<Error, AllocError>
     }
 }
 
-/// Reads the messages of some bytes, as many as there are, under the committees' bound, and keeps what has to be kept of
-/// them.
+/// Reads the messages of some bytes, as many as there are, and keeps what has to be kept of them. The bound is that of the
+/// committees.
 pub fn read_messages<'a, S: Listing<D>, D: Digest>(
     alloc: Global,
     committees: &Committees<S>,
@@ -57,8 +57,7 @@ pub fn read_messages<'a, S: Listing<D>, D: Digest>(
     bytes: &'a [u8],
     seen: &mut Seen<S, D>,
 ) -> Result<Progress<'a>, AllocError>
-    requires { bound ≡ (⟦<S as Audited<D>>⟧.basis committees.now).bound }
-    ensures progress { IfOk result (λ p. IsProgress (⟦<S as Audited<D>>⟧.basis committees.now).format
+    ensures progress { IfOk result (λ p. bound ≡ (⟦<S as Audited<D>>⟧.basis committees.now).bound → IsProgress (⟦<S as Audited<D>>⟧.basis committees.now).format
         (λ messages. RecallsMore (⟦<S as Audited<D>>⟧.basis committees.now).rules messages seen.old seen.new) bytes.now p.rest.now p.read p.stop) }
     ensures room { IfOk result (λ p. p.read + length p.rest.now ≤ length bytes.now) }
 {
