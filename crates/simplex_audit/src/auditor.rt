@@ -214,7 +214,8 @@ impl<'a, S: Listing<D>, D: Digest> Auditor<'a, S, D> {
             Stands ⟦<S as Audited<D>>⟧.basis committees self.now stream → IsReport (⟦<S as Audited<D>>⟧.basis committees) stream report) }
     {
         let alloc = *self.taken.rest.allocator();
-        let place = self.taken.fed - self.taken.rest.len();
+        let rest = self.taken.rest.as_slice();
+        let place = self.taken.fed - rest.len();
         make_report(alloc, self.committees, &self.seen, self.taken.read, place, self.taken.stop)
     }
 

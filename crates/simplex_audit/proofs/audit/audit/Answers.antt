@@ -1,8 +1,15 @@
 use Rattle.std.proofs.Common.{map, arith}
+use Rattle.simplex_kept.specs.Committees.{Schedule, rules_of}
+use Rattle.simplex_kept.specs.Rules.{Rules}
 use Rattle.simplex_kept.specs.Values.{message_of}
 use Rattle.simplex_audit.proofs.NamesLemmas.{if_ok, if_both, report_evidence, report_splits, names_stay}
 use Rattle.simplex_audit.proofs.StreamLemmas.{messages_once, are_joined}
+use Rattle.simplex_audit.proofs.audit.audit.Given as given
 use Rattle.simplex_audit.proofs.audit.audit.Goals as goal
+
+-- what messages are judged by
+abbrev rules : (g : given.Over) → Schedule g.row.S.Denot → Rules g.row.S.Denot g.row.D.Denot g.row.S-Certificate.Denot g.row.S-PublicKey.Denot g.row.S-Signature.Denot
+rules g schedule = rules_of g.D.PartialEq.eq g.S.CertificateScheme.keys g.S.Scheme.good g.S.CertificateVerifier.certified g.S.Listing.listed schedule
 
 pub returns-clause-single : goal.returns-clause-single
 returns-clause-single g c = λ messages others rest left are are'. messages_once _ c.audit_stream.ensures.readable c.args.stream.now rest left messages others are are'
@@ -23,24 +30,24 @@ returns-clause-only g c =
     c.audit_stream.result c.audit_stream.ensures.report
 
 pub returns-clause-any_order : goal.returns-clause-any_order
-returns-clause-any_order g c = λ messages. c.names_stay.ensures.any_order _ messages
+returns-clause-any_order g c = λ messages. c.names_stay.ensures.any_order (rules g c.args.committees.now) messages
 
 pub returns-clause-stays : goal.returns-clause-stays
 returns-clause-stays g c = λ more n messages rest are later left are'.
-    names_stay _ c.audit_stream.ensures.readable c.args.stream.now more rest left messages later (c.names_stay.ensures.later _ messages) are are' n
+    names_stay _ c.audit_stream.ensures.readable c.args.stream.now more rest left messages later (c.names_stay.ensures.later (rules g c.args.committees.now) messages) are are' n
 
 pub returns-clause-enough : goal.returns-clause-enough
-returns-clause-enough g c = λ messages rest are. c.certificates_are_accountable.ensures.enough _ messages c.audit_stream.ensures.lawful
+returns-clause-enough g c = λ messages rest are. c.certificates_are_accountable.ensures.enough (rules g c.args.committees.now) messages c.audit_stream.ensures.lawful
 
 pub returns-clause-accountable : goal.returns-clause-accountable
-returns-clause-accountable g c = λ messages rest are. c.certificates_are_accountable.ensures.signers _ messages c.audit_stream.ensures.lawful
+returns-clause-accountable g c = λ messages rest are. c.certificates_are_accountable.ensures.signers (rules g c.args.committees.now) messages c.audit_stream.ensures.lawful
 
 pub returns-clause-splits : goal.returns-clause-splits
 returns-clause-splits g c =
     if_ok _ _ (λ report is. record {
       are_splits = λ messages rest are. report_splits _ c.audit_stream.ensures.readable c.args.stream.now report is messages rest are;
-      only = λ messages rest are. c.splits_are_determined.ensures.only _ messages _ (report_splits _ c.audit_stream.ensures.readable c.args.stream.now report is messages rest are);
-      enough = c.splits_are_determined.ensures.names _ is.messages _ c.audit_stream.ensures.lawful is.splits_are;
+      only = λ messages rest are. c.splits_are_determined.ensures.only (rules g c.args.committees.now) messages _ (report_splits _ c.audit_stream.ensures.readable c.args.stream.now report is messages rest are);
+      enough = c.splits_are_determined.ensures.names (rules g c.args.committees.now) is.messages _ c.audit_stream.ensures.lawful is.splits_are;
     })
     c.audit_stream.result c.audit_stream.ensures.report
 
@@ -48,6 +55,6 @@ pub returns-clause-again : goal.returns-clause-again
 returns-clause-again g c =
     if_both _ _ _ (λ report is each. record {
       stream = are_joined _ (λ m. omega arith) (map message_of report.evidence.items) each;
-      evidence = c.evidence_is_determined.ensures.again _ is.messages report.evidence.items c.audit_stream.ensures.lawful is.evidence_is;
+      evidence = c.evidence_is_determined.ensures.again (rules g c.args.committees.now) is.messages report.evidence.items c.audit_stream.ensures.lawful is.evidence_is;
     })
     c.audit_stream.result c.audit_stream.ensures.report c.audit_stream.ensures.spelled
