@@ -3,6 +3,7 @@ use Rattle.std.specs.Prelude.{◌≡◌, ℕ, List, ◌++◌, length, Option}
 use Rattle.simplex_base.specs.Format.{IsLawful}
 use Rattle.simplex_base.specs.declared.codec.error.Error.{Error}
 use Rattle.simplex_kept.specs.Committees.{Schedule}
+use Rattle.simplex_kept.specs.Counts.{votes_count}
 use Rattle.simplex_kept.specs.Rules.{AreLawful}
 use Rattle.simplex_kept.specs.Seen.{Recalls}
 use Rattle.simplex_audit.specs.Basis.{Basis}
@@ -12,6 +13,10 @@ use Rattle.simplex_audit.specs.declared.auditor.Auditor.{Auditor}
 -- how many bytes an auditor was fed
 abbrev pub fed_of : {S D P G : Type 0} → Auditor S D P G → ℕ
 fed_of auditor = auditor.taken.fed
+
+-- how many votes an auditor keeps
+abbrev pub votes_of : {S D P G : Type 0} → Auditor S D P G → ℕ
+votes_of auditor = votes_count auditor.seen
 
 -- it is an auditor of these committees, under which reading and judging are lawful, and was fed the stream
 pub record IsFed {S D C P G : Type 0} (basis : Schedule S → Basis S D C P G) (committees : Schedule S) (auditor : Auditor S D P G) (stream : List ℕ) : Type 0 where

@@ -5,7 +5,6 @@ ghost use Rattle.simplex_audit.specs.Messages.{AreMessages};
 ghost use Rattle.simplex_audit.specs.Report.{IsReport};
 ghost use Rattle.simplex_evidence.specs.declared.types.activity.Activity.{Activity};
 ghost use Rattle.simplex_kept.specs.Committees.{Schedule};
-ghost use Rattle.simplex_kept.specs.Counts.{votes_count};
 
 use crate::audit::Report;
 use crate::basis::Audited;
@@ -45,7 +44,7 @@ struct Taken {
 }
 
 impl<'a, S: Listing<D>, D: Digest> Auditor<'a, S, D> {
-    ghost use Rattle.simplex_audit.specs.Auditor.{Stands, Holds, fed_of};
+    ghost use Rattle.simplex_audit.specs.Auditor.{Stands, Holds, fed_of, votes_of};
 
     /// The auditor of these committees that was fed nothing.
     pub fn new(alloc: Global, committees: &'a Committees<S>) -> Self
@@ -240,7 +239,7 @@ impl<'a, S: Listing<D>, D: Digest> Auditor<'a, S, D> {
     /// How many votes are kept: of each signer in a round the earliest of each sort, and of notarizes and finalizes also
     /// the earliest with another proposal. The number stops at 2^64 - 1.
     pub fn votes(&self) -> usize
-        ensures { result ≡ min (votes_count self.now.seen) (2 ^ 64 - 1) }
+        ensures { result ≡ min (votes_of self.now) (2 ^ 64 - 1) }
     {
         self.seen.votes()
     }
