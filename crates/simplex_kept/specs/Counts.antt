@@ -1,0 +1,24 @@
+-- How many votes are kept.
+use Rattle.std.specs.Prelude.{ℕ, ◌+◌, List, [], ◌∷◌, length}
+use Rattle.simplex_base.specs.Positions.{Round}
+use Rattle.simplex_kept.specs.declared.pairs.Pairs.{Pairs}
+use Rattle.simplex_kept.specs.declared.kept.Kept.{Kept}
+use Rattle.simplex_kept.specs.declared.tally.Tally.{Tally}
+use Rattle.simplex_kept.specs.declared.seen.Seen.{Seen}
+
+-- how many votes there are of each signer the first and another
+abbrev pub pairs_count : {V : Type 0} → Pairs V → ℕ
+pairs_count pairs = length pairs.firsts.items + length pairs.others.items
+
+-- how many votes are kept of a round
+abbrev pub round_count : {S D P G : Type 0} → Kept S D P G → ℕ
+round_count kept = pairs_count kept.notarizes + (length kept.nullifies.items + pairs_count kept.finalizes)
+
+-- how many votes are kept of some rounds
+abbrev pub rounds_count : {S D P G : Type 0} → List (Round × Tally S D P G) → ℕ
+rounds_count [] = 0
+rounds_count (e ∷ es) = round_count e.1.votes + rounds_count es
+
+-- how many votes are kept
+abbrev pub votes_count : {S D P G : Type 0} → Seen S D P G → ℕ
+votes_count seen = rounds_count seen.rounds.entries
