@@ -1,8 +1,10 @@
+mod groups;
 mod thousand_lines;
 
 use crate::command::command;
 use crate::status::Status;
 use devices::{Source, Target, Trouble};
+use simplex_audit::audit::Watched;
 use std::alloc::{AllocError, Global};
 use std::io::ErrorKind;
 use std::process::Abort;
@@ -110,8 +112,9 @@ fn is_refused(rt: &(impl Abort + AllocGlobal), row: Row) -> bool {
     let Ok(arguments) = owned(rt.alloc(), row.words) else {
         return true;
     };
-    let mut input = Source::new(row.stream, 3, row.reading);
-    let mut output = Target::new(row.room.0, row.room.1, row.writing, row.flushing);
+    let mut input = Watched::new(Source::new(row.stream, 3, row.reading));
+    let target = Target::new(row.room.0, row.room.1, row.writing, row.flushing);
+    let mut output = Watched::new(target);
     let mut errors = Target::new(usize::MAX, usize::MAX, row.saying, Trouble::Never);
     let status = command(
         rt.alloc(),
@@ -120,6 +123,7 @@ fn is_refused(rt: &(impl Abort + AllocGlobal), row: Row) -> bool {
         &mut output,
         &mut errors,
     );
+    let (input, output) = (input.into_inner(), output.into_inner());
     if errors.held() == OUT_OF_MEMORY.as_bytes() {
         assert_eq!(rt; status, Status::Failed);
         assert_eq!(rt; output.calls(), (0, 0));
@@ -155,14 +159,18 @@ fn is_any_refused(rt: &(impl Abort + AllocGlobal), rows: &[Row]) -> bool {
 
 /// Arguments that are a namespace and keys, and such that are not.
 fn are_arguments_refused(rt: &(impl Abort + AllocGlobal)) -> bool {
-    let good: [&'static [&'static str]; 5] = [
+    let good: [&'static [&'static str]; 9] = [
         &["test", ZEROS],
         &["", ZEROS],
         &["test", UPPER],
         &["test", MIXED, ZEROS, LOWER],
         &["test", LOWER, MIXED, ZEROS],
+        &["test", "@0", ZEROS],
+        &["@1", "@1", ZEROS],
+        &["test", "@18446744073709551615", MIXED, ZEROS],
+        &["test", "@9", ZEROS, LOWER, "@10", ZEROS, "@333", UPPER],
     ];
-    let bad: [&'static [&'static str]; 12] = [
+    let bad: [&'static [&'static str]; 31] = [
         &[],
         &["test"],
         &[""],
@@ -175,6 +183,30 @@ fn are_arguments_refused(rt: &(impl Abort + AllocGlobal)) -> bool {
         &["test", ZEROS, ZEROS],
         &["test", LOWER, UPPER],
         &["test", LOWER, ZEROS, MIXED, UPPER],
+        // An epoch without keys, or without digits.
+        &["test", "@0"],
+        &["test", "@0", ZEROS, "@1"],
+        &["test", "@0", "@1", ZEROS],
+        &["test", "@", ZEROS],
+        // Epochs in other spellings.
+        &["test", "@00", ZEROS],
+        &["test", "@01", ZEROS],
+        &["test", "@+1", ZEROS],
+        &["test", "@-0", ZEROS],
+        &["test", "@ 1", ZEROS],
+        &["test", "@1 ", ZEROS],
+        &["test", "@0x1", ZEROS],
+        &["test", "@18446744073709551616", ZEROS],
+        // Epochs that do not rise.
+        &["test", "@1", ZEROS, "@1", ZEROS],
+        &["test", "@10", ZEROS, "@9", ZEROS],
+        // Keys before the first group, and no keys in a group.
+        &["test", ZEROS, "@1", ZEROS],
+        &["test", "@1", ZEROS, "key"],
+        &["test", "@1", ZEROS, "@2", SHORT],
+        // A key twice in a group.
+        &["test", "@1", ZEROS, ZEROS],
+        &["test", "@1", ZEROS, "@2", LOWER, UPPER],
     ];
     let mut found = false;
     for words in good {
@@ -232,14 +264,14 @@ fn failing(text: &'static str, said: &'static str) -> Row {
 /// Devices that fail.
 fn are_troubles_refused(rt: &(impl Abort + AllocGlobal)) -> bool {
     let all = usize::MAX;
-    let rows: [Row; 16] = [
+    let rows: [Row; 17] = [
         Row {
             reading: Trouble::Once(0, ErrorKind::Interrupted),
-            ..line_and_fault()
+            ..failing("", READ_FAILED)
         },
         Row {
             reading: Trouble::Once(2, ErrorKind::Interrupted),
-            ..line_and_fault()
+            ..failing("", READ_FAILED)
         },
         Row {
             reading: Trouble::Since(0, ErrorKind::Other),
@@ -259,12 +291,12 @@ fn are_troubles_refused(rt: &(impl Abort + AllocGlobal)) -> bool {
         },
         Row {
             writing: Trouble::Once(0, ErrorKind::Interrupted),
-            ..line_and_fault()
+            ..failing("", WRITE_FAILED)
         },
         Row {
             room: (5, all),
             writing: Trouble::Once(1, ErrorKind::Interrupted),
-            ..line_and_fault()
+            ..failing("0 10 ", WRITE_FAILED)
         },
         Row {
             writing: Trouble::Since(0, ErrorKind::BrokenPipe),
@@ -290,6 +322,10 @@ fn are_troubles_refused(rt: &(impl Abort + AllocGlobal)) -> bool {
         Row {
             flushing: Trouble::Since(0, ErrorKind::Other),
             ..failing(LINE, WRITE_FAILED)
+        },
+        Row {
+            saying: Trouble::Once(0, ErrorKind::Interrupted),
+            ..line_and_fault()
         },
         Row {
             saying: Trouble::Since(0, ErrorKind::Other),
