@@ -1,13 +1,13 @@
 //! How the crates are used: who of a committee signed two contradictory votes in a stream of messages.
 #![tactic(auto)]
 
-use simplex_audit::audit::audit;
+use simplex_audit::audit::{Committees, audit};
 use simplex_base::positions::{Participant, Round};
 use simplex_scheme::plain::{Plain, PlainKey};
 use simplex_scheme::scheme::{Set, Sha256Digest};
 use std::alloc::{AllocError, Global};
 
-/// Who is named by the stream, in which round, in the order of the evidence. `None` comes where the keys are no
+/// Who is named by the stream, in which round, in the order of the evidence, by one committee for every epoch. `None` comes where the keys are no
 /// committee: none at all, more than 2^32 - 1, or one of them twice.
 pub fn named(
     alloc: Global,
@@ -22,7 +22,8 @@ pub fn named(
         return Ok(None);
     }
     let scheme = Plain::verifier(alloc, namespace, committee)?;
-    let report = audit::<Plain, Sha256Digest>(alloc, &scheme, stream)?;
+    let committees = Committees::every(scheme);
+    let report = audit::<Plain, Sha256Digest>(alloc, &committees, stream)?;
     let mut named = Vec::new(alloc);
     for evidence in &report.evidence {
         named.push((evidence.round(), evidence.signer()))?;
