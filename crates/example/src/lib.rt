@@ -7,8 +7,8 @@ use simplex_scheme::plain::{Plain, PlainKey};
 use simplex_scheme::scheme::{Set, Sha256Digest};
 use std::alloc::{AllocError, Global};
 
-/// Who is named by the stream, in which round, in the order of the evidence, by one committee for every epoch. `None` comes where the keys are no
-/// committee: none at all, more than 2^32 - 1, or one of them twice.
+/// Who is named by the stream, in which round, in the order of the evidence. One committee judges every epoch. `None`
+/// comes where the keys are no committee: none at all, more than 2^32 - 1, or one of them twice.
 pub fn named(
     alloc: Global,
     namespace: &[u8],
