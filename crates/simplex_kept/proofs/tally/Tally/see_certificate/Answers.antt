@@ -1,0 +1,20 @@
+use Rattle.std.proofs.Common.{◌≡◌, true, subst, sym}
+use Rattle.std.specs.Prelude.{All}
+use Rattle.simplex_scheme.specs.Subject.{subject_value}
+use Rattle.simplex_kept.proofs.Results.{on_ok}
+use Rattle.simplex_kept.proofs.TallyLemmas.{takes_certificate, KeepsGood}
+use Rattle.simplex_kept.proofs.tally.Tally.see_certificate.Goals as goal
+
+-- the votes that a certificate lists are good where it certifies
+pub keep_all-requires : goal.keep_all-requires
+keep_all-requires g c = λ certifies.
+    let x = subject_value c.args.subject.now in
+    subst (All (λ a. g.S.Scheme.good c.args.committee.now x a.signer a.signature ≡ true)) (sym c.attestations-attestations.ensures)
+    (g.met.S.Listing.lists_quorums c.args.committee.now x c.args.certificate.now (c.see-certifies.ensures.certifies certifies)).each_good
+
+pub returns : goal.returns
+returns g c =
+    let x = subject_value c.args.subject.now in
+    on_ok _ _ (λ votes. takes_certificate g.D.PartialEq.eq g.S.CertificateScheme.keys g.S.Scheme.good g.S.CertificateVerifier.certified g.S.Listing.listed c.args.committee.now x c.args.certificate.now c.args.self.now _ c.see-certifies.ensures.keeps
+    (subst (λ given. KeepsGood g.D.PartialEq.eq g.S.CertificateScheme.keys g.S.Scheme.good g.S.CertificateVerifier.certified g.S.Listing.listed c.args.committee.now x given c.args.self.now.votes c.keep_all.new.self) c.attestations-attestations.ensures votes))
+    c.keep_all.result c.keep_all.ensures
