@@ -1,7 +1,8 @@
 //! The auditor as one would write it by hand in Rust, without proofs: what the proved program is measured against.
-//! It takes the same arguments and prints the same lines for streams of notarizes and notarizations.
+//! It takes the same arguments, reads the same messages in pieces, and prints the same lines. A vote that changes nothing is
+//! not verified, nor is a certificate; the votes of a certificate that verifies are not verified again.
 
-use std::collections::BTreeMap;
+use std::collections::{BTreeMap, BTreeSet};
 use std::fmt::Write as _;
 use std::io::{Read, Write};
 
@@ -94,6 +95,53 @@ impl<'a> Reader<'a> {
         }
         None
     }
+
+    fn attestation(&mut self) -> Option<Attestation<'a>> {
+        Some((self.number(32)? as u32, self.take(32)?))
+    }
+
+    /// What is signed: a round, and for any sort but a nullify a proposal.
+    fn subject(&mut self, sort: Sort) -> Option<Subject<'a>> {
+        let start = self.rest;
+        let round = (self.number(64)?, self.number(64)?);
+        let mut proposal = NONE;
+        if sort != Sort::Nullify {
+            let parent = self.number(64)?;
+            proposal = Proposal { parent, payload: self.take(32)?.try_into().unwrap() };
+        }
+        let message = &start[..start.len() - self.rest.len()];
+        Some(Subject { sort, round, proposal, message })
+    }
+
+    fn certificate(&mut self, bound: u64) -> Option<Vec<Attestation<'a>>> {
+        let count = self.number(32)?;
+        if count == 0 || count > bound {
+            return None;
+        }
+        let mut listed = Vec::with_capacity((count as usize).min(self.rest.len() / 33));
+        let mut next = 0;
+        for _ in 0..count {
+            let (signer, signature) = self.attestation()?;
+            if u64::from(signer) < next || u64::from(signer) >= bound {
+                return None;
+            }
+            next = u64::from(signer) + 1;
+            listed.push((signer, signature));
+        }
+        Some(listed)
+    }
+}
+
+/// A signer and a signature.
+type Attestation<'a> = (u32, &'a [u8]);
+
+type Round = (u64, u64);
+
+#[derive(Clone, Copy, PartialEq)]
+enum Sort {
+    Notarize,
+    Nullify,
+    Finalize,
 }
 
 #[derive(Clone, Copy, PartialEq)]
@@ -102,128 +150,326 @@ struct Proposal {
     payload: [u8; 32],
 }
 
+/// What stands for the proposal of a nullify.
+const NONE: Proposal = Proposal { parent: 0, payload: [0; 32] };
+
+#[derive(Clone, Copy)]
+struct Subject<'a> {
+    sort: Sort,
+    round: Round,
+    proposal: Proposal,
+    message: &'a [u8],
+}
+
 struct Kept {
     first: Proposal,
     other: Option<Proposal>,
 }
 
-struct Auditor {
-    name: Vec<u8>,
+/// The earliest votes of one sort by signer, and the earliest with another proposal.
+#[derive(Default)]
+struct Votes(BTreeMap<u32, Kept>);
+
+impl Votes {
+    fn is_news(&self, signer: u32, proposal: Proposal) -> bool {
+        match self.0.get(&signer) {
+            None => true,
+            Some(kept) => kept.other.is_none() && kept.first != proposal,
+        }
+    }
+
+    fn keep(&mut self, signer: u32, proposal: Proposal) {
+        self.0
+            .entry(signer)
+            .and_modify(|kept| {
+                if kept.other.is_none() && kept.first != proposal {
+                    kept.other = Some(proposal);
+                }
+            })
+            .or_insert(Kept { first: proposal, other: None });
+    }
+}
+
+/// What is kept of a round, each by sort: votes, and the first proposal that is certified.
+#[derive(Default)]
+struct Tally {
+    votes: [Votes; 3],
+    certified: [Option<Proposal>; 3],
+    is_split: bool,
+}
+
+impl Tally {
+    fn is_news(&self, subject: &Subject) -> bool {
+        !self.is_split && self.certified[subject.sort as usize] != Some(subject.proposal)
+    }
+
+    fn certify(&mut self, subject: &Subject) {
+        let [_, nullified, finalized] = &self.certified;
+        self.is_split |= match subject.sort {
+            Sort::Notarize => false,
+            Sort::Nullify => finalized.is_some(),
+            Sort::Finalize => nullified.is_some(),
+        };
+        let first = self.certified[subject.sort as usize].get_or_insert(subject.proposal);
+        self.is_split |= *first != subject.proposal;
+    }
+}
+
+struct Committee {
+    names: [Vec<u8>; 3],
     keys: Vec<[u8; 32]>,
-    places: BTreeMap<(u64, u64, u32), Kept>,
+}
+
+impl Committee {
+    fn faults(&self) -> usize {
+        (self.keys.len() - 1) / 3
+    }
+
+    fn is_good(&self, hashed: &mut Vec<u8>, subject: &Subject, (signer, signature): Attestation) -> bool {
+        let Some(key) = self.keys.get(signer as usize) else {
+            return false;
+        };
+        let name = &self.names[subject.sort as usize];
+        hashed.clear();
+        hashed.extend_from_slice(name);
+        hashed.extend_from_slice(key);
+        hashed.extend_from_slice(subject.message);
+        sha256(hashed) == signature
+    }
+
+    fn is_certified(&self, hashed: &mut Vec<u8>, subject: &Subject, listed: &[Attestation]) -> bool {
+        listed.len() + self.faults() >= self.keys.len() && listed.iter().all(|one| self.is_good(hashed, subject, *one))
+    }
+}
+
+enum Committees {
+    Every(Committee),
+    Listed(BTreeMap<u64, Committee>),
+}
+
+impl Committees {
+    fn get(&self, epoch: u64) -> Option<&Committee> {
+        match self {
+            Committees::Every(committee) => Some(committee),
+            Committees::Listed(committees) => committees.get(&epoch),
+        }
+    }
+
+    fn bound(&self) -> u64 {
+        match self {
+            Committees::Every(committee) => committee.keys.len() as u64,
+            Committees::Listed(committees) => committees.values().map(|committee| committee.keys.len()).max().unwrap() as u64,
+        }
+    }
+}
+
+struct Auditor {
+    committees: Committees,
+    bound: u64,
+    rounds: BTreeMap<Round, Tally>,
     hashed: Vec<u8>,
 }
 
 impl Auditor {
-    fn is_good(&mut self, signer: u32, message: &[u8], signature: &[u8]) -> bool {
-        let Some(key) = self.keys.get(signer as usize) else {
-            return false;
+    fn vote(&mut self, subject: &Subject, attestation: Attestation) {
+        let Some(committee) = self.committees.get(subject.round.0) else {
+            return;
         };
-        self.hashed.clear();
-        self.hashed.push(self.name.len() as u8);
-        self.hashed.extend_from_slice(&self.name);
-        self.hashed.extend_from_slice(key);
-        self.hashed.extend_from_slice(message);
-        sha256(&self.hashed) == signature
+        let votes = &mut self.rounds.entry(subject.round).or_default().votes[subject.sort as usize];
+        let signer = attestation.0;
+        if votes.is_news(signer, subject.proposal) && committee.is_good(&mut self.hashed, subject, attestation) {
+            votes.keep(signer, subject.proposal);
+        }
     }
 
-    fn vote(&mut self, round: (u64, u64), signer: u32, proposal: Proposal, message: &[u8], signature: &[u8]) {
-        let place = (round.0, round.1, signer);
-        let is_news = match self.places.get(&place) {
-            None => true,
-            Some(kept) => kept.other.is_none() && kept.first != proposal,
+    fn certificate(&mut self, subject: &Subject, listed: &[Attestation]) {
+        let Some(committee) = self.committees.get(subject.round.0) else {
+            return;
         };
-        if !is_news || !self.is_good(signer, message, signature) {
+        let tally = self.rounds.entry(subject.round).or_default();
+        if tally.is_news(subject) && committee.is_certified(&mut self.hashed, subject, listed) {
+            tally.certify(subject);
+            for (signer, _) in listed {
+                tally.votes[subject.sort as usize].keep(*signer, subject.proposal);
+            }
             return;
         }
-        self.places
-            .entry(place)
-            .and_modify(|kept| kept.other = Some(proposal))
-            .or_insert(Kept { first: proposal, other: None });
+        let votes = &mut tally.votes[subject.sort as usize];
+        for attestation in listed {
+            if votes.is_news(attestation.0, subject.proposal) && committee.is_good(&mut self.hashed, subject, *attestation) {
+                votes.keep(attestation.0, subject.proposal);
+            }
+        }
     }
 
     /// Reads one message; `None` where there is none.
     fn message(&mut self, reader: &mut Reader) -> Option<()> {
         let tag = reader.take(1)?[0];
-        if tag > 1 {
-            return None;
-        }
-        let start = reader.rest;
-        let round = (reader.number(64)?, reader.number(64)?);
-        let parent = reader.number(64)?;
-        let payload = reader.take(32)?.try_into().unwrap();
-        let message = &start[..start.len() - reader.rest.len()];
-        let proposal = Proposal { parent, payload };
-        if tag == 0 {
-            let signer = reader.number(32)? as u32;
-            let signature = reader.take(32)?;
-            self.vote(round, signer, proposal, message, signature);
-            return Some(());
-        }
-        let bound = self.keys.len() as u64;
-        let count = reader.number(32)?;
-        if count == 0 || count > bound {
-            return None;
-        }
-        let mut listed = Vec::with_capacity(count as usize);
-        let mut next = 0;
-        for _ in 0..count {
-            let signer = reader.number(32)?;
-            let signature = reader.take(32)?;
-            if signer < next || signer >= bound {
-                return None;
+        match tag {
+            0 | 3 | 5 => {
+                let subject = reader.subject([Sort::Notarize, Sort::Nullify, Sort::Finalize][tag as usize / 2])?;
+                let attestation = reader.attestation()?;
+                self.vote(&subject, attestation);
             }
-            next = signer + 1;
-            listed.push((signer as u32, signature));
-        }
-        for (signer, signature) in listed {
-            self.vote(round, signer, proposal, message, signature);
+            1 | 2 | 4 | 6 => {
+                let subject = reader.subject([Sort::Notarize, Sort::Notarize, Sort::Nullify, Sort::Finalize][tag as usize / 2])?;
+                let listed = reader.certificate(self.bound)?;
+                self.certificate(&subject, &listed);
+            }
+            7 | 8 | 9 => {
+                let (one, other) = match tag {
+                    7 => (Sort::Notarize, Sort::Notarize),
+                    8 => (Sort::Finalize, Sort::Finalize),
+                    _ => (Sort::Nullify, Sort::Finalize),
+                };
+                let (first, signed) = (reader.subject(one)?, reader.attestation()?);
+                let (second, signed_too) = (reader.subject(other)?, reader.attestation()?);
+                let is_same = one == other && first.proposal == second.proposal;
+                if first.round != second.round || signed.0 != signed_too.0 || is_same {
+                    return None;
+                }
+                self.vote(&first, signed);
+                self.vote(&second, signed_too);
+            }
+            _ => return None,
         }
         Some(())
     }
 
+    /// Reads the messages at the front, and answers how many bytes they take.
+    fn messages(&mut self, bytes: &[u8]) -> usize {
+        let mut reader = Reader { rest: bytes };
+        while !reader.rest.is_empty() {
+            let mut next = reader;
+            if self.message(&mut next).is_none() {
+                break;
+            }
+            reader = next;
+        }
+        bytes.len() - reader.rest.len()
+    }
+
     fn text(&self) -> String {
-        let mut text = String::new();
-        for ((epoch, view, signer), kept) in &self.places {
-            if let Some(other) = kept.other {
-                write!(text, "{epoch} {view} {signer} conflicting-notarize").unwrap();
-                for proposal in [kept.first, other] {
-                    write!(text, " {} ", proposal.parent).unwrap();
-                    for byte in proposal.payload {
-                        write!(text, "{byte:02x}").unwrap();
+        let (mut text, mut splits) = (String::new(), String::new());
+        for ((epoch, view), tally) in &self.rounds {
+            let [notarizes, nullifies, finalizes] = &tally.votes;
+            let mut signers = BTreeSet::new();
+            signers.extend(notarizes.0.keys().chain(finalizes.0.keys()));
+            let mut named = 0;
+            for signer in signers {
+                let length = text.len();
+                let place = format!("{epoch} {view} {signer}");
+                for (word, votes) in [("conflicting-notarize", notarizes), ("conflicting-finalize", finalizes)] {
+                    if let Some(Kept { first, other: Some(other) }) = votes.0.get(signer) {
+                        write!(text, "{place} {word}").unwrap();
+                        push(&mut text, first);
+                        push(&mut text, other);
+                        text.push('\n');
                     }
                 }
-                text.push('\n');
+                if let (Some(_), Some(kept)) = (nullifies.0.get(signer), finalizes.0.get(signer)) {
+                    write!(text, "{place} nullify-finalize").unwrap();
+                    push(&mut text, &kept.first);
+                    text.push('\n');
+                }
+                named += usize::from(text.len() > length);
+            }
+            if tally.is_split {
+                let least = self.committees.get(*epoch).unwrap().faults() + 1;
+                writeln!(splits, "{epoch} {view} split {named} {least}").unwrap();
             }
         }
-        text
+        text + &splits
     }
 }
 
-fn key(text: &str) -> [u8; 32] {
-    std::array::from_fn(|i| u8::from_str_radix(&text[2 * i..2 * i + 2], 16).unwrap())
+/// Appends the words of a proposal.
+fn push(text: &mut String, proposal: &Proposal) {
+    write!(text, " {} ", proposal.parent).unwrap();
+    for byte in proposal.payload {
+        write!(text, "{byte:02x}").unwrap();
+    }
+}
+
+fn key(text: &str) -> Option<[u8; 32]> {
+    if text.len() != 64 || !text.bytes().all(|byte| byte.is_ascii_hexdigit()) {
+        return None;
+    }
+    Some(std::array::from_fn(|i| u8::from_str_radix(&text[2 * i..2 * i + 2], 16).unwrap()))
+}
+
+/// The committee whose keys these texts are.
+fn committee(base: &str, texts: &[String]) -> Option<Committee> {
+    let mut keys = texts.iter().map(|text| key(text)).collect::<Option<Vec<_>>>()?;
+    keys.sort();
+    if keys.is_empty() || keys.windows(2).any(|pair| pair[0] == pair[1]) {
+        return None;
+    }
+    let names = ["_NOTARIZE", "_NULLIFY", "_FINALIZE"].map(|suffix| {
+        let mut name = Vec::new();
+        let mut length = base.len() + suffix.len();
+        while length >= 128 {
+            name.push(length as u8 | 0x80);
+            length >>= 7;
+        }
+        name.push(length as u8);
+        name.extend_from_slice(base.as_bytes());
+        name.extend_from_slice(suffix.as_bytes());
+        name
+    });
+    Some(Committee { names, keys })
+}
+
+fn committees(arguments: &[String]) -> Option<Committees> {
+    let (base, mut texts) = arguments.split_first()?;
+    if !texts.first()?.starts_with('@') {
+        return Some(Committees::Every(committee(base, texts)?));
+    }
+    let mut listed = BTreeMap::new();
+    while let Some((first, behind)) = texts.split_first() {
+        let epoch: u64 = first.strip_prefix('@')?.parse().ok()?;
+        let does_rise = listed.last_key_value().is_none_or(|(last, _)| *last < epoch);
+        if *first != format!("@{epoch}") || !does_rise {
+            return None;
+        }
+        let count = behind.iter().position(|text| text.starts_with('@')).unwrap_or(behind.len());
+        listed.insert(epoch, committee(base, &behind[..count])?);
+        texts = &behind[count..];
+    }
+    Some(Committees::Listed(listed))
+}
+
+/// Ends with a status, and says why.
+fn end(status: i32, said: &str) -> ! {
+    let _ = writeln!(std::io::stderr(), "{said}");
+    std::process::exit(status);
 }
 
 fn main() {
-    let mut arguments = std::env::args().skip(1);
-    let mut name = arguments.next().unwrap().into_bytes();
-    name.extend_from_slice(b"_NOTARIZE");
-    let mut keys: Vec<[u8; 32]> = arguments.map(|text| key(&text)).collect();
-    keys.sort();
-    let mut stream = Vec::new();
-    std::io::stdin().read_to_end(&mut stream).unwrap();
-    let mut auditor = Auditor { name, keys, places: BTreeMap::new(), hashed: Vec::new() };
-    let mut reader = Reader { rest: &stream };
-    let mut status = 0;
-    while !reader.rest.is_empty() {
-        let mut next = reader;
-        if auditor.message(&mut next).is_none() {
-            eprintln!("audit: fault at byte {}", stream.len() - reader.rest.len());
-            status = 1;
-            break;
+    let arguments = std::env::args_os().skip(1).map(|text| text.into_string().ok()).collect::<Option<Vec<_>>>();
+    let Some(committees) = arguments.and_then(|arguments| committees(&arguments)) else {
+        end(2, "usage: audit NAMESPACE KEY...");
+    };
+    let bound = committees.bound();
+    let mut auditor = Auditor { committees, bound, rounds: BTreeMap::new(), hashed: Vec::new() };
+    let mut held: Vec<u8> = Vec::new();
+    let mut place = 0;
+    loop {
+        let piece = held.len().max(65536) as u64;
+        match std::io::stdin().take(piece).read_to_end(&mut held) {
+            Ok(0) => break,
+            Ok(_) => {}
+            Err(_) => end(3, "audit: read failed"),
         }
-        reader = next;
+        let count = auditor.messages(&held);
+        held.drain(..count);
+        place += count;
     }
-    std::io::stdout().write_all(auditor.text().as_bytes()).unwrap();
-    std::process::exit(status);
+    let mut output = std::io::stdout();
+    if output.write_all(auditor.text().as_bytes()).and_then(|()| output.flush()).is_err() {
+        end(3, "audit: write failed");
+    }
+    if !held.is_empty() {
+        end(1, &format!("audit: fault at byte {place}"));
+    }
 }

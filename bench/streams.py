@@ -1,15 +1,18 @@
 #!/usr/bin/env python3
 """streams.py SHAPE PARTICIPANTS ROUNDS: writes a stream of messages to standard output.
 
-SHAPE is `votes` (a notarize of each participant in each round) or `certificates` (a notarization of all participants
-in each round). In each tenth round participant 0 votes for a second payload too. The base of the namespaces is `bench`,
-and participant i has the key whose 32 bytes are the number i, the highest byte first. With `keys` as the SHAPE the
-program's arguments are written instead, one a line.
+SHAPE is `votes` (a notarize of each participant in each round), `certificates` (a notarization of all participants in each
+round) or `all` (messages of every kind: in each round a notarize of each participant and a notarization, a certification, a
+nullify and a finalize of some and a finalization of all). In each tenth round participant 0 votes for a second payload too, and
+where all kinds are there the round has a nullification and evidence of each kind. The base of the namespaces is `bench`, and
+participant i has the key whose 32 bytes are the number i, the highest byte first. With `keys` as the SHAPE the program's
+arguments are written instead, one a line.
 """
 import hashlib
 import sys
 
 BASE = b"bench"
+NOTARIZE, NULLIFY, FINALIZE = (BASE + suffix for suffix in (b"_NOTARIZE", b"_NULLIFY", b"_FINALIZE"))
 
 
 def number(n):
@@ -25,26 +28,56 @@ def key(participant):
     return participant.to_bytes(32, "big")
 
 
+def round_of(view):
+    return number(0) + number(view)
+
+
 def proposal(view, payload):
-    return number(0) + number(view) + number(view - 1) + hashlib.sha256(payload + number(view)).digest()
+    return round_of(view) + number(view - 1) + hashlib.sha256(payload + number(view)).digest()
 
 
-def attestation(participant, proposed):
-    name = BASE + b"_NOTARIZE"
-    signature = hashlib.sha256(number(len(name)) + name + key(participant) + proposed).digest()
+def attestation(name, participant, message):
+    signature = hashlib.sha256(number(len(name)) + name + key(participant) + message).digest()
     return number(participant) + signature
 
 
-def messages(shape, participants, view):
-    proposed = proposal(view, b"first")
-    signed = [attestation(participant, proposed) for participant in range(participants)]
-    if shape == "votes":
-        yield from (b"\x00" + proposed + one for one in signed)
-    else:
-        yield b"\x01" + proposed + number(participants) + b"".join(signed)
+def vote(name, participant, message):
+    return message + attestation(name, participant, message)
+
+
+def certificate(name, participants, message):
+    return message + number(participants) + b"".join(attestation(name, i, message) for i in range(participants))
+
+
+def every_kind(participants, view):
+    proposed, other, here = proposal(view, b"first"), proposal(view, b"second"), round_of(view)
+    for i in range(participants):
+        yield b"\x00" + vote(NOTARIZE, i, proposed)
+    notarization = certificate(NOTARIZE, participants, proposed)
+    yield b"\x01" + notarization
+    yield b"\x02" + notarization
+    yield b"\x03" + vote(NULLIFY, view % participants, here)
+    for i in range(0, participants, 4):
+        yield b"\x05" + vote(FINALIZE, i, proposed)
+    yield b"\x06" + certificate(FINALIZE, participants, proposed)
     if view % 10 == 0:
-        other = proposal(view, b"second")
-        yield b"\x00" + other + attestation(0, other)
+        yield b"\x04" + certificate(NULLIFY, participants, here)
+        yield b"\x07" + vote(NOTARIZE, 0, proposed) + vote(NOTARIZE, 0, other)
+        yield b"\x08" + vote(FINALIZE, 1, proposed) + vote(FINALIZE, 1, other)
+        yield b"\x09" + vote(NULLIFY, 2, here) + vote(FINALIZE, 2, proposed)
+
+
+def messages(shape, participants, view):
+    if shape == "all":
+        yield from every_kind(participants, view)
+        return
+    proposed = proposal(view, b"first")
+    if shape == "votes":
+        yield from (b"\x00" + vote(NOTARIZE, i, proposed) for i in range(participants))
+    else:
+        yield b"\x01" + certificate(NOTARIZE, participants, proposed)
+    if view % 10 == 0:
+        yield b"\x00" + vote(NOTARIZE, 0, proposal(view, b"second"))
 
 
 def main():

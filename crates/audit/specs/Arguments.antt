@@ -2,10 +2,13 @@
 use Rattle.std.specs.Cmp.Lexicographic.{slice_cmp}
 use Rattle.std.specs.List.Sorted.{IsStrictlySortedBy}
 use Rattle.std.specs.Ordering.{nat_cmp}
-use Rattle.std.specs.Prelude.{◌≡◌, ◌≢◌, ℕ, ◌<◌, ◌≤◌, ◌^◌, List, [], ◌∷◌, length, Option, Some, None, Result, Ok, Err, AllPairs, String, string_bytes, drop, map}
+use Rattle.std.specs.Prelude.{⊤, ◌≡◌, ◌≢◌, ℕ, ◌<◌, ◌≤◌, ◌^◌, List, [], ◌∷◌, ◌++◌, length, Option, Some, None, Result, Ok, Err, AllPairs, IsPermutation, String, string_bytes, codes, decimal, drop, map}
 use Rattle.std.specs.Global.{Global}
 use Rattle.hex.specs.Hex.{decode_sized}
 use Rattle.hex.specs.declared.error.FromHexError.{FromHexError}
+use Rattle.simplex_scheme.specs.Namespace.{names_of}
+use Rattle.simplex_scheme.specs.Plain.{PlainScheme}
+use Rattle.simplex_kept.specs.Committees.{Schedule, Every, Listed, AreRising}
 
 -- the words of the arguments of a process: those after the program's name
 abbrev pub words_of : List (String Global) → List (List ℕ)
@@ -31,19 +34,59 @@ abbrev pub keys_named : List (List ℕ) → Option (List (List ℕ))
 keys_named [] = Some []
 keys_named (text ∷ texts) = with_key (key_named text) (keys_named texts)
 
--- the arguments are a namespace and the texts of these keys: at least one, fewer than 2^32, and none twice
-pub record AreArguments (words : List (List ℕ)) (namespace : List ℕ) (keys : List (List ℕ)) : Type 0 where
-  pub texts : List (List ℕ)
-  pub split : words ≡ namespace ∷ texts
+-- the texts name these keys: at least one, fewer than 2^32, and none twice
+pub record AreKeys (texts : List (List ℕ)) (keys : List (List ℕ)) : Type 0 where
   pub named : keys_named texts ≡ Some keys
   pub some : 1 ≤ length keys
   pub few : length keys < 2 ^ 32
   pub distinct : AllPairs (λ a b. a ≢ b) keys
 
--- the arguments are no namespace and keys
-abbrev pub AreNoArguments : List (List ℕ) → Type 0
-AreNoArguments words = (namespace : List ℕ) (keys : List (List ℕ)) → AreArguments words namespace keys → ⊥
+-- the texts name no such keys
+abbrev pub AreNoKeys : List (List ℕ) → Type 0
+AreNoKeys texts = (keys : List (List ℕ)) → ¬ AreKeys texts keys
 
 -- these keys ascend: each is before the next by the first byte in which they differ
 abbrev pub Ascend : List (List ℕ) → Type 0
 Ascend = IsStrictlySortedBy (slice_cmp nat_cmp)
+
+-- the scheme verifies for the committee whose keys the texts name: whatever their order there, a participant's number is
+-- the place of its key among them in ascending order
+pub record IsCommittee (namespace : List ℕ) (texts : List (List ℕ)) (scheme : PlainScheme) : Type 0 where
+  pub keys : List (List ℕ)
+  pub participants : List (List ℕ)
+  pub named : AreKeys texts keys
+  pub same : IsPermutation keys participants
+  pub ascending : Ascend participants
+  pub verifies : scheme ≡ record { names = names_of namespace; keys = participants; me = None }
+
+-- the text begins a group: its first byte is an `@`
+abbrev pub BeginsGroup : List ℕ → Type 0
+BeginsGroup text = (rest : List ℕ) × (text ≡ codes "@" ++ rest)
+
+-- there are no texts, or the first begins a group
+abbrev pub StandsBeforeGroup : List (List ℕ) → Type 0
+StandsBeforeGroup [] = ⊤
+StandsBeforeGroup (text ∷ texts) = BeginsGroup text
+
+-- the text that begins the group of an epoch: `@` and the epoch in decimal
+abbrev pub epoch_text : ℕ → List ℕ
+epoch_text epoch = codes "@" ++ decimal epoch
+
+-- the texts are groups, each of the text of its epoch and the texts of its committee's keys
+abbrev pub AreGroups : List ℕ → List (List ℕ) → List (ℕ × PlainScheme) → Type 0
+AreGroups namespace texts [] = texts ≡ []
+AreGroups namespace texts (pair ∷ pairs) =
+    (keys rest : List (List ℕ)) × (texts ≡ epoch_text pair.0 ∷ (keys ++ rest)) × (pair.0 < 2 ^ 64) × IsCommittee namespace keys pair.1 × AreGroups namespace rest pairs
+
+-- the texts name one committee for every epoch, or in groups one for each of some epochs, which rise strictly
+abbrev pub NameCommittees : List ℕ → List (List ℕ) → Schedule PlainScheme → Type 0
+NameCommittees namespace texts (Every committee) = IsCommittee namespace texts committee
+NameCommittees namespace texts (Listed pairs) = (pairs ≢ []) × AreRising pairs × AreGroups namespace texts pairs
+
+-- the words are a namespace and texts that name these committees
+abbrev pub AreArguments : List (List ℕ) → Schedule PlainScheme → Type 0
+AreArguments words committees = (namespace : List ℕ) × (texts : List (List ℕ)) × (words ≡ namespace ∷ texts) × NameCommittees namespace texts committees
+
+-- the words are no namespace and texts that name committees
+abbrev pub AreNoArguments : List (List ℕ) → Type 0
+AreNoArguments words = (committees : Schedule PlainScheme) → ¬ AreArguments words committees

@@ -1,5 +1,3 @@
 pub mod Arguments
 pub mod Answer
 pub mod Status
-pub mod Streams
-pub mod Text

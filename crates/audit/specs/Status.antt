@@ -1,5 +1,7 @@
 -- How the program ends, and what it says then.
 use Rattle.std.specs.Prelude.{ℕ, List, ◌++◌, codes, decimal}
+use Rattle.simplex_audit.specs.declared.run.RunError.{RunError}
+use Rattle.simplex_audit.specs.declared.run.RunError.TheVariants as errors
 use Rattle.audit.specs.declared.status.Status.{Status}
 use Rattle.audit.specs.declared.status.Status.TheVariants as statuses
 use Rattle.audit.specs.declared.status.Failure.{Failure}
@@ -19,6 +21,13 @@ status_after Usage = statuses.Usage
 status_after Read = statuses.Failed
 status_after Write = statuses.Failed
 status_after OutOfMemory = statuses.Failed
+
+-- the failure that an error of a run is; too much to count is no input that can be read
+abbrev pub failure_of : RunError → Failure
+failure_of errors.Read = Read
+failure_of errors.TooLong = Read
+failure_of errors.Write = Write
+failure_of errors.OutOfMemory = OutOfMemory
 
 -- what is said of a failure
 abbrev pub complaint_of : Failure → List ℕ

@@ -1,85 +1,77 @@
 //! The program as a function over its arguments and streams.
 
-ghost use Rattle.std.specs.Prelude.{◌≡◌, ◌⊎◌, Err, IfOk, IfErr, map, string_bytes};
-ghost use Rattle.std.specs.Option.{option_map};
+ghost use Rattle.std.specs.Prelude.{◌≡◌, ◌⊎◌, false, Err, IsTrue, map, string_bytes};
+ghost use Rattle.simplex_audit.specs.Run.{AppendsBeginning};
+ghost use Rattle.simplex_audit.specs.Watched.{inner_of, has_failed, is_flushed};
 ghost use Rattle.audit.specs.Arguments.{AreNoArguments};
-ghost use Rattle.audit.specs.Answer.{IsCommittee, IsAnswer, Ends, Ending, ending_of, status_of, said_of};
-ghost use Rattle.audit.specs.Streams.{AppendsBeginning};
+ghost use Rattle.audit.specs.Answer.{Ends, Ending, status_of, said_of};
+ghost use Rattle.audit.specs.Status.{complaint_of};
 
 use crate::arguments;
-use crate::printing::print;
-use crate::reading::read_whole;
-use crate::status::{Failure, Status};
-use crate::streams::{Input, Output};
-use crate::text::{complaint, text};
-use simplex_audit::audit::audit;
+use crate::status::{Failure, Status, complaint};
+use simplex_audit::audit::{Fault, Watched, run};
+use simplex_audit::basis::Audited;
 use simplex_scheme::hash::Sha256Digest;
 use simplex_scheme::plain::Plain;
-use std::alloc::{AllocError, Global};
+use std::alloc::Global;
+use std::io::{ErrorKind, Read, Write};
 
-/// What is to be printed and said of a stream.
-#[derive(Drop)]
-struct Answer {
-    /// The lines of the evidence, each with its end.
-    text: String,
-    /// What is said of a fault, if there is one.
-    said: Option<String>,
-}
-
-/// The committee that the arguments name.
-fn committee(alloc: Global, arguments: &[String]) -> Result<Plain, Failure>
-    ensures committee { IfOk result (IsCommittee (map string_bytes arguments.now)) }
-    ensures usage { result ≡ Err Failure.Usage → AreNoArguments (map string_bytes arguments.now) }
-    ensures failure { IfErr result (λ e. (e ≡ Failure.Usage) ⊎ (e ≡ Failure.OutOfMemory)) }
-{
-    let named = arguments::parse(alloc, arguments)?;
-    let scheme = Plain::verifier(alloc, named.namespace.as_bytes(), named.keys)?;
-    Ok(scheme)
-}
-
-/// Audits a stream, and prepares what is to be printed and said of it.
-fn prepare(alloc: Global, scheme: &Plain, stream: &[u8]) -> Result<Answer, AllocError>
-    ensures { IfOk result (λ a. IsAnswer scheme.now stream.now (string_bytes a.text) (option_map string_bytes a.said)) }
-{
-    let report = audit::<Plain, Sha256Digest>(alloc, scheme, stream)?;
-    let text = text(alloc, report.evidence.as_slice())?;
-    let said = complaint(alloc, report.fault)?;
-    Ok(Answer { text, said })
-}
-
-/// Reads the input and prints its text. Answers what is to be said of a fault, if there is one.
-fn run<R: Input, W: Output>(
+/// Audits the input under the committees that the arguments name, and writes its text. Answers its fault, if there is one.
+fn audit_input<R: Read, W: Write>(
     alloc: Global,
     arguments: &[String],
-    input: &mut R,
-    output: &mut W,
-) -> Result<Option<String>, Failure>
-    ensures ends { Ends (map string_bytes arguments.now)
-        (record { before = R.remaining input.old; after = R.remaining input.new; failed = R.has_failed input.new })
-        (record { before = W.contents output.old; after = W.contents output.new; failed = W.has_failed output.new; flushed = W.is_flushed output.new })
-        (ending_of result) }
+    input: &mut Watched<R>,
+    output: &mut Watched<W>,
+) -> Result<Option<Fault>, Failure>
+    requires input_well { has_failed input.old ≡ false }
+    requires output_well { has_failed output.old ≡ false }
+    ensures ends { Ends ⟦<Plain as Audited<Sha256Digest>>⟧.basis (map string_bytes arguments.now)
+        (record { before = R.remaining (inner_of input.old); after = R.remaining (inner_of input.new); failed = has_failed input.new })
+        (record { before = W.contents (inner_of output.old); after = W.contents (inner_of output.new); failed = has_failed output.new; flushed = is_flushed output.new })
+        result }
+    ensures read_failed { IsTrue (has_failed input.new) → result ≡ Err Failure.Read }
+    ensures write_failed { IsTrue (has_failed output.new) → result ≡ Err Failure.Write }
     ensures untouched { AreNoArguments (map string_bytes arguments.now) → (input.new ≡ input.old) × (output.new ≡ output.old) }
 {
-    let scheme = committee(alloc, arguments)?;
-    let stream = read_whole(alloc, input)?;
-    let answer = prepare(alloc, &scheme, stream.as_slice())?;
-    print(output, answer.text.as_bytes())?;
-    Ok(answer.said)
+    let committees = arguments::parse(alloc, arguments)?;
+    let summary = run::<Plain, Sha256Digest, R, W>(alloc, &committees, input, output)?;
+    Ok(summary.fault)
+}
+
+/// Says something, and flushes. An interrupted write is made again; any other failure changes nothing.
+fn say<E: Write>(errors: &mut E, text: &[u8])
+    ensures { AppendsBeginning (E.contents errors.old) (E.contents errors.new) text.now }
+{
+    let mut count = 0;
+    'parts: for _ in 0..u64::MAX {
+        if count >= text.len() {
+            break;
+        }
+        match errors.write(&text[count..]) {
+            Ok(0) => return,
+            Ok(taken) => count += taken,
+            Err(error) if error.kind() == ErrorKind::Interrupted => {}
+            Err(_) => return,
+        }
+    }
+    let _ = errors.flush();
 }
 
 /// Says on standard error how a run ended, and gives its status. That it can't be said changes nothing.
-pub(crate) fn conclude<E: Output>(errors: &mut E, ended: Result<Option<String>, Failure>) -> Status
-    ensures status { result ≡ status_of (ending_of ended) }
-    ensures said { AppendsBeginning (E.contents errors.old) (E.contents errors.new) (said_of (ending_of ended)) }
+pub(crate) fn conclude<E: Write>(errors: &mut E, ended: Result<Option<Fault>, Failure>) -> Status
+    ensures status { result ≡ status_of ended }
+    ensures said { AppendsBeginning (E.contents errors.old) (E.contents errors.new) (said_of ended) }
 {
     match ended {
         Ok(None) => Status::Whole,
-        Ok(Some(said)) => {
-            let _ = print(errors, said.as_bytes());
+        Ok(Some(fault)) => {
+            if let Ok(text) = complaint(fault.place) {
+                say(errors, text.as_bytes());
+            }
             Status::Fault
         }
         Err(failure) => {
-            let _ = print(errors, failure.complaint().as_bytes());
+            say(errors, failure.complaint().as_bytes());
             failure.status()
         }
     }
@@ -89,22 +81,29 @@ pub(crate) fn conclude<E: Output>(errors: &mut E, ended: Result<Option<String>, 
 ///
 /// The arguments are judged before anything is read, and nothing is written before the whole input is read
 /// and all memory is had. What can't be said on `errors` leaves the status.
-pub fn command<R: Input, W: Output, E: Output>(
+pub fn command<R: Read, W: Write, E: Write>(
     alloc: Global,
     arguments: &[String],
-    input: &mut R,
-    output: &mut W,
+    input: &mut Watched<R>,
+    output: &mut Watched<W>,
     errors: &mut E,
 ) -> Status
+    requires input_well { has_failed input.old ≡ false }
+    requires output_well { has_failed output.old ≡ false }
     ensures ends { (ending : Ending) × (result ≡ status_of ending)
         × AppendsBeginning (E.contents errors.old) (E.contents errors.new) (said_of ending)
-        × Ends (map string_bytes arguments.now)
-        (record { before = R.remaining input.old; after = R.remaining input.new; failed = R.has_failed input.new })
-        (record { before = W.contents output.old; after = W.contents output.new; failed = W.has_failed output.new; flushed = W.is_flushed output.new })
+        × Ends ⟦<Plain as Audited<Sha256Digest>>⟧.basis (map string_bytes arguments.now)
+        (record { before = R.remaining (inner_of input.old); after = R.remaining (inner_of input.new); failed = has_failed input.new })
+        (record { before = W.contents (inner_of output.old); after = W.contents (inner_of output.new); failed = has_failed output.new; flushed = is_flushed output.new })
         ending }
+    // Where a device failed the program says so.
+    ensures read_failed { IsTrue (has_failed input.new) → (result ≡ Status.Failed)
+        × AppendsBeginning (E.contents errors.old) (E.contents errors.new) (complaint_of Failure.Read) }
+    ensures write_failed { IsTrue (has_failed output.new) → (result ≡ Status.Failed)
+        × AppendsBeginning (E.contents errors.old) (E.contents errors.new) (complaint_of Failure.Write) }
     ensures refused { AreNoArguments (map string_bytes arguments.now) → (result ≡ Status.Usage) ⊎ (result ≡ Status.Failed) }
     ensures untouched { AreNoArguments (map string_bytes arguments.now) → (input.new ≡ input.old) × (output.new ≡ output.old) }
 {
-    let ended = run(alloc, arguments, input, output);
+    let ended = audit_input(alloc, arguments, input, output);
     conclude(errors, ended)
 }

@@ -1,19 +1,19 @@
-//! `audit NAMESPACE KEY...`: reads a stream of messages from standard input, and prints a line for each
-//! signer, round and kind with two contradictory votes that verify.
+//! `audit NAMESPACE KEY...` or `audit NAMESPACE @EPOCH KEY...`: reads a stream of messages from standard input, and prints a
+//! line for each signer, round and kind with two contradictory votes that verify, and then one for each round whose
+//! certificates contradict.
 #![tactic(auto)]
 
 mod arguments;
 mod command;
-mod printing;
-mod reading;
+mod groups;
+mod keys;
 mod start;
 mod status;
-mod streams;
 #[cfg(test)]
 mod tests;
-mod text;
 
 use crate::start::start;
+use simplex_audit::audit::Watched;
 use std::env;
 use std::process::ExitCode;
 
@@ -21,8 +21,8 @@ fn main(rt: HostRuntime) -> ExitCode {
     let number = start(
         rt.alloc(),
         env::args(&rt),
-        &mut rt.stdin(),
-        &mut rt.stdout(),
+        &mut Watched::new(rt.stdin()),
+        &mut Watched::new(rt.stdout()),
         &mut rt.stderr(),
     );
     ExitCode::from(number)

@@ -1,20 +1,24 @@
 //! The program as a function over what its process is given.
 
-ghost use Rattle.std.specs.Prelude.{◌≡◌, ◌≢◌, ◌⊎◌, IfOk, IfErr, OnErr, map, string_bytes};
+ghost use Rattle.std.specs.Prelude.{◌≡◌, ◌≢◌, ◌⊎◌, false, IfOk, IfErr, OnErr, map, string_bytes};
 ghost use Rattle.std.specs.IoError.{error_kind};
 ghost use Rattle.std.specs.Vec.Iter.{into_iter_items};
 ghost use Rattle.audit.specs.Arguments.{AreNoArguments, words_of};
 ghost use Rattle.audit.specs.Answer.{Ends, Ending, status_of, said_of};
 ghost use Rattle.audit.specs.Status.{complaint_of, number_of};
-ghost use Rattle.audit.specs.Streams.{AppendsBeginning};
+ghost use Rattle.simplex_audit.specs.Run.{AppendsBeginning};
+ghost use Rattle.simplex_audit.specs.Watched.{inner_of, has_failed, is_flushed};
 
 use crate::command::{command, conclude};
 use crate::status::{Failure, Status};
-use crate::streams::{Input, Output};
+use simplex_audit::audit::Watched;
+use simplex_audit::basis::Audited;
+use simplex_scheme::hash::Sha256Digest;
+use simplex_scheme::plain::Plain;
 use std::alloc::{AllocError, Global};
 use std::env::Args;
 use std::io;
-use std::io::ErrorKind;
+use std::io::{ErrorKind, Read, Write};
 
 /// The arguments after the program's name.
 fn without_name(alloc: Global, given: Args) -> Result<Vec<String>, AllocError>
@@ -42,18 +46,20 @@ fn no_arguments(error: &io::Error) -> Failure
 ///
 /// Where the arguments can't be had nothing is read or written, and the number is that of a failure for want
 /// of memory, or else of arguments that are no namespace and keys.
-pub fn start<R: Input, W: Output, E: Output>(
+pub fn start<R: Read, W: Write, E: Write>(
     alloc: Global,
     given: io::Result<Args>,
-    input: &mut R,
-    output: &mut W,
+    input: &mut Watched<R>,
+    output: &mut Watched<W>,
     errors: &mut E,
 ) -> u8
+    requires input_well { has_failed input.old ≡ false }
+    requires output_well { has_failed output.old ≡ false }
     ensures ends { IfOk given (λ given. (ending : Ending) × (result ≡ number_of (status_of ending))
         × AppendsBeginning (E.contents errors.old) (E.contents errors.new) (said_of ending)
-        × Ends (words_of (into_iter_items given))
-        (record { before = R.remaining input.old; after = R.remaining input.new; failed = R.has_failed input.new })
-        (record { before = W.contents output.old; after = W.contents output.new; failed = W.has_failed output.new; flushed = W.is_flushed output.new })
+        × Ends ⟦<Plain as Audited<Sha256Digest>>⟧.basis (words_of (into_iter_items given))
+        (record { before = R.remaining (inner_of input.old); after = R.remaining (inner_of input.new); failed = has_failed input.new })
+        (record { before = W.contents (inner_of output.old); after = W.contents (inner_of output.new); failed = has_failed output.new; flushed = is_flushed output.new })
         ending) }
     ensures refused { IfOk given (λ given. AreNoArguments (words_of (into_iter_items given)) → (result ≡ 2) ⊎ (result ≡ 3)) }
     ensures untouched { IfOk given (λ given. AreNoArguments (words_of (into_iter_items given)) → (input.new ≡ input.old) × (output.new ≡ output.old)) }

@@ -1,9 +1,13 @@
 //! How the program ends, and what it says then.
 
-ghost use Rattle.std.specs.Prelude.{◌≡◌};
-ghost use Rattle.audit.specs.Status.{number_of, status_after, complaint_of};
+ghost use Rattle.std.specs.Prelude.{◌≡◌, IfOk};
+ghost use Rattle.audit.specs.Status.{number_of, status_after, complaint_of, complaint_at, failure_of};
 
+use arrayvec::ArrayString;
+use simplex_audit::run::RunError;
 use std::alloc::AllocError;
+use std::fmt;
+use std::fmt::Write;
 
 /// How the program ends.
 #[derive(Clone, Copy, Debug, PartialEq, Eq)]
@@ -12,7 +16,7 @@ pub enum Status {
     Whole,
     /// The stream stops being messages somewhere. What stands before was audited.
     Fault,
-    /// The arguments are no namespace and keys.
+    /// The arguments are no namespace and keys, or groups of them.
     Usage,
     /// A read, a write or memory failed.
     Failed,
@@ -35,7 +39,7 @@ impl Status {
 /// Why the program gives up.
 #[derive(Clone, Copy, Debug, PartialEq, Eq)]
 pub enum Failure {
-    /// The arguments are no namespace and keys.
+    /// The arguments are no namespace and keys, or groups of them.
     Usage,
     /// The input can't be read to its end.
     Read,
@@ -52,6 +56,18 @@ impl From<AllocError> for Failure {
 
     fn from(_error: AllocError) -> Failure {
         Failure::OutOfMemory
+    }
+}
+
+impl From<RunError> for Failure {
+    ghost from_gives = { λ error failure. failure ≡ failure_of error };
+
+    fn from(error: RunError) -> Failure {
+        match error {
+            RunError::Read | RunError::TooLong => Failure::Read,
+            RunError::Write => Failure::Write,
+            RunError::OutOfMemory => Failure::OutOfMemory,
+        }
     }
 }
 
@@ -77,4 +93,14 @@ impl Failure {
             Failure::OutOfMemory => "audit: out of memory\n",
         }
     }
+}
+
+/// What is said on standard error of a fault at a byte, with its line's end. It takes no memory, and the longest has
+/// room: it is 42 bytes long.
+pub fn complaint(place: usize) -> Result<ArrayString<64>, fmt::Error>
+    ensures { IfOk result (λ text. text.bytes ≡ complaint_at place) }
+{
+    let mut text = ArrayString::new();
+    writeln!(text, "audit: fault at byte {place}")?;
+    Ok(text)
 }

@@ -1,8 +1,10 @@
+mod groups;
 mod thousand_lines;
 
 use crate::command::command;
 use crate::status::Status;
 use devices::{Source, Target, Trouble};
+use simplex_audit::audit::Watched;
 use std::alloc::{AllocError, Global};
 use std::io::ErrorKind;
 use std::process::Abort;
@@ -110,8 +112,9 @@ fn is_refused(rt: &(impl Abort + AllocGlobal), row: Row) -> bool {
     let Ok(arguments) = owned(rt.alloc(), row.words) else {
         return true;
     };
-    let mut input = Source::new(row.stream, 3, row.reading);
-    let mut output = Target::new(row.room.0, row.room.1, row.writing, row.flushing);
+    let mut input = Watched::new(Source::new(row.stream, 3, row.reading));
+    let target = Target::new(row.room.0, row.room.1, row.writing, row.flushing);
+    let mut output = Watched::new(target);
     let mut errors = Target::new(usize::MAX, usize::MAX, row.saying, Trouble::Never);
     let status = command(
         rt.alloc(),
@@ -120,6 +123,7 @@ fn is_refused(rt: &(impl Abort + AllocGlobal), row: Row) -> bool {
         &mut output,
         &mut errors,
     );
+    let (input, output) = (input.into_inner(), output.into_inner());
     if errors.held() == OUT_OF_MEMORY.as_bytes() {
         assert_eq!(rt; status, Status::Failed);
         assert_eq!(rt; output.calls(), (0, 0));
@@ -153,16 +157,44 @@ fn is_any_refused(rt: &(impl Abort + AllocGlobal), rows: &[Row]) -> bool {
     found
 }
 
-/// Arguments that are a namespace and keys, and such that are not.
-fn are_arguments_refused(rt: &(impl Abort + AllocGlobal)) -> bool {
-    let good: [&'static [&'static str]; 5] = [
+/// Runs over an empty stream. Answers whether memory was refused in one.
+fn are_good_refused(rt: &(impl Abort + AllocGlobal), rows: &[&'static [&'static str]]) -> bool {
+    let mut found = false;
+    for words in rows {
+        if is_refused(rt, steady(*words, b"", Status::Whole, "", "")) {
+            found = true;
+        }
+    }
+    found
+}
+
+/// Runs whose arguments are none. Answers whether memory was refused in one.
+fn are_bad_refused(rt: &(impl Abort + AllocGlobal), rows: &[&'static [&'static str]]) -> bool {
+    let mut found = false;
+    for words in rows {
+        let row = steady(*words, b"never read", Status::Usage, "", USAGE);
+        if is_refused(rt, row) {
+            found = true;
+        }
+    }
+    found
+}
+
+/// A namespace and keys.
+fn are_keys_refused(rt: &(impl Abort + AllocGlobal)) -> bool {
+    let rows: [&'static [&'static str]; 5] = [
         &["test", ZEROS],
         &["", ZEROS],
         &["test", UPPER],
         &["test", MIXED, ZEROS, LOWER],
         &["test", LOWER, MIXED, ZEROS],
     ];
-    let bad: [&'static [&'static str]; 12] = [
+    are_good_refused(rt, &rows)
+}
+
+/// No namespace, no keys, bad keys or repeated ones.
+fn are_bad_keys_refused(rt: &(impl Abort + AllocGlobal)) -> bool {
+    let rows: [&'static [&'static str]; 12] = [
         &[],
         &["test"],
         &[""],
@@ -176,18 +208,51 @@ fn are_arguments_refused(rt: &(impl Abort + AllocGlobal)) -> bool {
         &["test", LOWER, UPPER],
         &["test", LOWER, ZEROS, MIXED, UPPER],
     ];
-    let mut found = false;
-    for words in good {
-        if is_refused(rt, steady(words, b"", Status::Whole, "", "")) {
-            found = true;
-        }
-    }
-    for words in bad {
-        if is_refused(rt, steady(words, b"never read", Status::Usage, "", USAGE)) {
-            found = true;
-        }
-    }
-    found
+    are_bad_refused(rt, &rows)
+}
+
+/// A namespace and groups of keys.
+fn are_groups_refused(rt: &(impl Abort + AllocGlobal)) -> bool {
+    let rows: [&'static [&'static str]; 4] = [
+        &["test", "@0", ZEROS],
+        &["@1", "@1", ZEROS],
+        &["test", "@18446744073709551615", MIXED, ZEROS],
+        &["test", "@9", ZEROS, LOWER, "@10", ZEROS, "@333", UPPER],
+    ];
+    are_good_refused(rt, &rows)
+}
+
+/// No digits, epochs in other spellings, and epochs that do not rise.
+fn are_bad_epochs_refused(rt: &(impl Abort + AllocGlobal)) -> bool {
+    let rows: [&'static [&'static str]; 11] = [
+        &["test", "@", ZEROS],
+        &["test", "@00", ZEROS],
+        &["test", "@01", ZEROS],
+        &["test", "@+1", ZEROS],
+        &["test", "@-0", ZEROS],
+        &["test", "@ 1", ZEROS],
+        &["test", "@1 ", ZEROS],
+        &["test", "@0x1", ZEROS],
+        &["test", "@18446744073709551616", ZEROS],
+        &["test", "@1", ZEROS, "@1", ZEROS],
+        &["test", "@10", ZEROS, "@9", ZEROS],
+    ];
+    are_bad_refused(rt, &rows)
+}
+
+/// Groups without keys, keys before the first group, and bad or repeated keys in a group.
+fn are_bad_groups_refused(rt: &(impl Abort + AllocGlobal)) -> bool {
+    let rows: [&'static [&'static str]; 8] = [
+        &["test", "@0"],
+        &["test", "@0", ZEROS, "@1"],
+        &["test", "@0", "@1", ZEROS],
+        &["test", ZEROS, "@1", ZEROS],
+        &["test", "@1", ZEROS, "key"],
+        &["test", "@1", ZEROS, "@2", SHORT],
+        &["test", "@1", ZEROS, ZEROS],
+        &["test", "@1", ZEROS, "@2", LOWER, UPPER],
+    ];
+    are_bad_refused(rt, &rows)
 }
 
 /// Streams over devices that do not fail.
@@ -232,14 +297,14 @@ fn failing(text: &'static str, said: &'static str) -> Row {
 /// Devices that fail.
 fn are_troubles_refused(rt: &(impl Abort + AllocGlobal)) -> bool {
     let all = usize::MAX;
-    let rows: [Row; 16] = [
+    let rows: [Row; 17] = [
         Row {
             reading: Trouble::Once(0, ErrorKind::Interrupted),
-            ..line_and_fault()
+            ..failing("", READ_FAILED)
         },
         Row {
             reading: Trouble::Once(2, ErrorKind::Interrupted),
-            ..line_and_fault()
+            ..failing("", READ_FAILED)
         },
         Row {
             reading: Trouble::Since(0, ErrorKind::Other),
@@ -259,12 +324,12 @@ fn are_troubles_refused(rt: &(impl Abort + AllocGlobal)) -> bool {
         },
         Row {
             writing: Trouble::Once(0, ErrorKind::Interrupted),
-            ..line_and_fault()
+            ..failing("", WRITE_FAILED)
         },
         Row {
             room: (5, all),
             writing: Trouble::Once(1, ErrorKind::Interrupted),
-            ..line_and_fault()
+            ..failing("0 10 ", WRITE_FAILED)
         },
         Row {
             writing: Trouble::Since(0, ErrorKind::BrokenPipe),
@@ -292,6 +357,10 @@ fn are_troubles_refused(rt: &(impl Abort + AllocGlobal)) -> bool {
             ..failing(LINE, WRITE_FAILED)
         },
         Row {
+            saying: Trouble::Once(0, ErrorKind::Interrupted),
+            ..line_and_fault()
+        },
+        Row {
             saying: Trouble::Since(0, ErrorKind::Other),
             said: "",
             ..line_and_fault()
@@ -306,8 +375,16 @@ fn are_troubles_refused(rt: &(impl Abort + AllocGlobal)) -> bool {
 }
 
 #[test]
-fn ample_arguments(rt: HostRuntime) {
-    assert!(rt; !are_arguments_refused(&rt));
+fn ample_keys(rt: HostRuntime) {
+    assert!(rt; !are_keys_refused(&rt));
+    assert!(rt; !are_bad_keys_refused(&rt));
+}
+
+#[test]
+fn ample_groups(rt: HostRuntime) {
+    assert!(rt; !are_groups_refused(&rt));
+    assert!(rt; !are_bad_epochs_refused(&rt));
+    assert!(rt; !are_bad_groups_refused(&rt));
 }
 
 #[test]

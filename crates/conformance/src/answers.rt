@@ -1,5 +1,6 @@
 //! The answer to a line.
 
+use crate::audits::{audit_row, committees, feed_row};
 use crate::leaders::leader;
 use crate::maps::map;
 use crate::reads::read;
@@ -40,6 +41,12 @@ fn row(alloc: Global, words: &[&str]) -> Result<String, Unanswered> {
             &committee(alloc, *participants)?,
             bytes(alloc, spelling)?.as_slice(),
         ),
+        ["audit", who, stream @ ..] => audit_row(
+            alloc,
+            &committees(alloc, *who)?,
+            bytes(alloc, stream)?.as_slice(),
+        ),
+        ["feed", who, pieces @ ..] => feed_row(alloc, &committees(alloc, *who)?, pieces),
         ["map", participants, signers @ ..] => map(alloc, small(*participants)?, signers),
         ["leader", participants, seed, length, at, place] => leader(
             alloc,

@@ -2,6 +2,7 @@
 #![tactic(auto)]
 
 mod answers;
+mod audits;
 mod leaders;
 mod maps;
 mod reads;

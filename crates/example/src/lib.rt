@@ -1,31 +1,63 @@
 //! How the crates are used: who of a committee signed two contradictory votes in a stream of messages.
 #![tactic(auto)]
 
-use simplex_audit::audit::audit;
+ghost use Rattle.std.specs.Prelude.{◌≡◌, ◌↔◌, Ok, None, IfOk, IfSome, map};
+ghost use Rattle.example.specs.Named.{AreKeys, AreNamed, IsCommittee, place_of};
+
+use simplex_audit::audit::{Committees, Evidence, audit};
+use simplex_audit::basis::Audited;
 use simplex_base::positions::{Participant, Round};
 use simplex_scheme::plain::{Plain, PlainKey};
 use simplex_scheme::scheme::{Set, Sha256Digest};
 use std::alloc::{AllocError, Global};
 
-/// Who is named by the stream, in which round, in the order of the evidence. `None` comes where the keys are no
-/// committee: none at all, more than 2^32 - 1, or one of them twice.
+/// Who is named by the stream, in which round, in the order of the evidence. One committee judges every epoch. `None`
+/// comes where the keys are no committee: none at all, more than 2^32 - 1, or one of them twice.
 pub fn named(
     alloc: Global,
     namespace: &[u8],
     keys: Vec<PlainKey>,
     stream: &[u8],
-) -> Result<Option<Vec<(Round, Participant)>>, AllocError> {
-    let Ok(committee) = Set::try_from_vec(keys) else {
+) -> Result<Option<Vec<(Round, Participant)>>, AllocError>
+    ensures named { IfOk result (λ answer. IfSome answer (λ named. AreNamed ⟦<Plain as Audited<Sha256Digest>>⟧.basis namespace.now keys.items stream.now named.items)) }
+    ensures none { result ≡ Ok None ↔ ¬ AreKeys keys.items }
+{
+    let Some(committee) = committee_of(alloc, namespace, keys)? else {
         return Ok(None);
     };
-    if committee.len() < 1 || committee.len() > 4_294_967_295 {
+    let committees = Committees::every(committee);
+    let report = audit::<Plain, Sha256Digest>(alloc, &committees, stream)?;
+    Ok(Some(places(alloc, &report.evidence)?))
+}
+
+/// The committee of these keys, if they are one's.
+fn committee_of(
+    alloc: Global,
+    namespace: &[u8],
+    keys: Vec<PlainKey>,
+) -> Result<Option<Plain>, AllocError>
+    ensures committee { IfOk result (λ answer. IfSome answer (IsCommittee namespace.now keys.items)) }
+    ensures none { result ≡ Ok None ↔ ¬ AreKeys keys.items }
+{
+    if keys.is_empty() || keys.len() > 4_294_967_295 {
         return Ok(None);
     }
-    let scheme = Plain::verifier(alloc, namespace, committee)?;
-    let report = audit::<Plain, Sha256Digest>(alloc, &scheme, stream)?;
-    let mut named = Vec::new(alloc);
-    for evidence in &report.evidence {
-        named.push((evidence.round(), evidence.signer()))?;
+    match Set::try_from_vec(keys) {
+        Ok(participants) => Ok(Some(Plain::verifier(alloc, namespace, participants)?)),
+        Err(_) => Ok(None),
     }
-    Ok(Some(named))
+}
+
+/// The round and the signer of each evidence.
+fn places(
+    alloc: Global,
+    evidence: &[Evidence<Plain, Sha256Digest>],
+) -> Result<Vec<(Round, Participant)>, AllocError>
+    ensures { IfOk result (λ places. places.items ≡ map place_of evidence.now) }
+{
+    let mut places = Vec::new(alloc);
+    for one in evidence {
+        places.push((one.round(), one.signer()))?;
+    }
+    Ok(places)
 }

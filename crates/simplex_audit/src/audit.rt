@@ -1,22 +1,26 @@
 //! The audit of a whole stream.
 
-ghost use Rattle.std.specs.Prelude.{◌≡◌, ◌↔◌, ℕ, List, ◌++◌, map, length, IfOk, IsTrue, Contains, All};
-ghost use Rattle.simplex_base.specs.Readable.{format_under};
-ghost use Rattle.simplex_evidence.specs.Activity.{votes_in};
-ghost use Rattle.simplex_audit.specs.Audited.{audited};
-ghost use Rattle.simplex_audit.specs.GoodVotes.{good_votes};
-ghost use Rattle.simplex_audit.specs.Named.{Named, is_named, named_by};
-ghost use Rattle.simplex_audit.specs.Evidence.{IsEquivocation};
-ghost use Rattle.simplex_audit.specs.Laws.{EvidenceIsUnique, NamedInAnyOrder};
-ghost use Rattle.simplex_audit.specs.Messages.{AreMessages};
-ghost use Rattle.simplex_audit.specs.Audit.{IsReport};
-ghost use Rattle.simplex_audit.specs.Memory.{evidence_value};
+ghost use Rattle.std.specs.Prelude.{◌&&◌, All, IfOk, nat_eq, refl};
+ghost use Rattle.simplex_base.specs.Format.{IsLawful};
+ghost use Rattle.simplex_audit.specs.Headline.{HasOneReading, NamesExactlyThem, ShowsTwoVotes, HasNoOtherEvidence, NamesInAnyOrder, NamesStayWithMore, ForksNameEnough, SignersOfBothAreNamed, ShowsForks, ReadsAgain};
+ghost use Rattle.simplex_audit.specs.Report.{IsReport, as_messages};
+ghost use Rattle.simplex_kept.specs.Rules.{AreLawful};
 
-pub use crate::evidence::Evidence;
-use crate::reading::read_stream;
-use simplex_base::codec::Read;
+pub use crate::auditor::Auditor;
+use crate::basis::Audited;
+use crate::reading::{read_messages, reading_bound};
+use crate::reporting::make_report;
+pub use crate::run::{RunError, Summary, run};
+pub use crate::watched::Watched;
 use simplex_base::codec::error::Error;
-use simplex_evidence::types::Activity;
+use simplex_base::values::EqByParts;
+pub use simplex_kept::committees::{Committees, CommitteesError};
+pub use simplex_kept::evidence::Evidence;
+use simplex_kept::laws::{
+    certificates_are_accountable, evidence_is_determined, names_stay, splits_are_determined,
+};
+use simplex_kept::seen::Seen;
+pub use simplex_kept::split::Split;
 use simplex_scheme::scheme::{Digest, Listing, SchemeTypes};
 use std::alloc::{AllocError, Global};
 
@@ -29,74 +33,89 @@ pub struct Fault {
     pub error: Error,
 }
 
+impl EqByParts for Fault {
+    ghost same = { λ x y. nat_eq x.place y.place && ⟦<Error as PartialEq>⟧.eq x.error y.error };
+
+    ghost equal = { λ x y. refl };
+}
+
 /// What an audit found.
 #[derive(Drop)]
 pub struct Report<S: SchemeTypes, D: Digest> {
-    /// One for each signer, round and kind with a contradiction, in the order of rounds, signers and kinds.
+    /// One for each round, signer and kind with a contradiction, in the order of rounds, signers and kinds.
     pub evidence: Vec<Evidence<S, D>>,
+    /// One for each round with two certified messages that contradict, in the order of rounds.
+    pub splits: Vec<Split>,
     /// The number of messages read.
     pub read: usize,
     /// Where the stream stops being messages, if it does.
     pub fault: Option<Fault>,
 }
 
-/// Reads a stream of messages, one after another, under the committee's bound until its end or the first
-/// fault, and names exactly the signers, rounds and kinds with two contradictory votes that verify there,
-/// each once with the earliest such votes. It reads notarizes and notarizations, whose tags are 0 and 1. Any
-/// other byte in the place of a tag is a fault there, `Invalid("consensus::simplex::Activity", "Invalid type")`,
-/// whatever follows it, also where another message has that tag. Nothing is assumed of the bytes.
-/// `AllocError` comes where memory is refused, and then there is no report.
+/// Reads a stream of messages, one after another, under the bound of the greatest committee until its end or the
+/// first fault, and names exactly the signers, rounds and kinds with two contradictory votes that verify
+/// there, each once with the earliest such votes. A vote or a certificate is judged by the committee of its epoch, and
+/// none is good without one. Beside them it tells the rounds whose certificates contradict. Nothing is assumed of the
+/// bytes. `AllocError` comes where memory is refused, and then there is no report.
 pub fn audit<S: Listing<D>, D: Digest>(
     alloc: Global,
-    scheme: &S,
+    committees: &Committees<S>,
     stream: &[u8],
 ) -> Result<Report<S, D>, AllocError>
-    // The stream's messages were read up to its end or first fault, and the evidence is that of their good votes.
-    ensures report { IfOk result (λ report. IsReport (audited (format_under ⟦<Activity<S, D> as Read>⟧ (length (S.keys scheme.now))))
-        (votes_in S.listed) D.eq (S.good scheme.now) stream.now report.read report.fault (map evidence_value report.evidence.items)) }
-    // There is one list of messages.
-    ensures single { (messages others : List (Activity S D S.Certificate S.PublicKey S.Signature)) (rest left : List ℕ) →
-        AreMessages (audited (format_under ⟦<Activity<S, D> as Read>⟧ (length (S.keys scheme.now)))) stream.now messages rest →
-        AreMessages (audited (format_under ⟦<Activity<S, D> as Read>⟧ (length (S.keys scheme.now)))) stream.now others left →
-        (messages ≡ others) × (rest ≡ left) }
-    // Whom the evidence names is who is named by the messages' good votes, and nobody else.
-    ensures names { IfOk result (λ report. (messages : List (Activity S D S.Certificate S.PublicKey S.Signature)) (rest : List ℕ) →
-        AreMessages (audited (format_under ⟦<Activity<S, D> as Read>⟧ (length (S.keys scheme.now)))) stream.now messages rest →
-        (n : Named) → Contains (map named_by (map evidence_value report.evidence.items)) n ↔ IsTrue (is_named D.eq (good_votes (S.good scheme.now) (votes_in S.listed) messages) n)) }
-    // Each evidence is two of the messages' good votes that contradict.
-    ensures sound { IfOk result (λ report. (messages : List (Activity S D S.Certificate S.PublicKey S.Signature)) (rest : List ℕ) →
-        AreMessages (audited (format_under ⟦<Activity<S, D> as Read>⟧ (length (S.keys scheme.now)))) stream.now messages rest →
-        All (IsEquivocation D.eq (good_votes (S.good scheme.now) (votes_in S.listed) messages)) (map evidence_value report.evidence.items)) }
-    // No other list is the evidence of the messages' good votes.
-    ensures only { IfOk result (λ report. (messages : List (Activity S D S.Certificate S.PublicKey S.Signature)) (rest : List ℕ) →
-        AreMessages (audited (format_under ⟦<Activity<S, D> as Read>⟧ (length (S.keys scheme.now)))) stream.now messages rest →
-        EvidenceIsUnique D.eq (good_votes (S.good scheme.now) (votes_in S.listed) messages) (map evidence_value report.evidence.items)) }
+    // The stream's messages were read up to its end or first fault, the evidence is that of their good votes, and the
+    // splits are theirs.
+    ensures report { IfOk result (λ report. IsReport (⟦<S as Audited<D>>⟧.basis committees.now) stream.now report) }
+    // A stream has one list of messages.
+    ensures single { HasOneReading (⟦<S as Audited<D>>⟧.basis committees.now) stream.now }
+    // The evidence names exactly the signers, rounds and kinds with two good votes that contradict, and no other.
+    ensures names { IfOk result (λ report. NamesExactlyThem (⟦<S as Audited<D>>⟧.basis committees.now) stream.now report) }
+    // Each evidence is two of the stream's good votes, which contradict.
+    ensures sound { IfOk result (λ report. ShowsTwoVotes (⟦<S as Audited<D>>⟧.basis committees.now) stream.now report) }
+    // No other list is the evidence of the stream's good votes.
+    ensures only { IfOk result (λ report. HasNoOtherEvidence (⟦<S as Audited<D>>⟧.basis committees.now) stream.now report) }
     // Who is named does not depend on the order of the messages.
-    ensures any_order { (messages : List (Activity S D S.Certificate S.PublicKey S.Signature)) → NamedInAnyOrder D.eq (S.good scheme.now) (votes_in S.listed) messages }
+    ensures any_order { NamesInAnyOrder (⟦<S as Audited<D>>⟧.basis committees.now) }
     // Who is named stays named, whatever bytes follow.
-    ensures stays { (more : List ℕ) (messages later : List (Activity S D S.Certificate S.PublicKey S.Signature)) (rest left : List ℕ) →
-        AreMessages (audited (format_under ⟦<Activity<S, D> as Read>⟧ (length (S.keys scheme.now)))) stream.now messages rest →
-        AreMessages (audited (format_under ⟦<Activity<S, D> as Read>⟧ (length (S.keys scheme.now)))) (stream.now ++ more) later left →
-        (n : Named) → IsTrue (is_named D.eq (good_votes (S.good scheme.now) (votes_in S.listed) messages) n) → IsTrue (is_named D.eq (good_votes (S.good scheme.now) (votes_in S.listed) later) n) }
+    ensures stays { NamesStayWithMore (⟦<S as Audited<D>>⟧.basis committees.now) stream.now }
+    // Two certified messages of a round that contradict name at least f + 1 signers there, f of its epoch's committee.
+    ensures enough { ForksNameEnough (⟦<S as Audited<D>>⟧.basis committees.now) stream.now }
+    // The splits are the rounds with such messages, each once with the number of who is named there and that f + 1, and
+    // no other.
+    ensures splits { IfOk result (λ report. ShowsForks (⟦<S as Audited<D>>⟧.basis committees.now) stream.now report) }
+    // Whoever signed in both certificates is named.
+    ensures accountable { SignersOfBothAreNamed (⟦<S as Audited<D>>⟧.basis committees.now) stream.now }
+    // The evidence is enough: spelled as messages and audited again, it gives itself in the same order.
+    ensures again { IfOk result (λ report. ReadsAgain (⟦<S as Audited<D>>⟧.basis committees.now) report) }
 {
-    audit_stream(alloc, scheme, stream)
+    // What holds of any messages.
+    names_stay::<S, D>();
+    evidence_is_determined::<S, D>();
+    certificates_are_accountable::<S, D>();
+    splits_are_determined::<S, D>();
+    audit_stream(alloc, committees, stream)
 }
 
 /// The report of a stream.
 fn audit_stream<S: Listing<D>, D: Digest>(
     alloc: Global,
-    scheme: &S,
+    committees: &Committees<S>,
     stream: &[u8],
 ) -> Result<Report<S, D>, AllocError>
-    ensures { IfOk result (λ report. IsReport (audited (format_under ⟦<Activity<S, D> as Read>⟧ (length (S.keys scheme.now))))
-        (votes_in S.listed) D.eq (S.good scheme.now) stream.now report.read report.fault (map evidence_value report.evidence.items)) }
+    ensures readable { IsLawful (⟦<S as Audited<D>>⟧.basis committees.now).format }
+    ensures lawful { AreLawful (⟦<S as Audited<D>>⟧.basis committees.now).rules }
+    ensures report { IfOk result (λ report. IsReport (⟦<S as Audited<D>>⟧.basis committees.now) stream.now report) }
+    ensures spelled { IfOk result (λ report. All (⟦<S as Audited<D>>⟧.basis committees.now).format.is_value (as_messages report)) }
 {
-    let bound = scheme.certificate_codec_config();
-    let progress = read_stream(alloc, scheme, bound, stream)?;
-    let evidence = progress.memory.report(alloc)?;
-    Ok(Report {
-        evidence,
-        read: progress.read,
-        fault: progress.fault,
-    })
+    let bound = reading_bound::<S, D>(committees);
+    let mut seen = Seen::new(alloc);
+    let progress = read_messages(alloc, committees, bound, stream, &mut seen)?;
+    let place = stream.len() - progress.rest.len();
+    make_report(
+        alloc,
+        committees,
+        &seen,
+        progress.read,
+        place,
+        progress.stop,
+    )
 }

@@ -1,74 +1,81 @@
 //! The audit and the auditor by its definition, over many small streams.
 
 use crate::model::audit_by_definition;
-use crate::outcome::outcome_of;
+use crate::outcome::{four_and_one, outcome_of};
 use simplex_scheme::marked::{Marked, MarkedDigest};
 use std::alloc::{AllocError, Global};
 use std::test::Fail;
 
-/// How many messages there are: notarizes, and then notarizations.
-const MESSAGES: u32 = 24;
-
-/// The notarizes of two rounds, two signers and two payloads, each with a good and with a bad signature.
-fn notarize(number: u32) -> [u8; 7] {
-    let epoch = (number % 2) as u8;
-    let signer = (number / 2 % 2) as u8;
-    let payload = (number / 4 % 2) as u8;
-    [0, epoch, 10, 5, 6 + payload, signer, signature(number / 8)]
-}
-
-/// The notarizations of one round and two payloads that list two signers, each with a good and with a bad
-/// signature.
-fn notarization(number: u32) -> [u8; 10] {
-    let payload = (number % 2) as u8;
-    let (first, second) = (signature(number / 2), signature(number / 4));
-    [1, 0, 10, 5, 6 + payload, 2, 0, first, 1, second]
-}
-
-/// A signature, which is good where the number is even.
-fn signature(number: u32) -> u8 {
-    if number % 2 == 0 { 0xaa } else { 0 }
-}
+/// Messages of each of the ten kinds, of views 10 and 11 of epoch 0, which has a committee of four, and of view 10 of
+/// epoch 1, which has a committee of one. Some have a bad signature, some a signer outside their committee, and some
+/// certificates are no quorum.
+const MESSAGES: [&[u8]; 24] = [
+    // Notarizes.
+    &[0, 0, 10, 5, 6, 1, 0xaa],
+    &[0, 0, 10, 5, 7, 1, 0xaa],
+    &[0, 0, 10, 5, 7, 1, 0],
+    &[0, 0, 11, 5, 7, 1, 0xaa],
+    &[0, 1, 10, 5, 7, 0, 0xaa],
+    // Notarizations.
+    &[1, 0, 10, 5, 6, 3, 0, 0xaa, 1, 0xaa, 2, 0xaa],
+    &[1, 0, 10, 5, 7, 3, 1, 0xaa, 2, 0xaa, 3, 0xaa],
+    &[1, 0, 10, 5, 7, 3, 1, 0, 2, 0xaa, 3, 0xaa],
+    // Certifications.
+    &[2, 0, 10, 5, 7, 2, 0, 0xaa, 1, 0xaa],
+    &[2, 1, 10, 5, 7, 1, 0, 0xaa],
+    &[2, 1, 10, 5, 6, 2, 0, 0xaa, 3, 0xaa],
+    // Nullifies.
+    &[3, 0, 10, 1, 0xaa],
+    &[3, 1, 10, 0, 0xaa],
+    // Nullifications.
+    &[4, 0, 10, 3, 0, 0xaa, 1, 0xaa, 2, 0xaa],
+    &[4, 1, 10, 1, 0, 0xaa],
+    // Finalizes.
+    &[5, 0, 10, 5, 6, 1, 0xaa],
+    &[5, 0, 10, 5, 7, 1, 0xaa],
+    &[5, 0, 11, 5, 6, 2, 0xaa],
+    // Finalizations.
+    &[6, 0, 10, 5, 6, 3, 1, 0xaa, 2, 0xaa, 3, 0xaa],
+    &[6, 1, 10, 5, 6, 1, 0, 0xaa],
+    // Evidence.
+    &[7, 0, 10, 5, 7, 1, 0xaa, 0, 10, 5, 8, 1, 0xaa],
+    &[8, 0, 10, 5, 6, 2, 0xaa, 0, 10, 5, 7, 2, 0xaa],
+    &[9, 0, 10, 3, 0xaa, 0, 10, 5, 6, 3, 0],
+    &[9, 1, 10, 0, 0xaa, 1, 10, 5, 7, 0, 0xaa],
+];
 
 /// The stream of so many messages that a number tells.
-fn stream_of(alloc: Global, messages: u32, number: u32) -> Result<Vec<u8>, AllocError> {
+fn stream_of(alloc: Global, messages: u32, number: usize) -> Result<Vec<u8>, AllocError> {
     let mut stream = Vec::new(alloc);
     let mut rest = number;
     for _ in 0..messages {
-        let message = rest % MESSAGES;
-        if message < 16 {
-            stream.extend_from_slice(&notarize(message))?;
-        } else {
-            stream.extend_from_slice(&notarization(message))?;
-        }
-        rest /= MESSAGES;
+        stream.extend_from_slice(MESSAGES[rest % 24])?;
+        rest /= 24;
     }
     Ok(stream)
 }
 
-/// What may follow: nothing, messages that are cut off, an unknown tag, a number spelled wrongly, and messages of
-/// tags that an audit does not read.
-const TAILS: [&[u8]; 8] = [
+/// What may follow: nothing, messages that are cut off, an unknown tag, a number spelled wrongly, evidence that
+/// does not contradict.
+const TAILS: [&[u8]; 6] = [
     &[],
     &[0, 0, 10, 5, 6],
     &[1, 0, 10, 5, 6, 2, 0],
     &[255, 0],
     &[0, 128, 0],
-    &[2, 0, 10, 5, 6, 1, 0, 0xaa],
-    &[3, 0, 10, 1, 0xaa],
-    &[7, 0, 10, 5, 6, 1, 0xaa, 0, 10, 5, 7, 1, 0xaa],
+    &[7, 0, 10, 5, 6, 1, 0xaa, 0, 10, 5, 6, 1, 0xaa],
 ];
 
 #[test]
 fn every_small_stream_is_audited_by_the_definition(rt: HostRuntime) -> Result<(), Fail> {
     let alloc = rt.alloc();
-    let scheme = Marked::new(alloc, 4, None)?;
+    let committees = four_and_one(alloc)?;
     for (messages, streams) in [(0, 1), (1, 24), (2, 576), (3, 13824)] {
         for number in 0..streams {
             let mut stream = stream_of(alloc, messages, number)?;
-            stream.extend_from_slice(TAILS[(number / 7 % 8) as usize])?;
-            let found = outcome_of::<Marked, MarkedDigest>(alloc, &scheme, stream.as_slice())?;
-            let wanted = audit_by_definition(alloc, &scheme, 4, stream.as_slice())?;
+            stream.extend_from_slice(TAILS[number / 7 % 6])?;
+            let found = outcome_of::<Marked, MarkedDigest>(alloc, &committees, stream.as_slice())?;
+            let wanted = audit_by_definition(alloc, &committees, stream.as_slice())?;
             assert_eq!(rt; found, wanted, "of {stream:?}");
         }
     }

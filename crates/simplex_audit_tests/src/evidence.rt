@@ -1,8 +1,8 @@
 //! The lines that tell of two votes of one signer that contradict.
 
-use crate::outcome::{bytes, outcome_of};
+use crate::outcome::{bytes, marked, outcome_of};
 use example::named;
-use simplex_audit::audit::audit;
+use simplex_audit::audit::{Committees, audit};
 use simplex_base::codec::{Encode, Fixed};
 use simplex_base::positions::{Epoch, Participant, Round, View};
 use simplex_evidence::types::Activity;
@@ -20,9 +20,9 @@ use std::test::Fail;
 #[test]
 fn evidence_tells_its_round_and_signer(rt: HostRuntime) -> Result<(), Fail> {
     let alloc = rt.alloc();
-    let scheme = Marked::new(alloc, 4, None)?;
+    let committees = marked(alloc, 4)?;
     let stream = bytes(alloc, "00cd020a0506 01aa 00cd020a0507 01aa")?;
-    let report = audit::<Marked, MarkedDigest>(alloc, &scheme, stream.as_slice())?;
+    let report = audit::<Marked, MarkedDigest>(alloc, &committees, stream.as_slice())?;
     let found = report.evidence.first().ok_or("no evidence")?;
     assert_eq!(rt; found.round(), Round::new(Epoch::new(333), View::new(10)));
     assert_eq!(rt; found.signer(), Participant::new(1));
@@ -77,7 +77,8 @@ fn a_plain_signer_of_two_proposals_is_named(rt: HostRuntime) -> Result<(), Fail>
         equivocation(alloc, &scheme, voted_in, payloads)?.as_slice(),
         stream.as_slice()
     );
-    let found = outcome_of::<Plain, Sha256Digest>(alloc, &scheme, stream.as_slice())?;
+    let committees = Committees::every(scheme);
+    let found = outcome_of::<Plain, Sha256Digest>(alloc, &committees, stream.as_slice())?;
     assert_eq!(rt; (found.read, found.fault), (2, None));
     assert_eq!(rt;
         found.text.as_str(),

@@ -1,7 +1,7 @@
 //! A large stream.
 
 use crate::evidence::equivocation;
-use crate::outcome::{Outcome, UNKNOWN_TAG, outcome_of};
+use crate::outcome::{Outcome, UNKNOWN_TAG, marked, outcome_of};
 use simplex_audit::audit::Fault;
 use simplex_base::codec::Fixed;
 use simplex_base::positions::{Epoch, Participant, Round, View};
@@ -50,8 +50,8 @@ fn each_contradiction_of_a_large_stream_is_found(rt: HostRuntime) -> Result<(), 
     let alloc = rt.alloc();
     let (stream, outcome) = stream_and_outcome(alloc)?;
     assert_eq!(rt; stream.len(), 100_001);
-    let scheme = Marked::new(alloc, 4, None)?;
-    let found = outcome_of::<Marked, MarkedDigest>(alloc, &scheme, stream.as_slice())?;
+    let committees = marked(alloc, 4)?;
+    let found = outcome_of::<Marked, MarkedDigest>(alloc, &committees, stream.as_slice())?;
     assert_eq!(rt; (found.read, found.fault), (outcome.read, outcome.fault));
     assert_eq!(rt; found.text.lines().count(), 2000);
     assert!(rt; found.text == outcome.text, "the two thousand lines");

@@ -12,4 +12,10 @@ mod model;
 #[cfg(test)]
 mod outcome;
 #[cfg(test)]
+mod pieces;
+#[cfg(test)]
+mod rows;
+#[cfg(test)]
+mod runs;
+#[cfg(test)]
 mod streams;

@@ -1,12 +1,16 @@
 //! What an audit answers, in a form that tests compare.
 
-use simplex_audit::audit::{Fault, audit};
+ghost use Rattle.std.specs.Prelude.{◌≤◌};
+
+use simplex_audit::audit::{Committees, Fault, Report, audit};
 use simplex_base::codec::error::Error;
-use simplex_scheme::scheme::{Digest, Listing};
+use simplex_base::positions::Epoch;
+use simplex_scheme::marked::Marked;
+use simplex_scheme::scheme::{Digest, Listing, SchemeTypes};
 use std::alloc::Global;
 use std::test::Fail;
 
-/// What an audit answers of a tag that it does not read.
+/// What an audit answers of a tag that no message has.
 pub(crate) const UNKNOWN_TAG: Error = Error::Invalid(
     "consensus::simplex::Activity",
     "Invalid type",
@@ -15,7 +19,7 @@ pub(crate) const UNKNOWN_TAG: Error = Error::Invalid(
 /// What an audit answers.
 #[derive(Debug, PartialEq, Eq, Drop)]
 pub struct Outcome {
-    /// The lines of the evidence, each with its end.
+    /// The lines of the evidence, and then those of the splits, each with its end.
     pub text: String,
     /// The number of messages read.
     pub read: usize,
@@ -23,16 +27,41 @@ pub struct Outcome {
     pub fault: Option<Fault>,
 }
 
+/// One marked committee of so many participants for every epoch.
+pub(crate) fn marked(alloc: Global, participants: u32) -> Result<Committees<Marked>, Fail>
+    requires { 1 ≤ participants }
+{
+    Ok(Committees::every(Marked::new(alloc, participants, None)?))
+}
+
+/// A marked committee of four for epoch 0, and one of one for epoch 1.
+pub(crate) fn four_and_one(alloc: Global) -> Result<Committees<Marked>, Fail> {
+    let four = (Epoch::new(0), Marked::new(alloc, 4, None)?);
+    let one = (Epoch::new(1), Marked::new(alloc, 1, None)?);
+    Ok(Committees::try_from_vec(Vec::from_array(alloc, [four, one])?)?)
+}
+
 /// What the audit of a stream answers.
 pub(crate) fn outcome_of<S: Listing<D>, D: Digest>(
     alloc: Global,
-    scheme: &S,
+    committees: &Committees<S>,
     stream: &[u8],
 ) -> Result<Outcome, Fail> {
-    let report = audit(alloc, scheme, stream)?;
+    told(alloc, &audit(alloc, committees, stream)?)
+}
+
+/// What a report says.
+pub(crate) fn told<S: SchemeTypes, D: Digest>(
+    alloc: Global,
+    report: &Report<S, D>,
+) -> Result<Outcome, Fail> {
     let mut text = String::new(alloc);
     for evidence in &report.evidence {
         text.push_str(evidence.line(alloc)?.as_str())?;
+        text.push('\n')?;
+    }
+    for split in &report.splits {
+        text.push_str(split.line(alloc)?.as_str())?;
         text.push('\n')?;
     }
     Ok(Outcome {

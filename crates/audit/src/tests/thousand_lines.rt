@@ -4,6 +4,7 @@ use crate::command::command;
 use crate::status::Status;
 use crate::tests::{ZEROS, owned};
 use devices::{Source, Target, Trouble};
+use simplex_audit::audit::Watched;
 use simplex_base::codec::{Encode, Fixed};
 use simplex_base::positions::{Epoch, Round, View};
 use simplex_evidence::types::Activity;
@@ -70,8 +71,9 @@ fn ample_thousand_lines(rt: HostRuntime) -> Result<(), Fail> {
     assert!(rt; stream.len() > 2 * 65536, "the stream takes three reads");
     let said = format!(in alloc; "audit: fault at byte {}\n", stream.len() - 1)?;
     let arguments = owned(alloc, &["test", ZEROS])?;
-    let mut input = Source::new(stream.as_slice(), usize::MAX, Trouble::Never);
-    let mut output = Vec::new(alloc);
+    let source = Source::new(stream.as_slice(), usize::MAX, Trouble::Never);
+    let mut input = Watched::new(source);
+    let mut output = Watched::new(Vec::new(alloc));
     let mut errors = Target::steady();
     let status = command(
         alloc,
@@ -80,6 +82,7 @@ fn ample_thousand_lines(rt: HostRuntime) -> Result<(), Fail> {
         &mut output,
         &mut errors,
     );
+    let (input, output) = (input.into_inner(), output.into_inner());
     assert_eq!(rt; status, Status::Fault);
     assert!(rt; input.left().is_empty());
     assert_eq!(rt; errors.held(), said.as_bytes());

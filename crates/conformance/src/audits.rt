@@ -1,0 +1,100 @@
+//! Audits of streams, whole and in pieces.
+
+use crate::refusals::name;
+use crate::rows::{Unanswered, bytes, committee, epoch};
+use simplex_audit::audit::{Auditor, Committees, Report, audit};
+use simplex_base::positions::Epoch;
+use simplex_scheme::marked::{Marked, MarkedDigest};
+use std::alloc::{AllocError, Global};
+
+/// The marked committee of so many participants for every epoch, or `EPOCH:NUMBER`s parted by commas, of which each is the
+/// committee of an epoch. The epochs have to rise strictly.
+pub fn committees(alloc: Global, word: &str) -> Result<Committees<Marked>, Unanswered> {
+    if !word.contains(':') {
+        return Ok(Committees::every(committee(alloc, word)?));
+    }
+    let mut pairs = Vec::new(alloc);
+    for part in word.split(',') {
+        pairs.push(pair(alloc, part)?).map_err(AllocError::from)?;
+    }
+    Committees::try_from_vec(pairs).map_err(|_| Unanswered::NoRow)
+}
+
+/// An epoch and its marked committee.
+fn pair(alloc: Global, word: &str) -> Result<(Epoch, Marked), Unanswered> {
+    match word.split_once(':') {
+        Some((at, participants)) => Ok((epoch(at)?, committee(alloc, participants)?)),
+        None => Err(Unanswered::NoRow),
+    }
+}
+
+/// The answer to an audit of a stream.
+pub fn audit_row(
+    alloc: Global,
+    committees: &Committees<Marked>,
+    stream: &[u8],
+) -> Result<String, Unanswered> {
+    let report = audit::<Marked, MarkedDigest>(alloc, committees, stream)?;
+    Ok(told(alloc, &report)?)
+}
+
+/// The answer to an audit of a stream in pieces: how it stands after each, and then what the audit finds.
+pub fn feed_row(
+    alloc: Global,
+    committees: &Committees<Marked>,
+    pieces: &[&str],
+) -> Result<String, Unanswered> {
+    let mut auditor = Auditor::<Marked, MarkedDigest>::new(alloc, committees);
+    let mut text = String::new(alloc);
+    for piece in pieces {
+        auditor = fed_on(auditor, bytes(alloc, &[*piece])?.as_slice())?;
+        text.push_str(standing(alloc, &auditor)?.as_str())?;
+        text.push_str(" | ")?;
+    }
+    text.push_str(told(alloc, &auditor.report()?)?.as_str())?;
+    Ok(text)
+}
+
+/// Feeds a piece. A stream that is longer than can be counted is no row.
+fn fed_on<'a>(
+    auditor: Auditor<'a, Marked, MarkedDigest>,
+    piece: &[u8],
+) -> Result<Auditor<'a, Marked, MarkedDigest>, Unanswered> {
+    if piece.len() > usize::MAX - auditor.fed() {
+        return Err(Unanswered::NoRow);
+    }
+    Ok(auditor.feed(piece)?)
+}
+
+/// How an auditor stands: how many bytes it was fed, how many are left after the last whole message, and how many votes it
+/// keeps.
+fn standing(
+    alloc: Global,
+    auditor: &Auditor<'_, Marked, MarkedDigest>,
+) -> Result<String, AllocError> {
+    let (fed, rest, votes) = (auditor.fed(), auditor.rest().len(), auditor.votes());
+    format!(in alloc; "fed {fed}, rest {rest}, votes {votes}")
+}
+
+/// What a report says: how many messages were read, the lines of the evidence and of the splits, and the fault.
+fn told(alloc: Global, report: &Report<Marked, MarkedDigest>) -> Result<String, AllocError> {
+    let mut text = format!(in alloc; "read {}", report.read)?;
+    for evidence in &report.evidence {
+        push_part(&mut text, evidence.line(alloc)?.as_str())?;
+    }
+    for split in &report.splits {
+        push_part(&mut text, split.line(alloc)?.as_str())?;
+    }
+    if let Some(fault) = report.fault {
+        let error = name(alloc, fault.error)?;
+        let said = format!(in alloc; "fault at {}: {error}", fault.place)?;
+        push_part(&mut text, said.as_str())?;
+    }
+    Ok(text)
+}
+
+/// Appends a part of an answer.
+fn push_part(text: &mut String, part: &str) -> Result<(), AllocError> {
+    text.push_str("; ")?;
+    text.push_str(part)
+}

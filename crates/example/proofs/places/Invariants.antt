@@ -1,0 +1,8 @@
+use Rattle.std.proofs.Common.{◌≡◌, take}
+use Rattle.std.specs.Prelude.{map}
+use Rattle.example.specs.Named.{place_of}
+use Rattle.example.proofs.places.Given as goal
+
+-- those so far
+abbrev pub invariant-loop-one : goal.invariant-loop-one
+invariant-loop-one l = l.places.items ≡ map place_of (take l.one-index l.evidence)

@@ -1,0 +1,20 @@
+use Rattle.std.proofs.Common.{ℕ, List, subst}
+use Rattle.simplex_evidence.specs.declared.types.activity.Activity.{Activity}
+use Rattle.simplex_kept.specs.Committees.{Schedule}
+use Rattle.simplex_kept.specs.Seen.{Recalls}
+use Rattle.simplex_audit.specs.Auditor.{Stands}
+use Rattle.simplex_audit.specs.Basis.{Basis}
+use Rattle.simplex_audit.specs.Messages.{AreMessages}
+use Rattle.simplex_audit.specs.declared.auditor.Auditor.{Auditor}
+use Rattle.simplex_audit.proofs.StreamLemmas.{messages_once}
+use Rattle.simplex_audit.proofs.auditor.Auditor.votes.Goals as goal
+
+-- what is kept is told of the messages of each stream that the auditor stands for
+stands_recalls : {S D C P G : Type 0} (basis : Schedule S → Basis S D C P G) (committees : Schedule S) (auditor : Auditor S D P G) (stream rest : List ℕ) (messages : List (Activity S D C P G)) → Stands basis committees auditor stream → AreMessages (basis committees).format stream messages rest → Recalls (basis committees).rules messages auditor.seen
+stands_recalls basis committees auditor stream rest messages stands are =
+    subst (λ ms. Recalls (basis committees).rules ms auditor.seen)
+    (messages_once (basis committees).format stands.fed.readable stream auditor.taken.rest.items rest stands.progress.messages messages stands.progress.are_messages are).0
+    stands.progress.kept
+
+pub returns : goal.returns
+returns g c = λ committees stream messages rest stands are. c.votes.ensures committees messages (stands_recalls _ committees c.args.self.now stream rest messages stands are)

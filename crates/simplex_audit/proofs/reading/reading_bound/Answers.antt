@@ -1,0 +1,5 @@
+use Rattle.simplex_evidence.specs.Activity.{activity_lawful}
+use Rattle.simplex_audit.proofs.reading.reading_bound.Goals as goal
+
+pub returns-clause-readable : goal.returns-clause-readable
+returns-clause-readable g c = activity_lawful g.D.PartialEq.eq _ _ _ g.met.D.Fixed.lawful (g.met.S.Certificate.Read.lawful _) g.met.S.Signature.Fixed.lawful

@@ -1,0 +1,266 @@
+//! The audit of a stream that comes in pieces.
+
+ghost use Rattle.std.specs.Prelude.{◌≡◌, ◌+◌, ◌<◌, ◌≤◌, ◌^◌, ◌-◌, min, vec_len, ℕ, List, [], ◌++◌, length, drop, IfOk};
+ghost use Rattle.simplex_audit.specs.Messages.{AreMessages};
+ghost use Rattle.simplex_audit.specs.Report.{IsReport};
+ghost use Rattle.simplex_evidence.specs.declared.types.activity.Activity.{Activity};
+ghost use Rattle.simplex_kept.specs.Committees.{Schedule};
+ghost use Rattle.simplex_kept.specs.KeptVotes.{votes_kept};
+ghost use Rattle.simplex_kept.specs.Rules.{good_votes};
+
+use crate::audit::Report;
+use crate::basis::Audited;
+use crate::reading::{read_messages, reading_bound};
+use crate::reporting::make_report;
+use simplex_base::codec::error::Error;
+use simplex_kept::committees::Committees;
+use simplex_kept::seen::Seen;
+use simplex_scheme::scheme::{Digest, Listing, SchemeTypes};
+use std::alloc::{AllocError, Global};
+
+/// Audits a stream that comes in pieces. It keeps the bytes after the last whole message, of each signer in a round at
+/// most the votes that its evidence is made of, and of each round the first certified subject of each sort, but not the
+/// stream.
+#[derive(Drop)]
+pub struct Auditor<'a, S: SchemeTypes, D: Digest> {
+    committees: &'a Committees<S>,
+    bound: u32,
+    seen: Seen<S, D>,
+    taken: Taken,
+}
+
+/// What was taken of a stream.
+#[derive(Drop)]
+struct Taken {
+    /// The bytes after its last whole message.
+    rest: Vec<u8>,
+    /// How many of them were there when messages were last looked for.
+    tried: usize,
+    /// The number of its bytes.
+    fed: usize,
+    /// The number of its messages.
+    read: usize,
+    /// What reading a message in front of the rest answers, if anything is left.
+    stop: Option<Error>,
+    ghost room: { read + vec_len rest ≤ fed },
+}
+
+impl<'a, S: Listing<D>, D: Digest> Auditor<'a, S, D> {
+    ghost use Rattle.simplex_audit.specs.Auditor.{Stands, Holds, fed_of};
+
+    /// The auditor of these committees that was fed nothing.
+    pub fn new(alloc: Global, committees: &'a Committees<S>) -> Self
+        ensures fed { fed_of result ≡ 0 }
+        ensures stands { Stands ⟦<S as Audited<D>>⟧.basis committees.now result [] }
+    {
+        Auditor {
+            committees,
+            bound: reading_bound::<S, D>(committees),
+            seen: Seen::new(alloc),
+            taken: Taken {
+                rest: Vec::new(alloc),
+                tried: 0,
+                fed: 0,
+                read: 0,
+                stop: None,
+            },
+        }
+    }
+
+    /// The auditor of the stream with this piece behind it. Where memory is refused there is none.
+    pub fn feed(self, piece: &[u8]) -> Result<Self, AllocError>
+        requires { fed_of self + length piece.now < 2 ^ 64 }
+        ensures fed { IfOk result (λ next. fed_of next ≡ fed_of self.entry + length piece.now) }
+        ensures stands { IfOk result (λ next. (committees : Schedule S) (stream : List ℕ) →
+            Stands ⟦<S as Audited<D>>⟧.basis committees self.entry stream → Stands ⟦<S as Audited<D>>⟧.basis committees next (stream ++ piece.now)) }
+    {
+        if self.taken.rest.is_empty() {
+            return self.read_piece(piece);
+        }
+        self.hold(piece)?.read_rest()
+    }
+
+    /// The same, but that it may put off looking for messages until it holds twice as many bytes as when it last did. So the
+    /// bytes of a long message that comes in short pieces are looked at a bounded number of times.
+    pub(crate) fn take(self, piece: &[u8]) -> Result<Self, AllocError>
+        requires { fed_of self + length piece.now < 2 ^ 64 }
+        ensures fed { IfOk result (λ next. fed_of next ≡ fed_of self.entry + length piece.now) }
+        ensures holds { IfOk result (λ next. (committees : Schedule S) (stream : List ℕ) →
+            Holds ⟦<S as Audited<D>>⟧.basis committees self.entry stream → Holds ⟦<S as Audited<D>>⟧.basis committees next (stream ++ piece.now)) }
+    {
+        if self.taken.rest.is_empty() {
+            return self.read_piece(piece);
+        }
+        let next = self.hold(piece)?;
+        if next.taken.rest.len() / 2 < next.taken.tried {
+            return Ok(next);
+        }
+        next.read_rest()
+    }
+
+    /// Looks for messages where they stand in the piece, and keeps a copy of the bytes after the last.
+    fn read_piece(self, piece: &[u8]) -> Result<Self, AllocError>
+        requires empty { self.taken.rest.items ≡ [] }
+        requires fits { fed_of self + length piece.now < 2 ^ 64 }
+        ensures fed { IfOk result (λ next. fed_of next ≡ fed_of self.entry + length piece.now) }
+        ensures stands { IfOk result (λ next. (committees : Schedule S) (stream : List ℕ) →
+            Holds ⟦<S as Audited<D>>⟧.basis committees self.entry stream → Stands ⟦<S as Audited<D>>⟧.basis committees next (stream ++ piece.now)) }
+    {
+        let Auditor {
+            committees,
+            bound,
+            mut seen,
+            taken,
+        } = self;
+        let Taken {
+            mut rest,
+            tried: _,
+            fed,
+            read,
+            stop: _,
+        } = taken;
+        let alloc = *rest.allocator();
+        let progress = read_messages(alloc, committees, bound, piece, &mut seen)?;
+        rest.extend_from_slice(progress.rest)?;
+        Ok(Auditor {
+            committees,
+            bound,
+            seen,
+            taken: Taken {
+                tried: rest.len(),
+                rest,
+                fed: fed + piece.len(),
+                read: read + progress.read,
+                stop: progress.stop,
+            },
+        })
+    }
+
+    /// Holds the piece behind the rest, and looks for no messages.
+    fn hold(self, piece: &[u8]) -> Result<Self, AllocError>
+        requires { fed_of self + length piece.now < 2 ^ 64 }
+        ensures fed { IfOk result (λ next. fed_of next ≡ fed_of self.entry + length piece.now) }
+        ensures holds { IfOk result (λ next. (committees : Schedule S) (stream : List ℕ) →
+            Holds ⟦<S as Audited<D>>⟧.basis committees self.entry stream → Holds ⟦<S as Audited<D>>⟧.basis committees next (stream ++ piece.now)) }
+    {
+        let Auditor {
+            committees,
+            bound,
+            seen,
+            taken,
+        } = self;
+        let Taken {
+            mut rest,
+            tried,
+            fed,
+            read,
+            stop,
+        } = taken;
+        rest.extend_from_slice(piece)?;
+        Ok(Auditor {
+            committees,
+            bound,
+            seen,
+            taken: Taken {
+                rest,
+                tried,
+                fed: fed + piece.len(),
+                read,
+                stop,
+            },
+        })
+    }
+
+    /// Looks for messages in the bytes that it holds, and drops them.
+    pub(crate) fn read_rest(self) -> Result<Self, AllocError>
+        ensures fed { IfOk result (λ next. fed_of next ≡ fed_of self.entry) }
+        ensures stands { IfOk result (λ next. (committees : Schedule S) (stream : List ℕ) →
+            Holds ⟦<S as Audited<D>>⟧.basis committees self.entry stream → Stands ⟦<S as Audited<D>>⟧.basis committees next stream) }
+    {
+        let Auditor {
+            committees,
+            bound,
+            mut seen,
+            taken,
+        } = self;
+        let Taken {
+            mut rest,
+            tried: _,
+            fed,
+            read,
+            stop: _,
+        } = taken;
+        let alloc = *rest.allocator();
+        let progress = read_messages(alloc, committees, bound, rest.as_slice(), &mut seen)?;
+        let (more, stop) = (progress.read, progress.stop);
+        let count = rest.len() - progress.rest.len();
+        drop_front(&mut rest, count);
+        Ok(Auditor {
+            committees,
+            bound,
+            seen,
+            taken: Taken {
+                tried: rest.len(),
+                rest,
+                fed,
+                read: read + more,
+                stop,
+            },
+        })
+    }
+
+    /// What the audit of the stream finds.
+    pub fn report(&self) -> Result<Report<S, D>, AllocError>
+        ensures { IfOk result (λ report. (committees : Schedule S) (stream : List ℕ) →
+            Stands ⟦<S as Audited<D>>⟧.basis committees self.now stream → IsReport (⟦<S as Audited<D>>⟧.basis committees) stream report) }
+    {
+        let alloc = *self.taken.rest.allocator();
+        let rest = self.taken.rest.as_slice();
+        let place = self.taken.fed - rest.len();
+        make_report(
+            alloc,
+            self.committees,
+            &self.seen,
+            self.taken.read,
+            place,
+            self.taken.stop,
+        )
+    }
+
+    /// How many bytes it was fed.
+    pub fn fed(&self) -> usize
+        ensures fed { result ≡ fed_of self.now }
+        ensures stream { (committees : Schedule S) (stream : List ℕ) →
+            Stands ⟦<S as Audited<D>>⟧.basis committees self.now stream → result ≡ length stream }
+    {
+        self.taken.fed
+    }
+
+    /// The bytes after the last whole message.
+    pub fn rest(&self) -> &[u8]
+        ensures { (committees : Schedule S) (stream : List ℕ) (messages : List (Activity S D S.Certificate S.PublicKey S.Signature)) (rest : List ℕ) →
+            Stands ⟦<S as Audited<D>>⟧.basis committees self.now stream →
+            AreMessages (⟦<S as Audited<D>>⟧.basis committees).format stream messages rest → result.now ≡ rest }
+    {
+        self.taken.rest.as_slice()
+    }
+
+    /// How many votes are kept, of the good ones in the stream's messages: of each signer in a round the earliest of each
+    /// sort, and of notarizes and finalizes also the earliest with another proposal. The number stops at 2^64 - 1.
+    pub fn votes(&self) -> usize
+        ensures { (committees : Schedule S) (stream : List ℕ) (messages : List (Activity S D S.Certificate S.PublicKey S.Signature)) (rest : List ℕ) →
+            Stands ⟦<S as Audited<D>>⟧.basis committees self.now stream →
+            AreMessages (⟦<S as Audited<D>>⟧.basis committees).format stream messages rest →
+            result ≡ min (votes_kept D.eq (good_votes (⟦<S as Audited<D>>⟧.basis committees).rules messages)) (2 ^ 64 - 1) }
+    {
+        self.seen.votes()
+    }
+}
+
+/// Drops so many bytes in front.
+fn drop_front(bytes: &mut Vec<u8>, count: usize)
+    requires { count ≤ vec_len bytes.old }
+    ensures { bytes.new.items ≡ drop count bytes.old.items }
+{
+    bytes.drain(..count);
+}

@@ -1,0 +1,19 @@
+//! What an audit goes by, for contracts alone.
+
+ghost use Rattle.simplex_audit.specs.Basis.{Basis, basis_of};
+ghost use Rattle.simplex_kept.specs.Committees.{Schedule};
+
+use simplex_base::codec::Read;
+use simplex_evidence::types::Activity;
+use simplex_scheme::scheme::{Digest, Listing};
+
+/// A scheme whose committees judge the messages of streams. Every scheme that lists attestations is one; there is
+/// nothing to implement or to call.
+pub trait Audited<D: Digest>: Listing<D> {
+    /// How messages are read under committees, and what they are judged by.
+    ghost basis: { Schedule Self → Basis Self D Self.Certificate Self.PublicKey Self.Signature };
+}
+
+impl<S: Listing<D>, D: Digest> Audited<D> for S {
+    ghost basis = { basis_of ⟦<Activity<S, D> as Read>⟧ D.eq S.keys S.good S.certified S.listed };
+}

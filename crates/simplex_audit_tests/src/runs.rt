@@ -1,0 +1,179 @@
+//! Runs over readers and writers that do and do not fail.
+
+use crate::outcome::marked;
+use crate::rows::{Row, rows};
+use devices::{Source, Target, Trouble};
+use simplex_audit::audit::{RunError, Watched, run};
+use simplex_scheme::marked::{Marked, MarkedDigest};
+use std::alloc::Global;
+use std::io::ErrorKind;
+use std::process::Abort;
+use std::test::Fail;
+
+/// Two notarizes of participant 1 that contradict.
+const CONFLICT: &[u8] = b"\x00\x00\x0a\x05\x06\x01\xaa\x00\x00\x0a\x05\x07\x01\xaa";
+
+const LINE: &str = "0 10 1 conflicting-notarize 5 06 5 07\n";
+
+/// One run, what it answers and what the writer then holds.
+#[derive(Clone, Copy)]
+struct Case {
+    stream: &'static [u8],
+    /// How many bytes a call gives, and takes.
+    steps: (usize, usize),
+    reading: Trouble,
+    writing: Trouble,
+    flushing: Trouble,
+    /// How many bytes the writer takes in all.
+    room: usize,
+    error: Option<RunError>,
+    held: &'static str,
+}
+
+/// A run in which no device fails.
+const STEADY: Case = Case {
+    stream: CONFLICT,
+    steps: (usize::MAX, usize::MAX),
+    reading: Trouble::Never,
+    writing: Trouble::Never,
+    flushing: Trouble::Never,
+    room: usize::MAX,
+    error: None,
+    held: LINE,
+};
+
+/// Makes a run, and compares.
+fn ends(rt: &impl Abort, alloc: Global, case: Case) -> Result<(), Fail> {
+    let committees = marked(alloc, 4)?;
+    let source = Source::new(case.stream, case.steps.0.max(1), case.reading);
+    let target = Target::new(case.steps.1, case.room, case.writing, case.flushing);
+    let (mut reader, mut writer) = (Watched::new(source), Watched::new(target));
+    assert!(rt; !reader.failed() && !writer.failed());
+    let answer = run::<Marked, MarkedDigest, Source, Target>(
+        alloc,
+        &committees,
+        &mut reader,
+        &mut writer,
+    );
+    assert_eq!(rt; reader.failed(), case.error == Some(RunError::Read));
+    assert_eq!(rt; writer.failed(), case.error == Some(RunError::Write));
+    assert_eq!(rt; answer.err(), case.error);
+    let target = writer.into_inner();
+    assert_eq!(rt; target.held(), case.held.as_bytes());
+    if case.error == Some(RunError::Read) {
+        assert_eq!(rt; target.calls(), (0, 0));
+    }
+    Ok(())
+}
+
+#[test]
+fn devices_that_do_not_fail(rt: HostRuntime) -> Result<(), Fail> {
+    for steps in [
+        (usize::MAX, usize::MAX),
+        (usize::MAX, 1),
+        (1, usize::MAX),
+        (3, 7),
+    ] {
+        ends(&rt, rt.alloc(), Case { steps, ..STEADY })?;
+    }
+    Ok(())
+}
+
+#[test]
+fn readers_that_fail(rt: HostRuntime) -> Result<(), Fail> {
+    let troubles = [
+        Trouble::Once(2, ErrorKind::Interrupted),
+        Trouble::Once(2, ErrorKind::Other),
+        Trouble::Since(2, ErrorKind::Other),
+        Trouble::Once(0, ErrorKind::OutOfMemory),
+    ];
+    for reading in troubles {
+        let case = Case {
+            steps: (1, 1),
+            reading,
+            error: Some(RunError::Read),
+            held: "",
+            ..STEADY
+        };
+        ends(&rt, rt.alloc(), case)?;
+    }
+    Ok(())
+}
+
+#[test]
+fn writers_that_fail(rt: HostRuntime) -> Result<(), Fail> {
+    let failing = Case {
+        error: Some(RunError::Write),
+        ..STEADY
+    };
+    let cases: [Case; 6] = [
+        Case {
+            room: 10,
+            held: "0 10 1 con",
+            ..failing
+        },
+        Case {
+            room: 0,
+            held: "",
+            ..failing
+        },
+        Case {
+            steps: (1, 4),
+            writing: Trouble::Once(2, ErrorKind::Interrupted),
+            held: "0 10 1 c",
+            ..failing
+        },
+        Case {
+            writing: Trouble::Once(0, ErrorKind::OutOfMemory),
+            held: "",
+            ..failing
+        },
+        Case {
+            flushing: Trouble::Once(0, ErrorKind::Other),
+            ..failing
+        },
+        Case {
+            stream: b"",
+            flushing: Trouble::Once(0, ErrorKind::Other),
+            held: "",
+            ..failing
+        },
+    ];
+    for case in cases {
+        ends(&rt, rt.alloc(), case)?;
+    }
+    Ok(())
+}
+
+/// Runs over the stream of a row, and compares.
+fn is_written(rt: &impl Abort, alloc: Global, row: &Row) -> Result<(), Fail> {
+    let source = Source::new(row.stream.as_slice(), 5, Trouble::Never);
+    let (mut reader, mut writer) = (Watched::new(source), Watched::new(Target::steady()));
+    let summary = run::<Marked, MarkedDigest, Source, Target>(
+        alloc,
+        &row.committees,
+        &mut reader,
+        &mut writer,
+    )?;
+    let text = row.wanted.text.as_str();
+    let splits = text.lines().filter(|line| line.contains("split")).count();
+    let evidence = text.lines().count().saturating_sub(splits);
+    assert_eq!(rt; summary.read, row.wanted.read, "of {}", row.name);
+    assert_eq!(rt; summary.evidence, evidence, "of {}", row.name);
+    assert_eq!(rt; summary.splits, splits, "of {}", row.name);
+    assert_eq!(rt; summary.fault, row.wanted.fault, "of {}", row.name);
+    assert!(rt; writer.flushed());
+    let target = writer.into_inner();
+    let same = target.held() == text.as_bytes();
+    assert!(rt; same, "of {}", row.name);
+    Ok(())
+}
+
+#[test]
+fn each_row_is_written(rt: HostRuntime) -> Result<(), Fail> {
+    let alloc = rt.alloc();
+    for row in &rows(alloc)? {
+        is_written(&rt, alloc, row)?;
+    }
+    Ok(())
+}
