@@ -1,0 +1,4 @@
+pub mod Batch
+pub mod Following
+pub mod Judged
+pub mod Holding

@@ -1,0 +1,28 @@
+//! Keeps the certificates that certify.
+
+ghost use Rattle.std.specs.Prelude.{◌≡◌, IfOk, map};
+ghost use Rattle.std.specs.List.{filter};
+ghost use Rattle.simplex_scheme.specs.Subject.{subject_value};
+
+use simplex_evidence::types::verify_certificates;
+use simplex_scheme::scheme::{CertificateVerifier, Digest};
+use simplex_scheme::subject::Subject;
+use std::alloc::{AllocError, Global};
+
+/// The items whose certificate certifies their subject, in the order given.
+pub fn resolve<'a, 'b, S: CertificateVerifier<D>, D: Digest>(
+    alloc: Global,
+    scheme: &S,
+    items: &'b [(Subject<'a, D>, &'a S::Certificate)],
+) -> Result<Vec<&'b (Subject<'a, D>, &'a S::Certificate)>, AllocError>
+    ensures { IfOk result (λ kept. map (λ item. item.now) kept.items ≡ filter (λ item. S.certified scheme.now (subject_value item.0) item.1.now) items.now) }
+{
+    let answers = verify_certificates(alloc, scheme, items)?;
+    let mut kept = Vec::new(alloc);
+    for place in 0..items.len() {
+        if answers[place] {
+            kept.push(&items[place])?;
+        }
+    }
+    Ok(kept)
+}
