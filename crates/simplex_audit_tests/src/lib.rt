@@ -8,6 +8,8 @@ mod evidence;
 #[cfg(test)]
 mod large;
 #[cfg(test)]
+mod long;
+#[cfg(test)]
 mod model;
 #[cfg(test)]
 mod outcome;

@@ -1,0 +1,56 @@
+//! A long message that comes in short reads.
+
+use crate::outcome::marked;
+use devices::{Source, Target, Trouble};
+use simplex_audit::audit::{Watched, run};
+use simplex_scheme::marked::{Marked, MarkedDigest};
+use std::alloc::Global;
+use std::test::Fail;
+
+/// The first signer whose number is spelled in four bytes.
+const FIRST: u32 = 2_097_152;
+
+/// How many attestations the message lists.
+const ATTESTATIONS: u32 = 3_200_000;
+
+/// The four bytes that spell a number from 2^21 to 2^28 - 1.
+fn spelled(number: u32) -> [u8; 4] {
+    [
+        (number % 128 + 128) as u8,
+        (number / 128 % 128 + 128) as u8,
+        (number / 16_384 % 128 + 128) as u8,
+        (number / 2_097_152 % 128) as u8,
+    ]
+}
+
+/// A nullification of 16 megabytes.
+fn nullification(alloc: Global) -> Result<Vec<u8>, Fail> {
+    let mut bytes = Vec::new(alloc);
+    bytes.extend_from_slice(b"\x04\x00\x0a")?;
+    bytes.extend_from_slice(&spelled(ATTESTATIONS))?;
+    for signer in FIRST..FIRST + ATTESTATIONS {
+        bytes.extend_from_slice(&spelled(signer))?;
+        bytes.push(0xaa)?;
+    }
+    Ok(bytes)
+}
+
+#[test]
+fn a_long_message_in_short_reads_is_read(rt: HostRuntime) -> Result<(), Fail> {
+    let alloc = rt.alloc();
+    let committees = marked(alloc, FIRST + ATTESTATIONS)?;
+    let stream = nullification(alloc)?;
+    assert_eq!(rt; stream.len(), 16_000_007);
+    let source = Source::new(stream.as_slice(), 1000, Trouble::Never);
+    let (mut reader, mut writer) = (Watched::new(source), Watched::new(Target::steady()));
+    let summary = run::<Marked, MarkedDigest, Source, Target>(
+        alloc,
+        &committees,
+        &mut reader,
+        &mut writer,
+    )?;
+    assert_eq!(rt; summary.read, 1);
+    assert_eq!(rt; summary.evidence, 0);
+    assert_eq!(rt; summary.fault, None);
+    Ok(())
+}
