@@ -4,14 +4,14 @@ ghost use Rattle.std.specs.Prelude.{◌≡◌, ◌<◌, ◌↔◌, Some, IfOk, I
 ghost use Rattle.std.specs.Io.{ReadsAtMost};
 ghost use Rattle.std.specs.Io.KnownBytes.{ReadConsumes};
 ghost use Rattle.devices.specs.Devices.{Reader, one_more};
-ghost use Rattle.devices.specs.Trouble.{error_at};
+ghost use Rattle.devices.specs.Trouble.{error_at, step_at};
 
 use crate::trouble::Trouble;
 use std::io;
 use std::io::Read;
 use std::marker::Model;
 
-/// A reader that gives its bytes in order, at most `step` of them a call, and fails where its trouble says.
+/// A reader that gives its bytes in order, at most `step` of them a call, and fails or falls short where its trouble says.
 /// A call that fails gives nothing, so a later one goes on where the last that gave something stopped.
 #[derive(Drop)]
 pub struct Source<'a> {
@@ -66,7 +66,7 @@ impl Read for Source<'_> {
         ensures bound { ReadsAtMost result buf.new }
         ensures bytes { ReadConsumes (Some self.old.left) (Some self.new.left) result buf.new }
         ensures fails { IsErr result ↔ IsSome (error_at self.old.trouble self.old.calls) }
-        ensures count { IfOk result (λ n. n ≡ min (min self.old.step (length buf.old)) (length self.old.left)) }
+        ensures count { IfOk result (λ n. n ≡ min (min (step_at self.old.trouble self.old.calls self.old.step) (length buf.old)) (length self.old.left)) }
         ensures state { self.new ≡ record self.old { left = self.new.left; calls = one_more self.old.calls } }
     {
         let call = self.calls;
@@ -75,7 +75,8 @@ impl Read for Source<'_> {
             return Err(io::Error::from(kind));
         }
         let all = self.left;
-        let count = self.step.min(buf.len()).min(all.len());
+        let step = self.trouble.step_at(call, self.step);
+        let count = step.min(buf.len()).min(all.len());
         buf[..count].copy_from_slice(&all[..count]);
         self.left = &all[count..];
         Ok(count)

@@ -4,7 +4,7 @@ ghost use Rattle.std.specs.Prelude.{◌≡◌, ◌-◌, ◌≤◌, ◌↔◌, �
 ghost use Rattle.std.specs.Io.{WritesAtMost};
 ghost use Rattle.std.specs.Io.KnownBytes.{WriteAppends, Keeps};
 ghost use Rattle.devices.specs.Devices.{Writer, one_more};
-ghost use Rattle.devices.specs.Trouble.{error_at};
+ghost use Rattle.devices.specs.Trouble.{error_at, step_at};
 
 use crate::trouble::Trouble;
 use std::io;
@@ -15,7 +15,7 @@ use std::marker::Model;
 pub const ROOM: usize = 4096;
 
 /// A writer that takes at most `step` bytes a call, and `room` bytes in all, after which it takes none: its
-/// calls then answer 0. Its writes and its flushes fail where their troubles say, and are counted each by
+/// calls then answer 0. Its writes and its flushes fail, and its writes fall short, where their troubles say, and are counted each by
 /// themselves. A write that fails takes nothing.
 #[derive(Drop)]
 pub struct Target {
@@ -112,7 +112,7 @@ impl Write for Target {
         ensures bound { WritesAtMost result buf.now }
         ensures bytes { WriteAppends (Some self.old.held) (Some self.new.held) result buf.now }
         ensures fails { IsErr result ↔ IsSome (error_at self.old.writing self.old.writes) }
-        ensures count { IfOk result (λ n. n ≡ min (min self.old.step (length buf.now)) (min self.old.room (4096 - length self.old.held))) }
+        ensures count { IfOk result (λ n. n ≡ min (min (step_at self.old.writing self.old.writes self.old.step) (length buf.now)) (min self.old.room (4096 - length self.old.held))) }
         ensures room { self.new.room ≡ self.old.room - (length self.new.held - length self.old.held) }
         ensures pending { self.new.pending ≡ (self.old.pending || nat_lt (length self.old.held) (length self.new.held)) }
         ensures state { self.new ≡ record self.old {
@@ -128,7 +128,8 @@ impl Write for Target {
             return Err(io::Error::from(kind));
         }
         let start = self.count;
-        let count = self.step.min(buf.len()).min(self.room.min(ROOM - start));
+        let step = self.writing.step_at(call, self.step);
+        let count = step.min(buf.len()).min(self.room.min(ROOM - start));
         self.bytes[start..start + count].copy_from_slice(&buf[..count]);
         self.count = start + count;
         self.room -= count;

@@ -1,11 +1,11 @@
-//! When the calls of a device fail.
+//! When the calls of a device fail or fall short.
 
 ghost use Rattle.std.specs.Prelude.{◌≡◌};
-ghost use Rattle.devices.specs.Trouble.{error_at};
+ghost use Rattle.devices.specs.Trouble.{error_at, step_at};
 
 use std::io::ErrorKind;
 
-/// When the calls of a device fail, and by which kind of error. The first call is call 0.
+/// When the calls of a device fail, and by which kind of error, or fall short. The first call is call 0.
 #[derive(Clone, Copy, PartialEq, Eq)]
 pub enum Trouble {
     /// No call fails.
@@ -14,6 +14,8 @@ pub enum Trouble {
     Once(usize, ErrorKind),
     /// This call and each later one fails.
     Since(usize, ErrorKind),
+    /// This call moves a byte at most. No call fails.
+    Short(usize),
 }
 
 impl Trouble {
@@ -25,6 +27,16 @@ impl Trouble {
             Trouble::Once(failing, kind) if call == failing => Some(kind),
             Trouble::Since(first, kind) if first <= call => Some(kind),
             _ => None,
+        }
+    }
+
+    /// How many bytes a call moves at most that would move so many.
+    pub fn step_at(self, call: usize, step: usize) -> usize
+        ensures { result ≡ step_at self call step }
+    {
+        match self {
+            Trouble::Short(short) if call == short => step.min(1),
+            _ => step,
         }
     }
 }

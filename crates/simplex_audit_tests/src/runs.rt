@@ -6,6 +6,7 @@ use devices::{Source, Target, Trouble};
 use simplex_audit::audit::{RunError, Watched, run};
 use simplex_scheme::marked::{Marked, MarkedDigest};
 use std::alloc::Global;
+use std::fmt::Write;
 use std::io::ErrorKind;
 use std::process::Abort;
 use std::test::Fail;
@@ -17,8 +18,8 @@ const LINE: &str = "0 10 1 conflicting-notarize 5 06 5 07\n";
 
 /// One run, what it answers and what the writer then holds.
 #[derive(Clone, Copy)]
-struct Case {
-    stream: &'static [u8],
+struct Case<'a> {
+    stream: &'a [u8],
     /// How many bytes a call gives, and takes.
     steps: (usize, usize),
     reading: Trouble,
@@ -27,11 +28,11 @@ struct Case {
     /// How many bytes the writer takes in all.
     room: usize,
     error: Option<RunError>,
-    held: &'static str,
+    held: &'a str,
 }
 
 /// A run in which no device fails.
-const STEADY: Case = Case {
+const STEADY: Case<'static> = Case {
     stream: CONFLICT,
     steps: (usize::MAX, usize::MAX),
     reading: Trouble::Never,
@@ -43,7 +44,7 @@ const STEADY: Case = Case {
 };
 
 /// Makes a run, and compares.
-fn ends(rt: &impl Abort, alloc: Global, case: Case) -> Result<(), Fail> {
+fn ends(rt: &impl Abort, alloc: Global, case: Case<'_>) -> Result<(), Fail> {
     let committees = marked(alloc, 4)?;
     let source = Source::new(case.stream, case.steps.0.max(1), case.reading);
     let target = Target::new(case.steps.1, case.room, case.writing, case.flushing);
@@ -143,6 +144,85 @@ fn writers_that_fail(rt: HostRuntime) -> Result<(), Fail> {
         ends(&rt, rt.alloc(), case)?;
     }
     Ok(())
+}
+
+/// Twenty messages, in each of ten rounds two notarizes of participant 1 that contradict, and the text of their report.
+#[derive(Drop)]
+struct Twenty {
+    stream: Vec<u8>,
+    text: String,
+}
+
+impl Twenty {
+    fn new(alloc: Global) -> Result<Self, Fail> {
+        let (mut stream, mut text) = (Vec::new(alloc), String::new(alloc));
+        for view in 10..20 {
+            stream.extend_from_slice(&[0, 0, view, 5, 6, 1, 0xaa])?;
+            stream.extend_from_slice(&[0, 0, view, 5, 7, 1, 0xaa])?;
+            writeln!(text, "0 {view} 1 conflicting-notarize 5 06 5 07")?;
+        }
+        Ok(Twenty { stream, text })
+    }
+
+    /// The run over them in calls of 16 bytes: ten reads, the last of which is at the end, and 24 writes.
+    fn steady(&self) -> Case<'_> {
+        Case {
+            stream: self.stream.as_slice(),
+            steps: (16, 16),
+            held: self.text.as_str(),
+            ..STEADY
+        }
+    }
+}
+
+/// A read that fails, or is interrupted, lets nothing be written. One that is short changes nothing.
+#[test]
+fn each_read_in_turn(rt: HostRuntime) -> Result<(), Fail> {
+    let twenty = Twenty::new(rt.alloc())?;
+    let steady = twenty.steady();
+    for call in 0..10 {
+        for kind in [ErrorKind::Interrupted, ErrorKind::Other] {
+            let case = Case {
+                reading: Trouble::Once(call, kind),
+                error: Some(RunError::Read),
+                held: "",
+                ..steady
+            };
+            ends(&rt, rt.alloc(), case)?;
+        }
+        let reading = Trouble::Short(call);
+        ends(&rt, rt.alloc(), Case { reading, ..steady })?;
+    }
+    let reading = Trouble::Since(10, ErrorKind::Other);
+    ends(&rt, rt.alloc(), Case { reading, ..steady })
+}
+
+/// A write that fails, or is interrupted, leaves what was written before it. One that is short changes nothing.
+#[test]
+fn each_write_in_turn(rt: HostRuntime) -> Result<(), Fail> {
+    let twenty = Twenty::new(rt.alloc())?;
+    let steady = twenty.steady();
+    for call in 0..24 {
+        for kind in [ErrorKind::Interrupted, ErrorKind::Other] {
+            let case = Case {
+                writing: Trouble::Once(call, kind),
+                error: Some(RunError::Write),
+                held: twenty.text.get(..16 * call).unwrap_or(""),
+                ..steady
+            };
+            ends(&rt, rt.alloc(), case)?;
+        }
+        let writing = Trouble::Short(call);
+        ends(&rt, rt.alloc(), Case { writing, ..steady })?;
+    }
+    let writing = Trouble::Since(24, ErrorKind::Other);
+    ends(&rt, rt.alloc(), Case { writing, ..steady })?;
+    let case = Case {
+        flushing: Trouble::Once(0, ErrorKind::Interrupted),
+        error: Some(RunError::Write),
+        ..steady
+    };
+    ends(&rt, rt.alloc(), case)
 }
 
 /// Runs over the stream of a row, and compares.
