@@ -12,13 +12,12 @@ ghost use Rattle.simplex_kept.specs.Ballots.{vote_on};
 ghost use Rattle.simplex_kept.specs.Rounds.{slots, no_slot, IsSized, TakesVote, HoldsRound, found_of_kind, found_at, ListsSigners};
 ghost use Rattle.simplex_kept.specs.Values.{evidence_value};
 
+use crate::boxed_map::BoxedMap;
 use crate::evidence::Evidence;
 use crate::pairs::{Pairs, add_signers};
 use crate::subjects::same;
 use simplex_base::positions::Participant;
-use simplex_evidence::types::{
-    AttributableMap, ConflictingFinalize, ConflictingNotarize, NullifyFinalize,
-};
+use simplex_evidence::types::{ConflictingFinalize, ConflictingNotarize, NullifyFinalize};
 use simplex_scheme::scheme::{Attestation, Digest, Scheme, SchemeTypes};
 use simplex_scheme::subject::Subject;
 use simplex_votes::types::{Finalize, Notarize, Nullify};
@@ -29,7 +28,7 @@ use std::alloc::{AllocError, Global};
 #[derive(Drop)]
 pub struct Kept<S: SchemeTypes, D: Digest> {
     notarizes: Pairs<Notarize<S, D>>,
-    nullifies: AttributableMap<Nullify<S>>,
+    nullifies: BoxedMap<Nullify<S>>,
     finalizes: Pairs<Finalize<S, D>>,
 }
 
@@ -42,7 +41,7 @@ impl<S: SchemeTypes, D: Digest> Kept<S, D> {
     {
         Kept {
             notarizes: Pairs::new(alloc, participants),
-            nullifies: AttributableMap::new(alloc, participants),
+            nullifies: BoxedMap::new(alloc, participants),
             finalizes: Pairs::new(alloc, participants),
         }
     }
