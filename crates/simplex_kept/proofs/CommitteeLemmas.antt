@@ -14,7 +14,7 @@ use Rattle.std.proofs.lemmas.Bool.Decides.{nat_tests}
 use Rattle.simplex_scheme.specs.Committee.{IsQuorum}
 use Rattle.simplex_scheme.specs.Subject.{SubjectValue, round_of}
 use Rattle.simplex_scheme.specs.declared.scheme.Attestation.{Attestation}
-use Rattle.simplex_kept.specs.Committees.{Schedule, Every, Listed, AreRising, IsSchedule, AreManned, committee_of, size_by, greatest, bound_of, good_by, certified_by, rules_of}
+use Rattle.simplex_kept.specs.Committees.{Schedule, Every, Listed, AreRising, IsSchedule, committee_of, size_by, greatest, bound_of, good_by, certified_by, rules_of}
 use Rattle.simplex_kept.specs.Rules.{AreLawful}
 use Rattle.simplex_kept.proofs.Lists.{find-Contains, some_same}
 use Rattle.std.proofs.lemmas.List.Elements.{All-contains, All-append, All-cons, All-nil}
@@ -147,6 +147,11 @@ pub greatest_all : {S P : Type 0} (keys : S → List P) (ps : List (ℕ × S)) (
 greatest_all keys ps i so_far end = let none = ap (greatest keys) (drop_all i ps end) in omega (arith, none)
 
 -- each committee has a participant
+abbrev pub AreManned : {S P : Type 0} → (S → List P) → Schedule S → Type 0
+AreManned keys (Every committee) = 1 ≤ length (keys committee)
+AreManned keys (Listed pairs) = All (λ p. 1 ≤ length (keys p.1)) pairs
+
+-- then that of an epoch has one
 pub manned : {S P : Type 0} (keys : S → List P) (schedule : Schedule S) → AreManned keys schedule → (epoch : ℕ) (c : S) → committee_of schedule epoch ≡ Some c → 1 ≤ length (keys c)
 manned keys (Every committee) is epoch c h = let same : committee ≡ c = cc in subst (λ s. 1 ≤ length (keys s)) same is
 manned {S} keys (Listed ps) is epoch c h = by (entry_of ps epoch) refl h

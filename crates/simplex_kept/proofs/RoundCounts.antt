@@ -14,7 +14,7 @@ use Rattle.simplex_base.specs.Positions.{Round}
 use Rattle.simplex_scheme.specs.Subject.{round_of}
 use Rattle.simplex_votes.specs.Votes.{Vote, same_round}
 use Rattle.simplex_evidence.specs.declared.types.activity.Activity.{Activity}
-use Rattle.simplex_kept.specs.Counts.{rounds_count}
+use Rattle.simplex_kept.specs.Counts.{round_count}
 use Rattle.simplex_kept.specs.KeptVotes.{kept_of, votes_kept}
 use Rattle.simplex_kept.specs.Named.{round_cmp}
 use Rattle.simplex_kept.specs.Rounds.{HoldsRound}
@@ -88,6 +88,11 @@ of_all rounds (v ∷ vs) s h =
     omega (arith, one, rest)
 
 -- ---- what is kept
+
+-- how many votes there are of some rounds
+abbrev pub rounds_count : {S D P G : Type 0} → List (Round × Tally S D P G) → ℕ
+rounds_count [] = 0
+rounds_count (e ∷ es) = round_count e.1.votes + rounds_count es
 
 -- what is kept of an entry's round is what has to be kept of some votes
 abbrev HoldsEntry : {S D P G : Type 0} → (D → D → Bool) → (ℕ → ℕ) → List (Vote D G) → Round × Tally S D P G → Type 0

@@ -7,11 +7,11 @@ use Rattle.std.proofs.lemmas.List.Elements.{All-from_recursion, All-map}
 use Rattle.simplex_base.specs.Positions.{Round}
 use Rattle.simplex_votes.specs.Votes.{Vote, Sort}
 use Rattle.simplex_evidence.specs.Contradiction.{Evidence}
-use Rattle.simplex_kept.specs.Evidence.{evidence_of, IsEvidenceIn}
+use Rattle.simplex_kept.specs.Evidence.{evidence_of}
 use Rattle.simplex_kept.specs.Kept.{slot_of, evidence_from}
 use Rattle.simplex_kept.specs.Rounds.{slots, HoldsRound, found_at, ListsSigners}
 use Rattle.simplex_kept.specs.declared.kept.Kept.{Kept}
-use Rattle.simplex_kept.proofs.Entries.{Entry}
+use Rattle.simplex_kept.proofs.Entries.{Entry, IsEvidenceIn}
 use Rattle.simplex_kept.proofs.EvidenceLemmas.{evidence_exists}
 use Rattle.simplex_kept.proofs.KeptLemmas.{evidence_of-slots}
 use Rattle.simplex_kept.proofs.Lists.{some_from_is_some, Contains-map}

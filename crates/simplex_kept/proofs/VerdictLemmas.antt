@@ -20,7 +20,7 @@ use Rattle.simplex_votes.specs.Votes.{Vote}
 use Rattle.simplex_evidence.specs.Contradiction.{Evidence}
 use Rattle.simplex_evidence.specs.declared.types.activity.Activity.{Activity}
 use Rattle.simplex_kept.specs.Named.{Named, is_named, named_by, kind_rank, named_cmp, round_cmp}
-use Rattle.simplex_kept.specs.Evidence.{evidence_of, IsEvidenceIn}
+use Rattle.simplex_kept.specs.Evidence.{evidence_of}
 use Rattle.simplex_kept.specs.Rules.{Rules, is_good, AreLawful, good_votes}
 use Rattle.simplex_kept.specs.Splits.{is_split, is_named_in, named_count, split_of, AreSplits}
 use Rattle.simplex_kept.specs.FirstCertified.{certified_subjects, KeepsFirsts}
@@ -28,6 +28,7 @@ use Rattle.simplex_kept.specs.Seen.{RecallsRound, RecallsAt, Recalls}
 use Rattle.simplex_kept.specs.declared.certified.Certified.{Certified}
 use Rattle.simplex_kept.specs.declared.seen.Seen.{Seen}
 use Rattle.simplex_kept.specs.declared.tally.Tally.{Tally}
+use Rattle.simplex_kept.proofs.Entries.{IsEvidenceIn}
 use Rattle.simplex_kept.proofs.Lists.{Contains-map, Contains-from_map, below_all}
 use Rattle.simplex_kept.proofs.Places.{is_of-true}
 use Rattle.simplex_kept.proofs.EvidenceLemmas.{votes_from_named, named-from_evidence}

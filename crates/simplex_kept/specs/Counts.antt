@@ -1,9 +1,7 @@
 -- How many votes the maps have.
-use Rattle.std.specs.Prelude.{ℕ, ◌+◌, List, [], ◌∷◌, length}
-use Rattle.simplex_base.specs.Positions.{Round}
+use Rattle.std.specs.Prelude.{ℕ, ◌+◌, length}
 use Rattle.simplex_kept.specs.declared.pairs.Pairs.{Pairs}
 use Rattle.simplex_kept.specs.declared.kept.Kept.{Kept}
-use Rattle.simplex_kept.specs.declared.tally.Tally.{Tally}
 
 -- how many votes there are of each signer the first and another
 abbrev pub pairs_count : {V : Type 0} → Pairs V → ℕ
@@ -12,8 +10,3 @@ pairs_count pairs = length pairs.firsts.items + length pairs.others.items
 -- how many votes there are of a round
 abbrev pub round_count : {S D P G : Type 0} → Kept S D P G → ℕ
 round_count kept = pairs_count kept.notarizes + (length kept.nullifies.items + pairs_count kept.finalizes)
-
--- how many votes there are of some rounds
-abbrev pub rounds_count : {S D P G : Type 0} → List (Round × Tally S D P G) → ℕ
-rounds_count [] = 0
-rounds_count (e ∷ es) = round_count e.1.votes + rounds_count es

@@ -2,10 +2,9 @@ use Rattle.std.proofs.Common.{ap, arith}
 use Rattle.std.proofs.Common.{rules as std_rules}
 use Rattle.std.specs.BTreeMap.{IsOrdered}
 use Rattle.simplex_kept.specs.Committees.{Schedule, rules_of}
-use Rattle.simplex_kept.specs.Counts.{rounds_count}
 use Rattle.simplex_kept.specs.Named.{round_cmp}
 use Rattle.simplex_kept.specs.Rules.{Rules}
-use Rattle.simplex_kept.proofs.RoundCounts.{counted_votes}
+use Rattle.simplex_kept.proofs.RoundCounts.{rounds_count, counted_votes}
 use Rattle.simplex_kept.proofs.seen.Seen.votes.Given as given
 use Rattle.simplex_kept.proofs.seen.Seen.votes.Goals as goal
 

@@ -1,5 +1,5 @@
 use Rattle.std.proofs.Common.{◌≡◌, ◌<◌, ◌+◌, ◌-◌, ◌^◌, min}
-use Rattle.simplex_kept.specs.Counts.{rounds_count}
+use Rattle.simplex_kept.proofs.RoundCounts.{rounds_count}
 use Rattle.simplex_kept.proofs.seen.Seen.votes.Given as goal
 
 abbrev pub invariant-rounds : goal.invariant-rounds
