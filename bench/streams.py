@@ -7,11 +7,17 @@ nullify and a finalize of some and a finalization of all). In each tenth round p
 where all kinds are there the round has a nullification and evidence of each kind. The base of the namespaces is `bench`, and
 participant i has the key whose 32 bytes are the number i, the highest byte first. With `keys` as the SHAPE the program's
 arguments are written instead, one a line.
+
+Floods are SHAPEs too: `member` (participant 0 votes once in each round), `two` (and for a second payload), `five` (and with a
+nullify and two finalizes), `unsigned` (a notarize of participant 0 in each round, whose signature is 32 zeros), `again` (the
+first vote of `member`, so many times), and `zeros` and `random` (1000 such bytes for each round).
 """
 import hashlib
+import random
 import sys
 
 BASE = b"bench"
+FLOODS = ("member", "two", "five", "unsigned", "again", "zeros", "random")
 NOTARIZE, NULLIFY, FINALIZE = (BASE + suffix for suffix in (b"_NOTARIZE", b"_NULLIFY", b"_FINALIZE"))
 
 
@@ -80,12 +86,35 @@ def messages(shape, participants, view):
         yield b"\x00" + vote(NOTARIZE, 0, proposal(view, b"second"))
 
 
+def flood(shape, view):
+    if shape == "zeros":
+        return bytes(1000)
+    if shape == "random":
+        return random.Random(view).randbytes(1000)
+    proposed, other, here = proposal(view, b"first"), proposal(view, b"second"), round_of(view)
+    if shape == "unsigned":
+        return b"\x00" + proposed + number(0) + bytes(32)
+    if shape == "again":
+        proposed = proposal(1, b"first")
+    first = b"\x00" + vote(NOTARIZE, 0, proposed)
+    if shape in ("member", "again"):
+        return first
+    first += b"\x00" + vote(NOTARIZE, 0, other)
+    if shape == "two":
+        return first
+    finalizes = b"".join(b"\x05" + vote(FINALIZE, 0, each) for each in (proposed, other))
+    return first + b"\x03" + vote(NULLIFY, 0, here) + finalizes
+
+
 def main():
     shape, participants, rounds = sys.argv[1], int(sys.argv[2]), int(sys.argv[3])
     if shape == "keys":
         print(BASE.decode(), *(key(participant).hex() for participant in range(participants)), sep="\n")
         return
     for view in range(1, rounds + 1):
+        if shape in FLOODS:
+            sys.stdout.buffer.write(flood(shape, view))
+            continue
         for message in messages(shape, participants, view):
             sys.stdout.buffer.write(message)
 
