@@ -1,6 +1,6 @@
 //! What is kept of the certificates of a round: enough to tell whether two of them contradict, and no more.
 
-ghost use Rattle.std.specs.Prelude.{◌≡◌, ◌||◌, ◌++◌, List, [], ◌∷◌, true, IsTrue, if◌then◌else◌};
+ghost use Rattle.std.specs.Prelude.{◌≡◌, ◌↔◌, ◌||◌, ◌++◌, List, [], ◌∷◌, true, IsTrue, if◌then◌else◌};
 ghost use Rattle.std.specs.Option.{is_some};
 ghost use Rattle.simplex_scheme.specs.Subject.{SubjectValue, subject_value, round_of};
 ghost use Rattle.simplex_votes.specs.Votes.{Sort, sort_of};
@@ -36,7 +36,7 @@ impl<D: Digest> Certified<D> {
 
     /// Whether nothing is certified.
     pub fn is_empty(&self) -> bool
-        ensures { IsTrue result → self.now ≡ nothing_certified }
+        ensures { IsTrue result ↔ (self.now ≡ nothing_certified) }
     {
         let none = self.notarized.is_none() && self.nullified.is_none();
         none && self.finalized.is_none() && !self.split

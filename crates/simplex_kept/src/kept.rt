@@ -1,6 +1,6 @@
 //! What is kept of the votes of one round: enough to tell whoever contradicts, and no more.
 
-ghost use Rattle.std.specs.Prelude.{◌≡◌, ◌-◌, ◌^◌, min, List, [], ◌∷◌, ◌++◌, ℕ, true, map, filter, length, option_map, All, IfOk, OnOk, IsTrue};
+ghost use Rattle.std.specs.Prelude.{◌≡◌, ◌↔◌, ◌-◌, ◌^◌, min, List, [], ◌∷◌, ◌++◌, ℕ, true, map, filter, length, option_map, All, IfOk, OnOk, IsTrue};
 ghost use Rattle.std.specs.List.{flat_map};
 ghost use Rattle.std.specs.Option.{option_to_list};
 ghost use Rattle.simplex_scheme.specs.Subject.{subject_value, round_of};
@@ -48,7 +48,8 @@ impl<S: SchemeTypes, D: Digest> Kept<S, D> {
 
     /// Whether nothing is kept.
     pub fn is_empty(&self) -> bool
-        ensures { IsTrue result → (signer : ℕ) (sort : Sort) → slots self.now signer sort ≡ no_slot }
+        ensures slots { IsTrue result → (signer : ℕ) (sort : Sort) → slots self.now signer sort ≡ no_slot }
+        ensures count { IsTrue result ↔ (round_count self.now ≡ 0) }
     {
         self.notarizes.is_empty() && self.nullifies.is_empty() && self.finalizes.is_empty()
     }

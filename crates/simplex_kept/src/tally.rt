@@ -1,6 +1,6 @@
 //! What is kept of the messages of one round: of their votes and of their certificates.
 
-ghost use Rattle.std.specs.Prelude.{◌≡◌, ◌+◌, ◌-◌, ◌^◌, List, [], ◌∷◌, None, Some, ℕ, length, map, min, nat_eq, IfOk, OnOk, IsTrue, if◌then◌else◌};
+ghost use Rattle.std.specs.Prelude.{◌≡◌, ◌↔◌, ◌+◌, ◌-◌, ◌^◌, List, [], ◌∷◌, None, Some, ℕ, length, map, min, nat_eq, IfOk, OnOk, IsTrue, if◌then◌else◌};
 ghost use Rattle.std.specs.Option.{option_eq};
 ghost use Rattle.std.specs.List.Sorted.{IsNonDecreasing};
 ghost use Rattle.std.specs.Set.{distinct_count};
@@ -57,6 +57,7 @@ impl<S: SchemeTypes, D: Digest> Tally<S, D> {
     pub fn is_empty(&self) -> bool
         ensures votes { IsTrue result → (signer : ℕ) (sort : Sort) → slots self.now.votes signer sort ≡ no_slot }
         ensures certified { IsTrue result → self.now.certified ≡ nothing_certified }
+        ensures exactly { IsTrue result ↔ (round_count self.now.votes ≡ 0) × (self.now.certified ≡ nothing_certified) }
     {
         self.votes.is_empty() && self.certified.is_empty()
     }
