@@ -1,21 +1,25 @@
 -- What is kept from message to message, and what an auditor stands for from piece to piece.
 use Rattle.std.proofs.Common.{◌≡◌, ℕ, ◌+◌, List, [], ◌++◌, length, drop, Bor, Option, None, refl, sym, ap, subst, ◌∙◌, arith, length-append, append_assoc, append-nil}
+use Rattle.std.specs.Prelude.{All}
 use Rattle.std.proofs.lemmas.List.Elements.{All-nil}
 use Rattle.std.proofs.Math.Seq.{drop-append_seam}
 use Rattle.simplex_base.specs.Format.{Format}
 use Rattle.simplex_base.specs.declared.codec.error.Error.{Error}
 use Rattle.simplex_evidence.specs.declared.types.activity.Activity.{Activity}
 use Rattle.simplex_kept.specs.Committees.{Schedule}
-use Rattle.simplex_kept.specs.Rules.{Rules, AreLawful}
+use Rattle.simplex_kept.specs.Evidence.{IsEvidence}
+use Rattle.simplex_kept.specs.Laws.{IsEvidenceAgain}
+use Rattle.simplex_kept.specs.Rules.{Rules, AreLawful, good_votes}
 use Rattle.simplex_kept.specs.Seen.{Recalls, RecallsMore}
 use Rattle.simplex_kept.specs.declared.seen.Seen.{Seen}
 use Rattle.simplex_audit.specs.Auditor.{Stands, Holds}
 use Rattle.simplex_audit.specs.Basis.{Basis}
 use Rattle.simplex_audit.specs.Progress.{IsProgress}
-use Rattle.simplex_audit.specs.Report.{IsReport}
+use Rattle.simplex_audit.specs.Headline.{ReadsAgain}
+use Rattle.simplex_audit.specs.Report.{IsReport, as_messages, evidence_in}
 use Rattle.simplex_audit.specs.declared.audit.Report.{Report}
 use Rattle.simplex_audit.specs.declared.auditor.Auditor.{Auditor}
-use Rattle.simplex_audit.proofs.StreamLemmas.{IsNeverEmpty, nothing_stuck, progress_of_pieces}
+use Rattle.simplex_audit.proofs.StreamLemmas.{IsNeverEmpty, are_joined, nothing_stuck, progress_of_pieces}
 
 -- ---- from message to message
 
@@ -143,3 +147,17 @@ stands_reported {S} basis auditor place report at is committees stream h =
     let reported : Schedule S → Type 0 = λ s. AreLawful (basis s).rules → IsProgress (basis s).format (λ ms. Recalls (basis s).rules ms auditor.seen) stream auditor.taken.rest.items auditor.taken.read auditor.taken.stop → IsReport (basis s) stream report in
     let here : reported auditor.committees.now = λ lawful read. is stream auditor.taken.rest.items lawful (at ∙ h.fed.fed_is) read in
     subst reported h.fed.committees_are here h.fed.lawful h.progress
+
+-- the evidence of that report can be spelled, and read again it gives itself
+pub stands_again : {S D C P G : Type 0} (basis : Schedule S → Basis S D C P G) (auditor : Auditor S D P G) (report : Report S D P G) →
+    ((committees : Schedule S) → IsNeverEmpty (basis committees).format) →
+    ((committees : Schedule S) (messages : List (Activity S D C P G)) → AreLawful (basis committees).rules → IsEvidence (basis committees).rules.eq (good_votes (basis committees).rules messages) (evidence_in report) → IsEvidenceAgain (basis committees).rules report.evidence.items) →
+    ((committees : Schedule S) (stream : List ℕ) → Stands basis committees auditor stream → IsReport (basis committees) stream report) →
+    All (basis auditor.committees.now).format.is_value (as_messages report) →
+    (committees : Schedule S) (stream : List ℕ) → Stands basis committees auditor stream → ReadsAgain (basis committees) report
+stands_again {S} basis auditor report some again is each committees stream h =
+    let reported = is committees stream h in
+    record {
+      stream = are_joined (basis committees).format (some committees) (as_messages report) (subst (λ (s : Schedule S). All (basis s).format.is_value (as_messages report)) h.fed.committees_are each);
+      evidence = again committees reported.messages h.fed.lawful reported.evidence_is;
+    }

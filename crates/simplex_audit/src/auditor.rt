@@ -1,6 +1,7 @@
 //! The audit of a stream that comes in pieces.
 
 ghost use Rattle.std.specs.Prelude.{◌≡◌, ◌+◌, ◌<◌, ◌≤◌, ◌^◌, ◌-◌, min, vec_len, ℕ, List, [], ◌++◌, length, drop, IfOk};
+ghost use Rattle.simplex_audit.specs.Headline.{HasOneReading, ReadsAgain};
 ghost use Rattle.simplex_audit.specs.Messages.{AreMessages};
 ghost use Rattle.simplex_audit.specs.Report.{IsReport};
 ghost use Rattle.simplex_evidence.specs.declared.types.activity.Activity.{Activity};
@@ -14,6 +15,7 @@ use crate::reading::{read_messages, reading_bound};
 use crate::reporting::make_report;
 use simplex_base::codec::error::Error;
 use simplex_kept::committees::Committees;
+use simplex_kept::laws::evidence_is_determined;
 use simplex_kept::seen::Seen;
 use simplex_scheme::scheme::{Digest, Listing, SchemeTypes};
 use std::alloc::{AllocError, Global};
@@ -211,9 +213,16 @@ impl<'a, S: Listing<D>, D: Digest> Auditor<'a, S, D> {
 
     /// What the audit of the stream finds.
     pub fn report(&self) -> Result<Report<S, D>, AllocError>
-        ensures { IfOk result (λ report. (committees : Schedule S) (stream : List ℕ) →
+        ensures report { IfOk result (λ report. (committees : Schedule S) (stream : List ℕ) →
             Stands ⟦<S as Audited<D>>⟧.basis committees self.now stream → IsReport (⟦<S as Audited<D>>⟧.basis committees) stream report) }
+        // Each stream has one list of messages.
+        ensures single { (committees : Schedule S) (stream other : List ℕ) →
+            Stands ⟦<S as Audited<D>>⟧.basis committees self.now stream → HasOneReading (⟦<S as Audited<D>>⟧.basis committees) other }
+        // The evidence is enough: spelled as messages and audited again, it gives itself in the same order.
+        ensures again { IfOk result (λ report. (committees : Schedule S) (stream : List ℕ) →
+            Stands ⟦<S as Audited<D>>⟧.basis committees self.now stream → ReadsAgain (⟦<S as Audited<D>>⟧.basis committees) report) }
     {
+        evidence_is_determined::<S, D>();
         let alloc = *self.taken.rest.allocator();
         let rest = self.taken.rest.as_slice();
         let place = self.taken.fed - rest.len();

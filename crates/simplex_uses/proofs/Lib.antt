@@ -1,3 +1,4 @@
 pub mod ResolverLemmas
 pub mod BatchLemmas
 pub mod ForkLemmas
+pub mod StoreLemmas

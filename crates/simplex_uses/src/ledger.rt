@@ -1,11 +1,14 @@
 //! Holds the evidence of all that it is fed.
 
-ghost use Rattle.std.specs.Prelude.{◌≡◌, ◌+◌, ◌<◌, ◌^◌, ◌++◌, ℕ, List, [], IfOk, length};
+ghost use Rattle.std.specs.Prelude.{◌≡◌, ◌+◌, ◌<◌, ◌^◌, ◌++◌, ℕ, List, [], IfOk, OnOk, length};
+ghost use Rattle.std.specs.List.{flat_map};
 ghost use Rattle.simplex_kept.specs.Committees.{Schedule};
-ghost use Rattle.simplex_uses.specs.Holding.{IsEvidenceOf, WasFed, bytes_fed};
+ghost use Rattle.simplex_kept.specs.Values.{message_of};
+ghost use Rattle.simplex_uses.specs.Holding.{IsEvidenceOf, IsStored, WasFed, bytes_fed};
 
 use simplex_audit::audit::{Auditor, Committees, Evidence};
 use simplex_audit::basis::Audited;
+use simplex_base::codec::unions::write_tagged;
 use simplex_kept::laws::evidence_is_determined;
 use simplex_scheme::scheme::{Digest, Listing, SchemeTypes};
 use std::alloc::{AllocError, Global};
@@ -28,8 +31,8 @@ impl<'a, S: Listing<D>, D: Digest> Ledger<'a, S, D> {
         }
     }
 
-    /// A ledger that begins with what an earlier one held, its evidence stored as messages one after the other. It is the
-    /// ledger that was fed these.
+    /// A ledger that begins with what an earlier one stored: it is the ledger that was fed these bytes. What it then names,
+    /// and what it names after further pieces, the contract of `store` says.
     pub fn resume(
         alloc: Global,
         committees: &'a Committees<S>,
@@ -73,5 +76,49 @@ impl<'a, S: Listing<D>, D: Digest> Ledger<'a, S, D> {
         evidence_is_determined::<S, D>();
         let report = self.auditor.report()?;
         Ok(report.evidence)
+    }
+
+    /// The evidence as bytes that `resume` takes: each a message, an `Activity`, one after the other in the order of
+    /// `evidence`, and no bytes where there is none. Votes that contradict nothing yet are not among them.
+    pub fn store(&self, alloc: Global) -> Result<Vec<u8>, AllocError>
+        // They spell the evidence and have it again. Behind them a piece is read as it is alone, and then whoever is named by
+        // the evidence or by the piece is named, and nobody whom the messages of both do not name.
+        ensures { IfOk result (λ stored. (committees : Schedule S) (stream : List ℕ) →
+            WasFed ⟦<S as Audited<D>>⟧.basis committees self.now stream →
+            IsStored (⟦<S as Audited<D>>⟧.basis committees) stream stored.items) }
+    {
+        evidence_is_determined::<S, D>();
+        let report = self.auditor.report()?;
+        write_all(alloc, &report.evidence)
+    }
+}
+
+/// Some evidence as messages, one after the other.
+fn write_all<S: Listing<D>, D: Digest>(
+    alloc: Global,
+    evidence: &[Evidence<S, D>],
+) -> Result<Vec<u8>, AllocError>
+    ensures { IfOk result (λ bytes. (committees : Schedule S) → bytes.items ≡
+        flat_map (λ e. (⟦<S as Audited<D>>⟧.basis committees).format.spelling (message_of e)) evidence.now) }
+{
+    let mut bytes = Vec::new(alloc);
+    for item in evidence {
+        write(item, &mut bytes)?;
+    }
+    Ok(bytes)
+}
+
+/// Appends an evidence as a message.
+fn write<S: Listing<D>, D: Digest>(
+    evidence: &Evidence<S, D>,
+    buf: &mut Vec<u8>,
+) -> Result<(), AllocError>
+    ensures { OnOk result ((committees : Schedule S) → buf.new.items ≡ buf.old.items ++
+        (⟦<S as Audited<D>>⟧.basis committees).format.spelling (message_of evidence.now)) }
+{
+    match evidence {
+        Evidence::ConflictingNotarize(conflict) => write_tagged(7, conflict, buf),
+        Evidence::ConflictingFinalize(conflict) => write_tagged(8, conflict, buf),
+        Evidence::NullifyFinalize(conflict) => write_tagged(9, conflict, buf),
     }
 }

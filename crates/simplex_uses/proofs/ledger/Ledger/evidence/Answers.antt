@@ -2,7 +2,7 @@ use Rattle.simplex_uses.proofs.ledger.Ledger.evidence.Goals as goal
 
 pub returns : goal.returns
 returns g c committees stream fed =
-    let is = c.in_ok-report.ensures committees stream fed in
+    let is = c.in_ok-report.ensures.report committees stream fed in
     record {
       messages = is.messages;
       rest = is.rest;
