@@ -1,10 +1,11 @@
 -- What a ledger names that began with stored evidence.
-use Rattle.std.proofs.Common.{◌≡◌, ℕ, Bool, true, false, List, [], ◌∷◌, ◌++◌, map, sym, ap, subst, ◌∙◌, inl, inr, append_assoc, append-nil}
+use Rattle.std.proofs.Common.{◌≡◌, ℕ, ◌+◌, ◌<◌, ◌≤◌, Bool, true, false, List, length, take, get_or, [], ◌∷◌, ◌++◌, map, sym, ap, subst, ◌∙◌, inl, inr, Result, Ok, Err, IfOk, append_assoc, append-nil}
 use Rattle.std.specs.Prelude.{◌&&◌, All, Contains, IsTrue}
 use Rattle.std.specs.List.{flat_map, filter, list_any}
 use Rattle.std.proofs.lemmas.Grind.{flat_map-append}
-use Rattle.std.proofs.lemmas.List.Elements.{All-append, All-cons, All-contains, All-contains_itself, All-filter, All-head, All-nil, All-tail, Contains-append_cases, Contains-append_left, Contains-append_right, filter-append}
-use Rattle.std.proofs.lemmas.List.Folds.{Any-from_list_any, list_any-from_Any}
+use Rattle.std.proofs.lemmas.List.{take_more, take_all}
+use Rattle.std.proofs.lemmas.List.Elements.{All-append, All-contains, All-contains_itself, All-filter, All-head, All-nil, All-tail, Contains-append_cases, Contains-append_left, Contains-append_right, filter-append}
+use Rattle.std.proofs.lemmas.List.Folds.{Any-from_list_any, list_any-from_Any, flat_map-map}
 use Rattle.simplex_base.specs.Format.{Format}
 use Rattle.simplex_votes.specs.Votes.{Vote, is_of}
 use Rattle.simplex_evidence.specs.Activity.{votes_in}
@@ -21,6 +22,7 @@ use Rattle.simplex_audit.specs.Basis.{Basis}
 use Rattle.simplex_audit.specs.Headline.{HasOneReading}
 use Rattle.simplex_audit.specs.Messages.{AreMessages}
 use Rattle.simplex_uses.specs.Holding.{HoldsBoth, IsEvidenceOf, IsStored}
+use Rattle.simplex_uses.proofs.ForkLemmas.{both_of_two}
 
 -- what one list contains the other does
 abbrev Within : {X : Type 0} → List X → List X → Type 0
@@ -59,10 +61,13 @@ within_both {S} {D} {C} {P} {G} rules ms ls ks within v h =
     ]
 
 -- the votes of evidence are among those that it is the evidence of
+both_votes : {D G : Type 0} (eq : D → D → Bool) (vs : List (Vote D G)) (e : contradiction.Evidence D G) → IsEquivocation eq vs e → All (Contains vs) (e.first ∷ e.second ∷ [])
+both_votes eq vs e h = both_of_two (Contains vs) e.first e.second h.first_cast h.second_cast
+
 votes_of_one : {S D C P G : Type 0} (rules : Rules S D C P G) (vs : List (Vote D G)) (e : Evidence S D P G) → IsEquivocation rules.eq vs (evidence_value e) → All (Contains vs) (votes_in rules.listed (message_of e))
-votes_of_one rules vs (variants.ConflictingNotarize c) h = All-cons (Contains vs) _ _ h.first_cast (All-cons (Contains vs) _ [] h.second_cast (All-nil (Contains vs)))
-votes_of_one rules vs (variants.ConflictingFinalize c) h = All-cons (Contains vs) _ _ h.first_cast (All-cons (Contains vs) _ [] h.second_cast (All-nil (Contains vs)))
-votes_of_one rules vs (variants.NullifyFinalize c) h = All-cons (Contains vs) _ _ h.first_cast (All-cons (Contains vs) _ [] h.second_cast (All-nil (Contains vs)))
+votes_of_one rules vs (variants.ConflictingNotarize c) h = both_votes rules.eq vs (evidence_value (variants.ConflictingNotarize c)) h
+votes_of_one rules vs (variants.ConflictingFinalize c) h = both_votes rules.eq vs (evidence_value (variants.ConflictingFinalize c)) h
+votes_of_one rules vs (variants.NullifyFinalize c) h = both_votes rules.eq vs (evidence_value (variants.NullifyFinalize c)) h
 
 votes_of_all : {S D C P G : Type 0} (rules : Rules S D C P G) (vs : List (Vote D G)) (es : List (Evidence S D P G)) → All (IsEquivocation rules.eq vs) (map evidence_value es) → All (Contains vs) (flat_map (votes_in rules.listed) (map message_of es))
 votes_of_all rules vs [] h = All-nil (Contains vs)
@@ -84,17 +89,18 @@ joined format bytes piece rest messages further are are' = record {
 }
 
 -- what holds of the evidence of any votes
-pub record Laws {D G : Type 0} (eq : D → D → Bool) : Type 0 where
+pub record Laws (D G : Type 0) (eq : D → D → Bool) : Type 0 where
   pub names : (vs : List (Vote D G)) (es : List (contradiction.Evidence D G)) → IsEvidence eq vs es → NamesExactly eq vs es
   pub sound : (vs : List (Vote D G)) (es : List (contradiction.Evidence D G)) → IsEvidence eq vs es → All (IsEquivocation eq vs) es
   pub only : (vs : List (Vote D G)) (es : List (contradiction.Evidence D G)) → IsEvidence eq vs es → EvidenceIsUnique eq vs es
 
 -- evidence that is spelled as messages, which have it again, is stored
-pub stored : {S D C P G : Type 0} (basis : Basis S D C P G) → Laws {D} {G} basis.rules.eq → ((other : List ℕ) → HasOneReading basis other) →
-    (stream bytes : List ℕ) (es : List (Evidence S D P G)) → IsEvidenceOf basis stream es → bytes ≡ flat_map basis.format.spelling (map message_of es) →
+pub stored : {S D C P G : Type 0} (basis : Basis S D C P G) → Laws D G basis.rules.eq → ((other : List ℕ) → HasOneReading basis other) →
+    (stream bytes : List ℕ) (es given : List (Evidence S D P G)) → IsEvidenceOf basis stream es → given ≡ es → bytes ≡ flat_map (λ e. basis.format.spelling (message_of e)) given →
     AreMessages basis.format (flat_map basis.format.spelling (map message_of es)) (map message_of es) [] →
     IsEvidence basis.rules.eq (good_votes basis.rules (map message_of es)) (map evidence_value es) → IsStored basis stream bytes
-stored {S} {D} {C} {P} {G} basis laws single stream bytes es is spelled are evidence =
+stored {S} {D} {C} {P} {G} basis laws single stream bytes es given is same joined_is are evidence =
+    let spelled : bytes ≡ flat_map basis.format.spelling (map message_of es) = joined_is ∙ (ap (flat_map (λ e. basis.format.spelling (message_of e))) same ∙ sym (flat_map-map basis.format.spelling (message_of {C = C}) es)) in
     let here : AreMessages basis.format bytes (map message_of es) [] = subst (λ (b : List ℕ). AreMessages basis.format b (map message_of es) []) (sym spelled) are in
     let names = laws.names (good_votes basis.rules (map message_of es)) (map evidence_value es) evidence in
     record {
@@ -107,7 +113,7 @@ stored {S} {D} {C} {P} {G} basis laws single stream bytes es is spelled are evid
       then = λ piece rest further held of h.
           let both : NamesExactly basis.rules.eq (good_votes basis.rules (map message_of es ++ further)) (map evidence_value held) =
           subst (λ (ms : List (Activity S D C P G)). NamesExactly basis.rules.eq (good_votes basis.rules ms) (map evidence_value held))
-              (single (bytes ++ piece) h.messages (map message_of es ++ further) h.rest rest h.are_messages (joined basis.format bytes piece rest (map message_of es) further here of)).0 h.names in
+          (single (bytes ++ piece) h.messages (map message_of es ++ further) h.rest rest h.are_messages (joined basis.format bytes piece rest (map message_of es) further here of)).0 h.names in
           let inside = stored_within basis.rules (good_votes basis.rules is.messages) es (laws.sound (good_votes basis.rules is.messages) (map evidence_value es) is.evidence_is) in
           record {
             names = both;
@@ -116,3 +122,16 @@ stored {S} {D} {C} {P} {G} basis laws single stream bytes es is spelled are evid
             only = λ n named. named_within basis.rules.eq _ _ n (within_both basis.rules (map message_of es) is.messages further inside) ((both n).0 named);
           };
     }
+
+-- one value more is spelled behind those before it, and all are when none is left
+pub one_more : {X : Type 0} (f : X → List ℕ) (xs : List X) (i : ℕ) (x : X) (old new : List ℕ) → i < length xs → x ≡ get_or xs i x → old ≡ flat_map f (take i xs) → new ≡ old ++ f x → new ≡ flat_map f (take (i + 1) xs)
+one_more {X} f xs i x old new lt here before after =
+    after ∙ (ap (λ (t : List ℕ). t ++ f x) before ∙ sym (ap (flat_map f) (take_more xs i x lt ∙ ap (λ (z : X). take i xs ++ z ∷ []) (sym here)) ∙ (flat_map-append f (take i xs) (x ∷ []) ∙ ap (λ (t : List ℕ). flat_map f (take i xs) ++ t) (append-nil (f x)))))
+
+pub none_left : {X : Type 0} (f : X → List ℕ) (xs : List X) (i : ℕ) (all : List ℕ) → length xs ≤ i → all ≡ flat_map f (take i xs) → all ≡ flat_map f xs
+none_left f xs i all past is = is ∙ ap (flat_map f) (take_all i xs past)
+
+-- what follows from an answer
+pub if_ok : {X E : Type 0} (Given Wanted : X → Type 0) → ((x : X) → Given x → Wanted x) → (r : Result X E) → IfOk r Given → IfOk r Wanted
+if_ok Given Wanted f (Ok x) h = f x h
+if_ok Given Wanted f (Err e) h = tt

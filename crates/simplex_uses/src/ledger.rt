@@ -8,7 +8,9 @@ ghost use Rattle.simplex_uses.specs.Holding.{IsEvidenceOf, IsStored, WasFed, byt
 
 use simplex_audit::audit::{Auditor, Committees, Evidence};
 use simplex_audit::basis::Audited;
+use simplex_base::codec::Read;
 use simplex_base::codec::unions::write_tagged;
+use simplex_evidence::types::Activity;
 use simplex_kept::laws::evidence_is_determined;
 use simplex_scheme::scheme::{Digest, Listing, SchemeTypes};
 use std::alloc::{AllocError, Global};
@@ -98,8 +100,7 @@ fn write_all<S: Listing<D>, D: Digest>(
     alloc: Global,
     evidence: &[Evidence<S, D>],
 ) -> Result<Vec<u8>, AllocError>
-    ensures { IfOk result (λ bytes. (committees : Schedule S) → bytes.items ≡
-        flat_map (λ e. (⟦<S as Audited<D>>⟧.basis committees).format.spelling (message_of e)) evidence.now) }
+    ensures { IfOk result (λ bytes. bytes.items ≡ flat_map (λ e. ⟦<Activity<S, D> as Read>⟧.spelling (message_of e)) evidence.now) }
 {
     let mut bytes = Vec::new(alloc);
     for item in evidence {
@@ -113,8 +114,7 @@ fn write<S: Listing<D>, D: Digest>(
     evidence: &Evidence<S, D>,
     buf: &mut Vec<u8>,
 ) -> Result<(), AllocError>
-    ensures { OnOk result ((committees : Schedule S) → buf.new.items ≡ buf.old.items ++
-        (⟦<S as Audited<D>>⟧.basis committees).format.spelling (message_of evidence.now)) }
+    ensures { OnOk result (buf.new.items ≡ buf.old.items ++ ⟦<Activity<S, D> as Read>⟧.spelling (message_of evidence.now)) }
 {
     match evidence {
         Evidence::ConflictingNotarize(conflict) => write_tagged(7, conflict, buf),
