@@ -4,7 +4,7 @@ use Rattle.std.specs.Prelude.{◌&&◌, All, Contains, IsTrue}
 use Rattle.std.specs.List.{flat_map, filter, list_any}
 use Rattle.std.proofs.lemmas.Grind.{flat_map-append}
 use Rattle.std.proofs.lemmas.List.{take_more, take_all}
-use Rattle.std.proofs.lemmas.List.Elements.{All-append, All-contains, All-contains_itself, All-filter, All-head, All-nil, All-tail, Contains-append_cases, Contains-append_left, Contains-append_right, filter-append}
+use Rattle.std.proofs.lemmas.List.Elements.{All-append, All-contains, All-filter, All-head, All-nil, All-tail, Contains-append_cases, Contains-append_left, Contains-append_right, filter-append}
 use Rattle.std.proofs.lemmas.List.Folds.{Any-from_list_any, list_any-from_Any, flat_map-map}
 use Rattle.simplex_base.specs.Format.{Format}
 use Rattle.simplex_votes.specs.Votes.{Vote, is_of}
@@ -21,7 +21,7 @@ use Rattle.simplex_kept.specs.declared.evidence.Evidence.TheVariants as variants
 use Rattle.simplex_audit.specs.Basis.{Basis}
 use Rattle.simplex_audit.specs.Headline.{HasOneReading}
 use Rattle.simplex_audit.specs.Messages.{AreMessages}
-use Rattle.simplex_uses.specs.Holding.{HoldsBoth, IsEvidenceOf, IsStored}
+use Rattle.simplex_uses.specs.Holding.{IsEvidenceOf, IsStored}
 use Rattle.simplex_uses.proofs.ForkLemmas.{both_of_two}
 
 -- what one list contains the other does
