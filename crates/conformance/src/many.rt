@@ -1,0 +1,90 @@
+//! Many certificates verified at once.
+
+use crate::rows::Unanswered;
+use crate::votes::values;
+use simplex_evidence::types::{
+    verify_certificates, verify_finalizations, verify_notarizations, verify_nullifications,
+};
+use simplex_scheme::scheme::{Digest, Scheme};
+use simplex_scheme::subject::Subject;
+use simplex_votes::types::Certificate;
+use std::alloc::{AllocError, Global};
+
+/// Whether each of the certificate messages that the bytes are is good: of all together, and of those of each kind.
+pub(crate) fn many<S: Scheme<D>, D: Digest + 'static>(
+    alloc: Global,
+    scheme: &S,
+    bytes: &[u8],
+) -> Result<String, Unanswered> {
+    let bound = scheme.certificate_codec_config();
+    let messages: Vec<Certificate<S, D>> = values(alloc, &bound, bytes)?;
+    let mut text = together(alloc, scheme, messages.as_slice())?;
+    text.push_str(";")?;
+    text.push_str(apart(alloc, scheme, messages)?.as_str())?;
+    Ok(text)
+}
+
+/// What is answered of messages that are lent, of whatever kinds.
+fn together<S: Scheme<D>, D: Digest>(
+    alloc: Global,
+    scheme: &S,
+    messages: &[Certificate<S, D>],
+) -> Result<String, AllocError> {
+    let mut items = Vec::new(alloc);
+    for message in messages {
+        items.push(match message {
+            Certificate::Notarization(message) => {
+                let proposal = &message.proposal;
+                (Subject::Notarize { proposal }, &message.certificate)
+            }
+            Certificate::Nullification(message) => {
+                let round = message.round;
+                (Subject::Nullify { round }, &message.certificate)
+            }
+            Certificate::Finalization(message) => {
+                let proposal = &message.proposal;
+                (Subject::Finalize { proposal }, &message.certificate)
+            }
+        })?;
+    }
+    let answers = verify_certificates(alloc, scheme, items.as_slice())?;
+    let mut text = "all".to_string(alloc)?;
+    push_answers(&mut text, answers.as_slice())?;
+    Ok(text)
+}
+
+/// What is answered of those that are owned, kind by kind.
+fn apart<S: Scheme<D>, D: Digest + 'static>(
+    alloc: Global,
+    scheme: &S,
+    messages: Vec<Certificate<S, D>>,
+) -> Result<String, AllocError> {
+    let mut notarizations = Vec::new(alloc);
+    let mut nullifications = Vec::new(alloc);
+    let mut finalizations = Vec::new(alloc);
+    for message in messages {
+        match message {
+            Certificate::Notarization(message) => notarizations.push(message)?,
+            Certificate::Nullification(message) => nullifications.push(message)?,
+            Certificate::Finalization(message) => finalizations.push(message)?,
+        }
+    }
+    let mut text = " notarizations".to_string(alloc)?;
+    let answers = verify_notarizations(alloc, scheme, notarizations.as_slice())?;
+    push_answers(&mut text, answers.as_slice())?;
+    text.push_str("; nullifications")?;
+    let answers = verify_nullifications::<S, D>(alloc, scheme, nullifications.as_slice())?;
+    push_answers(&mut text, answers.as_slice())?;
+    text.push_str("; finalizations")?;
+    let answers = verify_finalizations(alloc, scheme, finalizations.as_slice())?;
+    push_answers(&mut text, answers.as_slice())?;
+    Ok(text)
+}
+
+/// Appends answers, with a blank before each.
+fn push_answers(text: &mut String, answers: &[bool]) -> Result<(), AllocError> {
+    for answer in answers {
+        text.push_str(if *answer { " true" } else { " false" })?;
+    }
+    Ok(())
+}
