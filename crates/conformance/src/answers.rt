@@ -6,7 +6,6 @@ use crate::maps::map;
 use crate::names::{derive, subject};
 use crate::plans::forward;
 use crate::reads::{Asked, read_row};
-use crate::refusals::name;
 use crate::rows::{Unanswered, bytes, committee, delta, epoch, small, term_length, view};
 use crate::terms::term;
 use crate::votes::vote_row;
@@ -24,7 +23,6 @@ pub(crate) fn answer(alloc: Global, line: &str) -> Result<String, AllocError> {
     match row(alloc, words.as_slice()) {
         Ok(answer) => Ok(answer),
         Err(Unanswered::NoRow) => NO_ROW.to_string(alloc),
-        Err(Unanswered::Refused(error)) => name(alloc, error),
         Err(Unanswered::OutOfMemory) => Err(AllocError),
     }
 }

@@ -1,5 +1,6 @@
 //! Many certificates verified at once.
 
+use crate::refusals::name;
 use crate::rows::Unanswered;
 use crate::votes::values;
 use simplex_evidence::types::{
@@ -10,47 +11,49 @@ use simplex_scheme::subject::Subject;
 use simplex_votes::types::Certificate;
 use std::alloc::{AllocError, Global};
 
-/// Whether each of the certificate messages that the bytes are is good: of all together, and of those of each kind.
+/// Whether each of the certificate messages that the bytes are is good: asked about alone, and with those of its kind.
 pub(crate) fn many<S: Scheme<D>, D: Digest + 'static>(
     alloc: Global,
     scheme: &S,
     bytes: &[u8],
 ) -> Result<String, Unanswered> {
     let bound = scheme.certificate_codec_config();
-    let messages: Vec<Certificate<S, D>> = values(alloc, &bound, bytes)?;
-    let mut text = together(alloc, scheme, messages.as_slice())?;
+    let messages: Vec<Certificate<S, D>> = match values(alloc, &bound, bytes) {
+        Ok(messages) => messages,
+        Err(error) => return Ok(name(alloc, error)?),
+    };
+    let mut text = "all".to_string(alloc)?;
+    for message in &messages {
+        push_answers(&mut text, alone(alloc, scheme, message)?.as_slice())?;
+    }
     text.push_str(";")?;
     text.push_str(apart(alloc, scheme, messages)?.as_str())?;
     Ok(text)
 }
 
-/// What is answered of messages that are lent, of whatever kinds.
-fn together<S: Scheme<D>, D: Digest>(
+/// What is answered of a message that is lent, of whatever kind.
+fn alone<S: Scheme<D>, D: Digest>(
     alloc: Global,
     scheme: &S,
-    messages: &[Certificate<S, D>],
-) -> Result<String, AllocError> {
-    let mut items = Vec::new(alloc);
-    for message in messages {
-        items.push(match message {
-            Certificate::Notarization(message) => {
-                let proposal = &message.proposal;
-                (Subject::Notarize { proposal }, &message.certificate)
-            }
-            Certificate::Nullification(message) => {
-                let round = message.round;
-                (Subject::Nullify { round }, &message.certificate)
-            }
-            Certificate::Finalization(message) => {
-                let proposal = &message.proposal;
-                (Subject::Finalize { proposal }, &message.certificate)
-            }
-        })?;
+    message: &Certificate<S, D>,
+) -> Result<Vec<bool>, AllocError> {
+    match message {
+        Certificate::Notarization(message) => {
+            let proposal = &message.proposal;
+            let items = [(Subject::Notarize { proposal }, &message.certificate)];
+            verify_certificates(alloc, scheme, &items)
+        }
+        Certificate::Nullification(message) => {
+            let round = message.round;
+            let items = [(Subject::Nullify { round }, &message.certificate)];
+            verify_certificates(alloc, scheme, &items)
+        }
+        Certificate::Finalization(message) => {
+            let proposal = &message.proposal;
+            let items = [(Subject::Finalize { proposal }, &message.certificate)];
+            verify_certificates(alloc, scheme, &items)
+        }
     }
-    let answers = verify_certificates(alloc, scheme, items.as_slice())?;
-    let mut text = "all".to_string(alloc)?;
-    push_answers(&mut text, answers.as_slice())?;
-    Ok(text)
 }
 
 /// What is answered of those that are owned, kind by kind.

@@ -1,5 +1,6 @@
 //! The bytes that are signed, and the names under which they are.
 
+use crate::refusals::name;
 use crate::rows::{Unanswered, bytes};
 use simplex_base::codec::decode;
 use simplex_scheme::marked::MarkedDigest;
@@ -29,18 +30,17 @@ pub(crate) fn subject(
     let spelling = bytes(alloc, spelling)?;
     let spelling = spelling.as_slice();
     match kind {
-        "notarize" => {
-            let proposal = &decode(alloc, spelling)?;
-            told(alloc, &names, &Subject::Notarize { proposal })
-        }
-        "nullify" => {
-            let round = decode(alloc, spelling)?;
-            told(alloc, &names, &Subject::Nullify { round })
-        }
-        "finalize" => {
-            let proposal = &decode(alloc, spelling)?;
-            told(alloc, &names, &Subject::Finalize { proposal })
-        }
+        "nullify" => match decode(alloc, spelling) {
+            Ok(round) => told(alloc, &names, &Subject::Nullify { round }),
+            Err(error) => Ok(name(alloc, error)?),
+        },
+        "notarize" | "finalize" => match &decode(alloc, spelling) {
+            Ok(proposal) if kind == "notarize" => {
+                told(alloc, &names, &Subject::Notarize { proposal })
+            }
+            Ok(proposal) => told(alloc, &names, &Subject::Finalize { proposal }),
+            Err(error) => Ok(name(alloc, *error)?),
+        },
         _ => Err(Unanswered::NoRow),
     }
 }

@@ -2,6 +2,7 @@
 
 ghost use Rattle.std.specs.Prelude.{◌<◌, length};
 
+use crate::refusals::name;
 use crate::rows::{Unanswered, bytes, small};
 use simplex_base::codec::error::Error;
 use simplex_base::codec::{Encode, Read, decode_cfg};
@@ -43,10 +44,14 @@ fn read_as<T: Read + Encode + Drop, C: FnOnce(&T) -> Result<T, AllocError>>(
     requires { C.IsAlwaysCallable clone }
 {
     let mut rest: &[u8] = bytes;
-    let value = match asked {
-        Asked::Read => T::read_cfg(alloc, &mut rest, cfg)?,
-        Asked::Decode => decode_cfg::<T>(alloc, bytes, cfg)?,
+    let read = match asked {
+        Asked::Read => T::read_cfg(alloc, &mut rest, cfg),
+        Asked::Decode => decode_cfg::<T>(alloc, bytes, cfg),
         Asked::Cut => return Ok(cut::<T>(alloc, cfg, bytes)?),
+    };
+    let value = match read {
+        Ok(value) => value,
+        Err(error) => return Ok(name(alloc, error)?),
     };
     let value = clone(&value)?;
     let spelling = value.encode(alloc)?;

@@ -2,7 +2,6 @@
 
 ghost use Rattle.std.specs.Prelude.{◌≤◌, IfOk};
 
-use simplex_base::codec::error::Error;
 use simplex_base::positions::{Epoch, Participant, TermLength, View, ViewDelta};
 use simplex_scheme::marked::Marked;
 use std::alloc::{AllocError, Global};
@@ -12,8 +11,6 @@ use std::alloc::{AllocError, Global};
 pub(crate) enum Unanswered {
     /// It is no row.
     NoRow,
-    /// A value that it spells is refused.
-    Refused(Error),
     /// Memory was refused.
     OutOfMemory,
 }
@@ -21,12 +18,6 @@ pub(crate) enum Unanswered {
 impl From<AllocError> for Unanswered {
     fn from(_error: AllocError) -> Self {
         Unanswered::OutOfMemory
-    }
-}
-
-impl From<Error> for Unanswered {
-    fn from(error: Error) -> Self {
-        Unanswered::Refused(error)
     }
 }
 

@@ -1,8 +1,10 @@
 //! What a scheme signs, makes of votes, and verifies.
 
 use crate::many::many;
+use crate::refusals::name;
 use crate::rows::{Unanswered, bytes};
 use crate::schemes::{marked, plain};
+use simplex_base::codec::error::Error;
 use simplex_base::codec::{Encode, Read, decode};
 use simplex_evidence::types::Activity;
 use simplex_scheme::hash::Sha256Digest;
@@ -11,7 +13,7 @@ use simplex_scheme::scheme::{AssemblyError, Digest, Scheme};
 use simplex_votes::types::{
     Finalization, Finalize, Notarization, Notarize, Nullification, Nullify,
 };
-use std::alloc::{AllocError, Global};
+use std::alloc::Global;
 
 /// What is said where votes are for several subjects, or a signer is there twice or in no committee.
 const NO_ASSEMBLY: &str = "no assembly";
@@ -58,9 +60,13 @@ fn verify<S: Scheme<D>, D: Digest>(
 ) -> Result<String, Unanswered> {
     let mut rest: &[u8] = bytes;
     let bound = scheme.certificate_codec_config();
-    let message = Activity::<S, D>::read_cfg(alloc, &mut rest, &bound)?;
-    let (verified, good) = (message.verified(), message.verify(scheme));
-    Ok(format!(in alloc; "verified {verified}, verify {good}")?)
+    match Activity::<S, D>::read_cfg(alloc, &mut rest, &bound) {
+        Ok(message) => {
+            let (verified, good) = (message.verified(), message.verify(scheme));
+            Ok(format!(in alloc; "verified {verified}, verify {good}")?)
+        }
+        Err(error) => Ok(name(alloc, error)?),
+    }
 }
 
 /// The vote of a kind for what the bytes spell, as the participant signs it that the scheme is for.
@@ -71,12 +77,18 @@ fn sign<S: Scheme<D>, D: Digest + 'static>(
     bytes: &[u8],
 ) -> Result<String, Unanswered> {
     match kind {
-        "notarize" => told(alloc, Notarize::sign(alloc, scheme, decode(alloc, bytes)?)?),
-        "nullify" => told(
-            alloc,
-            Nullify::sign::<D>(alloc, scheme, decode(alloc, bytes)?)?,
-        ),
-        "finalize" => told(alloc, Finalize::sign(alloc, scheme, decode(alloc, bytes)?)?),
+        "nullify" => match decode(alloc, bytes) {
+            Ok(round) => told(alloc, Nullify::sign::<D>(alloc, scheme, round)?),
+            Err(error) => Ok(name(alloc, error)?),
+        },
+        "notarize" => match decode(alloc, bytes) {
+            Ok(proposal) => told(alloc, Notarize::sign(alloc, scheme, proposal)?),
+            Err(error) => Ok(name(alloc, error)?),
+        },
+        "finalize" => match decode(alloc, bytes) {
+            Ok(proposal) => told(alloc, Finalize::sign(alloc, scheme, proposal)?),
+            Err(error) => Ok(name(alloc, error)?),
+        },
         _ => Err(Unanswered::NoRow),
     }
 }
@@ -118,7 +130,10 @@ fn notarization<S: Scheme<D>, D: Digest>(
     owned: bool,
     bytes: &[u8],
 ) -> Result<String, Unanswered> {
-    let votes: Vec<Notarize<S, D>> = values(alloc, &(), bytes)?;
+    let votes: Vec<Notarize<S, D>> = match values(alloc, &(), bytes) {
+        Ok(votes) => votes,
+        Err(error) => return Ok(name(alloc, error)?),
+    };
     if !Notarization::can_assemble(scheme, votes.as_slice()) {
         return Ok(NO_ASSEMBLY.to_string(alloc)?);
     }
@@ -139,7 +154,10 @@ fn nullification<S: Scheme<D>, D: Digest + 'static>(
     owned: bool,
     bytes: &[u8],
 ) -> Result<String, Unanswered> {
-    let votes: Vec<Nullify<S>> = values(alloc, &(), bytes)?;
+    let votes: Vec<Nullify<S>> = match values(alloc, &(), bytes) {
+        Ok(votes) => votes,
+        Err(error) => return Ok(name(alloc, error)?),
+    };
     if !Nullification::can_assemble::<D>(scheme, votes.as_slice()) {
         return Ok(NO_ASSEMBLY.to_string(alloc)?);
     }
@@ -160,7 +178,10 @@ fn finalization<S: Scheme<D>, D: Digest>(
     owned: bool,
     bytes: &[u8],
 ) -> Result<String, Unanswered> {
-    let votes: Vec<Finalize<S, D>> = values(alloc, &(), bytes)?;
+    let votes: Vec<Finalize<S, D>> = match values(alloc, &(), bytes) {
+        Ok(votes) => votes,
+        Err(error) => return Ok(name(alloc, error)?),
+    };
     if !Finalization::can_assemble(scheme, votes.as_slice()) {
         return Ok(NO_ASSEMBLY.to_string(alloc)?);
     }
@@ -193,16 +214,15 @@ pub(crate) fn values<T: Read + Drop>(
     alloc: Global,
     cfg: &T::Cfg,
     bytes: &[u8],
-) -> Result<Vec<T>, Unanswered> {
+) -> Result<Vec<T>, Error> {
     let mut values = Vec::new(alloc);
     let mut rest: &[u8] = bytes;
     for _ in 0..bytes.len() {
         if rest.is_empty() {
             break;
         }
-        values
-            .push(T::read_cfg(alloc, &mut rest, cfg)?)
-            .map_err(AllocError::from)?;
+        let value = T::read_cfg(alloc, &mut rest, cfg)?;
+        values.push(value).map_err(|_| Error::OutOfMemory)?;
     }
     Ok(values)
 }
