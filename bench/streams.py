@@ -2,11 +2,11 @@
 """streams.py SHAPE PARTICIPANTS ROUNDS: writes a stream of messages to standard output.
 
 SHAPE is `votes` (a notarize of each participant in each round), `certificates` (a notarization of all participants in each
-round) or `all` (messages of every kind: in each round a notarize of each participant and a notarization, a certification, a
-nullify and a finalize of some and a finalization of all). In each tenth round participant 0 votes for a second payload too, and
-where all kinds are there the round has a nullification and evidence of each kind. The base of the namespaces is `bench`, and
-participant i has the key whose 32 bytes are the number i, the highest byte first. With `keys` as the SHAPE the program's
-arguments are written instead, one a line.
+round), `fork` (two of them, which contradict) or `all` (messages of every kind: in each round a notarize of each participant
+and a notarization, a certification, a nullify and a finalize of some and a finalization of all). In each tenth round, but for
+`fork`, participant 0 votes for a second payload too, and where all kinds are there the round has a nullification and evidence
+of each kind. The base of the namespaces is `bench`, and participant i has the key whose 32 bytes are the number i, the highest
+byte first. With `keys` as the SHAPE the program's arguments are written instead, one a line.
 
 Floods are SHAPEs too: `member` (participant 0 votes once in each round), `two` (and for a second payload), `five` (and with a
 nullify and two finalizes), `unsigned` (a notarize of participant 0 in each round, whose signature is 32 zeros), `again` (the
@@ -82,7 +82,9 @@ def messages(shape, participants, view):
         yield from (b"\x00" + vote(NOTARIZE, i, proposed) for i in range(participants))
     else:
         yield b"\x01" + certificate(NOTARIZE, participants, proposed)
-    if view % 10 == 0:
+    if shape == "fork":
+        yield b"\x01" + certificate(NOTARIZE, participants, proposal(view, b"second"))
+    elif view % 10 == 0:
         yield b"\x00" + vote(NOTARIZE, 0, proposal(view, b"second"))
 
 
