@@ -4,8 +4,6 @@
 #[cfg(test)]
 mod against_model;
 #[cfg(test)]
-mod callers;
-#[cfg(test)]
 mod evidence;
 #[cfg(test)]
 mod large;
