@@ -1,12 +1,52 @@
 //! Numbers that are given, and that no row asks for.
 
-use simplex_base::codec::MaxEncodeSize;
+use simplex_base::codec::{Encode, MaxEncodeSize, decode};
+use simplex_base::positions::{Participant, View};
 use simplex_scheme::faults::{max_faults, quorum};
 use simplex_scheme::marked::{Marked, MarkedDigest};
 use simplex_scheme::plain::Plain;
 use simplex_scheme::proposal::Proposal;
 use simplex_scheme::scheme::{CertificateScheme, Digest, Sha256Digest};
-use simplex_votes::types::{Certificate, Context, Notarization, Vote};
+use simplex_votes::types::{Artifact, Certificate, Context, Notarization, Vote};
+use std::test::Fail;
+
+/// Numbers, each with its spelling.
+#[test]
+fn ample_numbers(rt: HostRuntime) -> Result<(), Fail> {
+    let alloc = rt.alloc();
+    let rows: [(u64, &[u8]); 6] = [
+        (0, &[0]),
+        (127, &[0x7f]),
+        (128, &[0x80, 1]),
+        (333, &[0xcd, 2]),
+        (4294967295, &[0xff, 0xff, 0xff, 0xff, 0xf]),
+        (
+            u64::MAX,
+            &[0xff, 0xff, 0xff, 0xff, 0xff, 0xff, 0xff, 0xff, 0xff, 1],
+        ),
+    ];
+    for (number, spelling) in rows {
+        let view = View::new(number);
+        assert_eq!(rt; view.encode(alloc)?.as_slice(), spelling);
+        assert!(rt; decode::<View>(alloc, spelling).is_ok_and(|read| read == view));
+        if number <= 4294967295 {
+            let signer = Participant::new(number as u32);
+            assert_eq!(rt; signer.encode(alloc)?.as_slice(), spelling);
+            assert!(rt; decode::<Participant>(alloc, spelling).is_ok_and(|read| read == signer));
+        }
+    }
+    Ok(())
+}
+
+/// A vote becomes the artifact with its parts behind the artifact's tag.
+#[test]
+fn ample_stored(rt: HostRuntime) -> Result<(), Fail> {
+    let alloc = rt.alloc();
+    let vote = decode::<Vote<Marked, MarkedDigest>>(alloc, &[1, 0, 10, 1, 0xaa])?;
+    let stored = Artifact::from(vote).encode(alloc)?;
+    assert_eq!(rt; stored.as_slice(), [3, 0, 10, 1, 0xaa].as_slice());
+    Ok(())
+}
 
 #[test]
 fn one_of_four_may_lie(rt: HostRuntime) {

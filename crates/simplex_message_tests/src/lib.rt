@@ -1,7 +1,9 @@
 //! Tests of the message types: what neither a contract nor a row says. Equality and hashes at a few values; electors and
-//! hashers of the tests' own; the vote map beside a plainer one; and numbers that are given.
+//! hashers of the tests' own; the vote map beside a plainer one; many certificates verified at once; and numbers that are given.
 #![tactic(auto)]
 
+#[cfg(test)]
+mod bisection;
 #[cfg(test)]
 mod given;
 #[cfg(test)]
