@@ -3,12 +3,10 @@
 use crate::audits::{audit_row, committees, feed_row};
 use crate::leaders::leader;
 use crate::maps::map;
-use crate::names::{derive, subject};
-use crate::plans::forward;
-use crate::reads::{Asked, read_row};
+use crate::reads::read;
 use crate::rows::{Unanswered, bytes, committee, delta, epoch, small, term_length, view};
 use crate::terms::term;
-use crate::votes::vote_row;
+use crate::verifying::verify;
 use crate::windows::{admits, floor_row, limit_row, lookahead, outbound, truth, viewport_row};
 use simplex_base::positions::Round;
 use simplex_lead::Viewport;
@@ -18,7 +16,7 @@ use std::alloc::{AllocError, Global};
 const NO_ROW: &str = "no row";
 
 /// The answer to a line.
-pub(crate) fn answer(alloc: Global, line: &str) -> Result<String, AllocError> {
+pub fn answer(alloc: Global, line: &str) -> Result<String, AllocError> {
     let words: Vec<&str> = line.split_whitespace().collect(alloc)?;
     match row(alloc, words.as_slice()) {
         Ok(answer) => Ok(answer),
@@ -31,20 +29,18 @@ pub(crate) fn answer(alloc: Global, line: &str) -> Result<String, AllocError> {
 fn row(alloc: Global, words: &[&str]) -> Result<String, Unanswered> {
     match words {
         ["read", kind, bound, spelling @ ..] => {
-            read_row(alloc, Asked::Read, *kind, *bound, spelling)
+            read(
+                alloc,
+                *kind,
+                small(*bound)?,
+                bytes(alloc, spelling)?.as_slice(),
+            )
         }
-        ["decode", kind, bound, spelling @ ..] => {
-            read_row(alloc, Asked::Decode, *kind, *bound, spelling)
-        }
-        ["cut", kind, bound, spelling @ ..] => {
-            read_row(alloc, Asked::Cut, *kind, *bound, spelling)
-        }
-        ["verify" | "sign" | "assemble" | "many", scheme, ..] => vote_row(alloc, *scheme, words),
-        ["forward", at, place, signers @ ..] => {
-            forward(alloc, Round::new(epoch(*at)?, view(*place)?), signers)
-        }
-        ["derive", base @ ..] => derive(alloc, bytes(alloc, base)?.as_slice()),
-        ["subject", kind, base, spelling @ ..] => subject(alloc, *kind, *base, spelling),
+        ["verify", participants, spelling @ ..] => verify(
+            alloc,
+            &committee(alloc, *participants)?,
+            bytes(alloc, spelling)?.as_slice(),
+        ),
         ["audit", who, stream @ ..] => audit_row(
             alloc,
             &committees(alloc, *who)?,

@@ -9,7 +9,7 @@ use std::alloc::{AllocError, Global};
 
 /// The marked committee of so many participants for every epoch, or `EPOCH:NUMBER`s parted by commas, of which each is the
 /// committee of an epoch. The epochs have to rise strictly.
-pub(crate) fn committees(alloc: Global, word: &str) -> Result<Committees<Marked>, Unanswered> {
+pub fn committees(alloc: Global, word: &str) -> Result<Committees<Marked>, Unanswered> {
     if !word.contains(':') {
         return Ok(Committees::every(committee(alloc, word)?));
     }
@@ -29,7 +29,7 @@ fn pair(alloc: Global, word: &str) -> Result<(Epoch, Marked), Unanswered> {
 }
 
 /// The answer to an audit of a stream.
-pub(crate) fn audit_row(
+pub fn audit_row(
     alloc: Global,
     committees: &Committees<Marked>,
     stream: &[u8],
@@ -39,7 +39,7 @@ pub(crate) fn audit_row(
 }
 
 /// The answer to an audit of a stream in pieces: how it stands after each, and then what the audit finds.
-pub(crate) fn feed_row(
+pub fn feed_row(
     alloc: Global,
     committees: &Committees<Marked>,
     pieces: &[&str],

@@ -4,16 +4,12 @@
 mod answers;
 mod audits;
 mod leaders;
-mod many;
 mod maps;
-mod names;
-mod plans;
 mod reads;
 mod refusals;
 mod rows;
-mod schemes;
 mod terms;
-mod votes;
+mod verifying;
 mod windows;
 
 use std::io;

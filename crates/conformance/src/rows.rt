@@ -1,14 +1,12 @@
 //! Rows: a word that says what is asked, and then numbers in decimal and bytes in hexadecimal.
 
-ghost use Rattle.std.specs.Prelude.{◌≤◌, IfOk};
-
 use simplex_base::positions::{Epoch, Participant, TermLength, View, ViewDelta};
 use simplex_scheme::marked::Marked;
 use std::alloc::{AllocError, Global};
 
 /// Why a line is not answered as a row.
 #[derive(Clone, Copy, Debug)]
-pub(crate) enum Unanswered {
+pub enum Unanswered {
     /// It is no row.
     NoRow,
     /// Memory was refused.
@@ -39,32 +37,32 @@ fn number(word: &str) -> Result<u64, Unanswered> {
 }
 
 /// A number of at most 2^32 - 1: a bound, a number of participants, or one of a participant.
-pub(crate) fn small(word: &str) -> Result<u32, Unanswered> {
+pub fn small(word: &str) -> Result<u32, Unanswered> {
     u32::try_from(number(word)?).map_err(|_| Unanswered::NoRow)
 }
 
 /// An epoch.
-pub(crate) fn epoch(word: &str) -> Result<Epoch, Unanswered> {
+pub fn epoch(word: &str) -> Result<Epoch, Unanswered> {
     Ok(Epoch::new(number(word)?))
 }
 
 /// A view.
-pub(crate) fn view(word: &str) -> Result<View, Unanswered> {
+pub fn view(word: &str) -> Result<View, Unanswered> {
     Ok(View::new(number(word)?))
 }
 
 /// A number of views.
-pub(crate) fn delta(word: &str) -> Result<ViewDelta, Unanswered> {
+pub fn delta(word: &str) -> Result<ViewDelta, Unanswered> {
     Ok(ViewDelta::new(number(word)?))
 }
 
 /// A participant.
-pub(crate) fn participant(word: &str) -> Result<Participant, Unanswered> {
+pub fn participant(word: &str) -> Result<Participant, Unanswered> {
     Ok(Participant::new(small(word)?))
 }
 
 /// The number of views of a term, at least 1.
-pub(crate) fn term_length(word: &str) -> Result<TermLength, Unanswered> {
+pub fn term_length(word: &str) -> Result<TermLength, Unanswered> {
     let views = small(word)?;
     if views == 0 {
         return Err(Unanswered::NoRow);
@@ -72,24 +70,17 @@ pub(crate) fn term_length(word: &str) -> Result<TermLength, Unanswered> {
     Ok(TermLength::new(views))
 }
 
-/// A number of participants of a committee, at least 1.
-pub(crate) fn committee_size(word: &str) -> Result<u32, Unanswered>
-    ensures { IfOk result (λ size. 1 ≤ size) }
-{
-    let size = small(word)?;
-    if size == 0 {
+/// The marked committee of so many participants, at least 1, for who only verifies.
+pub fn committee(alloc: Global, word: &str) -> Result<Marked, Unanswered> {
+    let participants = small(word)?;
+    if participants == 0 {
         return Err(Unanswered::NoRow);
     }
-    Ok(size)
-}
-
-/// The marked committee of so many participants, at least 1, for who only verifies.
-pub(crate) fn committee(alloc: Global, word: &str) -> Result<Marked, Unanswered> {
-    Ok(Marked::new(alloc, committee_size(word)?, None)?)
+    Ok(Marked::new(alloc, participants, None)?)
 }
 
 /// The bytes that some words spell, each of them whole bytes by two digits a byte.
-pub(crate) fn bytes(alloc: Global, words: &[&str]) -> Result<Vec<u8>, Unanswered> {
+pub fn bytes(alloc: Global, words: &[&str]) -> Result<Vec<u8>, Unanswered> {
     let mut bytes = Vec::new(alloc);
     for word in words {
         bytes.extend_from_slice(hex::decode(alloc, *word)?.as_slice())?;
