@@ -1,22 +1,26 @@
 //! The answer to a line.
 
 use crate::audits::{audit_row, committees, feed_row};
+use crate::callers::{batch, follow, hear, store};
 use crate::leaders::leader;
 use crate::maps::map;
-use crate::reads::read;
+use crate::names::{derive, subject};
+use crate::plans::forward;
+use crate::reads::{Asked, read_row};
 use crate::rows::{Unanswered, bytes, committee, delta, epoch, small, term_length, view};
 use crate::terms::term;
-use crate::verifying::verify;
+use crate::votes::vote_row;
 use crate::windows::{admits, floor_row, limit_row, lookahead, outbound, truth, viewport_row};
 use simplex_base::positions::Round;
-use simplex_lead::Viewport;
+use simplex_lead::{Lookahead, Viewport};
+use simplex_scheme::marked::MarkedDigest;
 use std::alloc::{AllocError, Global};
 
 /// What is said of a line that is no row.
 const NO_ROW: &str = "no row";
 
 /// The answer to a line.
-pub fn answer(alloc: Global, line: &str) -> Result<String, AllocError> {
+pub(crate) fn answer(alloc: Global, line: &str) -> Result<String, AllocError> {
     let words: Vec<&str> = line.split_whitespace().collect(alloc)?;
     match row(alloc, words.as_slice()) {
         Ok(answer) => Ok(answer),
@@ -29,24 +33,34 @@ pub fn answer(alloc: Global, line: &str) -> Result<String, AllocError> {
 fn row(alloc: Global, words: &[&str]) -> Result<String, Unanswered> {
     match words {
         ["read", kind, bound, spelling @ ..] => {
-            read(
-                alloc,
-                *kind,
-                small(*bound)?,
-                bytes(alloc, spelling)?.as_slice(),
-            )
+            read_row(alloc, Asked::Read, *kind, *bound, spelling)
         }
-        ["verify", participants, spelling @ ..] => verify(
-            alloc,
-            &committee(alloc, *participants)?,
-            bytes(alloc, spelling)?.as_slice(),
-        ),
+        ["decode", kind, bound, spelling @ ..] => {
+            read_row(alloc, Asked::Decode, *kind, *bound, spelling)
+        }
+        ["cut", kind, bound, spelling @ ..] => {
+            read_row(alloc, Asked::Cut, *kind, *bound, spelling)
+        }
+        ["verify" | "sign" | "assemble" | "many", scheme, ..] => vote_row(alloc, *scheme, words),
+        ["forward", at, place, signers @ ..] => {
+            forward(alloc, Round::new(epoch(*at)?, view(*place)?), signers)
+        }
+        ["derive", base @ ..] => derive(alloc, bytes(alloc, base)?.as_slice()),
+        ["subject", kind, base, spelling @ ..] => subject(alloc, *kind, *base, spelling),
         ["audit", who, stream @ ..] => audit_row(
             alloc,
             &committees(alloc, *who)?,
             bytes(alloc, stream)?.as_slice(),
         ),
         ["feed", who, pieces @ ..] => feed_row(alloc, &committees(alloc, *who)?, pieces),
+        ["batch", participants, proposal, votes @ ..] => {
+            let scheme = committee(alloc, *participants)?;
+            batch::<_, MarkedDigest>(alloc, &scheme, *proposal, votes)
+        }
+        ["follow", who, spellings @ ..] => {
+            follow::<_, MarkedDigest>(alloc, &committees(alloc, *who)?, spellings)
+        }
+        ["store", who, pieces @ ..] => store(alloc, &committees(alloc, *who)?, pieces),
         ["map", participants, signers @ ..] => map(alloc, small(*participants)?, signers),
         ["leader", participants, seed, length, at, place] => leader(
             alloc,
@@ -90,14 +104,47 @@ fn window(alloc: Global, words: &[&str]) -> Result<String, Unanswered> {
             ahead,
             place,
         ] => {
-            let viewport = Viewport {
-                finalized: view(*finalized)?,
-                current: view(*current)?,
-                view_retention: delta(*retention)?,
-                lookahead: lookahead(*length, *ahead)?,
-            };
+            let viewport = viewport(
+                *finalized,
+                *current,
+                *retention,
+                lookahead(*length, *ahead)?,
+            )?;
             Ok(viewport_row(alloc, viewport, view(*place)?)?)
+        }
+        [
+            "hear",
+            finalized,
+            current,
+            retention,
+            length,
+            ahead,
+            certified,
+            place,
+        ] => {
+            let viewport = viewport(
+                *finalized,
+                *current,
+                *retention,
+                lookahead(*length, *ahead)?,
+            )?;
+            Ok(hear(alloc, &viewport, view(*certified)?, view(*place)?)?)
         }
         _ => Err(Unanswered::NoRow),
     }
+}
+
+/// The views that a node keeps and takes.
+fn viewport(
+    finalized: &str,
+    current: &str,
+    retention: &str,
+    lookahead: Lookahead,
+) -> Result<Viewport, Unanswered> {
+    Ok(Viewport {
+        finalized: view(finalized)?,
+        current: view(current)?,
+        view_retention: delta(retention)?,
+        lookahead,
+    })
 }

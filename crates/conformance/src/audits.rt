@@ -2,14 +2,15 @@
 
 use crate::refusals::name;
 use crate::rows::{Unanswered, bytes, committee, epoch};
-use simplex_audit::audit::{Auditor, Committees, Report, audit};
+use simplex_audit::audit::{Auditor, Committees, Evidence, Report, audit};
 use simplex_base::positions::Epoch;
 use simplex_scheme::marked::{Marked, MarkedDigest};
+use simplex_scheme::scheme::{Digest, SchemeTypes};
 use std::alloc::{AllocError, Global};
 
 /// The marked committee of so many participants for every epoch, or `EPOCH:NUMBER`s parted by commas, of which each is the
 /// committee of an epoch. The epochs have to rise strictly.
-pub fn committees(alloc: Global, word: &str) -> Result<Committees<Marked>, Unanswered> {
+pub(crate) fn committees(alloc: Global, word: &str) -> Result<Committees<Marked>, Unanswered> {
     if !word.contains(':') {
         return Ok(Committees::every(committee(alloc, word)?));
     }
@@ -29,7 +30,7 @@ fn pair(alloc: Global, word: &str) -> Result<(Epoch, Marked), Unanswered> {
 }
 
 /// The answer to an audit of a stream.
-pub fn audit_row(
+pub(crate) fn audit_row(
     alloc: Global,
     committees: &Committees<Marked>,
     stream: &[u8],
@@ -39,7 +40,7 @@ pub fn audit_row(
 }
 
 /// The answer to an audit of a stream in pieces: how it stands after each, and then what the audit finds.
-pub fn feed_row(
+pub(crate) fn feed_row(
     alloc: Global,
     committees: &Committees<Marked>,
     pieces: &[&str],
@@ -79,9 +80,7 @@ fn standing(
 /// What a report says: how many messages were read, the lines of the evidence and of the splits, and the fault.
 fn told(alloc: Global, report: &Report<Marked, MarkedDigest>) -> Result<String, AllocError> {
     let mut text = format!(in alloc; "read {}", report.read)?;
-    for evidence in &report.evidence {
-        push_part(&mut text, evidence.line(alloc)?.as_str())?;
-    }
+    text.push_str(lines(alloc, report.evidence.as_slice())?.as_str())?;
     for split in &report.splits {
         push_part(&mut text, split.line(alloc)?.as_str())?;
     }
@@ -89,6 +88,18 @@ fn told(alloc: Global, report: &Report<Marked, MarkedDigest>) -> Result<String, 
         let error = name(alloc, fault.error)?;
         let said = format!(in alloc; "fault at {}: {error}", fault.place)?;
         push_part(&mut text, said.as_str())?;
+    }
+    Ok(text)
+}
+
+/// The lines of some evidence, each as a further part of an answer.
+pub(crate) fn lines<S: SchemeTypes, D: Digest>(
+    alloc: Global,
+    evidence: &[Evidence<S, D>],
+) -> Result<String, AllocError> {
+    let mut text = String::new(alloc);
+    for evidence in evidence {
+        push_part(&mut text, evidence.line(alloc)?.as_str())?;
     }
     Ok(text)
 }

@@ -31,16 +31,16 @@ fn rotation(alloc: Global, seed: &str, length: TermLength) -> Result<RoundRobin,
     Ok(rotation)
 }
 
-/// The leader of a round of the committee.
-pub fn leader(
+/// The leader of a round of the committee, by clones of the rotation and of what it makes.
+pub(crate) fn leader(
     alloc: Global,
     committee: &Marked,
     seed: &str,
     length: TermLength,
     round: Round,
 ) -> Result<String, Unanswered> {
-    let rotation = rotation(alloc, seed, length)?;
-    let elector = Config::<Marked>::build(rotation, alloc, committee.participants())?;
+    let rotation = rotation(alloc, seed, length)?.clone()?;
+    let elector = Config::<Marked>::build(rotation, alloc, committee.participants())?.clone()?;
     let leader = Elector::<Marked>::elect(&elector, round, None);
     Ok(format!(in alloc; "{}", leader.get())?)
 }

@@ -3,13 +3,18 @@
 
 mod answers;
 mod audits;
+mod callers;
 mod leaders;
+mod many;
 mod maps;
+mod names;
+mod plans;
 mod reads;
 mod refusals;
 mod rows;
+mod schemes;
 mod terms;
-mod verifying;
+mod votes;
 mod windows;
 
 use std::io;

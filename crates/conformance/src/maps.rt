@@ -21,7 +21,11 @@ impl Attributable for Signed {
 }
 
 /// Inserts an item of each signer into an empty map: what each insert answers, and then the map.
-pub fn map(alloc: Global, participants: u32, signers: &[&str]) -> Result<String, Unanswered> {
+pub(crate) fn map(
+    alloc: Global,
+    participants: u32,
+    signers: &[&str],
+) -> Result<String, Unanswered> {
     let mut items = AttributableMap::new(alloc, participants as usize);
     let mut answers = String::new(alloc);
     for word in signers {

@@ -1,8 +1,11 @@
 //! Reads of values of each type.
 
+ghost use Rattle.std.specs.Prelude.{◌<◌, length};
+
 use crate::refusals::name;
-use crate::rows::Unanswered;
-use simplex_base::codec::{Encode, Read};
+use crate::rows::{Unanswered, bytes, small};
+use simplex_base::codec::error::Error;
+use simplex_base::codec::{Encode, Read, decode_cfg};
 use simplex_base::positions::{Epoch, Participant, Round, View};
 use simplex_evidence::types::{
     Activity, ConflictingFinalize, ConflictingNotarize, NullifyFinalize,
@@ -18,64 +21,158 @@ use simplex_votes::types::{
 };
 use std::alloc::{AllocError, Global};
 
-/// The value at the front of the bytes: how long its spelling is, the spelling, and how many bytes are left; or
-/// why there is none.
-fn read_as<T: Read + Encode + Drop>(
+/// What is asked of some bytes.
+#[derive(Clone, Copy)]
+pub(crate) enum Asked {
+    /// The value at their front.
+    Read,
+    /// The value that they are.
+    Decode,
+    /// What is refused of their fronts, and of them with a bit turned.
+    Cut,
+}
+
+/// The value at the front of the bytes, or that they are: how long its spelling is, the spelling, and how many bytes are
+/// left. What is told is a clone's.
+fn read_as<T: Read + Encode + Drop, C: FnOnce(&T) -> Result<T, AllocError>>(
     alloc: Global,
+    asked: Asked,
     cfg: &T::Cfg,
     bytes: &[u8],
-) -> Result<String, Unanswered> {
+    clone: C,
+) -> Result<String, Unanswered>
+    requires { C.IsAlwaysCallable clone }
+{
     let mut rest: &[u8] = bytes;
-    match T::read_cfg(alloc, &mut rest, cfg) {
-        Ok(value) => {
-            let spelling = value.encode(alloc)?;
-            let spelling = hex::encode(alloc, spelling.as_slice())?;
-            let (size, left) = (value.encode_size(), rest.len());
-            Ok(format!(in alloc; "size {size}, {spelling}, left {left}")?)
-        }
-        Err(error) => Ok(name(alloc, error)?),
+    let read = match asked {
+        Asked::Read => T::read_cfg(alloc, &mut rest, cfg),
+        Asked::Decode => decode_cfg::<T>(alloc, bytes, cfg),
+        Asked::Cut => return Ok(cut::<T>(alloc, cfg, bytes)?),
+    };
+    let value = match read {
+        Ok(value) => value,
+        Err(error) => return Ok(name(alloc, error)?),
+    };
+    let value = clone(&value)?;
+    let spelling = value.encode(alloc)?;
+    let spelling = hex::encode(alloc, spelling.as_slice())?;
+    let size = value.encode_size();
+    match asked {
+        Asked::Read => Ok(format!(in alloc; "size {size}, {spelling}, left {}", rest.len())?),
+        _ => Ok(format!(in alloc; "size {size}, {spelling}")?),
     }
 }
 
-/// The answer to a read of this kind, under this bound where it has certificates.
-pub fn read(alloc: Global, kind: &str, bound: u32, bytes: &[u8]) -> Result<String, Unanswered> {
+/// A letter for each front of the bytes, and then for the bytes with each of their bits turned, the lowest of the first
+/// byte first.
+fn cut<T: Read + Drop>(alloc: Global, cfg: &T::Cfg, bytes: &[u8]) -> Result<String, AllocError> {
+    let mut letters = String::new(alloc);
+    for end in 0..bytes.len() {
+        letters.push_str(letter::<T>(alloc, cfg, &bytes[..end])?)?;
+    }
+    letters.push_str(" ")?;
+    for place in 0..bytes.len() {
+        letters.push_str(turned::<T>(alloc, cfg, bytes, place)?.as_str())?;
+    }
+    Ok(letters)
+}
+
+/// The letters for the bytes with each bit of one of them turned.
+fn turned<T: Read + Drop>(
+    alloc: Global,
+    cfg: &T::Cfg,
+    bytes: &[u8],
+    place: usize,
+) -> Result<String, AllocError>
+    requires { place < length bytes.now }
+{
+    let mut letters = String::new(alloc);
+    for bit in [1, 2, 4, 8, 16, 32, 64, 128] {
+        let mut changed = bytes.to_vec(alloc)?;
+        changed[place] ^= bit;
+        letters.push_str(letter::<T>(alloc, cfg, changed.as_slice())?)?;
+    }
+    Ok(letters)
+}
+
+/// What a read of the front of the bytes answers: `r` where there is a value, and else the first letter of the refusal,
+/// of which `V` is a number's and `B` a truth value's. `!` tells that the slice was moved though nothing was read.
+fn letter<T: Read + Drop>(
+    alloc: Global,
+    cfg: &T::Cfg,
+    bytes: &[u8],
+) -> Result<&'static str, AllocError> {
+    let mut rest: &[u8] = bytes;
+    match T::read_cfg(alloc, &mut rest, cfg) {
+        Ok(_) => Ok("r"),
+        Err(Error::OutOfMemory) => Err(AllocError),
+        Err(_) if rest.len() != bytes.len() => Ok("!"),
+        Err(Error::EndOfBuffer) => Ok("E"),
+        Err(Error::InvalidVarint) => Ok("V"),
+        Err(Error::InvalidBool) => Ok("B"),
+        Err(_) => Ok("I"),
+    }
+}
+
+/// The answer to a row that asks this of a value of this kind, which is under this bound where it has certificates.
+pub(crate) fn read_row(
+    alloc: Global,
+    asked: Asked,
+    kind: &str,
+    bound: &str,
+    spelling: &[&str],
+) -> Result<String, Unanswered> {
+    let bound = small(bound)?;
+    let spelling = bytes(alloc, spelling)?;
+    let bytes = spelling.as_slice();
     match kind {
-        "epoch" => read_as::<Epoch>(alloc, &(), bytes),
-        "view" => read_as::<View>(alloc, &(), bytes),
-        "participant" => read_as::<Participant>(alloc, &(), bytes),
-        "round" => read_as::<Round>(alloc, &(), bytes),
-        "context" => read_as::<Context<Sha256Digest, PlainKey>>(alloc, &(), bytes),
+        "epoch" => read_as(alloc, asked, &(), bytes, Epoch::clone),
+        "view" => read_as(alloc, asked, &(), bytes, View::clone),
+        "participant" => read_as(alloc, asked, &(), bytes, Participant::clone),
+        "round" => read_as(alloc, asked, &(), bytes, Round::clone),
+        "context" => read_as(
+            alloc,
+            asked,
+            &(),
+            bytes,
+            Context::<Sha256Digest, PlainKey>::clone,
+        ),
         _ => match kind.strip_prefix("plain-") {
-            Some(kind) => read_message::<Plain, Sha256Digest>(alloc, kind, bound, bytes),
-            None => read_message::<Marked, MarkedDigest>(alloc, kind, bound, bytes),
+            Some(kind) => read_message::<Plain, Sha256Digest>(alloc, asked, kind, bound, bytes),
+            None => read_message::<Marked, MarkedDigest>(alloc, asked, kind, bound, bytes),
         },
     }
 }
 
-/// The read of a message, or a part of one, of a scheme and a digest.
+/// The same of a message, or a part of one, of a scheme and a digest.
 fn read_message<S: Scheme<D>, D: Digest>(
     alloc: Global,
+    asked: Asked,
     kind: &str,
     bound: u32,
     bytes: &[u8],
 ) -> Result<String, Unanswered> {
     match kind {
-        "proposal" => read_as::<Proposal<D>>(alloc, &(), bytes),
-        "attestation" => read_as::<Attestation<S>>(alloc, &(), bytes),
-        "listed" => read_as::<S::Certificate>(alloc, &bound, bytes),
-        "notarize" => read_as::<Notarize<S, D>>(alloc, &(), bytes),
-        "nullify" => read_as::<Nullify<S>>(alloc, &(), bytes),
-        "finalize" => read_as::<Finalize<S, D>>(alloc, &(), bytes),
-        "notarization" => read_as::<Notarization<S, D>>(alloc, &bound, bytes),
-        "nullification" => read_as::<Nullification<S>>(alloc, &bound, bytes),
-        "finalization" => read_as::<Finalization<S, D>>(alloc, &bound, bytes),
-        "vote" => read_as::<Vote<S, D>>(alloc, &(), bytes),
-        "certificate" => read_as::<Certificate<S, D>>(alloc, &bound, bytes),
-        "artifact" => read_as::<Artifact<S, D>>(alloc, &bound, bytes),
-        "conflicting-notarize" => read_as::<ConflictingNotarize<S, D>>(alloc, &(), bytes),
-        "conflicting-finalize" => read_as::<ConflictingFinalize<S, D>>(alloc, &(), bytes),
-        "nullify-finalize" => read_as::<NullifyFinalize<S, D>>(alloc, &(), bytes),
-        "activity" => read_as::<Activity<S, D>>(alloc, &bound, bytes),
+        "proposal" => read_as(alloc, asked, &(), bytes, Proposal::<D>::clone),
+        "attestation" => read_as(alloc, asked, &(), bytes, Attestation::<S>::clone),
+        "listed" => read_as(alloc, asked, &bound, bytes, S::Certificate::clone),
+        "notarize" => read_as(alloc, asked, &(), bytes, Notarize::<S, D>::clone),
+        "nullify" => read_as(alloc, asked, &(), bytes, Nullify::<S>::clone),
+        "finalize" => read_as(alloc, asked, &(), bytes, Finalize::<S, D>::clone),
+        "notarization" => read_as(alloc, asked, &bound, bytes, Notarization::<S, D>::clone),
+        "nullification" => read_as(alloc, asked, &bound, bytes, Nullification::<S>::clone),
+        "finalization" => read_as(alloc, asked, &bound, bytes, Finalization::<S, D>::clone),
+        "vote" => read_as(alloc, asked, &(), bytes, Vote::<S, D>::clone),
+        "certificate" => read_as(alloc, asked, &bound, bytes, Certificate::<S, D>::clone),
+        "artifact" => read_as(alloc, asked, &bound, bytes, Artifact::<S, D>::clone),
+        "conflicting-notarize" => {
+            read_as(alloc, asked, &(), bytes, ConflictingNotarize::<S, D>::clone)
+        }
+        "conflicting-finalize" => {
+            read_as(alloc, asked, &(), bytes, ConflictingFinalize::<S, D>::clone)
+        }
+        "nullify-finalize" => read_as(alloc, asked, &(), bytes, NullifyFinalize::<S, D>::clone),
+        "activity" => read_as(alloc, asked, &bound, bytes, Activity::<S, D>::clone),
         _ => Err(Unanswered::NoRow),
     }
 }

@@ -4,7 +4,7 @@ use simplex_base::codec::error::Error;
 use std::alloc::{AllocError, Global};
 
 /// The name of a refusal, with the type and the condition of an invalid value. Want of memory is no answer.
-pub fn name(alloc: Global, error: Error) -> Result<String, AllocError> {
+pub(crate) fn name(alloc: Global, error: Error) -> Result<String, AllocError> {
     match error {
         Error::EndOfBuffer => "EndOfBuffer".to_string(alloc),
         Error::InvalidVarint => "InvalidVarint".to_string(alloc),

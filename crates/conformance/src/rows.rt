@@ -1,12 +1,14 @@
 //! Rows: a word that says what is asked, and then numbers in decimal and bytes in hexadecimal.
 
+ghost use Rattle.std.specs.Prelude.{◌≤◌, IfOk};
+
 use simplex_base::positions::{Epoch, Participant, TermLength, View, ViewDelta};
 use simplex_scheme::marked::Marked;
 use std::alloc::{AllocError, Global};
 
 /// Why a line is not answered as a row.
 #[derive(Clone, Copy, Debug)]
-pub enum Unanswered {
+pub(crate) enum Unanswered {
     /// It is no row.
     NoRow,
     /// Memory was refused.
@@ -37,32 +39,32 @@ fn number(word: &str) -> Result<u64, Unanswered> {
 }
 
 /// A number of at most 2^32 - 1: a bound, a number of participants, or one of a participant.
-pub fn small(word: &str) -> Result<u32, Unanswered> {
+pub(crate) fn small(word: &str) -> Result<u32, Unanswered> {
     u32::try_from(number(word)?).map_err(|_| Unanswered::NoRow)
 }
 
 /// An epoch.
-pub fn epoch(word: &str) -> Result<Epoch, Unanswered> {
+pub(crate) fn epoch(word: &str) -> Result<Epoch, Unanswered> {
     Ok(Epoch::new(number(word)?))
 }
 
 /// A view.
-pub fn view(word: &str) -> Result<View, Unanswered> {
+pub(crate) fn view(word: &str) -> Result<View, Unanswered> {
     Ok(View::new(number(word)?))
 }
 
 /// A number of views.
-pub fn delta(word: &str) -> Result<ViewDelta, Unanswered> {
+pub(crate) fn delta(word: &str) -> Result<ViewDelta, Unanswered> {
     Ok(ViewDelta::new(number(word)?))
 }
 
 /// A participant.
-pub fn participant(word: &str) -> Result<Participant, Unanswered> {
+pub(crate) fn participant(word: &str) -> Result<Participant, Unanswered> {
     Ok(Participant::new(small(word)?))
 }
 
 /// The number of views of a term, at least 1.
-pub fn term_length(word: &str) -> Result<TermLength, Unanswered> {
+pub(crate) fn term_length(word: &str) -> Result<TermLength, Unanswered> {
     let views = small(word)?;
     if views == 0 {
         return Err(Unanswered::NoRow);
@@ -70,17 +72,24 @@ pub fn term_length(word: &str) -> Result<TermLength, Unanswered> {
     Ok(TermLength::new(views))
 }
 
-/// The marked committee of so many participants, at least 1, for who only verifies.
-pub fn committee(alloc: Global, word: &str) -> Result<Marked, Unanswered> {
-    let participants = small(word)?;
-    if participants == 0 {
+/// A number of participants of a committee, at least 1.
+pub(crate) fn committee_size(word: &str) -> Result<u32, Unanswered>
+    ensures { IfOk result (λ size. 1 ≤ size) }
+{
+    let size = small(word)?;
+    if size == 0 {
         return Err(Unanswered::NoRow);
     }
-    Ok(Marked::new(alloc, participants, None)?)
+    Ok(size)
+}
+
+/// The marked committee of so many participants, at least 1, for who only verifies.
+pub(crate) fn committee(alloc: Global, word: &str) -> Result<Marked, Unanswered> {
+    Ok(Marked::new(alloc, committee_size(word)?, None)?)
 }
 
 /// The bytes that some words spell, each of them whole bytes by two digits a byte.
-pub fn bytes(alloc: Global, words: &[&str]) -> Result<Vec<u8>, Unanswered> {
+pub(crate) fn bytes(alloc: Global, words: &[&str]) -> Result<Vec<u8>, Unanswered> {
     let mut bytes = Vec::new(alloc);
     for word in words {
         bytes.extend_from_slice(hex::decode(alloc, *word)?.as_slice())?;

@@ -4,7 +4,7 @@ use simplex_base::positions::{TermLength, View};
 use std::alloc::{AllocError, Global};
 
 /// The term that holds the view, where its end and the next term's start are views.
-pub fn term(alloc: Global, length: TermLength, view: View) -> Result<String, AllocError> {
+pub(crate) fn term(alloc: Global, length: TermLength, view: View) -> Result<String, AllocError> {
     let index = view.term_index(length);
     let start = view.term_start(length).get();
     let first = view.is_term_start(length);

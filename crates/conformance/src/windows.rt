@@ -9,10 +9,10 @@ use simplex_lead::{Lookahead, Viewport};
 use std::alloc::{AllocError, Global};
 
 /// What is said where a call counts past the last view.
-const PAST: &str = "past the end";
+pub(crate) const PAST: &str = "past the end";
 
 /// How far ahead a node looks, in terms of so many views.
-pub fn lookahead(length: &str, ahead: &str) -> Result<Lookahead, Unanswered> {
+pub(crate) fn lookahead(length: &str, ahead: &str) -> Result<Lookahead, Unanswered> {
     Ok(Lookahead {
         term_length: term_length(length)?,
         optimistic_views: delta(ahead)?,
@@ -20,7 +20,7 @@ pub fn lookahead(length: &str, ahead: &str) -> Result<Lookahead, Unanswered> {
 }
 
 /// Whether votes of the view `pending` are taken in the view `current`, where all that is counted is a view.
-pub fn admits(lookahead: Lookahead, current: View, pending: View) -> Option<bool>
+pub(crate) fn admits(lookahead: Lookahead, current: View, pending: View) -> Option<bool>
     ensures { MatchOption result (¬ FitsWindow lookahead.term_length current) (λ taken. IsTrue taken ↔ IsAdmitted lookahead.term_length lookahead.optimistic_views current pending) }
 {
     if !lookahead.fits(current) {
@@ -30,7 +30,7 @@ pub fn admits(lookahead: Lookahead, current: View, pending: View) -> Option<bool
 }
 
 /// Whether messages of the view `pending` are sent in the view `current`, where all that is counted is a view.
-pub fn outbound(lookahead: Lookahead, current: View, pending: View) -> Option<bool>
+pub(crate) fn outbound(lookahead: Lookahead, current: View, pending: View) -> Option<bool>
     ensures { MatchOption result (¬ FitsWindow lookahead.term_length current) (λ sent. IsTrue sent ↔ IsOutbound lookahead.term_length lookahead.optimistic_views current pending) }
 {
     if !lookahead.fits(current) {
@@ -40,7 +40,7 @@ pub fn outbound(lookahead: Lookahead, current: View, pending: View) -> Option<bo
 }
 
 /// The last view of the term of `current` that is admitted ahead of it, where all that is counted is a view.
-pub fn limit(lookahead: Lookahead, current: View) -> Option<View>
+pub(crate) fn limit(lookahead: Lookahead, current: View) -> Option<View>
     ensures { MatchOption result (¬ FitsWindow lookahead.term_length current) (λ limit. limit ≡ own_limit lookahead.term_length lookahead.optimistic_views current) }
 {
     if !lookahead.fits(current) {
@@ -61,7 +61,7 @@ fn takes_vote(viewport: Viewport, view: View) -> Option<bool>
 }
 
 /// A truth value, if there is one.
-pub fn truth(alloc: Global, value: Option<bool>) -> Result<String, AllocError> {
+pub(crate) fn truth(alloc: Global, value: Option<bool>) -> Result<String, AllocError> {
     match value {
         Some(value) => format!(in alloc; "{value}"),
         None => PAST.to_string(alloc),
@@ -77,17 +77,29 @@ fn place(alloc: Global, view: Option<View>, none: &str) -> Result<String, AllocE
 }
 
 /// The answer to a row that asks for the admission limit.
-pub fn limit_row(alloc: Global, lookahead: Lookahead, current: View) -> Result<String, AllocError> {
+pub(crate) fn limit_row(
+    alloc: Global,
+    lookahead: Lookahead,
+    current: View,
+) -> Result<String, AllocError> {
     place(alloc, limit(lookahead, current), PAST)
 }
 
 /// The answer to a row that asks from where messages of the view may be issued.
-pub fn floor_row(alloc: Global, lookahead: Lookahead, view: View) -> Result<String, AllocError> {
+pub(crate) fn floor_row(
+    alloc: Global,
+    lookahead: Lookahead,
+    view: View,
+) -> Result<String, AllocError> {
     place(alloc, lookahead.issuance_floor(view), "none")
 }
 
 /// The answer to a row that asks what a node keeps, and whether it takes votes and certificates of the view.
-pub fn viewport_row(alloc: Global, viewport: Viewport, view: View) -> Result<String, AllocError> {
+pub(crate) fn viewport_row(
+    alloc: Global,
+    viewport: Viewport,
+    view: View,
+) -> Result<String, AllocError> {
     let floor = viewport.floor().get();
     let retains = viewport.retains(view);
     let vote = truth(alloc, takes_vote(viewport, view))?;

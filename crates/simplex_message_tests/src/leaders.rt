@@ -6,7 +6,6 @@ ghost use Rattle.simplex_base.specs.Positions as positions;
 ghost use Rattle.simplex_lead.specs.Structure as structure;
 ghost use Rattle.simplex_lead.specs.declared.elector.mode.Mode.TheVariants.{Dynamic};
 
-use sha2::Digest as _;
 use simplex_base::codec::Fixed;
 use simplex_base::codec::fixed_bytes::FixedBytes;
 use simplex_base::positions::{Epoch, Participant, Round, TermLength, View, ViewDelta};
@@ -175,51 +174,6 @@ fn ample_falling_hashes(rt: HostRuntime) -> Result<(), Fail> {
         let elector = built(&rt, rt.alloc(), config, 5)?;
         let found = leaders(rt.alloc(), &elector, 0, 6)?;
         assert_eq!(rt; found.as_slice(), [4, 3, 2, 1, 0, 4].as_slice());
-    }
-    Ok(())
-}
-
-/// The participants by their SHA-256 with a seed.
-fn by_digest(alloc: Global, seed: &[u8], participants: u32) -> Result<Vec<u32>, AllocError> {
-    let mut digests = Vec::new(alloc);
-    for number in 0..participants {
-        let mut bytes = seed.to_vec(alloc)?;
-        bytes.extend_from_slice(&number.to_be_bytes())?;
-        digests.push((sha2::Sha256::digest(&bytes), number))?;
-    }
-    digests.sort_unstable();
-    let mut numbers = Vec::new(alloc);
-    for (_, number) in &digests {
-        numbers.push(*number)?;
-    }
-    Ok(numbers)
-}
-
-#[test]
-fn ample_seeds(rt: HostRuntime) -> Result<(), Fail> {
-    let seeds: [&[u8]; 2] = [b"seed1", b"seed2"];
-    for seed in seeds {
-        let shuffled: RoundRobin = RoundRobin::shuffled(rt.alloc(), seed)?;
-        let equal: RoundRobin = RoundRobin::shuffled(rt.alloc(), seed)?;
-        let elector = built(&rt, rt.alloc(), shuffled, 5)?;
-        let copy = elector.clone()?;
-        let order = by_digest(rt.alloc(), seed, 5)?;
-        for one in [elector, copy, built(&rt, rt.alloc(), equal, 5)?] {
-            assert_eq!(rt; leaders(rt.alloc(), &one, 0, 5)?, order);
-        }
-    }
-    Ok(())
-}
-
-#[test]
-fn ample_one_participant(rt: HostRuntime) -> Result<(), Fail> {
-    let seeds: [&[u8]; 3] = [b"", b"s", b"seed1"];
-    for seed in seeds {
-        let shuffled: RoundRobin = RoundRobin::shuffled(rt.alloc(), seed)?;
-        let elector = built(&rt, rt.alloc(), shuffled, 1)?;
-        for (epoch, view) in [(0, 0), (0, 1), (7, 9), (u64::MAX, u64::MAX)] {
-            assert_eq!(rt; leader(&elector, epoch, view), 0, "of {view} in {epoch}");
-        }
     }
     Ok(())
 }

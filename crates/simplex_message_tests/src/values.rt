@@ -1,17 +1,24 @@
 //! Equality and hashes at a few values.
 
-use crate::committee::round;
-use crate::reading::read;
-use simplex_base::codec::{Fixed, Read};
-use simplex_base::positions::View;
+use simplex_base::codec::{Fixed, Read, decode_cfg};
+use simplex_base::positions::{Epoch, Round, View};
 use simplex_evidence::types::Activity;
 use simplex_scheme::marked::{Marked, MarkedDigest};
 use simplex_scheme::proposal::Proposal;
-use simplex_scheme::scheme::{Digest, Listing};
 use std::alloc::Global;
 use std::collections::HashSet;
 use std::process::Abort;
 use std::test::Fail;
+
+/// The value of the bytes that are named by two digits each, parted by blanks.
+fn read<T: Read + Drop>(alloc: Global, cfg: &T::Cfg, spelling: &str) -> Result<T, Fail> {
+    let digits: Vec<u8> = spelling
+        .bytes()
+        .filter(|byte| *byte != b' ')
+        .collect(alloc)?;
+    let bytes = hex::decode(alloc, digits.as_slice())?;
+    Ok(decode_cfg::<T>(alloc, bytes.as_slice(), cfg)?)
+}
 
 /// Values are equal exactly where their bytes are.
 fn are_told_apart<T: Read + PartialEq + Drop>(
@@ -21,9 +28,9 @@ fn are_told_apart<T: Read + PartialEq + Drop>(
     spellings: &[&str],
 ) -> Result<(), Fail> {
     for (place, spelling) in spellings.iter().enumerate() {
-        let value = read::<T>(rt, alloc, cfg, spelling)?;
+        let value = read::<T>(alloc, cfg, spelling)?;
         for (other_place, other_spelling) in spellings.iter().enumerate() {
-            let other = read::<T>(rt, alloc, cfg, other_spelling)?;
+            let other = read::<T>(alloc, cfg, other_spelling)?;
             assert_eq!(rt;
                 value == other,
                 place == other_place,
@@ -54,22 +61,19 @@ const MESSAGES: [&str; 16] = [
     "09 000a 01aa 000a0506 01aa",
 ];
 
-fn check_messages<S: Listing<D>, D: Digest>(rt: &impl Abort, alloc: Global) -> Result<(), Fail> {
-    are_told_apart::<Activity<S, D>>(rt, alloc, &4, &MESSAGES)
-}
-
 #[test]
 fn ample_messages(rt: HostRuntime) -> Result<(), Fail> {
-    check_messages::<Marked, MarkedDigest>(&rt, rt.alloc())
+    are_told_apart::<Activity<Marked, MarkedDigest>>(&rt, rt.alloc(), &4, &MESSAGES)
 }
 
 #[test]
 fn ample_hashes(rt: HostRuntime) -> Result<(), Fail> {
     let mut seen = HashSet::new(rt.alloc());
+    let round = Round::new(Epoch::new(0), View::new(10));
     let parts: [(u64, u8); 5] = [(5, 6), (5, 7), (4, 6), (5, 6), (5, 7)];
     for (parent, payload) in parts {
         let payload = MarkedDigest::from_bytes(&[payload]);
-        seen.insert(Proposal::new(round(), View::new(parent), payload))?;
+        seen.insert(Proposal::new(round, View::new(parent), payload))?;
     }
     assert_eq!(rt; seen.len(), 3);
     Ok(())

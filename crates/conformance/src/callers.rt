@@ -1,0 +1,143 @@
+//! What those answer who stand on these messages: a batcher, a voter, a light client and a ledger.
+
+use crate::audits::lines;
+use crate::refusals::name;
+use crate::rows::{Unanswered, bytes};
+use crate::windows::PAST;
+use simplex_audit::audit::Committees;
+use simplex_base::codec::{Encode, decode};
+use simplex_base::positions::View;
+use simplex_lead::Viewport;
+use simplex_scheme::marked::{Marked, MarkedDigest};
+use simplex_scheme::proposal::Proposal;
+use simplex_scheme::scheme::{Digest, Listing, Scheme};
+use simplex_uses::batcher::Batcher;
+use simplex_uses::ledger::Ledger;
+use simplex_uses::light_client::{Followed, LightClient};
+use simplex_uses::voter::{casts, is_heard, takes};
+use simplex_votes::types::Notarize;
+use std::alloc::{AllocError, Global};
+
+/// What a batcher answers to each vote that comes: the notarization, or how many it keeps.
+pub(crate) fn batch<S: Scheme<D>, D: Digest>(
+    alloc: Global,
+    scheme: &S,
+    proposal: &str,
+    votes: &[&str],
+) -> Result<String, Unanswered> {
+    let proposal: Proposal<D> = match decode(alloc, bytes(alloc, &[proposal])?.as_slice()) {
+        Ok(proposal) => proposal,
+        Err(error) => return Ok(name(alloc, error)?),
+    };
+    let mut batcher = Batcher::new(alloc, scheme, proposal);
+    let mut text = String::new(alloc);
+    for word in votes {
+        let said = taken(alloc, &mut batcher, bytes(alloc, &[*word])?.as_slice())?;
+        push_part(&mut text, said.as_str())?;
+    }
+    Ok(text)
+}
+
+/// What a batcher answers to the vote that the bytes are.
+fn taken<S: Scheme<D>, D: Digest>(
+    alloc: Global,
+    batcher: &mut Batcher<'_, S, D>,
+    bytes: &[u8],
+) -> Result<String, AllocError> {
+    let vote: Notarize<S, D> = match decode(alloc, bytes) {
+        Ok(vote) => vote,
+        Err(error) => return name(alloc, error),
+    };
+    match batcher.take(alloc, vote)? {
+        Some(notarization) => hex::encode(alloc, notarization.encode(alloc)?.as_slice()),
+        None => format!(in alloc; "{} kept", batcher.count()),
+    }
+}
+
+/// What a voter answers of a view: whether it takes votes of it, whether one that has certified a view casts them, and
+/// whether it hears what that one casts. Where all that is counted is no view there is no answer.
+pub(crate) fn hear(
+    alloc: Global,
+    viewport: &Viewport,
+    certified: View,
+    view: View,
+) -> Result<String, AllocError> {
+    if !viewport.lookahead.fits(viewport.current) || certified == View::new(u64::MAX) {
+        return PAST.to_string(alloc);
+    }
+    let takes = takes(viewport, view);
+    let casts = casts(&viewport.lookahead, certified, view);
+    let heard = is_heard(viewport, certified, view);
+    format!(in alloc; "takes {takes}, casts {casts}, heard {heard}")
+}
+
+/// What a light client answers to each finalization that comes as bytes.
+pub(crate) fn follow<S: Listing<D>, D: Digest>(
+    alloc: Global,
+    committees: &Committees<S>,
+    words: &[&str],
+) -> Result<String, Unanswered> {
+    let mut client = LightClient::<S, D>::new(committees);
+    let mut text = String::new(alloc);
+    for word in words {
+        let said = followed(alloc, &mut client, bytes(alloc, &[*word])?.as_slice())?;
+        push_part(&mut text, said.as_str())?;
+    }
+    Ok(text)
+}
+
+/// What a light client answers to the finalization that the bytes are.
+fn followed<S: Listing<D>, D: Digest>(
+    alloc: Global,
+    client: &mut LightClient<'_, S, D>,
+    bytes: &[u8],
+) -> Result<String, AllocError> {
+    match client.follow(alloc, bytes) {
+        Ok(Followed::Taken) => "taken".to_string(alloc),
+        Ok(Followed::Known) => "known".to_string(alloc),
+        Ok(Followed::Refused) => "refused".to_string(alloc),
+        Ok(Followed::Fork(evidence)) => {
+            let mut text = "fork".to_string(alloc)?;
+            text.push_str(lines(alloc, evidence.as_slice())?.as_str())?;
+            Ok(text)
+        }
+        Err(error) => name(alloc, error),
+    }
+}
+
+/// What a ledger stores that was fed these pieces, and the evidence of one that resumes with it.
+pub(crate) fn store(
+    alloc: Global,
+    committees: &Committees<Marked>,
+    pieces: &[&str],
+) -> Result<String, Unanswered> {
+    let mut ledger = Ledger::<Marked, MarkedDigest>::new(alloc, committees);
+    for piece in pieces {
+        ledger = fed_on(ledger, bytes(alloc, &[*piece])?.as_slice())?;
+    }
+    let stored = ledger.store(alloc)?;
+    let resumed = Ledger::<Marked, MarkedDigest>::resume(alloc, committees, stored.as_slice())?;
+    let evidence = resumed.evidence()?;
+    let mut text = hex::encode(alloc, stored.as_slice())?;
+    text.push_str(lines(alloc, evidence.as_slice())?.as_str())?;
+    Ok(text)
+}
+
+/// Feeds a piece. A stream that is longer than can be counted is no row.
+fn fed_on<'a>(
+    ledger: Ledger<'a, Marked, MarkedDigest>,
+    piece: &[u8],
+) -> Result<Ledger<'a, Marked, MarkedDigest>, Unanswered> {
+    if piece.len() > usize::MAX - ledger.fed() {
+        return Err(Unanswered::NoRow);
+    }
+    Ok(ledger.feed(piece)?)
+}
+
+/// Appends an answer.
+fn push_part(text: &mut String, part: &str) -> Result<(), AllocError> {
+    if !text.is_empty() {
+        text.push_str(" | ")?;
+    }
+    text.push_str(part)
+}

@@ -1,0 +1,228 @@
+//! What a scheme signs, makes of votes, and verifies.
+
+use crate::many::many;
+use crate::refusals::name;
+use crate::rows::{Unanswered, bytes};
+use crate::schemes::{marked, plain};
+use simplex_base::codec::error::Error;
+use simplex_base::codec::{Encode, Read, decode};
+use simplex_evidence::types::Activity;
+use simplex_scheme::hash::Sha256Digest;
+use simplex_scheme::marked::MarkedDigest;
+use simplex_scheme::scheme::{AssemblyError, Digest, Scheme};
+use simplex_votes::types::{
+    Finalization, Finalize, Notarization, Notarize, Nullification, Nullify,
+};
+use std::alloc::Global;
+
+/// What is said where votes are for several subjects, or a signer is there twice or in no committee.
+const NO_ASSEMBLY: &str = "no assembly";
+
+/// The answer to a row that asks this of a scheme: `N` of a marked committee, or `BASE:N` of a plain one.
+pub(crate) fn vote_row(alloc: Global, scheme: &str, words: &[&str]) -> Result<String, Unanswered> {
+    match scheme.split_once(':') {
+        None => scheme_row::<_, MarkedDigest>(alloc, &marked(alloc, scheme)?, words),
+        Some((base, committee)) => {
+            scheme_row::<_, Sha256Digest>(alloc, &plain(alloc, base, committee)?, words)
+        }
+    }
+}
+
+/// The answer to a row of this scheme.
+fn scheme_row<S: Scheme<D>, D: Digest + 'static>(
+    alloc: Global,
+    scheme: &S,
+    words: &[&str],
+) -> Result<String, Unanswered> {
+    match words {
+        ["verify", _, spelling @ ..] => {
+            verify::<S, D>(alloc, scheme, bytes(alloc, spelling)?.as_slice())
+        }
+        ["sign", _, kind, spelling @ ..] => {
+            sign::<S, D>(alloc, scheme, *kind, bytes(alloc, spelling)?.as_slice())
+        }
+        ["assemble", _, call, spelling @ ..] => {
+            assemble::<S, D>(alloc, scheme, *call, bytes(alloc, spelling)?.as_slice())
+        }
+        ["many", _, spelling @ ..] => {
+            many::<S, D>(alloc, scheme, bytes(alloc, spelling)?.as_slice())
+        }
+        _ => Err(Unanswered::NoRow),
+    }
+}
+
+/// Whether the message at the front of the bytes is of a kind that is verified before it is reported, and whether it is
+/// good.
+fn verify<S: Scheme<D>, D: Digest>(
+    alloc: Global,
+    scheme: &S,
+    bytes: &[u8],
+) -> Result<String, Unanswered> {
+    let mut rest: &[u8] = bytes;
+    let bound = scheme.certificate_codec_config();
+    match Activity::<S, D>::read_cfg(alloc, &mut rest, &bound) {
+        Ok(message) => {
+            let (verified, good) = (message.verified(), message.verify(scheme));
+            Ok(format!(in alloc; "verified {verified}, verify {good}")?)
+        }
+        Err(error) => Ok(name(alloc, error)?),
+    }
+}
+
+/// The vote of a kind for what the bytes spell, as the participant signs it that the scheme is for.
+fn sign<S: Scheme<D>, D: Digest + 'static>(
+    alloc: Global,
+    scheme: &S,
+    kind: &str,
+    bytes: &[u8],
+) -> Result<String, Unanswered> {
+    match kind {
+        "nullify" => match decode(alloc, bytes) {
+            Ok(round) => told(alloc, Nullify::sign::<D>(alloc, scheme, round)?),
+            Err(error) => Ok(name(alloc, error)?),
+        },
+        "notarize" => match decode(alloc, bytes) {
+            Ok(proposal) => told(alloc, Notarize::sign(alloc, scheme, proposal)?),
+            Err(error) => Ok(name(alloc, error)?),
+        },
+        "finalize" => match decode(alloc, bytes) {
+            Ok(proposal) => told(alloc, Finalize::sign(alloc, scheme, proposal)?),
+            Err(error) => Ok(name(alloc, error)?),
+        },
+        _ => Err(Unanswered::NoRow),
+    }
+}
+
+/// A vote, if there is one.
+fn told<V: Encode + Drop>(alloc: Global, vote: Option<V>) -> Result<String, Unanswered> {
+    match vote {
+        Some(vote) => Ok(hex::encode(alloc, vote.encode(alloc)?.as_slice())?),
+        None => Ok("nobody signs".to_string(alloc)?),
+    }
+}
+
+/// What a call makes of the votes that the bytes are.
+fn assemble<S: Scheme<D>, D: Digest + 'static>(
+    alloc: Global,
+    scheme: &S,
+    call: &str,
+    bytes: &[u8],
+) -> Result<String, Unanswered> {
+    let owned = call.starts_with("from_owned_");
+    match call {
+        "from_notarizes" | "from_owned_notarizes" => notarization::<S, D>(
+            alloc, scheme, owned, bytes,
+        ),
+        "from_nullifies" | "from_owned_nullifies" => nullification::<S, D>(
+            alloc, scheme, owned, bytes,
+        ),
+        "from_finalizes" | "from_owned_finalizes" => finalization::<S, D>(
+            alloc, scheme, owned, bytes,
+        ),
+        _ => Err(Unanswered::NoRow),
+    }
+}
+
+/// The notarization of the votes that the bytes are.
+fn notarization<S: Scheme<D>, D: Digest>(
+    alloc: Global,
+    scheme: &S,
+    owned: bool,
+    bytes: &[u8],
+) -> Result<String, Unanswered> {
+    let votes: Vec<Notarize<S, D>> = match values(alloc, &(), bytes) {
+        Ok(votes) => votes,
+        Err(error) => return Ok(name(alloc, error)?),
+    };
+    if !Notarization::can_assemble(scheme, votes.as_slice()) {
+        return Ok(NO_ASSEMBLY.to_string(alloc)?);
+    }
+    assembled(
+        alloc,
+        if owned {
+            Notarization::from_owned_notarizes(alloc, scheme, votes)
+        } else {
+            Notarization::from_notarizes(alloc, scheme, votes.as_slice())
+        },
+    )
+}
+
+/// The nullification of the votes that the bytes are.
+fn nullification<S: Scheme<D>, D: Digest + 'static>(
+    alloc: Global,
+    scheme: &S,
+    owned: bool,
+    bytes: &[u8],
+) -> Result<String, Unanswered> {
+    let votes: Vec<Nullify<S>> = match values(alloc, &(), bytes) {
+        Ok(votes) => votes,
+        Err(error) => return Ok(name(alloc, error)?),
+    };
+    if !Nullification::can_assemble::<D>(scheme, votes.as_slice()) {
+        return Ok(NO_ASSEMBLY.to_string(alloc)?);
+    }
+    assembled(
+        alloc,
+        if owned {
+            Nullification::from_owned_nullifies::<D>(alloc, scheme, votes)
+        } else {
+            Nullification::from_nullifies::<D>(alloc, scheme, votes.as_slice())
+        },
+    )
+}
+
+/// The finalization of the votes that the bytes are.
+fn finalization<S: Scheme<D>, D: Digest>(
+    alloc: Global,
+    scheme: &S,
+    owned: bool,
+    bytes: &[u8],
+) -> Result<String, Unanswered> {
+    let votes: Vec<Finalize<S, D>> = match values(alloc, &(), bytes) {
+        Ok(votes) => votes,
+        Err(error) => return Ok(name(alloc, error)?),
+    };
+    if !Finalization::can_assemble(scheme, votes.as_slice()) {
+        return Ok(NO_ASSEMBLY.to_string(alloc)?);
+    }
+    assembled(
+        alloc,
+        if owned {
+            Finalization::from_owned_finalizes(alloc, scheme, votes)
+        } else {
+            Finalization::from_finalizes(alloc, scheme, votes.as_slice())
+        },
+    )
+}
+
+/// A certificate message, or how many votes are fewer than which quorum.
+fn assembled<M: Encode + Drop>(
+    alloc: Global,
+    made: Result<M, AssemblyError>,
+) -> Result<String, Unanswered> {
+    match made {
+        Ok(message) => Ok(hex::encode(alloc, message.encode(alloc)?.as_slice())?),
+        Err(AssemblyError::InsufficientAttestations(quorum, count)) => {
+            Ok(format!(in alloc; "InsufficientAttestations {quorum} {count}")?)
+        }
+        Err(AssemblyError::OutOfMemory) => Err(Unanswered::OutOfMemory),
+    }
+}
+
+/// The values that the bytes are, one after another.
+pub(crate) fn values<T: Read + Drop>(
+    alloc: Global,
+    cfg: &T::Cfg,
+    bytes: &[u8],
+) -> Result<Vec<T>, Error> {
+    let mut values = Vec::new(alloc);
+    let mut rest: &[u8] = bytes;
+    for _ in 0..bytes.len() {
+        if rest.is_empty() {
+            break;
+        }
+        let value = T::read_cfg(alloc, &mut rest, cfg)?;
+        values.push(value).map_err(|_| Error::OutOfMemory)?;
+    }
+    Ok(values)
+}

@@ -1,0 +1,57 @@
+//! What is as before where memory was refused, of which no row can tell.
+
+use simplex_base::codec::{Encode, Read, Write};
+use simplex_scheme::marked::{Marked, MarkedDigest};
+use simplex_votes::types::{Certificate, Vote};
+use std::process::Abort;
+
+/// Reads a value with a byte behind it, and appends it to a buffer that holds a byte. Answers whether memory was
+/// refused; then the slice and the buffer were as before, and the same call does what it does with ample memory.
+fn is_refused<T: Read + Encode + Drop>(
+    rt: &(impl Abort + AllocGlobal),
+    cfg: &T::Cfg,
+    bytes: &[u8],
+) -> bool {
+    let alloc = rt.alloc();
+    let mut rest: &[u8] = bytes;
+    let mut read = T::read_cfg(alloc, &mut rest, cfg);
+    let mut refused = read.is_err();
+    if refused {
+        assert_eq!(rt; rest.len(), bytes.len());
+        read = T::read_cfg(alloc, &mut rest, cfg);
+    }
+    assert_eq!(rt; rest.len(), 1);
+    let Ok(value) = read else {
+        return refused;
+    };
+    let mut buf = Vec::new(alloc);
+    if buf.push(7).is_err() {
+        return true;
+    }
+    if value.write(&mut buf).is_err() {
+        refused = true;
+        assert_eq!(rt; buf.as_slice(), [7].as_slice());
+        assert!(rt; value.write(&mut buf).is_ok());
+    }
+    assert_eq!(rt; buf.len(), bytes.len());
+    refused
+}
+
+/// A vote and a certificate message, each with a byte behind it.
+fn any_is_refused(rt: &(impl Abort + AllocGlobal)) -> bool {
+    let vote = is_refused::<Vote<Marked, MarkedDigest>>(rt, &(), &[1, 0, 10, 1, 0xaa, 9]);
+    let message = [1, 0, 10, 3, 0, 0xaa, 1, 0xaa, 2, 0xaa, 9];
+    let message = is_refused::<Certificate<Marked, MarkedDigest>>(rt, &4, &message);
+    vote || message
+}
+
+#[test]
+fn ample(rt: HostRuntime) {
+    assert!(rt; !any_is_refused(&rt));
+}
+
+/// Where a growth is refused the slice and the buffer are as before.
+#[test]
+fn refused(rt: HostRuntime) {
+    let _ = any_is_refused(&rt);
+}
