@@ -487,6 +487,7 @@ def rows_of_verifying(base):
         b"\x00" + loose["finalize"],
         b"\x05" + loose["notarize"],
         b"\x00" + vote(base, 4, "notarize", here["notarize"]),
+        b"\x00" + here["notarize"] + b"\x02" + signature(base, 1, "notarize", here["notarize"]),
         b"\x01" + listed["notarize"],
         b"\x02" + listed["notarize"],
         b"\x04" + listed["nullify"],
