@@ -1,8 +1,10 @@
 //! Follows what is finalized, and hands out who is to blame where two proposals of a round are.
 
-ghost use Rattle.std.specs.Prelude.{◌≡◌, ◌++◌, ⊤, None, true, IfOk, OnErr, MatchOption, map};
+ghost use Rattle.std.specs.Prelude.{◌≡◌, ◌++◌, ◌⊎◌, ⊤, None, true, IfOk, IfErr, OnErr, MatchOption, map};
 ghost use Rattle.std.specs.Option.{option_copied};
 ghost use Rattle.simplex_base.specs.Readable.{format_of};
+ghost use Rattle.simplex_base.specs.Reading.{Fails, all_of};
+ghost use Rattle.simplex_base.specs.declared.codec.error.Error.TheVariants as errors;
 ghost use Rattle.simplex_evidence.specs.declared.types.activity.Activity.TheVariants as activity;
 ghost use Rattle.simplex_kept.specs.Committees.{Schedule, bound_of};
 ghost use Rattle.simplex_kept.specs.Values.{evidence_value};
@@ -73,13 +75,16 @@ impl<'a, S: Listing<D>, D: Digest> LightClient<'a, S, D> {
         self.latest.as_ref()
     }
 
-    /// Follows a finalization that comes as bytes. Where they spell none, or memory is refused, all is as before.
+    /// Follows a finalization that comes as bytes. Where they are none under the bound of the greatest committee, which the
+    /// codec's error tells, or where memory is refused, all is as before.
     pub fn follow(&mut self, alloc: Global, bytes: &[u8]) -> Result<Followed<S, D>, Error>
         ensures follows { IfOk result (λ answer. (f : finalizations.Finalization S D S.Certificate S.PublicKey S.Signature) ×
             (bytes.now ≡ ⟦<Finalization<S, D> as Read>⟧.spelling f) ×
             Follows (⟦<S as Audited<D>>⟧.basis self.old.committees).rules self.old.latest f answer ×
             (self.new ≡ record self.old { latest = latest_after self.old.latest f answer })) }
         ensures refused { OnErr result (self.new ≡ self.old) }
+        ensures error { IfErr result (λ e. (e ≡ errors.OutOfMemory) ⊎
+            Fails S.Certificate.takes_memory e (all_of (⟦<Finalization<S, D> as Read>⟧.reading (bound_of S.keys self.old.committees)) bytes.now)) }
     {
         let finalization = read(alloc, self.committees, bytes)?;
         let followed = judge(alloc, self.committees, self.latest.as_ref(), &finalization)?;
@@ -97,6 +102,7 @@ fn read<S: Listing<D>, D: Digest>(
     bytes: &[u8],
 ) -> Result<Finalization<S, D>, Error>
     ensures spelled { IfOk result (λ f. bytes.now ≡ ⟦<Finalization<S, D> as Read>⟧.spelling f) }
+    ensures error { IfErr result (λ e. Fails S.Certificate.takes_memory e (all_of (⟦<Finalization<S, D> as Read>⟧.reading (bound_of S.keys committees.now)) bytes.now)) }
     ensures value { IfOk result (IsFinalization (format_of ⟦<D as Read>⟧) (S.Certificate.fits (bound_of S.keys committees.now))) }
 {
     decode_cfg(alloc, bytes, &committees.bound())
@@ -112,7 +118,8 @@ fn judge<S: Listing<D>, D: Digest>(
     requires followed { MatchOption (option_copied latest) ⊤
         (IsFollowed (format_of ⟦<D as Read>⟧) S.Certificate.fits S.keys S.certified committees.now) }
     requires value { IsFinalization (format_of ⟦<D as Read>⟧) (S.Certificate.fits (bound_of S.keys committees.now)) finalization.now }
-    ensures { IfOk result (Follows (⟦<S as Audited<D>>⟧.basis committees.now).rules (option_copied latest.entry) finalization.now) }
+    ensures follows { IfOk result (Follows (⟦<S as Audited<D>>⟧.basis committees.now).rules (option_copied latest.entry) finalization.now) }
+    ensures error { IfErr result (λ e. e ≡ errors.OutOfMemory) }
 {
     if !is_final(committees, finalization) {
         return Ok(Followed::Refused);

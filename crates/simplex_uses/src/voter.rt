@@ -42,7 +42,11 @@ pub fn casts(lookahead: &Lookahead, certified: View, view: View) -> bool
 pub fn is_heard(viewport: &Viewport, certified: View, view: View) -> bool
     requires current { FitsWindow viewport.now.lookahead.term_length viewport.now.current }
     requires certified { certified + 1 < 2 ^ 64 }
-    ensures { IsInReach viewport.now.lookahead.term_length viewport.now.lookahead.optimistic_views viewport.now.current certified →
+    ensures heard { IsTrue result ↔
+        ((¬ IsInReach viewport.now.lookahead.term_length viewport.now.lookahead.optimistic_views (certified + 1) view) ⊎
+        (IsRetained viewport.now.finalized viewport.now.view_retention view ×
+        IsAdmitted viewport.now.lookahead.term_length viewport.now.lookahead.optimistic_views viewport.now.current view)) }
+    ensures lead { IsInReach viewport.now.lookahead.term_length viewport.now.lookahead.optimistic_views viewport.now.current certified →
         (certified ≤ term_end viewport.now.lookahead.term_length viewport.now.current) ⊎ (viewport.now.lookahead.term_length ≡ 1) →
         IsRetained viewport.now.finalized viewport.now.view_retention view → IsTrue result }
 {

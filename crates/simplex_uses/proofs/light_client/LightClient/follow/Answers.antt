@@ -14,7 +14,7 @@ returns-clause-follows g c =
       f,
       c.in_ok-finalization.ensures.spelled,
       subst (λ b. Follows (rules b.committees) b.latest f followed) c.self.view_is
-          (subst (λ l. Follows (rules inside.committees.now) l f followed) c.as_ref.ensures.value c.in_ok-followed.ensures),
+          (subst (λ l. Follows (rules inside.committees.now) l f followed) c.as_ref.ensures.value c.in_ok-followed.ensures.follows),
       elim c.match-followed.branch [
         | in-Taken w ↦ taken_now _ _ _ f followed c.self.view_is w.in-Taken.is (ap (λ b. b.committees) w.self-is) (ap (λ b. b.latest) w.self-is)
         | in_default w ↦ w.self-is ∙ not_taken_now _ f followed w.in_default.not-Taken
