@@ -1,6 +1,6 @@
 #!/usr/bin/env python3
 """rows.py ROWS ANSWERS: writes rows of `sign`, `assemble`, `many`, `subject`, `derive`, `decode`, `cut`, plain `verify`, `batch`,
-`hear`, `follow` and `store`, and their answers, as docs/CONFORMANCE.md has them. It is a model of its own: it reads and signs by what docs/FORMAT.md says.
+`resolve`, `hear`, `follow` and `store`, and their answers, as docs/CONFORMANCE.md has them. It is a model of its own: it reads and signs by what docs/FORMAT.md says.
 """
 import hashlib
 import sys
@@ -267,6 +267,18 @@ def batch(n, proposal, votes):
         else:
             said.append(certificate(None, sorted(kept), "notarize", proposal).hex())
     return " | ".join(said)
+
+
+def resolve(n, data):
+    reader, said = Reader(data, False, n), "kept"
+    try:
+        while reader.data:
+            subject, listed = reader.certificate("notarize")
+            if is_certified(None, n, "notarize", subject, listed):
+                said += " " + spelled_subject("notarize", subject).hex()
+    except Refused as refused:
+        return str(refused)
+    return said
 
 
 def line(kind, first, second):
@@ -578,6 +590,21 @@ def rows_of_batching():
         yield f"batch {n} {words}", batch(n, proposal, votes)
 
 
+def rows_of_resolving():
+    here, there = b"\x00\x0a\x05\x06", b"\x00\x0b\x0a\x07"
+    good, more = (certificate(None, range(3), "notarize", one) for one in (here, there))
+    few, bad = certificate(None, range(2), "notarize", there), good[:-1] + b"\x00"
+    for n, data in (
+        (4, bad + good + few + more + bad),
+        (4, good + good),
+        (4, few + bad),
+        (4, b""),
+        (4, good + more[:-1]),
+        (7, good + certificate(None, range(5), "notarize", there)),
+    ):
+        yield f"resolve {n} {data.hex()}".strip(), resolve(n, data)
+
+
 def rows_of_following():
     def of(view, payload, signers=(0, 1, 2)):
         return certificate(None, signers, "finalize", b"\x00" + number(view) + b"\x05" + payload)
@@ -653,6 +680,7 @@ def rows():
         yield from rows_of_verifying(base)
     yield from rows_of_reading()
     yield from rows_of_batching()
+    yield from rows_of_resolving()
     yield from rows_of_following()
     yield from rows_of_storing()
     yield from rows_of_hearing()

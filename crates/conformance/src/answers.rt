@@ -1,7 +1,7 @@
 //! The answer to a line.
 
 use crate::audits::{audit_row, committees, feed_row};
-use crate::callers::{batch, follow, hear, store};
+use crate::callers::{batch, follow, hear, resolved, store};
 use crate::leaders::leader;
 use crate::maps::map;
 use crate::names::{derive, subject};
@@ -57,6 +57,11 @@ fn row(alloc: Global, words: &[&str]) -> Result<String, Unanswered> {
             let scheme = committee(alloc, *participants)?;
             batch::<_, MarkedDigest>(alloc, &scheme, *proposal, votes)
         }
+        ["resolve", participants, spelling @ ..] => resolved(
+            alloc,
+            &committee(alloc, *participants)?,
+            bytes(alloc, spelling)?.as_slice(),
+        ),
         ["follow", who, spellings @ ..] => {
             follow::<_, MarkedDigest>(alloc, &committees(alloc, *who)?, spellings)
         }

@@ -3,19 +3,23 @@
 use crate::audits::lines;
 use crate::refusals::name;
 use crate::rows::{Unanswered, bytes};
+use crate::votes::values;
 use crate::windows::PAST;
 use simplex_audit::audit::Committees;
 use simplex_base::codec::{Encode, decode};
 use simplex_base::positions::View;
 use simplex_lead::Viewport;
+use simplex_scheme::listed::Listed;
 use simplex_scheme::marked::{Marked, MarkedDigest};
 use simplex_scheme::proposal::Proposal;
-use simplex_scheme::scheme::{Digest, Listing, Scheme};
+use simplex_scheme::scheme::{CertificateScheme, CertificateSubject, Digest, Listing, Scheme};
+use simplex_scheme::subject::Subject;
 use simplex_uses::batcher::Batcher;
 use simplex_uses::ledger::Ledger;
 use simplex_uses::light_client::{Followed, LightClient};
+use simplex_uses::resolver::resolve;
 use simplex_uses::voter::{casts, is_heard, takes};
-use simplex_votes::types::Notarize;
+use simplex_votes::types::{Notarization, Notarize};
 use std::alloc::{AllocError, Global};
 
 /// What a batcher answers to each vote that comes: the notarization, or how many it keeps.
@@ -52,6 +56,40 @@ fn taken<S: Scheme<D>, D: Digest>(
         Some(notarization) => hex::encode(alloc, notarization.encode(alloc)?.as_slice()),
         None => format!(in alloc; "{} kept", batcher.count()),
     }
+}
+
+/// What a resolver keeps of the notarizations that the bytes are: the proposals that are certified.
+pub(crate) fn resolved(alloc: Global, scheme: &Marked, bytes: &[u8]) -> Result<String, Unanswered> {
+    let bound = scheme.certificate_codec_config();
+    let messages: Vec<Notarization<Marked, MarkedDigest>> = match values(alloc, &bound, bytes) {
+        Ok(messages) => messages,
+        Err(error) => return Ok(name(alloc, error)?),
+    };
+    let items: Vec<(Subject<'_, MarkedDigest>, &Listed<Marked>)> = messages
+        .iter()
+        .map(item_of)
+        .collect(alloc)?;
+    let kept = resolve(alloc, scheme, items.as_slice())?;
+    let mut text = "kept".to_string(alloc)?;
+    for place in 0..kept.len() {
+        text.push_str(" ")?;
+        text.push_str(told(alloc, &kept[place].0)?.as_str())?;
+    }
+    Ok(text)
+}
+
+/// A notarization as what a resolver is given.
+fn item_of<'a>(
+    message: &'a Notarization<Marked, MarkedDigest>,
+) -> (Subject<'a, MarkedDigest>, &'a Listed<Marked>) {
+    let proposal = &message.proposal;
+    (Subject::Notarize { proposal }, &message.certificate)
+}
+
+/// A subject, as its message spells it.
+fn told(alloc: Global, subject: &Subject<'_, MarkedDigest>) -> Result<String, AllocError> {
+    let message = subject.message(alloc)?;
+    hex::encode(alloc, message.as_slice())
 }
 
 /// What a voter answers of a view: whether it takes votes of it, whether one that has certified a view casts them, and
