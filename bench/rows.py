@@ -1,6 +1,7 @@
 #!/usr/bin/env python3
-"""rows.py ROWS ANSWERS: writes rows of `sign`, `assemble`, `many`, `subject`, `derive`, `decode`, `cut`, plain `verify`, `batch`,
-`resolve`, `hear`, `follow` and `store`, and their answers, as docs/CONFORMANCE.md has them. It is a model of its own: it reads and signs by what docs/FORMAT.md says.
+"""rows.py ROWS ANSWERS [WORKED]: writes rows of `sign`, `assemble`, `many`, `subject`, `derive`, `decode`, `cut`, plain `verify`,
+`batch`, `resolve`, `hear`, `follow` and `store`, and their answers, as docs/CONFORMANCE.md has them. With WORKED, a file of rows,
+there are also rows of `cut` of the messages in those. It is a model of its own: it reads and signs by what docs/FORMAT.md says.
 """
 import hashlib
 import sys
@@ -671,6 +672,40 @@ def rows_of_hearing():
         yield f"hear {' '.join(map(str, one))}", hear(*one)
 
 
+def messages_in(n, stream):
+    """The messages at the front of a stream, as bytes."""
+    reader, found = Reader(stream, False, n), []
+    try:
+        while reader.data:
+            before = reader.data
+            reader.kind("activity")
+            found.append(before[: len(before) - len(reader.data)])
+    except Refused:
+        pass
+    return found
+
+
+def rows_of_cuts(worked):
+    """A row of `cut` for each value that a row of `read` reads, and for each message of a row of `audit`, `feed` or `verify`."""
+    for row in worked:
+        form, *words = row.split()
+        if form == "read":
+            kind, bound, data = words[0], int(words[1]), bytes.fromhex("".join(words[2:]))
+            reader = Reader(data, kind.startswith("plain-"), bound)
+            try:
+                reader.kind(kind.removeprefix("plain-"))
+            except Refused:
+                continue
+            values = [(kind, bound, data[: len(data) - len(reader.data)])]
+        elif form in ("audit", "feed") or form == "verify" and ":" not in words[0]:
+            bound = max(int(one.split(":")[-1]) for one in words[0].split(","))
+            values = [("activity", bound, one) for one in messages_in(bound, bytes.fromhex("".join(words[1:])))]
+        else:
+            continue
+        for kind, bound, data in values:
+            yield f"cut {kind} {bound} {data.hex()}", cut(kind, bound, data)
+
+
 def rows():
     yield from rows_of_names()
     for base in (None, b"test"):
@@ -684,6 +719,9 @@ def rows():
     yield from rows_of_following()
     yield from rows_of_storing()
     yield from rows_of_hearing()
+    if len(sys.argv) > 3:
+        with open(sys.argv[3]) as worked:
+            yield from rows_of_cuts(worked.read().splitlines())
 
 
 def main():

@@ -29,7 +29,7 @@ pub(crate) fn answer(alloc: Global, line: &str) -> Result<String, AllocError> {
     }
 }
 
-/// The answer to the row of these words.
+/// The answer to the row of these words; here those that ask what some bytes are.
 fn row(alloc: Global, words: &[&str]) -> Result<String, Unanswered> {
     match words {
         ["read", kind, bound, spelling @ ..] => {
@@ -42,11 +42,15 @@ fn row(alloc: Global, words: &[&str]) -> Result<String, Unanswered> {
             read_row(alloc, Asked::Cut, *kind, *bound, spelling)
         }
         ["verify" | "sign" | "assemble" | "many", scheme, ..] => vote_row(alloc, *scheme, words),
-        ["forward", at, place, signers @ ..] => {
-            forward(alloc, Round::new(epoch(*at)?, view(*place)?), signers)
-        }
         ["derive", base @ ..] => derive(alloc, bytes(alloc, base)?.as_slice()),
         ["subject", kind, base, spelling @ ..] => subject(alloc, *kind, *base, spelling),
+        _ => stream_row(alloc, words),
+    }
+}
+
+/// The answer to the row of these words, which asks for an audit or one of the callers.
+fn stream_row(alloc: Global, words: &[&str]) -> Result<String, Unanswered> {
+    match words {
         ["audit", who, stream @ ..] => audit_row(
             alloc,
             &committees(alloc, *who)?,
@@ -66,6 +70,16 @@ fn row(alloc: Global, words: &[&str]) -> Result<String, Unanswered> {
             follow::<_, MarkedDigest>(alloc, &committees(alloc, *who)?, spellings)
         }
         ["store", who, pieces @ ..] => store(alloc, &committees(alloc, *who)?, pieces),
+        _ => leading_row(alloc, words),
+    }
+}
+
+/// The answer to the row of these words, which asks for a vote map, a plan, a leader or a term.
+fn leading_row(alloc: Global, words: &[&str]) -> Result<String, Unanswered> {
+    match words {
+        ["forward", at, place, signers @ ..] => {
+            forward(alloc, Round::new(epoch(*at)?, view(*place)?), signers)
+        }
         ["map", participants, signers @ ..] => map(alloc, small(*participants)?, signers),
         ["leader", participants, seed, length, at, place] => leader(
             alloc,
@@ -75,12 +89,12 @@ fn row(alloc: Global, words: &[&str]) -> Result<String, Unanswered> {
             Round::new(epoch(*at)?, view(*place)?),
         ),
         ["term", length, place] => Ok(term(alloc, term_length(*length)?, view(*place)?)?),
-        _ => window(alloc, words),
+        _ => window_row(alloc, words),
     }
 }
 
 /// The answer to the row of these words, which asks for a window of views.
-fn window(alloc: Global, words: &[&str]) -> Result<String, Unanswered> {
+fn window_row(alloc: Global, words: &[&str]) -> Result<String, Unanswered> {
     match words {
         ["admits", length, ahead, current, pending] => {
             let lookahead = lookahead(*length, *ahead)?;
