@@ -96,7 +96,7 @@ pub fn command<R: Read, W: Write, E: Write>(
         (record { before = R.remaining (inner_of input.old); after = R.remaining (inner_of input.new); failed = has_failed input.new })
         (record { before = W.contents (inner_of output.old); after = W.contents (inner_of output.new); failed = has_failed output.new; flushed = is_flushed output.new })
         ending }
-    // Where a device failed the program says so.
+    // Where a device failed the status tells it, and nothing else is said.
     ensures read_failed { IsTrue (has_failed input.new) → (result ≡ Status.Failed)
         × AppendsBeginning (E.contents errors.old) (E.contents errors.new) (complaint_of Failure.Read) }
     ensures write_failed { IsTrue (has_failed output.new) → (result ≡ Status.Failed)

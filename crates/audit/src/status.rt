@@ -95,8 +95,8 @@ impl Failure {
     }
 }
 
-/// What is said on standard error of a fault at a byte, with its line's end. It takes no memory, and the longest has
-/// room: it is 42 bytes long.
+/// What is said on standard error of a fault at a byte, with its line's end. It takes no memory. The longest is 42 bytes
+/// long.
 pub fn complaint(place: usize) -> Result<ArrayString<64>, fmt::Error>
     ensures { IfOk result (λ text. text.bytes ≡ complaint_at place) }
 {

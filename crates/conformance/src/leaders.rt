@@ -8,6 +8,7 @@ use simplex_lead::elector::{Config, Elector, RoundRobin, can_be_stable};
 use simplex_scheme::hash::Sha256;
 use simplex_scheme::marked::Marked;
 use simplex_scheme::scheme::CertificateScheme;
+use simplex_uses::voter;
 use std::alloc::Global;
 use std::time::Duration;
 
@@ -31,7 +32,8 @@ fn rotation(alloc: Global, seed: &str, length: TermLength) -> Result<RoundRobin,
     Ok(rotation)
 }
 
-/// The leader of a round of the committee, by clones of the rotation and of what it makes.
+/// The leader of a round of the committee, by clones of the rotation and of what it makes, and by a voter that has the
+/// rotation itself.
 pub(crate) fn leader(
     alloc: Global,
     committee: &Marked,
@@ -39,8 +41,13 @@ pub(crate) fn leader(
     length: TermLength,
     round: Round,
 ) -> Result<String, Unanswered> {
-    let rotation = rotation(alloc, seed, length)?.clone()?;
-    let elector = Config::<Marked>::build(rotation, alloc, committee.participants())?.clone()?;
-    let leader = Elector::<Marked>::elect(&elector, round, None);
+    let rotation = rotation(alloc, seed, length)?;
+    let members = committee.participants();
+    let elector = Config::<Marked>::build(rotation.clone()?, alloc, members)?.clone()?;
+    let elected = Elector::<Marked>::elect(&elector, round, None);
+    let leader = voter::leader::<Marked, _>(alloc, rotation, members, round, None)?;
+    if leader != elected {
+        return Ok("two leaders".to_string(alloc)?);
+    }
     Ok(format!(in alloc; "{}", leader.get())?)
 }

@@ -6,7 +6,7 @@ ghost use Rattle.simplex_audit.specs.Messages.{AreMessages};
 ghost use Rattle.simplex_audit.specs.Report.{IsReport};
 ghost use Rattle.simplex_evidence.specs.declared.types.activity.Activity.{Activity};
 ghost use Rattle.simplex_kept.specs.Committees.{Schedule};
-ghost use Rattle.simplex_kept.specs.KeptVotes.{votes_kept};
+ghost use Rattle.simplex_kept.specs.KeptVotes.{KeptAreSlots, FewAreKept, votes_kept};
 ghost use Rattle.simplex_kept.specs.Rules.{good_votes};
 
 use crate::audit::Report;
@@ -15,14 +15,14 @@ use crate::reading::{read_messages, reading_bound};
 use crate::reporting::make_report;
 use simplex_base::codec::error::Error;
 use simplex_kept::committees::Committees;
-use simplex_kept::laws::evidence_is_determined;
+use simplex_kept::laws::{evidence_is_determined, few_votes_are_kept};
 use simplex_kept::seen::Seen;
 use simplex_scheme::scheme::{Digest, Listing, SchemeTypes};
 use std::alloc::{AllocError, Global};
 
 /// Audits a stream that comes in pieces. It keeps the bytes after the last whole message, of each signer in a round at
-/// most the votes that its evidence is made of, and of each round the first certified subject of each sort, but not the
-/// stream.
+/// most the five votes that its evidence can be made of, and of each round the first certified subject of each sort until two
+/// contradict, but not the stream.
 #[derive(Drop)]
 pub struct Auditor<'a, S: SchemeTypes, D: Digest> {
     committees: &'a Committees<S>,
@@ -255,13 +255,21 @@ impl<'a, S: Listing<D>, D: Digest> Auditor<'a, S, D> {
     }
 
     /// How many votes are kept, of the good ones in the stream's messages: of each signer in a round the earliest of each
-    /// sort, and of notarizes and finalizes also the earliest with another proposal. The number stops at 2^64 - 1.
+    /// sort, and of notarizes and finalizes also the earliest with another proposal, so at most five. The number stops at
+    /// 2^64 - 1.
     pub fn votes(&self) -> usize
-        ensures { (committees : Schedule S) (stream : List ℕ) (messages : List (Activity S D S.Certificate S.PublicKey S.Signature)) (rest : List ℕ) →
+        ensures number { (committees : Schedule S) (stream : List ℕ) (messages : List (Activity S D S.Certificate S.PublicKey S.Signature)) (rest : List ℕ) →
             Stands ⟦<S as Audited<D>>⟧.basis committees self.now stream →
             AreMessages (⟦<S as Audited<D>>⟧.basis committees).format stream messages rest →
             result ≡ min (votes_kept D.eq (good_votes (⟦<S as Audited<D>>⟧.basis committees).rules messages)) (2 ^ 64 - 1) }
+        // They are the earliest of each sort and the earliest with another proposal,
+        ensures slots { (committees : Schedule S) (messages : List (Activity S D S.Certificate S.PublicKey S.Signature)) →
+            KeptAreSlots D.eq (good_votes (⟦<S as Audited<D>>⟧.basis committees).rules messages) }
+        // of a signer in a round at most five.
+        ensures few { (committees : Schedule S) (messages : List (Activity S D S.Certificate S.PublicKey S.Signature)) →
+            FewAreKept D.eq (good_votes (⟦<S as Audited<D>>⟧.basis committees).rules messages) }
     {
+        few_votes_are_kept::<S, D>();
         self.seen.votes()
     }
 }

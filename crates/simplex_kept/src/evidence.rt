@@ -34,7 +34,7 @@ pub enum Evidence<S: SchemeTypes, D: Digest> {
 impl<S: SchemeTypes, D: Digest> Evidence<S, D> {
     ghost use Rattle.simplex_kept.specs.Values.{evidence_value};
 
-    /// The round of both votes.
+    /// The round of the first vote; votes that contradict are of one round.
     pub fn round(&self) -> Round
         ensures { result ≡ round_of (evidence_value self.now).first.subject }
     {
@@ -45,7 +45,7 @@ impl<S: SchemeTypes, D: Digest> Evidence<S, D> {
         }
     }
 
-    /// The participant that signed both votes.
+    /// The participant that signed the first vote; votes that contradict are of one signer.
     pub fn signer(&self) -> Participant
         ensures { result ≡ (evidence_value self.now).first.signer }
     {

@@ -42,7 +42,7 @@ impl<S: Listing<D>, D: Digest> Seen<S, D> {
         }
     }
 
-    /// Keeps what has to be kept of one message more. Its round is looked up once.
+    /// Keeps what has to be kept of one message more. Its round is looked up once, and again where it is new.
     pub fn see(
         &mut self,
         alloc: Global,

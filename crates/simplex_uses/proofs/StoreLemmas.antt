@@ -110,12 +110,15 @@ stored {S} {D} {C} {P} {G} basis laws single stream bytes es given is same joine
       again = record { messages = map message_of es; rest = []; are_messages = here; evidence_is = evidence; names = names };
       only = λ held h. laws.only (good_votes basis.rules (map message_of es)) (map evidence_value es) evidence (map evidence_value held)
           (subst (λ (ms : List (Activity S D C P G)). IsEvidence basis.rules.eq (good_votes basis.rules ms) (map evidence_value held)) (single bytes h.messages (map message_of es) h.rest [] h.are_messages here).0 h.evidence_is);
+      reads = λ piece rest further of. joined basis.format bytes piece rest (map message_of es) further here of;
       then = λ piece rest further held of h.
-          let both : NamesExactly basis.rules.eq (good_votes basis.rules (map message_of es ++ further)) (map evidence_value held) =
-          subst (λ (ms : List (Activity S D C P G)). NamesExactly basis.rules.eq (good_votes basis.rules ms) (map evidence_value held))
-          (single (bytes ++ piece) h.messages (map message_of es ++ further) h.rest rest h.are_messages (joined basis.format bytes piece rest (map message_of es) further here of)).0 h.names in
+          let both_are : IsEvidence basis.rules.eq (good_votes basis.rules (map message_of es ++ further)) (map evidence_value held) =
+          subst (λ (ms : List (Activity S D C P G)). IsEvidence basis.rules.eq (good_votes basis.rules ms) (map evidence_value held))
+          (single (bytes ++ piece) h.messages (map message_of es ++ further) h.rest rest h.are_messages (joined basis.format bytes piece rest (map message_of es) further here of)).0 h.evidence_is in
+          let both = laws.names (good_votes basis.rules (map message_of es ++ further)) (map evidence_value held) both_are in
           let inside = stored_within basis.rules (good_votes basis.rules is.messages) es (laws.sound (good_votes basis.rules is.messages) (map evidence_value es) is.evidence_is) in
           record {
+            evidence_is = both_are;
             names = both;
             stay = λ n named. (both n).1 (named_within basis.rules.eq _ _ n (within_left basis.rules (map message_of es) further) ((names n).0 named));
             more = λ n named. (both n).1 (named_within basis.rules.eq _ _ n (within_right basis.rules (map message_of es) further) named);

@@ -12,7 +12,7 @@ use Rattle.simplex_evidence.specs.declared.types.activity.Activity.TheVariants a
 use Rattle.simplex_kept.specs.Certificates.{subjects_contradict}
 use Rattle.simplex_kept.specs.Committees.{Schedule, bound_of, certified_by, committee_of}
 use Rattle.simplex_kept.specs.Named.{named_by}
-use Rattle.simplex_kept.specs.Evidence.{IsEquivocation}
+use Rattle.simplex_kept.specs.Evidence.{IsEvidence}
 use Rattle.simplex_kept.specs.Rules.{Rules, good_votes}
 use Rattle.simplex_kept.specs.Values.{evidence_value}
 use Rattle.simplex_uses.specs.declared.light_client.Followed.{Followed}
@@ -52,18 +52,19 @@ pub record BlamesEnough {D G : Type 0} (n : ℕ) (round : Round) (es : List (Evi
   pub enough : faults_of n + 1 ≤ length signers
   pub blamed : All (IsBlamed round es) signers
 
--- each evidence is two good votes of the certificates of two finalizations, which contradict
-abbrev pub ShowsVotesOf : {S D C P G : Type 0} → Rules S D C P G → Finalization S D C P G → Finalization S D C P G → List (Evidence D G) → Type 0
-ShowsVotesOf rules f g es = All (IsEquivocation rules.eq (good_votes rules (activity.Finalization f ∷ activity.Finalization g ∷ []))) es
+-- the evidence of the good votes that the certificates of two finalizations list: one for each signer, in order, and nobody
+-- left out
+abbrev pub IsEvidenceOfBoth : {S D C P G : Type 0} → Rules S D C P G → Finalization S D C P G → Finalization S D C P G → List (Evidence D G) → Type 0
+IsEvidenceOfBoth rules f g es = IsEvidence rules.eq (good_votes rules (activity.Finalization f ∷ activity.Finalization g ∷ [])) es
 
 -- What becomes of a finalization, by the latest one. One that does not certify its proposal is refused. One that contradicts
--- the latest is a fork, with evidence of more participants than may lie, out of the votes of both. Of the others one of a later round is taken, and
--- one of no later round is known.
+-- the latest is a fork, with the evidence of the votes of both, which names more participants than may lie. Of the others one of
+-- a later round is taken, and one of no later round is known.
 abbrev pub Follows : {S D C P G : Type 0} → Rules S D C P G → Option (Finalization S D C P G) → Finalization S D C P G → Followed S D P G → Type 0
 Follows rules latest f followed.Refused = is_final rules f ≡ false
 Follows rules latest f followed.Taken = (is_final rules f ≡ true) × MatchOption latest ⊤ (λ l. (is_fork rules.eq l f ≡ false) × (is_later f.proposal.round l.proposal.round ≡ true))
 Follows rules latest f followed.Known = (is_final rules f ≡ true) × MatchOption latest ⊥ (λ l. (is_fork rules.eq l f ≡ false) × (is_later f.proposal.round l.proposal.round ≡ false))
-Follows rules latest f (followed.Fork evidence) = (is_final rules f ≡ true) × MatchOption latest ⊥ (λ l. (is_fork rules.eq l f ≡ true) × BlamesEnough (rules.size l.proposal.round.epoch) l.proposal.round (map evidence_value evidence.items) × ShowsVotesOf rules l f (map evidence_value evidence.items))
+Follows rules latest f (followed.Fork evidence) = (is_final rules f ≡ true) × MatchOption latest ⊥ (λ l. (is_fork rules.eq l f ≡ true) × BlamesEnough (rules.size l.proposal.round.epoch) l.proposal.round (map evidence_value evidence.items) × IsEvidenceOfBoth rules l f (map evidence_value evidence.items))
 
 -- the latest one afterwards
 abbrev pub latest_after : {S D C P G : Type 0} → Option (Finalization S D C P G) → Finalization S D C P G → Followed S D P G → Option (Finalization S D C P G)

@@ -15,8 +15,8 @@ use simplex_kept::laws::evidence_is_determined;
 use simplex_scheme::scheme::{Digest, Listing, SchemeTypes};
 use std::alloc::{AllocError, Global};
 
-/// Holds the evidence of all messages that it is fed, in pieces of whatever length, each once. It keeps the votes that the
-/// evidence is made of, and not the messages.
+/// Holds the evidence of all messages that it is fed, in pieces of whatever length, each once. It keeps the votes that
+/// evidence can be made of, and not the messages.
 #[derive(Drop)]
 pub struct Ledger<'a, S: SchemeTypes, D: Digest> {
     auditor: Auditor<'a, S, D>,
@@ -83,8 +83,8 @@ impl<'a, S: Listing<D>, D: Digest> Ledger<'a, S, D> {
     /// The evidence as bytes that `resume` takes: each a message, an `Activity`, one after the other in the order of
     /// `evidence`, and no bytes where there is none. Votes that contradict nothing yet are not among them.
     pub fn store(&self, alloc: Global) -> Result<Vec<u8>, AllocError>
-        // They spell the evidence and have it again. Behind them a piece is read as it is alone, and then whoever is named by
-        // the evidence or by the piece is named, and nobody whom the messages of both do not name.
+        // They spell the evidence and have it again. Behind them a piece is read as it is alone, and what is held then is the
+        // evidence of both: whoever was named stays named, and nobody is named whom the messages of both do not name.
         ensures { IfOk result (λ stored. (committees : Schedule S) (stream : List ℕ) →
             WasFed ⟦<S as Audited<D>>⟧.basis committees self.now stream →
             IsStored (⟦<S as Audited<D>>⟧.basis committees) stream stored.items) }

@@ -8,7 +8,7 @@ ghost use Rattle.simplex_base.specs.declared.codec.error.Error.TheVariants as er
 ghost use Rattle.simplex_evidence.specs.declared.types.activity.Activity.TheVariants as activity;
 ghost use Rattle.simplex_kept.specs.Committees.{Schedule, bound_of};
 ghost use Rattle.simplex_kept.specs.Values.{evidence_value};
-ghost use Rattle.simplex_uses.specs.Following.{BlamesEnough, Follows, IsFollowed, ShowsVotesOf, is_final, is_fork, is_later, latest_after};
+ghost use Rattle.simplex_uses.specs.Following.{BlamesEnough, Follows, IsEvidenceOfBoth, IsFollowed, is_final, is_fork, is_later, latest_after};
 ghost use Rattle.simplex_votes.specs.Spellings.{IsFinalization};
 ghost use Rattle.simplex_votes.specs.declared.types.finalization.Finalization as finalizations;
 
@@ -80,6 +80,7 @@ impl<'a, S: Listing<D>, D: Digest> LightClient<'a, S, D> {
     pub fn follow(&mut self, alloc: Global, bytes: &[u8]) -> Result<Followed<S, D>, Error>
         ensures follows { IfOk result (λ answer. (f : finalizations.Finalization S D S.Certificate S.PublicKey S.Signature) ×
             (bytes.now ≡ ⟦<Finalization<S, D> as Read>⟧.spelling f) ×
+            IsFinalization (format_of ⟦<D as Read>⟧) (S.Certificate.fits (bound_of S.keys self.old.committees)) f ×
             Follows (⟦<S as Audited<D>>⟧.basis self.old.committees).rules self.old.latest f answer ×
             (self.new ≡ record self.old { latest = latest_after self.old.latest f answer })) }
         ensures refused { OnErr result (self.new ≡ self.old) }
@@ -195,7 +196,7 @@ fn blame<S: Listing<D>, D: Digest>(
     requires fork { is_fork D.eq one.now other.now ≡ true }
     ensures enough { IfOk result (λ evidence. BlamesEnough ((⟦<S as Audited<D>>⟧.basis committees.now).rules.size one.now.proposal.round.epoch)
         one.now.proposal.round (map evidence_value evidence.items)) }
-    ensures votes { IfOk result (λ evidence. ShowsVotesOf (⟦<S as Audited<D>>⟧.basis committees.now).rules one.now other.now (map evidence_value evidence.items)) }
+    ensures evidence { IfOk result (λ evidence. IsEvidenceOfBoth (⟦<S as Audited<D>>⟧.basis committees.now).rules one.now other.now (map evidence_value evidence.items)) }
 {
     let stream = stream_of(alloc, one, other)?;
     let report = audit(alloc, committees, &stream)?;

@@ -16,5 +16,5 @@ stands_recalls basis committees auditor stream rest messages stands are =
     (messages_once (basis committees).format stands.fed.readable stream auditor.taken.rest.items rest stands.progress.messages messages stands.progress.are_messages are).0
     stands.progress.kept
 
-pub returns : goal.returns
-returns g c = λ committees stream messages rest stands are. c.votes.ensures committees messages (stands_recalls _ committees c.args.self.now stream rest messages stands are)
+pub returns-clause-number : goal.returns-clause-number
+returns-clause-number g c = λ committees stream messages rest stands are. c.votes.ensures committees messages (stands_recalls _ committees c.args.self.now stream rest messages stands are)
