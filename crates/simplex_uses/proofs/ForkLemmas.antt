@@ -1,5 +1,5 @@
 -- Who is named where two finalizations contradict.
-use Rattle.std.proofs.Common.{◌≡◌, ℕ, Bool, true, false, List, [], ◌∷◌, ◌++◌, sym, refl, ap, ◌∙◌, inl, inr, arith}
+use Rattle.std.proofs.Common.{◌≡◌, ℕ, Bool, true, false, List, [], ◌∷◌, ◌++◌, sym, refl, ap, subst, ◌∙◌, inl, inr, arith}
 use Rattle.std.specs.Prelude.{◌||◌, All, Contains, IsTrue, Some}
 use Rattle.std.specs.List.{flat_map}
 use Rattle.std.proofs.lemmas.Bool.{cases_Bool}
@@ -7,8 +7,11 @@ use Rattle.std.proofs.lemmas.List.{append-nil}
 use Rattle.std.proofs.lemmas.List.Elements.{All-cons, All-nil}
 use Rattle.simplex_base.specs.Format.{Format}
 use Rattle.simplex_base.specs.Positions.{Round}
+use Rattle.simplex_votes.specs.Spellings.{IsFinalization}
 use Rattle.simplex_votes.specs.Votes.{Vote}
 use Rattle.simplex_evidence.specs.Contradiction.{Kind, Evidence, Conflicting_notarize, Conflicting_finalize, Nullify_finalize}
+use Rattle.simplex_kept.specs.Committees.{bound_of}
+use Rattle.simplex_kept.specs.Evidence.{IsEvidence}
 use Rattle.simplex_kept.specs.Laws.{NamesExactly}
 use Rattle.simplex_kept.specs.Named.{is_named}
 use Rattle.simplex_kept.specs.Rules.{Rules, good_votes}
@@ -48,6 +51,16 @@ blames rules messages round c d es names accountable = record {
       let (kind, named) = kind_of_named rules.eq (good_votes rules messages) round _ (accountable.named k q lt) in
       (kind, (names (record { round = round; signer = _; kind = kind })).1 named);
 }
+
+-- the evidence of the votes of some messages is that of the same messages
+pub evidence_of_same : {S D C P G : Type 0} (rules : Rules S D C P G) (given wanted : List (Activity S D C P G)) (es : List (Evidence D G)) → given ≡ wanted →
+    IsEvidence rules.eq (good_votes rules given) es → IsEvidence rules.eq (good_votes rules wanted) es
+evidence_of_same {S} {D} {C} {P} {G} rules given wanted es same is = subst (λ (ms : List (Activity S D C P G)). IsEvidence rules.eq (good_votes rules ms) es) same is
+
+-- a finalization that is read under the bound of the committees inside is under that of the client's
+pub value_outside : {S D C P G : Type 0} (payload : Format D) (fits : ℕ → C → Type 0) (keys : S → List P) (inside before : Following S D C P G) (f : Finalization S D C P G) → inside ≡ before →
+    IsFinalization payload (fits (bound_of keys inside.committees)) f → IsFinalization payload (fits (bound_of keys before.committees)) f
+value_outside {S} {D} {C} {P} {G} payload fits keys inside before f is value = subst (λ (b : Following S D C P G). IsFinalization payload (fits (bound_of keys b.committees)) f) is value
 
 -- a list of two, and what it contains
 pub first_of_two : {X : Type 0} (x y : X) → Contains (x ∷ y ∷ []) x

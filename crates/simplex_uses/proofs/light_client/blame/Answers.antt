@@ -1,10 +1,8 @@
-use Rattle.std.proofs.Common.{List, [], ◌∷◌, refl, subst, ◌∙◌}
+use Rattle.std.proofs.Common.{List, [], ◌∷◌, refl, ◌∙◌}
 use Rattle.simplex_evidence.specs.declared.types.activity.Activity.{Activity}
 use Rattle.simplex_evidence.specs.declared.types.activity.Activity.TheVariants as activity
 use Rattle.simplex_kept.specs.Committees.{rules_of}
-use Rattle.simplex_kept.specs.Evidence.{IsEvidence}
-use Rattle.simplex_kept.specs.Rules.{good_votes}
-use Rattle.simplex_uses.proofs.ForkLemmas.{blames, first_of_two, second_of_two, nothing_first, two_messages}
+use Rattle.simplex_uses.proofs.ForkLemmas.{blames, evidence_of_same, first_of_two, second_of_two, nothing_first, two_messages}
 use Rattle.simplex_uses.proofs.light_client.blame.Goals as goal
 
 pub returns : goal.returns
@@ -21,5 +19,5 @@ returns g c =
           (first_of_two _ _) (second_of_two _ _) refl refl c.requires.one.final c.requires.other.final c.requires.fork);
       evidence =
           let is = c.in_ok-report.ensures.report in
-          subst (λ ms. IsEvidence g.D.PartialEq.eq (good_votes rules ms) _) (c.in_ok-report.ensures.single is.messages messages is.rest [] is.are_messages are).0 is.evidence_is;
+          evidence_of_same rules is.messages messages _ (c.in_ok-report.ensures.single is.messages messages is.rest [] is.are_messages are).0 is.evidence_is;
     }

@@ -1,8 +1,8 @@
 use Rattle.std.proofs.Common.{ap, ◌∙◌, subst}
-use Rattle.simplex_votes.specs.Spellings.{IsFinalization}
-use Rattle.simplex_kept.specs.Committees.{bound_of, rules_of}
+use Rattle.simplex_base.specs.Format.{fixed}
+use Rattle.simplex_kept.specs.Committees.{rules_of}
 use Rattle.simplex_uses.specs.Following.{Follows}
-use Rattle.simplex_uses.proofs.ForkLemmas.{taken_now, not_taken_now}
+use Rattle.simplex_uses.proofs.ForkLemmas.{taken_now, not_taken_now, value_outside}
 use Rattle.simplex_uses.proofs.light_client.LightClient.follow.Goals as goal
 use Rattle.simplex_uses.proofs.light_client.LightClient.follow.Goals.{in-Taken, in_default}
 
@@ -14,7 +14,7 @@ returns-clause-follows g c =
     let rules = rules_of g.D.PartialEq.eq g.S.CertificateScheme.keys g.S.Scheme.good g.S.CertificateVerifier.certified g.S.Listing.listed in (
       f,
       c.in_ok-finalization.ensures.spelled,
-      subst (λ b. IsFinalization _ (_ (bound_of g.S.CertificateScheme.keys b.committees)) f) c.self.view_is c.in_ok-finalization.ensures.value,
+      value_outside (fixed g.D.FixedSize.SIZE g.D.Fixed.bytes_of g.D.Fixed.of_bytes) g.S.Certificate.Read.fits g.S.CertificateScheme.keys _ _ f c.self.view_is c.in_ok-finalization.ensures.value,
       subst (λ b. Follows (rules b.committees) b.latest f followed) c.self.view_is
           (subst (λ l. Follows (rules inside.committees.now) l f followed) c.as_ref.ensures.value c.in_ok-followed.ensures.follows),
       elim c.match-followed.branch [
