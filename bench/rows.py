@@ -1,7 +1,8 @@
 #!/usr/bin/env python3
 """rows.py ROWS ANSWERS [WORKED]: writes rows of `sign`, `assemble`, `many`, `subject`, `derive`, `decode`, `cut`, plain `verify`,
-`batch`, `resolve`, `hear`, `follow` and `store`, and their answers, as docs/CONFORMANCE.md has them. With WORKED, a file of rows,
-there are also rows of `cut` of the messages in those. It is a model of its own: it reads and signs by what docs/FORMAT.md says.
+`batch`, `resolve`, `hear`, `follow`, `store` and `audit`, and their answers, as docs/CONFORMANCE.md has them. With WORKED, a file of
+rows, there are also rows of `cut` of the messages in those, and of `feed` of their streams in pieces. It is a model of its own: it
+reads and signs by what docs/FORMAT.md says.
 """
 import hashlib
 import sys
@@ -313,34 +314,65 @@ def follow(n, finalizations):
     return " | ".join(said)
 
 
-def votes_of(reader):
-    """The votes of the message at the front, each with its kind."""
+def message_of(reader):
+    """The votes of the message at the front, each with its kind, and its certificate with its kind and subject, if it has one."""
     tag = reader.tag("Activity", 10)
     kinds = ("notarize", "notarize", "notarize", "nullify", "nullify", "finalize", "finalize")
     if tag in (1, 2, 4, 6):
         subject, listed = reader.certificate(kinds[tag])
-        return [(kinds[tag], (subject, one)) for one in listed]
+        return [(kinds[tag], (subject, one)) for one in listed], (kinds[tag], subject, listed)
     if tag < 7:
-        return [(kinds[tag], reader.vote(kinds[tag]))]
+        return [(kinds[tag], reader.vote(kinds[tag]))], None
     first, second = {7: ("notarize", "notarize"), 8: ("finalize", "finalize"), 9: ("nullify", "finalize")}[tag]
-    return list(zip((first, second), reader.kind(("conflicting-notarize", "conflicting-finalize", "nullify-finalize")[tag - 7])))
+    pair = reader.kind(("conflicting-notarize", "conflicting-finalize", "nullify-finalize")[tag - 7])
+    return list(zip((first, second), pair)), None
 
 
-def store(n, pieces):
-    reader, kept = Reader(b"".join(pieces), False, n), {}
-    try:
-        while reader.data:
-            for kind, (subject, one) in votes_of(reader):
-                if not is_good(None, n, kind, subject, one):
-                    continue
-                at = subject if kind == "nullify" else subject[0]
-                found = kept.setdefault((at, one[0]), {}).setdefault(kind, [])
-                if len(found) < 2 and all(subject != other for other, _ in found):
-                    found.append((subject, one))
-    except Refused:
-        pass
-    stored, lines = b"", ""
-    for _, votes in sorted(kept.items()):
+def members(who):
+    """The number of participants of each epoch's committee."""
+    if ":" not in who:
+        return lambda epoch: int(who)
+    sizes = dict(map(int, one.split(":")) for one in who.split(","))
+    return lambda epoch: sizes.get(epoch, 0)
+
+
+def bound_of(who):
+    return max(int(one.split(":")[-1]) for one in who.split(","))
+
+
+def read_messages(who, stream):
+    """The messages of a stream, the bytes behind them, and why those are no message, if there are any."""
+    reader, messages = Reader(stream, False, bound_of(who)), []
+    while reader.data:
+        rest = reader.data
+        try:
+            messages.append(message_of(reader))
+        except Refused as refused:
+            return messages, rest, str(refused)
+    return messages, b"", None
+
+
+def round_of(kind, subject):
+    return subject if kind == "nullify" else subject[0]
+
+
+def keep(who, messages):
+    """Of each round, signer and kind the earliest good vote and the earliest with another proposal."""
+    kept = {}
+    for votes, _ in messages:
+        for kind, (subject, one) in votes:
+            at = round_of(kind, subject)
+            if not is_good(None, members(who)(at[0]), kind, subject, one):
+                continue
+            found = kept.setdefault((at, one[0]), {}).setdefault(kind, [])
+            if len(found) < 2 and all(subject != other for other, _ in found):
+                found.append((subject, one))
+    return kept
+
+
+def evidence_of(kept):
+    """The evidence of the votes that are kept, in order: the round, the tag, the kind, and both votes with their kinds."""
+    for (at, _), votes in sorted(kept.items()):
         notarizes, nullifies, finalizes = (votes.get(kind, []) for kind in KINDS)
         for tag, kind, kinds, pair in (
             (7, "conflicting-notarize", ("notarize", "notarize"), notarizes),
@@ -348,11 +380,59 @@ def store(n, pieces):
             (9, "nullify-finalize", ("nullify", "finalize"), nullifies[:1] + finalizes[:1] if nullifies else []),
         ):
             if len(pair) == 2:
-                lines += "; " + line(kind, *pair)
-                stored += bytes([tag])
-                for sort, (subject, (signer, given)) in zip(kinds, pair):
-                    stored += spelled_subject(sort, subject) + number(signer) + given
-    return stored.hex() + lines
+                yield at, tag, kind, list(zip(kinds, pair))
+
+
+def evidence_lines(evidence):
+    return [line(kind, *(one for _, one in votes)) for _, _, kind, votes in evidence]
+
+
+def split_lines(who, messages, evidence):
+    certified = set()
+    for _, certificate in messages:
+        if certificate:
+            kind, subject, listed = certificate
+            if is_certified(None, members(who)(round_of(kind, subject)[0]), kind, subject, listed):
+                certified.add((kind, subject))
+    rounds = set()
+    for kind, subject in certified:
+        for other, another in certified:
+            of_one_kind = kind == other != "nullify" and subject != another
+            if round_of(kind, subject) == round_of(other, another) and (of_one_kind or {kind, other} == {"nullify", "finalize"}):
+                rounds.add(round_of(kind, subject))
+    for at in sorted(rounds):
+        named = {votes[0][1][1][0] for place, _, _, votes in evidence if place == at}
+        n = members(who)(at[0])
+        yield f"{at[0]} {at[1]} split {len(named)} {n - quorum(n) + 1}"
+
+
+def audit(who, stream):
+    messages, rest, fault = read_messages(who, stream)
+    evidence = list(evidence_of(keep(who, messages)))
+    said = [f"read {len(messages)}", *evidence_lines(evidence), *split_lines(who, messages, evidence)]
+    if fault:
+        said.append(f"fault at {len(stream) - len(rest)}: {fault}")
+    return "; ".join(said)
+
+
+def feed(who, pieces):
+    said = []
+    for last in range(1, len(pieces) + 1):
+        front = b"".join(pieces[:last])
+        messages, rest, _ = read_messages(who, front)
+        votes = sum(len(found) for kinds in keep(who, messages).values() for found in kinds.values())
+        said.append(f"fed {len(front)}, rest {len(rest)}, votes {votes}")
+    return " | ".join([*said, audit(who, b"".join(pieces))])
+
+
+def store(who, pieces):
+    evidence = list(evidence_of(keep(who, read_messages(who, b"".join(pieces))[0])))
+    stored = b""
+    for _, tag, _, votes in evidence:
+        stored += bytes([tag])
+        for kind, (subject, (signer, given)) in votes:
+            stored += spelled_subject(kind, subject) + number(signer) + given
+    return "; ".join([stored.hex(), *evidence_lines(evidence)])
 
 
 def term_end(length, view):
@@ -649,7 +729,7 @@ def rows_of_storing():
         (4, [both, b"\x0a", final]),
         (4, []),
     ):
-        yield f"store {n} {' '.join(data.hex() for data in pieces)}".strip(), store(n, pieces)
+        yield f"store {n} {' '.join(data.hex() for data in pieces)}".strip(), store(str(n), pieces)
 
 
 def rows_of_hearing():
@@ -706,6 +786,28 @@ def rows_of_cuts(worked):
             yield f"cut {kind} {bound} {data.hex()}", cut(kind, bound, data)
 
 
+def rows_of_streams():
+    """Streams of a committee of four that stop at a tag, alone or behind a message, or are cut off."""
+    vote = "00000a050601aa"
+    tags = [f"{tag:02x}" for tag in range(256)]
+    behind = [f"{vote}{tag}{rest}" for tag in tags[10:] for rest in ("00", "000a01aa", vote)]
+    whole = "01000a05060300aa01aa02aa01000a05070301aa02aa03aa"
+    for stream in tags + behind + [whole[: 2 * end] for end in range(len(whole) // 2)]:
+        yield f"audit 4 {stream}".strip(), audit("4", bytes.fromhex(stream))
+
+
+def rows_of_pieces(worked):
+    """A row of `feed` for each row of `audit` with a committee: a byte a piece, and cut in two at each byte."""
+    for row in worked:
+        form, *words = row.split()
+        if form != "audit" or bound_of(words[0]) == 0:
+            continue
+        who, stream = words[0], bytes.fromhex("".join(words[1:]))
+        cuts = [(stream[:end], stream[end:]) for end in range(1, len(stream))]
+        for pieces in [[bytes([byte]) for byte in stream], *cuts]:
+            yield f"feed {who} {' '.join(piece.hex() for piece in pieces)}".strip(), feed(who, pieces)
+
+
 def rows():
     yield from rows_of_names()
     for base in (None, b"test"):
@@ -719,9 +821,12 @@ def rows():
     yield from rows_of_following()
     yield from rows_of_storing()
     yield from rows_of_hearing()
+    yield from rows_of_streams()
     if len(sys.argv) > 3:
         with open(sys.argv[3]) as worked:
-            yield from rows_of_cuts(worked.read().splitlines())
+            worked = worked.read().splitlines()
+        yield from rows_of_cuts(worked)
+        yield from rows_of_pieces(worked)
 
 
 def main():

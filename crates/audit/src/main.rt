@@ -9,8 +9,6 @@ mod groups;
 mod keys;
 mod start;
 mod status;
-#[cfg(test)]
-mod tests;
 
 use crate::start::start;
 use simplex_audit::audit::Watched;

@@ -1,7 +1,7 @@
 //! Audits of streams, whole and in pieces.
 
-use crate::refusals::name;
-use crate::rows::{Unanswered, bytes, committee, epoch};
+use message_rows::refusals::name;
+use message_rows::rows::{Unanswered, bytes, committee, epoch};
 use simplex_audit::audit::{Auditor, Committees, Evidence, Report, audit};
 use simplex_base::positions::Epoch;
 use simplex_scheme::marked::{Marked, MarkedDigest};

@@ -3,19 +3,7 @@
 
 mod answers;
 mod audits;
-mod callers;
-mod leaders;
-mod many;
-mod maps;
-mod names;
-mod plans;
-mod reads;
-mod refusals;
-mod rows;
-mod schemes;
-mod terms;
-mod votes;
-mod windows;
+mod clients;
 
 use std::io;
 

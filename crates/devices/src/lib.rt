@@ -5,8 +5,6 @@
 
 pub mod source;
 pub mod target;
-#[cfg(test)]
-mod tests;
 pub mod trouble;
 
 pub use source::Source;

@@ -2,19 +2,12 @@
 
 ghost use Rattle.std.specs.Prelude.{◌≤◌};
 
-use simplex_audit::audit::{Committees, Fault, Report, audit};
-use simplex_base::codec::error::Error;
+use simplex_audit::audit::{Committees, Fault, audit};
 use simplex_base::positions::Epoch;
 use simplex_scheme::marked::Marked;
-use simplex_scheme::scheme::{Digest, Listing, SchemeTypes};
+use simplex_scheme::scheme::{Digest, Listing};
 use std::alloc::Global;
 use std::test::Fail;
-
-/// What an audit answers of a tag that no message has.
-pub(crate) const UNKNOWN_TAG: Error = Error::Invalid(
-    "consensus::simplex::Activity",
-    "Invalid type",
-);
 
 /// What an audit answers.
 #[derive(Debug, PartialEq, Eq, Drop)]
@@ -47,14 +40,7 @@ pub(crate) fn outcome_of<S: Listing<D>, D: Digest>(
     committees: &Committees<S>,
     stream: &[u8],
 ) -> Result<Outcome, Fail> {
-    told(alloc, &audit(alloc, committees, stream)?)
-}
-
-/// What a report says.
-pub(crate) fn told<S: SchemeTypes, D: Digest>(
-    alloc: Global,
-    report: &Report<S, D>,
-) -> Result<Outcome, Fail> {
+    let report = audit::<S, D>(alloc, committees, stream)?;
     let mut text = String::new(alloc);
     for evidence in &report.evidence {
         text.push_str(evidence.line(alloc)?.as_str())?;
@@ -69,10 +55,4 @@ pub(crate) fn told<S: SchemeTypes, D: Digest>(
         read: report.read,
         fault: report.fault,
     })
-}
-
-/// The bytes that a text names by two digits each, parted by blanks.
-pub(crate) fn bytes(alloc: Global, text: &str) -> Result<Vec<u8>, Fail> {
-    let digits: Vec<u8> = text.bytes().filter(|byte| *byte != b' ').collect(alloc)?;
-    Ok(hex::decode(alloc, digits.as_slice())?)
 }

@@ -1,7 +1,6 @@
 //! Runs over readers and writers that do and do not fail.
 
 use crate::outcome::marked;
-use crate::rows::{Row, rows};
 use devices::{Source, Target, Trouble};
 use simplex_audit::audit::{RunError, Watched, run};
 use simplex_scheme::marked::{Marked, MarkedDigest};
@@ -223,37 +222,4 @@ fn each_write_in_turn(rt: HostRuntime) -> Result<(), Fail> {
         ..steady
     };
     ends(&rt, rt.alloc(), case)
-}
-
-/// Runs over the stream of a row, and compares.
-fn is_written(rt: &impl Abort, alloc: Global, row: &Row) -> Result<(), Fail> {
-    let source = Source::new(row.stream.as_slice(), 5, Trouble::Never);
-    let (mut reader, mut writer) = (Watched::new(source), Watched::new(Target::steady()));
-    let summary = run::<Marked, MarkedDigest, Source, Target>(
-        alloc,
-        &row.committees,
-        &mut reader,
-        &mut writer,
-    )?;
-    let text = row.wanted.text.as_str();
-    let splits = text.lines().filter(|line| line.contains("split")).count();
-    let evidence = text.lines().count().saturating_sub(splits);
-    assert_eq!(rt; summary.read, row.wanted.read, "of {}", row.name);
-    assert_eq!(rt; summary.evidence, evidence, "of {}", row.name);
-    assert_eq!(rt; summary.splits, splits, "of {}", row.name);
-    assert_eq!(rt; summary.fault, row.wanted.fault, "of {}", row.name);
-    assert!(rt; writer.flushed());
-    let target = writer.into_inner();
-    let same = target.held() == text.as_bytes();
-    assert!(rt; same, "of {}", row.name);
-    Ok(())
-}
-
-#[test]
-fn each_row_is_written(rt: HostRuntime) -> Result<(), Fail> {
-    let alloc = rt.alloc();
-    for row in &rows(alloc)? {
-        is_written(&rt, alloc, row)?;
-    }
-    Ok(())
 }

@@ -1,0 +1,2 @@
+pub mod ForkLemmas
+pub mod StoreLemmas

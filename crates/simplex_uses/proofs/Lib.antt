@@ -1,4 +1,0 @@
-pub mod ResolverLemmas
-pub mod BatchLemmas
-pub mod ForkLemmas
-pub mod StoreLemmas

@@ -1,4 +1,0 @@
-pub mod Batch
-pub mod Following
-pub mod Judged
-pub mod Holding
