@@ -11,8 +11,8 @@ use crate::arguments;
 use crate::status::{Failure, Status, complaint};
 use simplex_audit::audit::{Fault, Watched, run};
 use simplex_audit::basis::Audited;
+use simplex_plain::plain::Plain;
 use simplex_scheme::hash::Sha256Digest;
-use simplex_scheme::plain::Plain;
 use std::alloc::Global;
 use std::io::{ErrorKind, Read, Write};
 

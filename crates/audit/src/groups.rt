@@ -2,13 +2,13 @@
 
 ghost use Rattle.std.specs.Prelude.{◌≡◌, ◌≢◌, ◌↔◌, ◌≤◌, ◌<◌, ◌^◌, ◌++◌, ◌⊎◌, ◌∷◌, ℕ, List, Ok, Err, All, IfOk, IfErr, map, length, take, drop, string_bytes, IsTrue, codes, decimal};
 ghost use Rattle.simplex_kept.specs.Committees.{AreRising};
-ghost use Rattle.simplex_scheme.specs.Plain.{PlainScheme};
+ghost use Rattle.simplex_plain.specs.Plain.{PlainScheme};
 ghost use Rattle.audit.specs.Arguments.{AreGroups, BeginsGroup, StandsBeforeGroup, epoch_text};
 
 use crate::keys::parse_committee;
 use crate::status::Failure;
 use simplex_base::positions::Epoch;
-use simplex_scheme::plain::Plain;
+use simplex_plain::plain::Plain;
 use std::alloc::{AllocError, Global};
 
 /// Whether a text begins a group.

@@ -7,7 +7,7 @@ ghost use Rattle.audit.specs.Arguments.{AreKeys, AreNoKeys, IsCommittee, key_nam
 use crate::status::Failure;
 use hex::FromHex;
 use simplex_base::codec::Fixed;
-use simplex_scheme::plain::{Plain, PlainKey};
+use simplex_plain::plain::{Plain, PlainKey};
 use simplex_scheme::set::Set;
 use std::alloc::{AllocError, Global};
 

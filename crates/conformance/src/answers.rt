@@ -4,7 +4,7 @@ use crate::audits::{audit_row, committees, feed_row};
 use crate::clients::{follow, store};
 use message_rows::answers::message_row;
 use message_rows::rows::{Unanswered, bytes};
-use simplex_scheme::marked::MarkedDigest;
+use simplex_plain::marked::MarkedDigest;
 use std::alloc::{AllocError, Global};
 
 /// What is said of a line that is no row.

@@ -4,7 +4,7 @@ use message_rows::refusals::name;
 use message_rows::rows::{Unanswered, bytes, committee, epoch};
 use simplex_audit::audit::{Auditor, Committees, Evidence, Report, audit};
 use simplex_base::positions::Epoch;
-use simplex_scheme::marked::{Marked, MarkedDigest};
+use simplex_plain::marked::{Marked, MarkedDigest};
 use simplex_scheme::scheme::{Digest, SchemeTypes};
 use std::alloc::{AllocError, Global};
 

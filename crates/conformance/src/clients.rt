@@ -6,7 +6,7 @@ use message_rows::rows::{Unanswered, bytes};
 use simplex_audit::audit::Committees;
 use simplex_clients::ledger::Ledger;
 use simplex_clients::light_client::{Followed, LightClient};
-use simplex_scheme::marked::{Marked, MarkedDigest};
+use simplex_plain::marked::{Marked, MarkedDigest};
 use simplex_scheme::scheme::{Digest, Listing};
 use std::alloc::{AllocError, Global};
 

@@ -7,7 +7,7 @@ ghost use Rattle.example.specs.Named.{AreKeys, AreNamed, IsCommittee, place_of};
 use simplex_audit::audit::{Committees, Evidence, audit};
 use simplex_audit::basis::Audited;
 use simplex_base::positions::{Participant, Round};
-use simplex_scheme::plain::{Plain, PlainKey};
+use simplex_plain::plain::{Plain, PlainKey};
 use simplex_scheme::scheme::{Set, Sha256Digest};
 use std::alloc::{AllocError, Global};
 

@@ -12,7 +12,7 @@ use crate::votes::vote_row;
 use crate::windows::{admits, floor_row, limit_row, lookahead, outbound, truth, viewport_row};
 use simplex_base::positions::Round;
 use simplex_lead::{Lookahead, Viewport};
-use simplex_scheme::marked::MarkedDigest;
+use simplex_plain::marked::MarkedDigest;
 use std::alloc::Global;
 
 /// The answer to the row of these words, as docs/CONFORMANCE.md has it; here those that ask what some bytes are, and what

@@ -3,7 +3,7 @@
 use crate::refusals::name;
 use crate::rows::{Unanswered, bytes};
 use simplex_base::codec::decode;
-use simplex_scheme::marked::MarkedDigest;
+use simplex_plain::marked::MarkedDigest;
 use simplex_scheme::namespace::Namespace;
 use simplex_scheme::scheme::CertificateSubject;
 use simplex_scheme::subject::Subject;

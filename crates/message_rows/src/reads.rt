@@ -10,9 +10,9 @@ use simplex_base::positions::{Epoch, Participant, Round, View};
 use simplex_evidence::types::{
     Activity, ConflictingFinalize, ConflictingNotarize, NullifyFinalize,
 };
+use simplex_plain::marked::{Marked, MarkedDigest};
+use simplex_plain::plain::{Plain, PlainKey};
 use simplex_scheme::hash::Sha256Digest;
-use simplex_scheme::marked::{Marked, MarkedDigest};
-use simplex_scheme::plain::{Plain, PlainKey};
 use simplex_scheme::proposal::Proposal;
 use simplex_scheme::scheme::{Attestation, Digest, Scheme};
 use simplex_votes::types::{

@@ -5,7 +5,7 @@ ghost use Rattle.std.specs.List.{flat_map};
 ghost use Rattle.message_rows.specs.Words.{IsDecimal, IsCommitteeOf, decoded};
 
 use simplex_base::positions::{Epoch, Participant, TermLength, View, ViewDelta};
-use simplex_scheme::marked::Marked;
+use simplex_plain::marked::Marked;
 use std::alloc::{AllocError, Global};
 
 /// Why a line is not answered as a row.

@@ -5,8 +5,8 @@ ghost use Rattle.std.specs.Prelude.{◌≤◌, ◌<◌, ◌^◌, length, IfOk};
 use crate::rows::{Unanswered, bytes, committee_size, participant};
 use simplex_base::codec::Fixed;
 use simplex_base::positions::Participant;
-use simplex_scheme::marked::Marked;
-use simplex_scheme::plain::{Plain, PlainKey};
+use simplex_plain::marked::Marked;
+use simplex_plain::plain::{Plain, PlainKey};
 use simplex_scheme::set::Set;
 use std::alloc::{AllocError, Global};
 

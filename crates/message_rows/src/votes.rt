@@ -7,8 +7,8 @@ use crate::schemes::{marked, plain};
 use simplex_base::codec::error::Error;
 use simplex_base::codec::{Encode, Read, decode};
 use simplex_evidence::types::Activity;
+use simplex_plain::marked::MarkedDigest;
 use simplex_scheme::hash::Sha256Digest;
-use simplex_scheme::marked::MarkedDigest;
 use simplex_scheme::scheme::{AssemblyError, Digest, Scheme};
 use simplex_votes::types::{
     Finalization, Finalize, Notarization, Notarize, Nullification, Nullify,

@@ -2,7 +2,7 @@
 
 use crate::model::audit_by_definition;
 use crate::outcome::{four_and_one, outcome_of};
-use simplex_scheme::marked::{Marked, MarkedDigest};
+use simplex_plain::marked::{Marked, MarkedDigest};
 use std::alloc::{AllocError, Global};
 use std::test::Fail;
 

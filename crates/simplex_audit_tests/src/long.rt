@@ -3,7 +3,7 @@
 use crate::outcome::marked;
 use devices::{Source, Target, Trouble};
 use simplex_audit::audit::{Watched, run};
-use simplex_scheme::marked::{Marked, MarkedDigest};
+use simplex_plain::marked::{Marked, MarkedDigest};
 use std::alloc::Global;
 use std::test::Fail;
 

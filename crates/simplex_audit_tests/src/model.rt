@@ -6,7 +6,7 @@ use simplex_audit::audit::{Committees, Fault};
 use simplex_base::codec::{Fixed, Read};
 use simplex_base::positions::Round;
 use simplex_evidence::types::Activity;
-use simplex_scheme::marked::{Marked, MarkedDigest};
+use simplex_plain::marked::{Marked, MarkedDigest};
 use simplex_scheme::proposal::Proposal;
 use simplex_scheme::scheme::{Attestation, CertificateScheme, Listing};
 use std::alloc::{AllocError, Global};

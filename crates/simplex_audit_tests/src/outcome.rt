@@ -4,7 +4,7 @@ ghost use Rattle.std.specs.Prelude.{◌≤◌};
 
 use simplex_audit::audit::{Committees, Fault, audit};
 use simplex_base::positions::Epoch;
-use simplex_scheme::marked::Marked;
+use simplex_plain::marked::Marked;
 use simplex_scheme::scheme::{Digest, Listing};
 use std::alloc::Global;
 use std::test::Fail;

@@ -3,8 +3,8 @@
 use simplex_base::codec::{Fixed, decode_cfg};
 use simplex_base::positions::{Epoch, Round, View};
 use simplex_evidence::types::verify_certificates;
-use simplex_scheme::listed::Listed;
-use simplex_scheme::marked::{Marked, MarkedDigest};
+use simplex_plain::listed::Listed;
+use simplex_plain::marked::{Marked, MarkedDigest};
 use simplex_scheme::proposal::Proposal;
 use simplex_scheme::subject::Subject;
 use std::process::Abort;

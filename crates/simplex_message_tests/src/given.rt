@@ -1,9 +1,9 @@
 //! Numbers that are given, and that no row asks for.
 
 use simplex_base::codec::{Encode, MaxEncodeSize, decode};
+use simplex_plain::marked::{Marked, MarkedDigest};
+use simplex_plain::plain::Plain;
 use simplex_scheme::faults::{max_faults, quorum};
-use simplex_scheme::marked::{Marked, MarkedDigest};
-use simplex_scheme::plain::Plain;
 use simplex_scheme::proposal::Proposal;
 use simplex_scheme::scheme::{CertificateScheme, Digest, Scheme, Sha256Digest};
 use simplex_votes::types::{Artifact, Certificate, Context, Notarization, Vote};

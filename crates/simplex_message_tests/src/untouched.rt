@@ -1,7 +1,7 @@
 //! What is as before where memory was refused, of which no row can tell.
 
 use simplex_base::codec::{Encode, Read, Write};
-use simplex_scheme::marked::{Marked, MarkedDigest};
+use simplex_plain::marked::{Marked, MarkedDigest};
 use simplex_votes::types::{Certificate, Vote};
 use std::process::Abort;
 

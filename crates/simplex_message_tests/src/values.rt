@@ -3,7 +3,7 @@
 use simplex_base::codec::{Fixed, Read, decode_cfg};
 use simplex_base::positions::{Epoch, Round, View};
 use simplex_evidence::types::Activity;
-use simplex_scheme::marked::{Marked, MarkedDigest};
+use simplex_plain::marked::{Marked, MarkedDigest};
 use simplex_scheme::proposal::Proposal;
 use std::alloc::Global;
 use std::collections::HashSet;

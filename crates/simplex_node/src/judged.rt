@@ -4,7 +4,7 @@
 //! `certificates_within`: how long a certificate is at most. `members`: whose signature is good is in the committee. And
 //! where its certificates list their attestations, `lists_quorums`: what certifies lists a quorum of distinct signers, each
 //! signature good, and `lists_given`: an assembled certificate lists what was given. By `AttestationVerifier` and the
-//! calls of `simplex_scheme::certificates` it has to write only what makes one signature good.
+//! calls of `simplex_plain::certificates` it has to write only what makes one signature good.
 
 ghost use Rattle.std.specs.Prelude.{◌≡◌, ◌≢◌, ◌↔◌, ◌&&◌, ◌==◌, ◌++◌, ◌<◌, ◌≤◌, ◌^◌, ◌+◌, ◌*◌, ℕ, List, None, Some, Ok, Err, IsOk, IfOk, IfSome, IsTrue, MatchOption, All, length, nat_eq, nat_lt, true};
 ghost use Rattle.std.specs.List.{IsDistinct, list_any};
@@ -13,15 +13,15 @@ ghost use Rattle.std.proofs.Common.{lit≤};
 ghost use Rattle.simplex_base.specs.Readable.{format_of};
 ghost use Rattle.simplex_scheme.specs.Subject.{SubjectValue, subject_value, message_of};
 ghost use Rattle.simplex_scheme.specs.Committee.{IsInOrder, is_quorum, quorum_of, signers_of};
-ghost use Rattle.simplex_scheme.specs.CommitteeLaws.{quorum_meaning, fixed_within};
+ghost use Rattle.simplex_plain.specs.CommitteeLaws.{quorum_meaning, fixed_within};
 ghost use Rattle.simplex_node.specs.Judged.{nobody, vote_of, is_on, judged_good, judged_members};
 
 use simplex_base::codec::Read;
 use simplex_base::codec::fixed_bytes::FixedBytes;
 use simplex_base::positions::Participant;
-use simplex_scheme::certificates::{AttestationVerifier, are_certified, assembled, is_certified};
-use simplex_scheme::listed::Listed;
-use simplex_scheme::plain::{PlainKey, PlainKeyRole, PlainSignatureRole};
+use simplex_plain::certificates::{AttestationVerifier, are_certified, assembled, is_certified};
+use simplex_plain::listed::Listed;
+use simplex_plain::plain::{PlainKey, PlainKeyRole, PlainSignatureRole};
 use simplex_scheme::scheme::{
     AssemblyError, Attestation, CertificateScheme, CertificateVerifier, Digest, Listing, Scheme,
     SchemeTypes,

@@ -1,14 +1,11 @@
--- A name and a message are those of one subject alone, and hashed bytes are those of one name, key and message.
-use Rattle.std.proofs.Common.{◌≡◌, ℕ, ◌<◌, ◌^◌, List, [], ◌++◌, length, take, drop, sym, ap, ◌∙◌, refl}
-use Rattle.std.proofs.lemmas.List.{take_at, drop_at}
+-- A name and a message are those of one subject alone.
+use Rattle.std.proofs.Common.{◌≡◌, ℕ, List, [], ◌++◌, ap}
 use Rattle.simplex_base.specs.Format.{Format, IsLawful}
 use Rattle.simplex_base.specs.FormatLaws.{one_spelling}
-use Rattle.simplex_base.specs.VarintLaws.{number_64_lawful}
 use Rattle.simplex_base.specs.Positions.{round_format, round_lawful}
 use Rattle.simplex_scheme.specs.Namespace.{names_of}
 use Rattle.simplex_scheme.specs.Proposal.{proposal_format, proposal_lawful}
 use Rattle.simplex_scheme.specs.Subject.{SubjectValue, Notarizes, Nullifies, Finalizes, IsSubject, name_of, message_of}
-use Rattle.simplex_scheme.specs.Plain.{hashed}
 use Rattle.simplex_scheme.proofs.NamespaceLemmas.{names_apart}
 
 -- one spelling is one value's
@@ -25,17 +22,3 @@ one_subject payload law base (Nullifies r) (Finalizes p) is is' name message = a
 one_subject payload law base (Finalizes p) (Notarizes q) is is' name message = absurd ((names_apart base base).finalize.0 name)
 one_subject payload law base (Finalizes p) (Nullifies r) is is' name message = absurd ((names_apart base base).finalize.1 name)
 one_subject payload law base (Finalizes p) (Finalizes q) is is' name message = ap (λ r. Finalizes r) (one_value (proposal_format payload) (proposal_lawful payload law) p q is is' message)
-
--- two lists whose fronts are of one length are equal where their parts are
-parts : (front other rest more : List ℕ) → length front ≡ length other → front ++ rest ≡ other ++ more → (front ≡ other) × (rest ≡ more)
-parts front other rest more size same = (
-  sym (take_at front rest (length front) refl) ∙ (ap (take (length front)) same ∙ take_at other more (length front) (sym size)),
-  sym (drop_at front rest (length front) refl) ∙ (ap (drop (length front)) same ∙ drop_at other more (length front) (sym size)),
-)
-
-pub hashed_decides : (name other_name key other_key message other_message : List ℕ) → length name < 2 ^ 64 → length other_name < 2 ^ 64 → length key ≡ length other_key → hashed name key message ≡ hashed other_name other_key other_message → (name ≡ other_name) × (key ≡ other_key) × (message ≡ other_message)
-hashed_decides name other_name key other_key message other_message small other_small keys same =
-    let sizes = one_spelling number_64_lawful (length name) (length other_name) (name ++ (key ++ message)) (other_name ++ (other_key ++ other_message)) small other_small same in
-    let names = parts name other_name (key ++ message) (other_key ++ other_message) sizes.0 sizes.1 in
-    let rest = parts key other_key message other_message keys names.1 in
-    (names.0, rest.0, rest.1)

@@ -2,11 +2,6 @@ pub mod Namespace
 pub mod Proposal
 pub mod Subject
 pub mod Committee
-pub mod CommitteeLaws
 pub mod Parts
 pub mod Attestation
-pub mod Listed
-pub mod ListedLaws
-pub mod Plain
-pub mod Marked
 pub mod Errors

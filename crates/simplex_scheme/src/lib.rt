@@ -1,15 +1,11 @@
-//! Who signs what: committees and their keys, proposals and the subjects that are signed, the traits of schemes with
-//! their laws, certificates that list their attestations, and two schemes.
+//! Who signs what: committees and their keys, proposals and the subjects that are signed, and the traits of schemes with
+//! their laws.
 #![tactic(auto)]
 
-pub mod certificates;
 pub mod faults;
 pub mod hash;
-pub mod listed;
-pub mod marked;
 mod message;
 pub mod namespace;
-pub mod plain;
 pub mod proposal;
 pub mod scheme;
 pub mod set;

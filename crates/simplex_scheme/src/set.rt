@@ -64,7 +64,7 @@ impl<K: Ord> Set<K> {
     }
 
     /// The set of these keys, which ascend already.
-    pub(crate) fn ascending(keys: Vec<K>) -> Set<K>
+    pub fn ascending(keys: Vec<K>) -> Set<K>
         requires { IsStrictlySortedBy K.cmp keys.items }
         ensures { result ≡ keys.items }
     {

@@ -1,6 +1,6 @@
 use Rattle.std.proofs.Common.{◌≡◌, [], ap, map, string_bytes, sym, subst, List, ℕ, ◌∙◌, Err}
 use Rattle.std.proofs.lemmas.Result.{err_from_is_err_and}
-use Rattle.simplex_scheme.specs.Plain.{PlainScheme}
+use Rattle.simplex_plain.specs.Plain.{PlainScheme}
 use Rattle.audit.specs.Arguments.{IsCommittee, NameCommittees, AreGroups}
 use Rattle.audit.specs.declared.status.Failure.TheVariants as failures
 use Rattle.audit.proofs.ArgumentLemmas.{no_keys, no_rising, no_texts_named, no_arguments, refused_empty}

@@ -1,5 +1,5 @@
 use Rattle.std.proofs.Common.{List, ℕ, ◌++◌, map, length, string_bytes}
-use Rattle.simplex_scheme.specs.Plain.{PlainScheme}
+use Rattle.simplex_plain.specs.Plain.{PlainScheme}
 use Rattle.simplex_kept.specs.Committees.{AreRising}
 use Rattle.audit.specs.Arguments.{AreGroups}
 use Rattle.audit.proofs.NoGroups.{Continues}

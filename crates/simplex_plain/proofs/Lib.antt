@@ -1,0 +1,5 @@
+pub mod CertificateLemmas
+pub mod PlainLemmas
+pub mod HashedLemmas
+pub mod MarkedLemmas
+pub mod ListedLemmas

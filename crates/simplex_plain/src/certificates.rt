@@ -1,0 +1,91 @@
+//! What lists of attestations certify, and how they are made, for each scheme that verifies attestations one by one. A
+//! scheme of one's own whose certificates are [`Listed`] is an [`AttestationVerifier`], and answers by these calls.
+
+ghost use Rattle.std.specs.Prelude.{◌≡◌, ℕ, Bool, true, length, nat_eq, All, Ok, Err, IsOk, IfOk, ◌<◌, ◌≤◌};
+ghost use Rattle.std.specs.List.{IsDistinct, list_all};
+ghost use Rattle.simplex_scheme.specs.Subject.{SubjectValue, subject_value};
+ghost use Rattle.simplex_scheme.specs.Committee.{IsInOrder, is_quorum, quorum_of, signers_of};
+
+use crate::listed::Listed;
+use simplex_scheme::faults::quorum;
+use simplex_scheme::scheme::{AssemblyError, Attestation, CertificateScheme, Digest, SchemeTypes};
+use simplex_scheme::subject::Subject;
+
+/// A committee whose attestations are verified one by one.
+pub trait AttestationVerifier<D: Digest>: CertificateScheme {
+    /// Whether a signature is one of this signer for the subject.
+    ghost accepted: { Self → SubjectValue D → ℕ → Self.Signature → Bool };
+
+    /// Whether a signature is one of its signer for the subject.
+    fn accepts(&self, subject: &Subject<'_, D>, attestation: &Attestation<Self>) -> bool
+    where
+        Self: Sized,
+        ensures { result ≡ accepted self.now (subject_value subject.now) attestation.now.signer attestation.now.signature };
+}
+
+/// Whether a certificate lists a quorum, each attestation of it for the subject.
+pub fn is_certified<D: Digest, S: AttestationVerifier<D>>(
+    scheme: &S,
+    subject: &Subject<'_, D>,
+    certificate: &Listed<S>,
+) -> bool
+    ensures { result ≡ is_quorum (length (S.keys scheme.now)) (S.accepted scheme.now (subject_value subject.now)) certificate.now }
+{
+    let attestations = certificate.attestations();
+    if attestations.len() < quorum(scheme.participants().len() as u32) as usize {
+        return false;
+    }
+    for attestation in attestations {
+        if !scheme.accepts(subject, attestation) {
+            return false;
+        }
+    }
+    true
+}
+
+/// Whether each certificate certifies its subject.
+pub fn are_certified<'a, D: Digest, S: AttestationVerifier<D>>(
+    scheme: &S,
+    items: &[(Subject<'a, D>, &'a Listed<S>)],
+) -> bool
+    ensures { result ≡ list_all (λ item. is_quorum (length (S.keys scheme.now)) (S.accepted scheme.now (subject_value item.0)) item.1.now) items.now }
+{
+    for item in items {
+        if !is_certified(scheme, &item.0, item.1) {
+            return false;
+        }
+    }
+    true
+}
+
+/// Sorts attestations by their signers, which are distinct, in place without memory.
+fn sort_by_signers<S: SchemeTypes>(attestations: &mut Vec<Attestation<S>>)
+    requires { IsDistinct nat_eq (signers_of attestations.old.items) }
+    ensures { IsInOrder attestations.old.items attestations.new.items }
+{
+    attestations.sort_unstable_by_key(|attestation| attestation.signer);
+}
+
+/// The certificate of these attestations, sorted in place without memory.
+pub fn assembled<S: CertificateScheme>(
+    scheme: &S,
+    mut attestations: Vec<Attestation<S>>,
+) -> Result<Listed<S>, AssemblyError>
+    requires distinct { IsDistinct nat_eq (signers_of attestations.items) }
+    requires members { All (λ a. a.signer < length (S.keys scheme.now)) attestations.items }
+    ensures below { length attestations.items < quorum_of (length (S.keys scheme.now)) →
+        result ≡ Err (AssemblyError.InsufficientAttestations (quorum_of (length (S.keys scheme.now))) (length attestations.items)) }
+    ensures ample { quorum_of (length (S.keys scheme.now)) ≤ length attestations.items → IsOk result }
+    ensures made { IfOk result (λ certificate. IsInOrder attestations.items certificate) }
+    ensures certified { IfOk result (λ certificate. (good : ℕ → S.Signature → Bool) →
+        All (λ a. good a.signer a.signature ≡ true) attestations.items →
+        is_quorum (length (S.keys scheme.now)) good certificate ≡ true) }
+{
+    let quorum = quorum(scheme.participants().len() as u32);
+    let count = attestations.len();
+    if count < quorum as usize {
+        return Err(AssemblyError::InsufficientAttestations(quorum, count as u32));
+    }
+    sort_by_signers(&mut attestations);
+    Ok(Listed::from_ascending(attestations))
+}

@@ -1,0 +1,214 @@
+//! Certificates that list their attestations.
+
+ghost use Rattle.std.specs.Prelude.{◌≡◌, ◌+◌, ◌*◌, ◌/◌, min, ◌<◌, ◌≤◌, ◌^◌, IfOk, length, true, false, refl};
+ghost use Rattle.std.specs.Hash as fed;
+ghost use Rattle.std.specs.Cmp.Lexicographic.{pointwise, lists_per};
+ghost use Rattle.std.specs.Cmp.Rules.{comparing, hashing};
+ghost use Rattle.std.proofs.Common.{rules};
+ghost use Rattle.std.proofs.lemmas.Cmp.{lists_equiv};
+ghost use Rattle.simplex_base.specs.Readable.{format_of};
+ghost use Rattle.simplex_base.specs.Reading.{Gives};
+ghost use Rattle.simplex_plain.specs.Listed.{AreListed, ListedFits, listed_spelling, attestation_at, attestations_at, listed_at};
+ghost use Rattle.simplex_plain.specs.ListedLaws.{listed_lawful};
+
+use simplex_base::codec::counted::{size_counted, write_counted};
+use simplex_base::codec::error::Error;
+use simplex_base::codec::parts::known_bytes;
+use simplex_base::codec::varint::read_u32;
+use simplex_base::codec::{EncodeSize, FixedSize, Read, Spell, Write};
+use simplex_base::values::EqByParts;
+use simplex_scheme::scheme::{Attestation, SchemeTypes};
+use std::alloc::{AllocError, Global};
+use std::hash::{Hash, Hasher};
+use std::marker::Model;
+
+/// From 1 to 2^32 - 1 attestations with strictly ascending signers, spelled as their count, 1 to 5 bytes, and the
+/// attestations one after another.
+#[derive(Drop)]
+pub struct Listed<S: SchemeTypes> {
+    attestations: Vec<Attestation<S>>,
+}
+
+impl<S: SchemeTypes> Model for Listed<S> {
+    ghost use Rattle.std.specs.Prelude.{List};
+    ghost use Rattle.simplex_scheme.specs.declared.scheme.Attestation.{Attestation};
+
+    ghost Value = { List (Attestation S S.PublicKey S.Signature) };
+
+    ghost use Rattle.simplex_plain.specs.Listed.{AreListed};
+
+    ghost view = { λ listed. listed.attestations.items };
+
+    ghost invariant = { λ listed. AreListed listed.attestations.items };
+}
+
+impl<S: SchemeTypes> Listed<S> {
+    /// The certificate of these attestations, from 1 to 2^32 - 1 with strictly ascending signers. It takes no memory.
+    pub fn from_ascending(attestations: Vec<Attestation<S>>) -> Listed<S>
+        requires { AreListed attestations.items }
+        ensures { result ≡ attestations.items }
+    {
+        Listed { attestations }
+    }
+
+    /// The attestations, by ascending signer.
+    pub fn attestations(&self) -> &[Attestation<S>]
+        ensures value { result.now ≡ self.now }
+        ensures listed { AreListed self.now }
+    {
+        self.attestations.as_slice()
+    }
+}
+
+impl<S: SchemeTypes> Clone for Listed<S> {
+    ghost is_clone = { λ listed copy. copy ≡ listed };
+
+    fn clone(&self) -> Result<Self, AllocError> {
+        let attestations = self.attestations.clone()?;
+        Ok(Listed { attestations })
+    }
+}
+
+impl<S: SchemeTypes> PartialEq for Listed<S> {
+    ghost eq = { pointwise ⟦<Attestation<S> as PartialEq>⟧.eq };
+
+    ghost laws = { lists_per (Prim.search (comparing, rules)) };
+
+    fn eq(&self, other: &Listed<S>) -> bool {
+        self.attestations == other.attestations
+    }
+}
+
+impl<S: SchemeTypes> Eq for Listed<S> {
+    ghost laws = { lists_equiv (Prim.search (comparing, rules)) };
+}
+
+impl<S: SchemeTypes> Hash for Listed<S> {
+    ghost hash_input = { fed.slice ⟦<Attestation<S> as Hash>⟧.hash_input };
+
+    ghost respects_eq = { (fed.items_Alike {E = ⟦<Attestation<S> as PartialEq>⟧.eq} {F = ⟦<Attestation<S> as Hash>⟧.hash_input} (Prim.search (hashing, rules))).fed };
+
+    fn hash<H: Hasher>(&self, state: &mut H) {
+        self.attestations.hash(state);
+    }
+}
+
+impl<S: SchemeTypes> EqByParts for Listed<S> {
+    ghost same = { pointwise ⟦<Attestation<S> as PartialEq>⟧.eq };
+
+    ghost equal = { λ x y. refl };
+}
+
+impl<S: SchemeTypes> Spell for Listed<S> {
+    ghost is_value = { ListedFits (format_of ⟦<S::Signature as Read>⟧) (2 ^ 32) };
+
+    ghost spelling = { listed_spelling (format_of ⟦<S::Signature as Read>⟧) };
+}
+
+impl<S: SchemeTypes> Write for Listed<S> {
+    fn write(&self, buf: &mut Vec<u8>) -> Result<(), AllocError> {
+        write_counted(self.attestations(), buf)
+    }
+}
+
+impl<S: SchemeTypes> EncodeSize for Listed<S> {
+    ghost limit = { 2 ^ 50 };
+
+    fn encode_size(&self) -> usize {
+        size_counted(self.attestations())
+    }
+}
+
+/// A certificate is read under a bound, the number of participants. `Invalid` comes at once where the count is 0 or
+/// above the bound, and behind an attestation whose signer is at or past the bound or not above the one before it.
+/// `OutOfMemory` comes where no room for the attestations was given: for as many as the bytes behind the count can
+/// hold, and for no more than the count.
+impl<S: SchemeTypes> Read for Listed<S> {
+    type Cfg = u32;
+
+    ghost fits = { ListedFits (format_of ⟦<S::Signature as Read>⟧) };
+
+    ghost reading = { listed_at (format_of ⟦<S::Signature as Read>⟧) };
+
+    ghost takes_memory = { true };
+
+    fn read_cfg(alloc: Global, input: &mut &[u8], bound: &u32) -> Result<Self, Error> {
+        let bound = *bound;
+        let mut rest: &[u8] = *input;
+        let count = read_u32(&mut rest)?;
+        if count == 0 || count > bound {
+            return Err(Error::Invalid("simplex_messages::Listed", "count out of range"));
+        }
+        match read_attestations(alloc, &mut rest, bound, count) {
+            Ok(listed) => {
+                *input = rest;
+                Ok(listed)
+            }
+            Err(error) => Err(error),
+        }
+    }
+
+    ghost lawful = { λ bound. listed_lawful (format_of ⟦<S::Signature as Read>⟧) bound S.Signature.lawful };
+}
+
+/// How many attestations the bytes can hold, but no more than the count. Each takes a byte at least, and its
+/// signature's.
+fn room_for<S: SchemeTypes>(bytes: &[u8], count: u32) -> usize
+    ensures held { result * (1 + S.Signature.SIZE) ≤ length bytes.now }
+    ensures all { result ≡ min (length bytes.now / (1 + S.Signature.SIZE)) count }
+{
+    (bytes.len() / (1 + S::Signature::SIZE)).min(count as usize)
+}
+
+/// Reads so many attestations with ascending signers below the bound.
+fn read_attestations<S: SchemeTypes>(
+    alloc: Global,
+    input: &mut &[u8],
+    bound: u32,
+    count: u32,
+) -> Result<Listed<S>, Error>
+    requires { 0 < count }
+    ensures { Gives true result input.old.now input.new.now (attestations_at (format_of ⟦<S::Signature as Read>⟧) bound 0 count input.old.now) }
+{
+    let mut rest: &[u8] = known_bytes(*input);
+    let room = room_for::<S>(rest, count);
+    let Ok(mut attestations) = Vec::with_capacity(alloc, room) else {
+        return Err(Error::OutOfMemory);
+    };
+    let mut least = 0;
+    'attestations: for _ in 0..count {
+        let attestation: Attestation<S> = match read_attestation(alloc, &mut rest, bound, least) {
+            Ok(attestation) => attestation,
+            Err(error) => return Err(error),
+        };
+        least = attestation.signer.get() + 1;
+        if attestations.push(attestation).is_err() {
+            return Err(Error::OutOfMemory);
+        }
+    }
+    *input = rest;
+    Ok(Listed::from_ascending(attestations))
+}
+
+/// Reads an attestation whose signer is from `least` on and below the bound.
+fn read_attestation<S: SchemeTypes>(
+    alloc: Global,
+    input: &mut &[u8],
+    bound: u32,
+    least: u32,
+) -> Result<Attestation<S>, Error>
+    ensures below { IfOk result (λ attestation. attestation.signer < bound) }
+    ensures gives { Gives false result input.old.now input.new.now (attestation_at (format_of ⟦<S::Signature as Read>⟧) bound least input.old.now) }
+{
+    let mut rest: &[u8] = *input;
+    let attestation: Attestation<S> = match Read::read_cfg(alloc, &mut rest, &()) {
+        Ok(attestation) => attestation,
+        Err(error) => return Err(error),
+    };
+    let signer = attestation.signer.get();
+    if signer < least || bound <= signer {
+        return Err(Error::Invalid("simplex_messages::Listed", "signers out of order or range"));
+    }
+    *input = rest;
+    Ok(attestation)
+}
