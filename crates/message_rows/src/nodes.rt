@@ -2,9 +2,9 @@
 
 use crate::refusals::name;
 use crate::rows::{Unanswered, bytes};
-use crate::votes::values;
+use crate::votes::{spelled, values};
 use crate::windows::PAST;
-use simplex_base::codec::{Encode, decode};
+use simplex_base::codec::decode;
 use simplex_base::positions::View;
 use simplex_lead::Viewport;
 use simplex_node::batcher::Batcher;
@@ -49,7 +49,7 @@ fn taken<S: Scheme<D>, D: Digest>(
         Err(error) => return name(alloc, error),
     };
     match batcher.take(alloc, vote)? {
-        Some(notarization) => hex::encode(alloc, notarization.encode(alloc)?.as_slice()),
+        Some(notarization) => spelled(alloc, &notarization),
         None => format!(in alloc; "{} kept", batcher.count()),
     }
 }

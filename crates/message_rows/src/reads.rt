@@ -4,6 +4,7 @@ ghost use Rattle.std.specs.Prelude.{◌<◌, length};
 
 use crate::refusals::name;
 use crate::rows::{Unanswered, bytes, small};
+use crate::votes::spelled;
 use simplex_base::codec::error::Error;
 use simplex_base::codec::{Encode, Read, decode_cfg};
 use simplex_base::positions::{Epoch, Participant, Round, View};
@@ -54,9 +55,7 @@ fn read_as<T: Read + Encode + Drop, C: FnOnce(&T) -> Result<T, AllocError>>(
         Err(error) => return Ok(name(alloc, error)?),
     };
     let value = clone(&value)?;
-    let spelling = value.encode(alloc)?;
-    let spelling = hex::encode(alloc, spelling.as_slice())?;
-    let size = value.encode_size();
+    let (size, spelling) = (value.encode_size(), spelled(alloc, &value)?);
     match asked {
         Asked::Read => Ok(format!(in alloc; "size {size}, {spelling}, left {}", rest.len())?),
         _ => Ok(format!(in alloc; "size {size}, {spelling}")?),

@@ -13,7 +13,7 @@ use simplex_scheme::scheme::{AssemblyError, Digest, Scheme};
 use simplex_votes::types::{
     Finalization, Finalize, Notarization, Notarize, Nullification, Nullify,
 };
-use std::alloc::Global;
+use std::alloc::{AllocError, Global};
 
 /// What is said where votes are for several subjects, or a signer is there twice or in no committee.
 const NO_ASSEMBLY: &str = "no assembly";
@@ -96,7 +96,7 @@ fn sign<S: Scheme<D>, D: Digest + 'static>(
 /// A vote, if there is one.
 fn told<V: Encode + Drop>(alloc: Global, vote: Option<V>) -> Result<String, Unanswered> {
     match vote {
-        Some(vote) => Ok(hex::encode(alloc, vote.encode(alloc)?.as_slice())?),
+        Some(vote) => Ok(spelled(alloc, &vote)?),
         None => Ok("nobody signs".to_string(alloc)?),
     }
 }
@@ -110,89 +110,58 @@ fn assemble<S: Scheme<D>, D: Digest + 'static>(
 ) -> Result<String, Unanswered> {
     let owned = call.starts_with("from_owned_");
     match call {
-        "from_notarizes" | "from_owned_notarizes" => notarization::<S, D>(
-            alloc, scheme, owned, bytes,
-        ),
-        "from_nullifies" | "from_owned_nullifies" => nullification::<S, D>(
-            alloc, scheme, owned, bytes,
-        ),
-        "from_finalizes" | "from_owned_finalizes" => finalization::<S, D>(
-            alloc, scheme, owned, bytes,
-        ),
+        "from_notarizes" | "from_owned_notarizes" => match values::<Notarize<S, D>>(
+            alloc,
+            &(),
+            bytes,
+        ) {
+            Ok(votes) if !Notarization::can_assemble(scheme, votes.as_slice()) => {
+                Ok(NO_ASSEMBLY.to_string(alloc)?)
+            }
+            Ok(votes) if owned => assembled(
+                alloc,
+                Notarization::from_owned_notarizes(alloc, scheme, votes),
+            ),
+            Ok(votes) => assembled(
+                alloc,
+                Notarization::from_notarizes(alloc, scheme, votes.as_slice()),
+            ),
+            Err(error) => Ok(name(alloc, error)?),
+        },
+        "from_nullifies" | "from_owned_nullifies" => match values::<Nullify<S>>(alloc, &(), bytes) {
+            Ok(votes) if !Nullification::can_assemble::<D>(scheme, votes.as_slice()) => {
+                Ok(NO_ASSEMBLY.to_string(alloc)?)
+            }
+            Ok(votes) if owned => assembled(
+                alloc,
+                Nullification::from_owned_nullifies::<D>(alloc, scheme, votes),
+            ),
+            Ok(votes) => assembled(
+                alloc,
+                Nullification::from_nullifies::<D>(alloc, scheme, votes.as_slice()),
+            ),
+            Err(error) => Ok(name(alloc, error)?),
+        },
+        "from_finalizes" | "from_owned_finalizes" => match values::<Finalize<S, D>>(
+            alloc,
+            &(),
+            bytes,
+        ) {
+            Ok(votes) if !Finalization::can_assemble(scheme, votes.as_slice()) => {
+                Ok(NO_ASSEMBLY.to_string(alloc)?)
+            }
+            Ok(votes) if owned => assembled(
+                alloc,
+                Finalization::from_owned_finalizes(alloc, scheme, votes),
+            ),
+            Ok(votes) => assembled(
+                alloc,
+                Finalization::from_finalizes(alloc, scheme, votes.as_slice()),
+            ),
+            Err(error) => Ok(name(alloc, error)?),
+        },
         _ => Err(Unanswered::NoRow),
     }
-}
-
-/// The notarization of the votes that the bytes are.
-fn notarization<S: Scheme<D>, D: Digest>(
-    alloc: Global,
-    scheme: &S,
-    owned: bool,
-    bytes: &[u8],
-) -> Result<String, Unanswered> {
-    let votes: Vec<Notarize<S, D>> = match values(alloc, &(), bytes) {
-        Ok(votes) => votes,
-        Err(error) => return Ok(name(alloc, error)?),
-    };
-    if !Notarization::can_assemble(scheme, votes.as_slice()) {
-        return Ok(NO_ASSEMBLY.to_string(alloc)?);
-    }
-    assembled(
-        alloc,
-        if owned {
-            Notarization::from_owned_notarizes(alloc, scheme, votes)
-        } else {
-            Notarization::from_notarizes(alloc, scheme, votes.as_slice())
-        },
-    )
-}
-
-/// The nullification of the votes that the bytes are.
-fn nullification<S: Scheme<D>, D: Digest + 'static>(
-    alloc: Global,
-    scheme: &S,
-    owned: bool,
-    bytes: &[u8],
-) -> Result<String, Unanswered> {
-    let votes: Vec<Nullify<S>> = match values(alloc, &(), bytes) {
-        Ok(votes) => votes,
-        Err(error) => return Ok(name(alloc, error)?),
-    };
-    if !Nullification::can_assemble::<D>(scheme, votes.as_slice()) {
-        return Ok(NO_ASSEMBLY.to_string(alloc)?);
-    }
-    assembled(
-        alloc,
-        if owned {
-            Nullification::from_owned_nullifies::<D>(alloc, scheme, votes)
-        } else {
-            Nullification::from_nullifies::<D>(alloc, scheme, votes.as_slice())
-        },
-    )
-}
-
-/// The finalization of the votes that the bytes are.
-fn finalization<S: Scheme<D>, D: Digest>(
-    alloc: Global,
-    scheme: &S,
-    owned: bool,
-    bytes: &[u8],
-) -> Result<String, Unanswered> {
-    let votes: Vec<Finalize<S, D>> = match values(alloc, &(), bytes) {
-        Ok(votes) => votes,
-        Err(error) => return Ok(name(alloc, error)?),
-    };
-    if !Finalization::can_assemble(scheme, votes.as_slice()) {
-        return Ok(NO_ASSEMBLY.to_string(alloc)?);
-    }
-    assembled(
-        alloc,
-        if owned {
-            Finalization::from_owned_finalizes(alloc, scheme, votes)
-        } else {
-            Finalization::from_finalizes(alloc, scheme, votes.as_slice())
-        },
-    )
 }
 
 /// A certificate message, or how many votes are fewer than which quorum.
@@ -201,12 +170,17 @@ fn assembled<M: Encode + Drop>(
     made: Result<M, AssemblyError>,
 ) -> Result<String, Unanswered> {
     match made {
-        Ok(message) => Ok(hex::encode(alloc, message.encode(alloc)?.as_slice())?),
+        Ok(message) => Ok(spelled(alloc, &message)?),
         Err(AssemblyError::InsufficientAttestations(quorum, count)) => {
             Ok(format!(in alloc; "InsufficientAttestations {quorum} {count}")?)
         }
         Err(AssemblyError::OutOfMemory) => Err(Unanswered::OutOfMemory),
     }
+}
+
+/// The spelling of a value.
+pub(crate) fn spelled<T: Encode>(alloc: Global, value: &T) -> Result<String, AllocError> {
+    hex::encode(alloc, value.encode(alloc)?.as_slice())
 }
 
 /// The values that the bytes are, one after another.
