@@ -1,8 +1,10 @@
 //! Tests of the message types: what neither a contract nor a row says. Equality and hashes at a few values; electors and
-//! hashers of the tests' own; the vote map cleared and with many inserts; what is as before where memory was refused; and numbers
-//! that are given.
+//! hashers of the tests' own; the vote map cleared and with many inserts; many certificates verified at once; what is as before where
+//! memory was refused; and numbers that are given.
 #![tactic(auto)]
 
+#[cfg(test)]
+mod bisection;
 #[cfg(test)]
 mod given;
 #[cfg(test)]
