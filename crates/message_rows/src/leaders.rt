@@ -1,16 +1,15 @@
 //! Leaders of rounds.
 
-ghost use Rattle.std.specs.Prelude.{◌≡◌, ◌≤◌, ◌<◌, ◌^◌, length, IfOk};
+ghost use Rattle.std.specs.Prelude.{◌≡◌, IfOk};
 
 use crate::rows::{Unanswered, bytes};
-use simplex_base::positions::{Participant, Round, TermLength, ViewDelta};
+use simplex_base::positions::{Round, TermLength, ViewDelta};
 use simplex_lead::elector::{Config, Elector, RoundRobin, can_be_stable};
 use simplex_node::voter;
 use simplex_plain::marked::Marked;
 use simplex_scheme::hash::Sha256;
 use simplex_scheme::scheme::CertificateScheme;
-use simplex_scheme::set::Set;
-use std::alloc::{AllocError, Global};
+use std::alloc::Global;
 use std::time::Duration;
 
 /// The word in the place of a seed where there is none.
@@ -33,21 +32,6 @@ fn rotation(alloc: Global, seed: &str, length: TermLength) -> Result<RoundRobin,
     Ok(rotation)
 }
 
-/// The leader of a round, by clones of the configuration and of what it makes of the participants.
-fn elected<S: CertificateScheme, C: Config<S>>(
-    alloc: Global,
-    config: &C,
-    participants: &Set<S::PublicKey>,
-    round: Round,
-    certificate: Option<&S::Certificate>,
-) -> Result<Participant, AllocError>
-    requires some { 1 ≤ length participants.now }
-    requires few { length participants.now < 2 ^ 32 }
-{
-    let elector = config.clone()?.build(alloc, participants)?.clone()?;
-    Ok(elector.elect(round, certificate))
-}
-
 /// The leader of a round of the committee, by clones of the rotation and of what it makes, and by a voter that has the
 /// rotation itself.
 pub(crate) fn leader(
@@ -59,7 +43,8 @@ pub(crate) fn leader(
 ) -> Result<String, Unanswered> {
     let rotation = rotation(alloc, seed, length)?;
     let members = committee.participants();
-    let elected = elected::<Marked, _>(alloc, &rotation, members, round, None)?;
+    let elector = Config::<Marked>::build(rotation.clone()?, alloc, members)?.clone()?;
+    let elected = Elector::<Marked>::elect(&elector, round, None);
     let leader = voter::leader::<Marked, _>(alloc, rotation, members, round, None)?;
     if leader != elected {
         return Ok("two leaders".to_string(alloc)?);
