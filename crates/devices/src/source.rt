@@ -1,8 +1,9 @@
 //! A reader over bytes in memory.
 
-ghost use Rattle.std.specs.Prelude.{◌≡◌, ◌<◌, ◌↔◌, Some, IfOk, IsErr, IsSome, length, min};
+ghost use Rattle.std.specs.Prelude.{◌≡◌, ◌<◌, ◌↔◌, Some, IfErr, IfOk, IsErr, IsSome, length, min};
 ghost use Rattle.std.specs.Io.{ReadsAtMost};
 ghost use Rattle.std.specs.Io.KnownBytes.{ReadConsumes};
+ghost use Rattle.std.specs.IoError.{error_kind};
 ghost use Rattle.devices.specs.Devices.{Reader, one_more};
 ghost use Rattle.devices.specs.Trouble.{error_at, step_at};
 
@@ -66,6 +67,7 @@ impl Read for Source<'_> {
         ensures bound { ReadsAtMost result buf.new }
         ensures bytes { ReadConsumes (Some self.old.left) (Some self.new.left) result buf.new }
         ensures fails { IsErr result ↔ IsSome (error_at self.old.trouble self.old.calls) }
+        ensures kind { IfErr result (λ e. error_at self.old.trouble self.old.calls ≡ Some (error_kind e)) }
         ensures count { IfOk result (λ n. n ≡ min (min (step_at self.old.trouble self.old.calls self.old.step) (length buf.old)) (length self.old.left)) }
         ensures state { self.new ≡ record self.old { left = self.new.left; calls = one_more self.old.calls } }
     {

@@ -1,8 +1,9 @@
 //! A writer over a fixed array.
 
-ghost use Rattle.std.specs.Prelude.{◌≡◌, ◌-◌, ◌≤◌, ◌↔◌, ◌&&◌, ◌||◌, [], false, Some, IfOk, IsErr, IsSome, IsTrue, is_err, nat_lt, length, min, take};
+ghost use Rattle.std.specs.Prelude.{◌≡◌, ◌-◌, ◌≤◌, ◌↔◌, ◌&&◌, ◌||◌, [], false, Some, IfErr, IfOk, IsErr, IsSome, IsTrue, is_err, nat_lt, length, min, take};
 ghost use Rattle.std.specs.Io.{WritesAtMost};
 ghost use Rattle.std.specs.Io.KnownBytes.{WriteAppends, Keeps};
+ghost use Rattle.std.specs.IoError.{error_kind};
 ghost use Rattle.devices.specs.Devices.{Writer, one_more};
 ghost use Rattle.devices.specs.Trouble.{error_at, step_at};
 
@@ -112,6 +113,7 @@ impl Write for Target {
         ensures bound { WritesAtMost result buf.now }
         ensures bytes { WriteAppends (Some self.old.held) (Some self.new.held) result buf.now }
         ensures fails { IsErr result ↔ IsSome (error_at self.old.writing self.old.writes) }
+        ensures kind { IfErr result (λ e. error_at self.old.writing self.old.writes ≡ Some (error_kind e)) }
         ensures count { IfOk result (λ n. n ≡ min (min (step_at self.old.writing self.old.writes self.old.step) (length buf.now)) (min self.old.room (4096 - length self.old.held))) }
         ensures room { self.new.room ≡ self.old.room - (length self.new.held - length self.old.held) }
         ensures pending { self.new.pending ≡ (self.old.pending || nat_lt (length self.old.held) (length self.new.held)) }
@@ -140,6 +142,7 @@ impl Write for Target {
     fn flush(&mut self) -> io::Result<()>
         ensures bytes { Keeps (Some self.old.held) (Some self.new.held) }
         ensures fails { IsErr result ↔ IsSome (error_at self.old.flushing self.old.flushes) }
+        ensures kind { IfErr result (λ e. error_at self.old.flushing self.old.flushes ≡ Some (error_kind e)) }
         ensures state { self.new ≡ record self.old { flushes = one_more self.old.flushes; pending = self.old.pending && is_err result } }
     {
         let call = self.flushes;
