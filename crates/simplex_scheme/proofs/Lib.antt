@@ -1,5 +1,6 @@
 pub mod PartsLemmas
 pub mod SetLemmas
+pub mod AssemblyLemmas
 pub mod NamespaceLemmas
 pub mod SubjectLemmas
 pub mod MessageLemmas

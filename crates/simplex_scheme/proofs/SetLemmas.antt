@@ -1,18 +1,18 @@
 -- What a sort followed by a `dedup` leaves, and where a search of ascending keys ends.
-use Rattle.std.proofs.Common.{◌≡◌, ℕ, zero, suc, ◌+◌, ◌<◌, ◌≤◌, Bool, false, List, [], ◌∷◌, length, cond, refl, sym, ap, subst, ◌∙◌, arith, Ordering, Equal, Ok, Err, Result, All, IsPermutation, ⊎_elim, Option, IfNone, IfSome, IfOk, true}
-use Rattle.std.specs.List.{dedup, dedup_from, IsDistinct, HoldsAt, slice_get}
+use Rattle.std.proofs.Common.{◌≡◌, ℕ, zero, suc, ◌+◌, ◌<◌, ◌≤◌, Bool, false, List, [], ◌∷◌, length, cond, refl, sym, ap, subst, ◌∙◌, arith, Ordering, Less, Equal, Greater, Ok, Err, Result, All, IsPermutation, ⊎_elim, Option, IfNone, IfSome, IfOk, IsTrue, ◌↔◌, true}
+use Rattle.std.specs.List.{dedup, dedup_from, IsAllAdjacentAnswer, IsDistinct, HoldsAt, slice_get}
 use Rattle.std.specs.Option.{IsSomeAnd}
 use Rattle.std.specs.List.Retain.{IsFiltered, DiffersFromLast}
 use Rattle.std.specs.List.Sorted.{IsSorted, IsStrictlySortedBy, IsBinarySearchResult, IsSearchInRange}
 use Rattle.std.specs.Result.{result_ok}
 use Rattle.std.specs.Cmp.{IsTotalOrder}
 use Rattle.std.specs.Ordering.{eq_by_cmp, is_eq, is_lt, ordering_reverse}
-use Rattle.std.proofs.lemmas.Bool.{cases_lt, cond_both}
+use Rattle.std.proofs.lemmas.Bool.{cases_lt, cond_both, false≢true}
 use Rattle.std.proofs.lemmas.Cmp.{eq_by_cmp_equiv}
 use Rattle.std.proofs.lemmas.List.Filters.{dedup_is}
 use Rattle.std.proofs.lemmas.List.Kept.{IsStrictlySortedBy-dedup}
 use Rattle.std.proofs.lemmas.List.Sorted.{IsPermutation-sym, length_permutation, searchable_from_sorted}
-use Rattle.std.proofs.lemmas.Map.Keys.{IsDistinct-from_sorted, IsDistinct-IsPermutation, Less-from_sorted, IsDistinct-head, IsDistinct-tail}
+use Rattle.std.proofs.lemmas.Map.Keys.{IsDistinct-from_sorted, IsDistinct-IsPermutation, Less-from_sorted, sorted_from_all_adjacent, IsDistinct-head, IsDistinct-tail}
 
 module _ {K : Type 0} (E : K → K → Bool) where
   -- `dedup` adds nothing
@@ -105,3 +105,19 @@ found_at P (x ∷ xs) (suc i) lt h = found_at P xs i (omega arith) (λ d. h d)
 pub found_where_met : {K : Type 0} {E : K → K → Bool} (order : K → K → Ordering) → ((a b : K) → E a b ≡ eq_by_cmp order a b) → (keys : List K) (key : K) (searched : Result ℕ ℕ) (place : Option ℕ) → IsSearchInRange searched (length keys) → IfOk searched (HoldsAt (λ one. order one key ≡ Equal) keys) → place ≡ result_ok searched → IfSome place (λ i. IsSomeAnd (slice_get keys i) (λ one. E one key ≡ true))
 found_where_met {K} {E} order ties keys key (Ok at) place range here is = rw is (found_at (λ one. E one key ≡ true) keys at range (λ d. ties _ _ ∙ ap is_eq (here d)))
 found_where_met order ties keys key (Err at) place range here is = rw is tt
+
+-- keys of which each is below the next ascend, and no others do
+module _ {K : Type 0} {order : K → K → Ordering} (total : IsTotalOrder order) where
+  less : (answer : Ordering) → true ≡ is_lt answer → answer ≡ Less
+  less Less is = refl
+  less Equal is = absurd (false≢true (sym is))
+  less Greater is = absurd (false≢true (sym is))
+
+  pub ascending_where_adjacent : (keys : List K) (answer : Bool) → IsAllAdjacentAnswer (λ x y b. b ≡ is_lt (order x y)) keys answer → IsTrue answer ↔ IsStrictlySortedBy order keys
+  unfolding IsStrictlySortedBy
+  ascending_where_adjacent [] true each = (λ _. tt, λ _. refl)
+  ascending_where_adjacent (key ∷ keys) true each =
+      (λ _. sorted_from_all_adjacent total (key ∷ keys) key (λ k within. less _ (each k key within)), λ _. refl)
+  ascending_where_adjacent [] false (k, within, differs) = absurd (omega (arith, within))
+  ascending_where_adjacent (key ∷ keys) false (k, within, differs) =
+      (λ never. absurd (false≢true never), λ rising. absurd (false≢true (differs key ∙ ap is_lt (Less-from_sorted order (key ∷ keys) k (k + 1) key rising (omega arith) within))))

@@ -2,6 +2,7 @@
 //! their laws.
 #![tactic(auto)]
 
+pub mod assembly;
 pub mod faults;
 pub mod hash;
 mod message;

@@ -189,10 +189,10 @@ pub trait Scheme<D: Digest>: CertificateVerifier<D> {
         Self: Sized,
         ensures { result ≡ good self.now (subject_value subject.entry) attestation.now.signer attestation.now.signature };
 
-    /// Makes a certificate of attestations whose signers are distinct and in the committee. Fewer than a quorum
-    /// are refused by `InsufficientAttestations`, the quorum and their number, and then no memory is taken. From
-    /// a quorum on there is a certificate, or memory was refused. It certifies whatever subject all the
-    /// attestations are good for.
+    /// Makes a certificate of attestations whose signers are distinct and in the committee, which
+    /// [`can_assemble`](crate::assembly::can_assemble) tells. Fewer than a quorum are refused by
+    /// `InsufficientAttestations`, the quorum and their number, and then no memory is taken. From a quorum on there
+    /// is a certificate, or memory was refused. It certifies whatever subject all the attestations are good for.
     fn assemble(
         &self,
         alloc: Global,

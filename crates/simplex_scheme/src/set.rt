@@ -1,6 +1,6 @@
 //! The keys of a committee.
 
-ghost use Rattle.std.specs.Prelude.{◌≡◌, ◌↔◌, ◌==◌, List, length, IsPermutation, IsOk, IfOk, IfSome, IfNone, IsSomeAnd, All, slice_get, option_copied, false, true};
+ghost use Rattle.std.specs.Prelude.{◌≡◌, ◌↔◌, ◌==◌, List, length, IsPermutation, IsOk, IsTrue, IfOk, IfSome, IfNone, IsSomeAnd, All, slice_get, option_copied, false, true};
 ghost use Rattle.std.specs.List.{IsDistinct};
 
 use simplex_base::values::EqByParts;
@@ -61,6 +61,13 @@ impl<K: Ord> Set<K> {
             return Err(SetError::Repeated);
         }
         Ok(Set { keys })
+    }
+
+    /// Whether each key is less than those after it: the condition of [`ascending`](Set::ascending).
+    pub fn are_ascending(keys: &[K]) -> bool
+        ensures { IsTrue result ↔ IsStrictlySortedBy K.cmp keys.now }
+    {
+        keys.is_sorted_by(|first, second| first.cmp(second).is_lt())
     }
 
     /// The set of these keys, which ascend already.
