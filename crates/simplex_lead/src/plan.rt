@@ -44,7 +44,7 @@ impl<P: Eq> EqByParts for Recipients<P> {
 }
 
 /// How the payload of a round's proposal is to be sent.
-#[derive(Debug, Drop, PartialEq, Eq)]
+#[derive(Debug, PartialEq, Eq, Drop)]
 pub enum Plan<P> {
     /// To everyone and early, before its proposer voted for it. It may still be given up for another one.
     Prepare {

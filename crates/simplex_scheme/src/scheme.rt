@@ -6,6 +6,7 @@ ghost use Rattle.simplex_base.specs.Readable.{format_of};
 ghost use Rattle.simplex_scheme.specs.Subject.{SubjectValue, subject_value};
 ghost use Rattle.simplex_scheme.specs.Committee.{IsQuorum, IsInOrder, quorum_of, signers_of};
 
+pub use crate::faults::{max_faults, quorum};
 pub use crate::hash::{Hasher, Sha256, Sha256Digest};
 pub use crate::namespace::{CertificateNamespace, Namespace};
 pub use crate::proposal::Proposal;
