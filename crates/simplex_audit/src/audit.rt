@@ -13,7 +13,7 @@ use crate::reporting::make_report;
 pub use crate::run::{RunError, Summary, run};
 pub use crate::watched::Watched;
 use simplex_base::codec::error::Error;
-use simplex_base::values::EqByParts;
+use simplex_base::values::{EqByParts, ExactClone};
 pub use simplex_kept::committees::{Committees, CommitteesError};
 pub use simplex_kept::evidence::Evidence;
 use simplex_kept::laws::{
@@ -31,6 +31,10 @@ pub struct Fault {
     pub place: usize,
     /// What reading a message there answers; never `OutOfMemory`.
     pub error: Error,
+}
+
+impl ExactClone for Fault {
+    ghost exact = { λ x y same. same };
 }
 
 impl EqByParts for Fault {

@@ -5,7 +5,7 @@ use Rattle.std.proofs.Common.{append-nil, ◌≡◌, ◌==◌, if◌then◌else�
 use Rattle.std.proofs.lemmas.Bool.{eqb-true, cases_lt, le-ltb, ltb-false}
 use Rattle.std.proofs.lemmas.List.{take_at, drop_at, take-append-drop, length-append, length-take, get_or-take, get_or_past}
 use Rattle.simplex_base.specs.declared.codec.error.Error.{Error}
-use Rattle.simplex_base.specs.Reading.{Reading, Refusal, end_of_buffer, invalid_bool, extra_data, ◌>>=◌, IsBytes, GivesAll, all_of}
+use Rattle.simplex_base.specs.Reading.{Reading, Refusal, end_of_buffer, invalid_bool, extra_data, ◌>>=◌, IsBytes, Gives, GivesAll, all_of}
 use Rattle.simplex_base.specs.Format.{Spelled, Lawful, IsLawful, BothAre, both_spelled, both_at, made_at, IsFixed, fixed_at, tested_at, truth, truth_spelling, truth_at}
 
 -- the value of a step that did not fail
@@ -114,6 +114,13 @@ all_of_again {T} {fits} {spelling} {read} law bytes x v e =
     let h = rw (append-nil (spelling x)) at (law.again x [] v) in rw (e, h) refl
 
 -- what a call that read all of the bytes returned
+-- what a call returned begins the input, and the rest of the input follows it
+pub gave : {T : Type 0} {fits : T → Type 0} {spelling : T → List ℕ} {read : List ℕ → Reading T} (memory : Bool) →
+    Lawful fits spelling read → (bytes rest : List ℕ) → IsBytes bytes → (r : Result T Error) → Gives memory r bytes rest (read bytes) →
+    IfOk r (λ x. fits x × (bytes ≡ spelling x ++ rest))
+gave memory law bytes rest fit (Ok x) h = let found = law.takes bytes x rest fit h in (found.value, found.parts)
+gave memory law bytes rest fit (Err e) h = tt
+
 pub gave_all : {T : Type 0} {fits : T → Type 0} {spelling : T → List ℕ} {read : List ℕ → Reading T} (memory : Bool) →
     Lawful fits spelling read → (bytes : List ℕ) → IsBytes bytes → (r : Result T Error) → GivesAll memory r (all_of read bytes) →
     IfOk r (λ x. fits x × (bytes ≡ spelling x))

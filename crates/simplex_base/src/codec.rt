@@ -16,6 +16,7 @@ pub mod truth;
 pub mod unions;
 pub mod varint;
 
+use crate::codec::parts::known_bytes;
 use bytes::Bytes;
 pub use error::Error;
 use std::alloc::{AllocError, Global};
@@ -60,6 +61,14 @@ pub trait MaxEncodeSize: EncodeSize {
     fn max_encode_size() -> usize
         ensures { result ≡ max_size };
 
+    /// The number of bytes of the spelling, which is at most the greatest.
+    final fn bounded_encode_size(&self) -> usize
+        ensures size { result ≡ length (Self.spelling self.now) }
+        ensures bounded { result ≤ max_size }
+    {
+        self.encode_size()
+    }
+
     /// No spelling is longer,
     ghost within: { (x : Self) → Self.is_value x → length (Self.spelling x) ≤ max_size };
 
@@ -88,6 +97,12 @@ pub trait Read: Spell {
 
     /// Reading gives the value whose spelling begins the input, whatever follows, and only that.
     ghost lawful: { (cfg : Self.Cfg) → Lawful (fits cfg) Self.spelling (reading cfg) };
+}
+
+/// A type that needs no configuration to be read, as all but those with a certificate: each of its values can be read.
+pub trait ReadExt: Read<Cfg = ()> {
+    /// What can be written can be read.
+    ghost readable: { (x : Self) → Self.is_value x → Self.fits tt x };
 }
 
 /// A value that can be written as one byte string.
@@ -157,10 +172,17 @@ pub trait Fixed: FixedSize + Copy + Eq + Ord + Hash {
     ghost ordered: { (x y : Self) → Self.cmp x y ≡ slice_cmp nat_cmp (bytes_of x) (bytes_of y) };
 }
 
-/// Reads a value that needs no configuration.
-pub fn read_value<T: Read<Cfg = ()>>(alloc: Global, input: &mut &[u8]) -> Result<T, Error>
-    ensures { Gives T.takes_memory result input.old.now input.new.now (T.reading tt input.old.now) }
+/// Reads a value that needs no configuration, and moves the slice past it. After an error the slice is as before.
+pub fn read_value<T: ReadExt>(alloc: Global, input: &mut &[u8]) -> Result<T, Error>
+    // What is read begins the input, and the slice is what follows it.
+    ensures taken { IfOk result (λ x. T.fits tt x × (input.old.now ≡ T.spelling x ++ input.new.now)) }
+    // A value that begins the input is read, whatever follows, memory aside.
+    ensures again { (x : T) (rest : List ℕ) → T.is_value x → input.old.now ≡ T.spelling x ++ rest →
+        Gives T.takes_memory result input.old.now input.new.now (Ok (x, rest)) }
+    // Which refusal it is.
+    ensures refusal { Gives T.takes_memory result input.old.now input.new.now (T.reading tt input.old.now) }
 {
+    let _bytes = known_bytes(*input);
     T::read_cfg(alloc, input, &())
 }
 
@@ -190,11 +212,15 @@ fn read_all<T: Read + Drop>(alloc: Global, bytes: &[u8], cfg: &T::Cfg) -> Result
     Ok(value)
 }
 
-/// Reads a value that is all of the bytes and needs no configuration.
-pub fn decode<T: Read<Cfg = ()> + Drop>(alloc: Global, bytes: &[u8]) -> Result<T, Error>
+/// Reads a value that is all of the bytes and needs no configuration. A rest after the value is refused by `ExtraData`.
+pub fn decode<T: ReadExt + Drop>(alloc: Global, bytes: &[u8]) -> Result<T, Error>
     ensures taken { IfOk result (λ x. T.fits tt x × (bytes.now ≡ T.spelling x)) }
-    ensures again { (x : T) → T.fits tt x → bytes.now ≡ T.spelling x → GivesAll T.takes_memory result (Ok x) }
+    // Each value that was written is read again, memory aside.
+    ensures again { (x : T) → T.is_value x → bytes.now ≡ T.spelling x → GivesAll T.takes_memory result (Ok x) }
     ensures refusal { GivesAll T.takes_memory result (all_of (T.reading tt) bytes.now) }
+    // No spelling begins another's, whatever follows.
+    ensures one { (x y : T) (rest more : List ℕ) → T.is_value x → T.is_value y →
+        T.spelling x ++ rest ≡ T.spelling y ++ more → (x ≡ y) × (rest ≡ more) }
 {
     decode_cfg(alloc, bytes, &())
 }

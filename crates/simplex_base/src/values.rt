@@ -1,4 +1,5 @@
-//! What `==` and `cmp` answer of values that have parts. What `Hash` feeds agrees with `==`, which is a law of its own.
+//! What `==`, `cmp` and `clone` return for values that have parts. What `Hash` feeds agrees with `==`, which is a law of
+//! its own.
 
 ghost use Rattle.std.specs.Prelude.{◌≡◌, Bool};
 ghost use Rattle.std.specs.declared.cmp.Ordering.{Ordering};
@@ -19,4 +20,10 @@ pub trait OrdByParts: Ord {
 
     /// It is what `cmp` answers.
     ghost ordered: { (x y : Self) → Self.cmp x y ≡ order x y };
+}
+
+/// A type whose clones are the same value.
+pub trait ExactClone: Clone {
+    /// What `clone` returns is the value that was cloned.
+    ghost exact: { (x y : Self) → Self.is_clone x y → y ≡ x };
 }

@@ -8,6 +8,7 @@ ghost use Rattle.simplex_lead.specs.Windows.{IsAdmitted, admitted_above, Leads, 
 
 use crate::elector::terms::Terms;
 use simplex_base::positions::{TermLength, View, ViewDelta};
+use simplex_base::values::ExactClone;
 
 /// How far ahead of its own view a node looks within a term, and how long terms are.
 #[derive(Clone, Copy, Debug)]
@@ -16,6 +17,10 @@ pub struct Lookahead {
     pub term_length: TermLength,
     /// The number of views that a node may run ahead within a term.
     pub optimistic_views: ViewDelta,
+}
+
+impl ExactClone for Lookahead {
+    ghost exact = { λ x y same. same };
 }
 
 #[tactic(auto, using(simplex_base::specs::TermLaws::term_facts))]

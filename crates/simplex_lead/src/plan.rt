@@ -1,12 +1,14 @@
 //! What a node plans to send of a round's proposal, and to whom.
 
 ghost use Rattle.std.specs.Prelude.{refl};
+ghost use Rattle.simplex_lead.specs.Plans.{IsRecipientsClone, IsPlanClone};
 
 use simplex_base::positions::Round;
 use simplex_base::values::EqByParts;
+use std::alloc::AllocError;
 
 /// Whom something is sent to, of participants that are told by their keys.
-#[derive(Clone, Debug, Drop, PartialEq, Eq)]
+#[derive(Debug, Drop, PartialEq, Eq)]
 pub enum Recipients<P> {
     /// Every participant.
     All,
@@ -14,6 +16,18 @@ pub enum Recipients<P> {
     Some(Vec<P>),
     /// This participant.
     One(P),
+}
+
+impl<P: Clone> Clone for Recipients<P> {
+    ghost is_clone = { IsRecipientsClone P.is_clone };
+
+    fn clone(&self) -> Result<Self, AllocError> {
+        match self {
+            Recipients::All => Ok(Recipients::All),
+            Recipients::Some(keys) => Ok(Recipients::Some(keys.clone()?)),
+            Recipients::One(key) => Ok(Recipients::One(key.clone()?)),
+        }
+    }
 }
 
 impl<P: Eq> EqByParts for Recipients<P> {
@@ -30,7 +44,7 @@ impl<P: Eq> EqByParts for Recipients<P> {
 }
 
 /// How the payload of a round's proposal is to be sent.
-#[derive(Clone, Debug, PartialEq, Eq, Drop)]
+#[derive(Debug, PartialEq, Eq, Drop)]
 pub enum Plan<P> {
     /// To everyone and early, before its proposer voted for it. It may still be given up for another one.
     Prepare {
@@ -49,6 +63,21 @@ pub enum Plan<P> {
         /// Who gets it.
         recipients: Recipients<P>,
     },
+}
+
+impl<P: Clone> Clone for Plan<P> {
+    ghost is_clone = { IsPlanClone P.is_clone };
+
+    fn clone(&self) -> Result<Self, AllocError> {
+        match self {
+            Plan::Prepare { round } => Ok(Plan::Prepare { round: *round }),
+            Plan::Propose { round } => Ok(Plan::Propose { round: *round }),
+            Plan::Forward { round, recipients } => Ok(Plan::Forward {
+                round: *round,
+                recipients: recipients.clone()?,
+            }),
+        }
+    }
 }
 
 impl<P: Eq> EqByParts for Plan<P> {

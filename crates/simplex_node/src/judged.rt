@@ -19,6 +19,7 @@ ghost use Rattle.simplex_node.specs.Judged.{nobody, vote_of, is_on, judged_good,
 use simplex_base::codec::Read;
 use simplex_base::codec::fixed_bytes::FixedBytes;
 use simplex_base::positions::Participant;
+use simplex_base::values::ExactClone;
 use simplex_plain::certificates::{AttestationVerifier, are_certified, assembled, is_certified};
 use simplex_plain::listed::Listed;
 use simplex_plain::plain::{PlainKey, PlainKeyRole, PlainSignatureRole};
@@ -66,6 +67,10 @@ pub enum Vote {
     Notarize,
     Nullify,
     Finalize,
+}
+
+impl ExactClone for Vote {
+    ghost exact = { λ x y same. same };
 }
 
 /// The kind of vote that a subject is of.

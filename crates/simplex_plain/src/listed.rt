@@ -16,7 +16,7 @@ use simplex_base::codec::error::Error;
 use simplex_base::codec::parts::known_bytes;
 use simplex_base::codec::varint::read_u32;
 use simplex_base::codec::{EncodeSize, FixedSize, Read, Spell, Write};
-use simplex_base::values::EqByParts;
+use simplex_base::values::{EqByParts, ExactClone};
 use simplex_scheme::scheme::{Attestation, SchemeTypes};
 use std::alloc::{AllocError, Global};
 use std::hash::{Hash, Hasher};
@@ -91,6 +91,10 @@ impl<S: SchemeTypes> Hash for Listed<S> {
     fn hash<H: Hasher>(&self, state: &mut H) {
         self.attestations.hash(state);
     }
+}
+
+impl<S: SchemeTypes> ExactClone for Listed<S> {
+    ghost exact = { λ x y same. same };
 }
 
 impl<S: SchemeTypes> EqByParts for Listed<S> {

@@ -3,6 +3,7 @@
 ghost use Rattle.std.specs.Prelude.{◌≡◌, ℕ, List, ◌++◌, IfOk};
 ghost use Rattle.simplex_scheme.specs.Namespace.{names_of, AreApart, TellBases};
 
+use simplex_base::values::ExactClone;
 use std::alloc::{AllocError, Global};
 use std::marker::Model;
 
@@ -53,6 +54,10 @@ impl Clone for Namespace {
             seed: self.seed.clone()?,
         })
     }
+}
+
+impl ExactClone for Namespace {
+    ghost exact = { λ x y same. same };
 }
 
 /// What a certificate's attestations are signed under, made of the application's base namespace.

@@ -7,9 +7,11 @@ ghost use Rattle.simplex_base.specs.Readable.{format_of};
 use crate::scheme::Digest;
 use simplex_base::codec::error::Error;
 use simplex_base::codec::parts::{size_both, write_both};
-use simplex_base::codec::{EncodeSize, Fixed, FixedSize, MaxEncodeSize, Read, Spell, Write};
+use simplex_base::codec::{
+    EncodeSize, Fixed, FixedSize, MaxEncodeSize, Read, ReadExt, Spell, Write,
+};
 use simplex_base::positions::{Round, Roundable, View};
-use simplex_base::values::{EqByParts, OrdByParts};
+use simplex_base::values::{EqByParts, ExactClone, OrdByParts};
 use std::alloc::{AllocError, Global};
 
 /// A payload that is proposed for a round, on top of the proposal of the parent's view. It is spelled as
@@ -58,6 +60,10 @@ impl<D: Copy> Clone for Proposal<D> {
 }
 
 impl<D: Copy> Copy for Proposal<D> {}
+
+impl<D: Copy> ExactClone for Proposal<D> {
+    ghost exact = { λ x y same. same };
+}
 
 impl<D: Eq> EqByParts for Proposal<D> {
     ghost same = { λ x y. ⟦<Round as PartialEq>⟧.eq x.round y.round && (nat_eq x.parent y.parent && D.eq x.payload y.payload) };
@@ -134,4 +140,8 @@ impl<D: Digest> Read for Proposal<D> {
     }
 
     ghost lawful = { λ _. proposal_lawful (format_of ⟦<D as Read>⟧) D.lawful };
+}
+
+impl<D: Digest> ReadExt for Proposal<D> {
+    ghost readable = { λ x value. value };
 }

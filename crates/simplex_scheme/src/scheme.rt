@@ -6,6 +6,7 @@ ghost use Rattle.simplex_base.specs.Readable.{format_of};
 ghost use Rattle.simplex_scheme.specs.Subject.{SubjectValue, subject_value};
 ghost use Rattle.simplex_scheme.specs.Committee.{IsQuorum, IsInOrder, quorum_of, signers_of};
 
+pub use crate::faults::{max_faults, quorum};
 pub use crate::hash::{Hasher, Sha256, Sha256Digest};
 pub use crate::namespace::{CertificateNamespace, Namespace};
 pub use crate::proposal::Proposal;
@@ -14,9 +15,11 @@ pub use crate::subject::{CertificateSubject, Subject};
 use simplex_base::codec::error::Error;
 use simplex_base::codec::fixed_bytes::{FixedBytes, Role};
 use simplex_base::codec::parts::{size_both, write_both};
-use simplex_base::codec::{EncodeSize, Fixed, FixedSize, MaxEncodeSize, Read, Spell, Write};
+use simplex_base::codec::{
+    EncodeSize, Fixed, FixedSize, MaxEncodeSize, Read, ReadExt, Spell, Write,
+};
 use simplex_base::positions::Participant;
-use simplex_base::values::EqByParts;
+use simplex_base::values::{EqByParts, ExactClone};
 use std::alloc::{AllocError, Global};
 use std::hash::Hash;
 
@@ -63,6 +66,10 @@ impl<S: SchemeTypes> Clone for Attestation<S> {
     }
 }
 
+impl<S: SchemeTypes> ExactClone for Attestation<S> {
+    ghost exact = { λ x y same. same };
+}
+
 impl<S: SchemeTypes> EqByParts for Attestation<S> {
     ghost same = { λ x y. nat_eq x.signer y.signer && S.Signature.eq x.signature y.signature };
 
@@ -78,6 +85,10 @@ pub enum AssemblyError {
     /// Memory was refused.
     #[error("out of memory")]
     OutOfMemory,
+}
+
+impl ExactClone for AssemblyError {
+    ghost exact = { λ x y same. same };
 }
 
 impl EqByParts for AssemblyError {
@@ -293,4 +304,8 @@ impl<S: SchemeTypes> Read for Attestation<S> {
     }
 
     ghost lawful = { λ _. attestation_lawful (format_of ⟦<S::Signature as Read>⟧) S.Signature.lawful };
+}
+
+impl<S: SchemeTypes> ReadExt for Attestation<S> {
+    ghost readable = { λ x value. value };
 }

@@ -3,7 +3,7 @@
 ghost use Rattle.std.specs.Prelude.{◌≡◌, ◌↔◌, ◌==◌, List, length, IsPermutation, IsOk, IsTrue, IfOk, IfSome, IfNone, IsSomeAnd, All, slice_get, option_copied, false, true};
 ghost use Rattle.std.specs.List.{IsDistinct};
 
-use simplex_base::values::EqByParts;
+use simplex_base::values::{EqByParts, ExactClone};
 use std::marker::Model;
 use thiserror::Error;
 
@@ -13,6 +13,10 @@ pub enum SetError {
     /// Two of the keys are equal.
     #[error("a key is repeated")]
     Repeated,
+}
+
+impl ExactClone for SetError {
+    ghost exact = { λ x y same. same };
 }
 
 impl EqByParts for SetError {

@@ -10,6 +10,7 @@ use crate::scheme::Digest;
 use bytes::Bytes;
 use simplex_base::codec::{Encode, Read};
 use simplex_base::positions::{Round, Roundable};
+use simplex_base::values::ExactClone;
 use std::alloc::{AllocError, Global};
 
 /// What a vote or a certificate says.
@@ -18,6 +19,17 @@ pub enum Subject<'a, D> {
     Notarize { proposal: &'a Proposal<D> },
     Nullify { round: Round },
     Finalize { proposal: &'a Proposal<D> },
+}
+
+impl<D: Clone> ExactClone for Subject<'_, D> {
+    ghost use Rattle.std.proofs.Common.{rules};
+    ghost use Rattle.simplex_scheme.specs.declared.subject.Subject.TheVariants.{Notarize, Nullify, Finalize};
+
+    ghost exact = { elim [
+      | Notarize p ↦ elim [ Notarize q ↦ λ same. Prim.search rules | Nullify r ↦ λ same. Prim.search rules | Finalize q ↦ λ same. Prim.search rules ]
+      | Nullify p ↦ elim [ Notarize q ↦ λ same. Prim.search rules | Nullify r ↦ λ same. Prim.search rules | Finalize q ↦ λ same. Prim.search rules ]
+      | Finalize p ↦ elim [ Notarize q ↦ λ same. Prim.search rules | Nullify r ↦ λ same. Prim.search rules | Finalize q ↦ λ same. Prim.search rules ]
+    ] };
 }
 
 impl<D: Digest> Subject<'_, D> {

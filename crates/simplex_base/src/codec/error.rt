@@ -1,6 +1,6 @@
 //! Why bytes are no value.
 
-use crate::values::EqByParts;
+use crate::values::{EqByParts, ExactClone};
 use thiserror::Error as ThisError;
 
 /// Why a value can't be read.
@@ -41,4 +41,8 @@ impl EqByParts for Error {
       | ExtraData ↦ elim [ ExtraData ↦ refl | _ ↦ refl ]
       | OutOfMemory ↦ elim [ OutOfMemory ↦ refl | _ ↦ refl ]
     ] };
+}
+
+impl ExactClone for Error {
+    ghost exact = { λ x y same. same };
 }

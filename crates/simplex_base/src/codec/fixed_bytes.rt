@@ -5,6 +5,7 @@ ghost use Rattle.std.proofs.lemmas.Slice.Eq.{bytes_eq-Decides};
 
 use crate::codec::parts::known_bytes;
 use crate::codec::{Fixed, FixedSize};
+use crate::values::ExactClone;
 use std::marker::{Model, PhantomData};
 
 /// What `N` bytes stand for, as a digest of some hash. It tells types of one size apart.
@@ -29,6 +30,12 @@ impl<R, const N: usize> Model for FixedBytes<R, N> {
     ghost view = { λ fixed. fixed.bytes };
 
     ghost inverse = { λ bytes. record { bytes = bytes; role = record {} } };
+}
+
+impl<R, const N: usize> ExactClone for FixedBytes<R, N> {
+    ghost use Rattle.std.proofs.Common.{rules};
+
+    ghost exact = { λ x y same. Prim.search rules };
 }
 
 impl<R: Role<N>, const N: usize> FixedSize for FixedBytes<R, N> {

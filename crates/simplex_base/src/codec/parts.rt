@@ -6,7 +6,7 @@ ghost use Rattle.simplex_base.specs.Format.{both_spelled, both_at, BothAre, IsFi
 ghost use Rattle.simplex_base.specs.FormatLaws.{both_lawful};
 
 use crate::codec::error::Error;
-use crate::codec::{EncodeSize, Fixed, Read, Spell, Write};
+use crate::codec::{EncodeSize, Fixed, Read, ReadExt, Spell, Write};
 use std::alloc::{AllocError, Global};
 
 /// Takes back what a refused write left behind it.
@@ -84,6 +84,10 @@ impl<A: Read<Cfg = ()> + Drop, B: Read> Read for (A, B) {
     ghost lawful = { λ cfg. both_lawful (A.lawful tt) (B.lawful cfg) };
 }
 
+impl<A: ReadExt + Drop, B: ReadExt> ReadExt for (A, B) {
+    ghost readable = { λ x both. (A.readable x.0 both.0, B.readable x.1 both.1) };
+}
+
 impl<T: Fixed> Spell for T {
     ghost is_value = { λ x. IsFixed T.SIZE (T.bytes_of x) };
 
@@ -124,6 +128,10 @@ impl<T: Fixed> Read for T {
     }
 
     ghost lawful = { λ _. T.lawful };
+}
+
+impl<T: Fixed> ReadExt for T {
+    ghost readable = { λ x value. value };
 }
 
 /// The same bytes, each of which is below 256.

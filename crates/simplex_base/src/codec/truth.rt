@@ -5,7 +5,7 @@ ghost use Rattle.simplex_base.specs.Format.{truth};
 ghost use Rattle.simplex_base.specs.FormatLaws.{truth_lawful};
 
 use crate::codec::error::Error;
-use crate::codec::{EncodeSize, Read, Spell, Write};
+use crate::codec::{EncodeSize, Read, ReadExt, Spell, Write};
 use std::alloc::{AllocError, Global};
 
 /// One byte: `00` is false, `01` is true, and another is refused by `InvalidBool`.
@@ -54,4 +54,8 @@ impl Read for bool {
     }
 
     ghost lawful = { λ _. truth_lawful };
+}
+
+impl ReadExt for bool {
+    ghost readable = { λ x value. value };
 }

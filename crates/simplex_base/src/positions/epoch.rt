@@ -8,8 +8,8 @@ ghost use Rattle.simplex_base.specs.VarintLaws.{number_64_lawful, longest_64, gr
 
 use crate::codec::error::Error;
 use crate::codec::varint::{read_u64, size_u64, write_u64};
-use crate::codec::{EncodeSize, MaxEncodeSize, Read, Spell, Write};
-use crate::values::{EqByParts, OrdByParts};
+use crate::codec::{EncodeSize, MaxEncodeSize, Read, ReadExt, Spell, Write};
+use crate::values::{EqByParts, ExactClone, OrdByParts};
 use std::alloc::{AllocError, Global};
 use std::marker::Model;
 
@@ -35,6 +35,10 @@ impl OrdByParts for Epoch {
     ghost order = { nat_cmp };
 
     ghost ordered = { λ x y. refl };
+}
+
+impl ExactClone for Epoch {
+    ghost exact = { λ x y same. same };
 }
 
 impl Epoch {
@@ -109,4 +113,8 @@ impl Read for Epoch {
     }
 
     ghost lawful = { λ _. number_64_lawful };
+}
+
+impl ReadExt for Epoch {
+    ghost readable = { λ x value. value };
 }

@@ -8,8 +8,8 @@ ghost use Rattle.simplex_base.specs.VarintLaws.{number_32_lawful, longest_32, gr
 
 use crate::codec::error::Error;
 use crate::codec::varint::{read_u32, size_u32, write_u32};
-use crate::codec::{EncodeSize, MaxEncodeSize, Read, Spell, Write};
-use crate::values::{EqByParts, OrdByParts};
+use crate::codec::{EncodeSize, MaxEncodeSize, Read, ReadExt, Spell, Write};
+use crate::values::{EqByParts, ExactClone, OrdByParts};
 use std::alloc::{AllocError, Global};
 use std::marker::Model;
 
@@ -35,6 +35,10 @@ impl OrdByParts for Participant {
     ghost order = { nat_cmp };
 
     ghost ordered = { λ x y. refl };
+}
+
+impl ExactClone for Participant {
+    ghost exact = { λ x y same. same };
 }
 
 impl Participant {
@@ -99,4 +103,8 @@ impl Read for Participant {
     }
 
     ghost lawful = { λ _. number_32_lawful };
+}
+
+impl ReadExt for Participant {
+    ghost readable = { λ x value. value };
 }

@@ -6,10 +6,10 @@ ghost use Rattle.simplex_base.specs.Positions.{round_format, round_lawful, round
 
 use crate::codec::error::Error;
 use crate::codec::parts::{size_both, write_both};
-use crate::codec::{EncodeSize, MaxEncodeSize, Read, Spell, Write};
+use crate::codec::{EncodeSize, MaxEncodeSize, Read, ReadExt, Spell, Write};
 use crate::positions::epoch::{Epoch, Epochable};
 use crate::positions::view::{View, Viewable};
-use crate::values::{EqByParts, OrdByParts};
+use crate::values::{EqByParts, ExactClone, OrdByParts};
 use std::alloc::{AllocError, Global};
 use std::marker::Model;
 
@@ -40,6 +40,10 @@ impl OrdByParts for Round {
     ghost order = { λ x y. ordering_then (nat_cmp x.epoch y.epoch) (nat_cmp x.view y.view) };
 
     ghost ordered = { λ x y. refl };
+}
+
+impl ExactClone for Round {
+    ghost exact = { λ x y same. same };
 }
 
 impl Round {
@@ -150,4 +154,8 @@ impl Read for Round {
     }
 
     ghost lawful = { λ _. round_lawful };
+}
+
+impl ReadExt for Round {
+    ghost readable = { λ x value. value };
 }

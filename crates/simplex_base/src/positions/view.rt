@@ -8,9 +8,9 @@ ghost use Rattle.simplex_base.specs.VarintLaws.{number_64_lawful, longest_64, gr
 
 use crate::codec::error::Error;
 use crate::codec::varint::{read_u64, size_u64, write_u64};
-use crate::codec::{EncodeSize, MaxEncodeSize, Read, Spell, Write};
+use crate::codec::{EncodeSize, MaxEncodeSize, Read, ReadExt, Spell, Write};
 use crate::positions::view_delta::ViewDelta;
-use crate::values::{EqByParts, OrdByParts};
+use crate::values::{EqByParts, ExactClone, OrdByParts};
 use std::alloc::{AllocError, Global};
 use std::marker::Model;
 
@@ -37,6 +37,10 @@ impl OrdByParts for View {
     ghost order = { nat_cmp };
 
     ghost ordered = { λ x y. refl };
+}
+
+impl ExactClone for View {
+    ghost exact = { λ x y same. same };
 }
 
 impl View {
@@ -139,4 +143,8 @@ impl Read for View {
     }
 
     ghost lawful = { λ _. number_64_lawful };
+}
+
+impl ReadExt for View {
+    ghost readable = { λ x value. value };
 }

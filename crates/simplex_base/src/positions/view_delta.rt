@@ -3,7 +3,7 @@
 ghost use Rattle.std.specs.Prelude.{◌≡◌, ℕ, nat_eq, refl};
 ghost use Rattle.std.specs.Ordering.{nat_cmp};
 
-use crate::values::{EqByParts, OrdByParts};
+use crate::values::{EqByParts, ExactClone, OrdByParts};
 use std::marker::Model;
 
 /// A number of views, from 0 to 2^64 - 1.
@@ -28,6 +28,10 @@ impl OrdByParts for ViewDelta {
     ghost order = { nat_cmp };
 
     ghost ordered = { λ x y. refl };
+}
+
+impl ExactClone for ViewDelta {
+    ghost exact = { λ x y same. same };
 }
 
 impl ViewDelta {

@@ -9,9 +9,9 @@ ghost use Rattle.simplex_evidence.specs.Contradiction.{contradicts, Conflicting_
 use crate::types::conflict::{Conflict, read_conflict};
 use simplex_base::codec::error::Error;
 use simplex_base::codec::parts::{size_both, write_both};
-use simplex_base::codec::{EncodeSize, Fixed, Read, Spell, Write};
+use simplex_base::codec::{EncodeSize, Fixed, Read, ReadExt, Spell, Write};
 use simplex_base::positions::{Participant, Round, Roundable};
-use simplex_base::values::EqByParts;
+use simplex_base::values::{EqByParts, ExactClone};
 use simplex_scheme::scheme::{Digest, Scheme, SchemeTypes};
 use simplex_votes::types::{Attributable, Finalize};
 use std::alloc::{AllocError, Global};
@@ -102,6 +102,10 @@ impl<S: SchemeTypes, D: Digest> Clone for ConflictingFinalize<S, D> {
             finalize_2: self.finalize_2.copy(),
         })
     }
+}
+
+impl<S: SchemeTypes, D: Digest> ExactClone for ConflictingFinalize<S, D> {
+    ghost exact = { λ x y same. same };
 }
 
 impl<S: SchemeTypes, D: Digest> EqByParts for ConflictingFinalize<S, D> {
@@ -196,4 +200,8 @@ impl<S: SchemeTypes, D: Digest> Read for ConflictingFinalize<S, D> {
     }
 
     ghost lawful = { λ _. conflicting_finalize_lawful D.eq _ _ D.lawful S.Signature.lawful };
+}
+
+impl<S: SchemeTypes, D: Digest> ReadExt for ConflictingFinalize<S, D> {
+    ghost readable = { λ x value. value };
 }

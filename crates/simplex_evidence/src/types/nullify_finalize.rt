@@ -9,9 +9,9 @@ ghost use Rattle.simplex_evidence.specs.Contradiction.{contradicts, Nullify_fina
 use crate::types::conflict::{Conflict, read_conflict};
 use simplex_base::codec::error::Error;
 use simplex_base::codec::parts::{size_both, write_both};
-use simplex_base::codec::{EncodeSize, Fixed, Read, Spell, Write};
+use simplex_base::codec::{EncodeSize, Fixed, Read, ReadExt, Spell, Write};
 use simplex_base::positions::{Participant, Round, Roundable};
-use simplex_base::values::EqByParts;
+use simplex_base::values::{EqByParts, ExactClone};
 use simplex_scheme::scheme::{Digest, Scheme, SchemeTypes};
 use simplex_votes::types::{Attributable, Finalize, Nullify};
 use std::alloc::{AllocError, Global};
@@ -97,6 +97,10 @@ impl<S: SchemeTypes, D: Digest> Clone for NullifyFinalize<S, D> {
             finalize: self.finalize.copy(),
         })
     }
+}
+
+impl<S: SchemeTypes, D: Digest> ExactClone for NullifyFinalize<S, D> {
+    ghost exact = { λ x y same. same };
 }
 
 impl<S: SchemeTypes, D: Digest> EqByParts for NullifyFinalize<S, D> {
@@ -191,4 +195,8 @@ impl<S: SchemeTypes, D: Digest> Read for NullifyFinalize<S, D> {
     }
 
     ghost lawful = { λ _. nullify_finalize_lawful D.eq _ _ D.lawful S.Signature.lawful };
+}
+
+impl<S: SchemeTypes, D: Digest> ReadExt for NullifyFinalize<S, D> {
+    ghost readable = { λ x value. value };
 }

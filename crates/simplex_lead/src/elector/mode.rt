@@ -3,7 +3,7 @@
 ghost use Rattle.std.specs.Prelude.{◌≡◌, refl};
 ghost use Rattle.std.specs.Option.{option_copied};
 
-use simplex_base::values::EqByParts;
+use simplex_base::values::{EqByParts, ExactClone};
 
 /// How an elector uses the certificate that leads to a view.
 #[derive(Clone, Copy, Debug, PartialEq, Eq)]
@@ -12,6 +12,10 @@ pub enum Mode {
     Scheduled,
     /// Leaders may depend on the certificate.
     Dynamic,
+}
+
+impl ExactClone for Mode {
+    ghost exact = { λ x y same. same };
 }
 
 impl EqByParts for Mode {

@@ -14,6 +14,7 @@ use crate::elector::electing::{Config, Elector};
 use crate::elector::mode::Mode;
 use crate::elector::terms::Terms;
 use simplex_base::positions::{Participant, Round, TermLength, ViewDelta};
+use simplex_base::values::ExactClone;
 use simplex_scheme::hash::{Hasher, Sha256};
 use simplex_scheme::scheme::CertificateScheme;
 use simplex_scheme::set::Set;
@@ -104,6 +105,10 @@ impl<H: Hasher> Clone for RoundRobin<H> {
             hasher: PhantomData,
         })
     }
+}
+
+impl<H: Hasher> ExactClone for RoundRobin<H> {
+    ghost exact = { λ x y same. same };
 }
 
 /// The hash by which a participant is placed.
@@ -224,6 +229,10 @@ impl<S> Clone for RoundRobinElector<S> {
             scheme: PhantomData,
         })
     }
+}
+
+impl<S> ExactClone for RoundRobinElector<S> {
+    ghost exact = { λ x y same. same };
 }
 
 impl<S> RoundRobinElector<S> {

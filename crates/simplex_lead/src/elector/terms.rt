@@ -5,7 +5,7 @@ ghost use Rattle.std.specs.Option.{option_eq};
 ghost use Rattle.simplex_lead.specs.Structure.{CanBeStable, rotating};
 
 use simplex_base::positions::{TermLength, ViewDelta};
-use simplex_base::values::EqByParts;
+use simplex_base::values::{EqByParts, ExactClone};
 use std::marker::Model;
 use std::time::Duration;
 
@@ -40,6 +40,10 @@ impl Model for Terms {
       timeout = terms.stall_timeout;
       optimistic_views = terms.optimistic_views;
     } };
+}
+
+impl ExactClone for Terms {
+    ghost exact = { λ x y same. same };
 }
 
 impl EqByParts for Terms {

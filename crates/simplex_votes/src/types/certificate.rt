@@ -10,7 +10,7 @@ use simplex_base::codec::error::Error;
 use simplex_base::codec::unions::{Tagged, read_tagged, write_tagged};
 use simplex_base::codec::{EncodeSize, Fixed, FixedSize, MaxEncodeSize, Read, Spell, Write};
 use simplex_base::positions::{Round, Roundable};
-use simplex_base::values::EqByParts;
+use simplex_base::values::{EqByParts, ExactClone};
 use simplex_scheme::proposal::Proposal;
 use simplex_scheme::scheme::{CertificateScheme, CertificateVerifier, Digest};
 use std::alloc::{AllocError, Global};
@@ -37,6 +37,10 @@ impl Kind {
             Kind::Finalization => "finalization",
         }
     }
+}
+
+impl ExactClone for Kind {
+    ghost exact = { λ x y same. same };
 }
 
 impl EqByParts for Kind {

@@ -5,9 +5,11 @@ ghost use Rattle.simplex_base.specs.Readable.{format_of};
 
 use simplex_base::codec::error::Error;
 use simplex_base::codec::parts::{size_both, write_both};
-use simplex_base::codec::{EncodeSize, Fixed, FixedSize, MaxEncodeSize, Read, Spell, Write};
+use simplex_base::codec::{
+    EncodeSize, Fixed, FixedSize, MaxEncodeSize, Read, ReadExt, Spell, Write,
+};
 use simplex_base::positions::{Round, Roundable, View};
-use simplex_base::values::EqByParts;
+use simplex_base::values::{EqByParts, ExactClone};
 use simplex_scheme::scheme::{Digest, PublicKey};
 use std::alloc::{AllocError, Global};
 
@@ -32,6 +34,10 @@ impl<D: Copy + Drop, P: Copy + Drop> Clone for Context<D, P> {
             parent: self.parent,
         })
     }
+}
+
+impl<D: Copy + Drop, P: Copy + Drop> ExactClone for Context<D, P> {
+    ghost exact = { λ x y same. same };
 }
 
 impl<D: Eq, P: Eq> EqByParts for Context<D, P> {
@@ -109,4 +115,8 @@ impl<D: Digest, P: PublicKey> Read for Context<D, P> {
     }
 
     ghost lawful = { λ _. context_lawful _ _ D.lawful P.lawful };
+}
+
+impl<D: Digest, P: PublicKey> ReadExt for Context<D, P> {
+    ghost readable = { λ x value. value };
 }

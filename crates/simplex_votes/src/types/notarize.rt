@@ -7,9 +7,11 @@ ghost use Rattle.simplex_scheme.specs.Subject.{Notarizes};
 use crate::types::attributable::Attributable;
 use simplex_base::codec::error::Error;
 use simplex_base::codec::parts::{size_both, write_both};
-use simplex_base::codec::{EncodeSize, Fixed, FixedSize, MaxEncodeSize, Read, Spell, Write};
+use simplex_base::codec::{
+    EncodeSize, Fixed, FixedSize, MaxEncodeSize, Read, ReadExt, Spell, Write,
+};
 use simplex_base::positions::{Participant, Round, Roundable};
-use simplex_base::values::EqByParts;
+use simplex_base::values::{EqByParts, ExactClone};
 use simplex_scheme::proposal::Proposal;
 use simplex_scheme::scheme::{Attestation, Digest, Scheme, SchemeTypes};
 use simplex_scheme::subject::Subject;
@@ -81,6 +83,10 @@ impl<S: Scheme<D>, D: Digest> Notarize<S, D> {
         };
         scheme.verify_attestation(subject, &self.attestation)
     }
+}
+
+impl<S: SchemeTypes, D: Digest> ExactClone for Notarize<S, D> {
+    ghost exact = { λ x y same. same };
 }
 
 impl<S: SchemeTypes, D: Digest> EqByParts for Notarize<S, D> {
@@ -163,4 +169,8 @@ impl<S: SchemeTypes, D: Digest> Read for Notarize<S, D> {
     }
 
     ghost lawful = { λ _. notarize_lawful _ _ D.lawful S.Signature.lawful };
+}
+
+impl<S: SchemeTypes, D: Digest> ReadExt for Notarize<S, D> {
+    ghost readable = { λ x value. value };
 }

@@ -7,9 +7,11 @@ ghost use Rattle.simplex_scheme.specs.Subject.{Nullifies};
 use crate::types::attributable::Attributable;
 use simplex_base::codec::error::Error;
 use simplex_base::codec::parts::{size_both, write_both};
-use simplex_base::codec::{EncodeSize, Fixed, FixedSize, MaxEncodeSize, Read, Spell, Write};
+use simplex_base::codec::{
+    EncodeSize, Fixed, FixedSize, MaxEncodeSize, Read, ReadExt, Spell, Write,
+};
 use simplex_base::positions::{Participant, Round, Roundable};
-use simplex_base::values::EqByParts;
+use simplex_base::values::{EqByParts, ExactClone};
 use simplex_scheme::scheme::{Attestation, Digest, Scheme, SchemeTypes};
 use simplex_scheme::subject::Subject;
 use std::alloc::{AllocError, Global};
@@ -75,6 +77,10 @@ impl<S: SchemeTypes> Clone for Nullify<S> {
     fn clone(&self) -> Result<Self, AllocError> {
         Ok(self.copy())
     }
+}
+
+impl<S: SchemeTypes> ExactClone for Nullify<S> {
+    ghost exact = { λ x y same. same };
 }
 
 impl<S: SchemeTypes> EqByParts for Nullify<S> {
@@ -154,4 +160,8 @@ impl<S: SchemeTypes> Read for Nullify<S> {
     }
 
     ghost lawful = { λ _. nullify_lawful _ S.Signature.lawful };
+}
+
+impl<S: SchemeTypes> ReadExt for Nullify<S> {
+    ghost readable = { λ x value. value };
 }

@@ -9,9 +9,11 @@ use crate::types::notarize::Notarize;
 use crate::types::nullify::Nullify;
 use simplex_base::codec::error::Error;
 use simplex_base::codec::unions::{Tagged, read_tagged, write_tagged};
-use simplex_base::codec::{EncodeSize, Fixed, FixedSize, MaxEncodeSize, Read, Spell, Write};
+use simplex_base::codec::{
+    EncodeSize, Fixed, FixedSize, MaxEncodeSize, Read, ReadExt, Spell, Write,
+};
 use simplex_base::positions::{Participant, Round, Roundable};
-use simplex_base::values::EqByParts;
+use simplex_base::values::{EqByParts, ExactClone};
 use simplex_scheme::scheme::{Digest, SchemeTypes};
 use std::alloc::{AllocError, Global};
 
@@ -39,6 +41,10 @@ impl<S: SchemeTypes, D: Digest> Clone for Vote<S, D> {
             Vote::Finalize(vote) => Vote::Finalize(vote.copy()),
         })
     }
+}
+
+impl<S: SchemeTypes, D: Digest> ExactClone for Vote<S, D> {
+    ghost exact = { λ x y same. same };
 }
 
 impl<S: SchemeTypes, D: Digest> EqByParts for Vote<S, D> {
@@ -143,6 +149,10 @@ impl<S: SchemeTypes, D: Digest> Read for Vote<S, D> {
     }
 
     ghost lawful = { λ _. vote_lawful _ _ D.lawful S.Signature.lawful };
+}
+
+impl<S: SchemeTypes, D: Digest> ReadExt for Vote<S, D> {
+    ghost readable = { λ x value. value };
 }
 
 impl<S: SchemeTypes, D: Digest> Tagged for Vote<S, D> {
