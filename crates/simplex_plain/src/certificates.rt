@@ -66,7 +66,8 @@ fn sort_by_signers<S: SchemeTypes>(attestations: &mut Vec<Attestation<S>>)
     attestations.sort_unstable_by_key(|attestation| attestation.signer);
 }
 
-/// The certificate of these attestations, sorted in place without memory.
+/// The certificate of these attestations, sorted in place without memory. Its condition is that of
+/// [`can_assemble`](simplex_scheme::assembly::can_assemble).
 pub fn assembled<S: CertificateScheme>(
     scheme: &S,
     mut attestations: Vec<Attestation<S>>,

@@ -1,7 +1,8 @@
 //! Certificates that list their attestations.
 
-ghost use Rattle.std.specs.Prelude.{◌≡◌, ◌+◌, ◌*◌, ◌/◌, min, ◌<◌, ◌≤◌, ◌^◌, IfOk, length, true, false, refl};
+ghost use Rattle.std.specs.Prelude.{◌≡◌, ◌+◌, ◌/◌, min, ◌<◌, ◌≤◌, ◌^◌, [], IfOk, length, true, false, refl};
 ghost use Rattle.std.specs.Hash as fed;
+ghost use Rattle.std.specs.Vec.{vec_capacity};
 ghost use Rattle.std.specs.Cmp.Lexicographic.{pointwise, lists_per};
 ghost use Rattle.std.specs.Cmp.Rules.{comparing, hashing};
 ghost use Rattle.std.proofs.Common.{rules};
@@ -44,7 +45,7 @@ impl<S: SchemeTypes> Model for Listed<S> {
 
 impl<S: SchemeTypes> Listed<S> {
     /// The certificate of these attestations, from 1 to 2^32 - 1 with strictly ascending signers. It takes no memory.
-    pub fn from_ascending(attestations: Vec<Attestation<S>>) -> Listed<S>
+    pub(crate) fn from_ascending(attestations: Vec<Attestation<S>>) -> Listed<S>
         requires { AreListed attestations.items }
         ensures { result ≡ attestations.items }
     {
@@ -155,13 +156,18 @@ impl<S: SchemeTypes> Read for Listed<S> {
     ghost lawful = { λ bound. listed_lawful (format_of ⟦<S::Signature as Read>⟧) bound S.Signature.lawful };
 }
 
-/// How many attestations the bytes can hold, but no more than the count. Each takes a byte at least, and its
-/// signature's.
-fn room_for<S: SchemeTypes>(bytes: &[u8], count: u32) -> usize
-    ensures held { result * (1 + S.Signature.SIZE) ≤ length bytes.now }
-    ensures all { result ≡ min (length bytes.now / (1 + S.Signature.SIZE)) count }
+/// An empty list with room for as many attestations as the bytes can hold, and for no more than the count. Each
+/// takes a byte at least, and its signature's.
+fn with_room_for<S: SchemeTypes>(
+    alloc: Global,
+    bytes: &[u8],
+    count: u32,
+) -> Result<Vec<Attestation<S>>, AllocError>
+    ensures empty { IfOk result (λ listed. listed.items ≡ []) }
+    ensures room { IfOk result (λ listed. vec_capacity listed ≡ min (length bytes.now / (1 + S.Signature.SIZE)) count) }
 {
-    (bytes.len() / (1 + S::Signature::SIZE)).min(count as usize)
+    let held = bytes.len() / (1 + S::Signature::SIZE);
+    Vec::with_capacity(alloc, held.min(count as usize))
 }
 
 /// Reads so many attestations with ascending signers below the bound.
@@ -175,8 +181,7 @@ fn read_attestations<S: SchemeTypes>(
     ensures { Gives true result input.old.now input.new.now (attestations_at (format_of ⟦<S::Signature as Read>⟧) bound 0 count input.old.now) }
 {
     let mut rest: &[u8] = known_bytes(*input);
-    let room = room_for::<S>(rest, count);
-    let Ok(mut attestations) = Vec::with_capacity(alloc, room) else {
+    let Ok(mut attestations) = with_room_for(alloc, rest, count) else {
         return Err(Error::OutOfMemory);
     };
     let mut least = 0;
