@@ -10,3 +10,4 @@ pub mod Sizes
 pub mod Positions
 pub mod Terms
 pub mod TermLaws
+pub mod Shortest

@@ -25,3 +25,4 @@ pub mod SignerCounts
 pub mod VerdictLemmas
 pub mod RoundEvidence
 pub mod AgainLemmas
+pub mod RoomLemmas

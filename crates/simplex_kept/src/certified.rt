@@ -1,6 +1,6 @@
 //! What is kept of the certificates of a round: enough to tell whether two of them contradict, and no more.
 
-ghost use Rattle.std.specs.Prelude.{◌≡◌, ◌↔◌, ◌||◌, ◌++◌, List, [], ◌∷◌, true, IsTrue, if◌then◌else◌};
+ghost use Rattle.std.specs.Prelude.{◌≡◌, ◌↔◌, ◌&&◌, ◌||◌, ◌++◌, List, [], ◌∷◌, IsTrue, if◌then◌else◌};
 ghost use Rattle.std.specs.Option.{is_some};
 ghost use Rattle.simplex_scheme.specs.Subject.{SubjectValue, subject_value, round_of};
 ghost use Rattle.simplex_votes.specs.Votes.{Sort, sort_of};
@@ -53,7 +53,8 @@ impl<D: Digest> Certified<D> {
     ) -> bool
         ensures keeps { (subjects : List (SubjectValue D)) → KeepsFirsts D.eq subjects (round_of (subject_value subject.now)) self.old →
             KeepsFirsts D.eq (subjects ++ (if S.certified scheme.now (subject_value subject.now) certificate.now then subject_value subject.now ∷ [] else [])) (round_of (subject_value subject.now)) self.new }
-        ensures certifies { IsTrue result → S.certified scheme.now (subject_value subject.now) certificate.now ≡ true }
+        // It was found to certify exactly where it was asked, which is where it can change what is kept, and certifies.
+        ensures verified { result ≡ (changes_firsts D.eq (firsts_of self.old) self.old.split (subject_value subject.now) && S.certified scheme.now (subject_value subject.now) certificate.now) }
     {
         if !self.is_news(subject) {
             return false;

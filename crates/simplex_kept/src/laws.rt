@@ -1,12 +1,15 @@
 //! What holds of any messages, and of what is told of them.
 
 ghost use Rattle.std.specs.Prelude.{◌≡◌, ◌≤◌, ℕ, List, Some, All, length, map};
+ghost use Rattle.std.specs.List.{flat_map};
+ghost use Rattle.simplex_base.specs.Readable.{format_of};
 ghost use Rattle.simplex_votes.specs.Votes.{Vote};
+ghost use Rattle.simplex_evidence.specs.Activity.{activity_spelling};
 ghost use Rattle.simplex_evidence.specs.Contradiction as contradiction;
 ghost use Rattle.simplex_evidence.specs.declared.types.activity.Activity.{Activity};
 ghost use Rattle.simplex_kept.specs.Committees.{Schedule, committee_of, rules_of};
 ghost use Rattle.simplex_kept.specs.Evidence.{IsEvidence, IsEquivocation};
-ghost use Rattle.simplex_kept.specs.KeptVotes.{KeptAreSlots, FewAreKept};
+ghost use Rattle.simplex_kept.specs.KeptVotes.{KeptAreSlots, FewAreKept, votes_kept};
 ghost use Rattle.simplex_kept.specs.Laws.{EvidenceIsUnique, NamesExactly, NamedInAnyOrder, NamesStay, IsEvidenceAgain};
 ghost use Rattle.simplex_kept.specs.Rules.{Rules, AreLawful, good_votes};
 ghost use Rattle.simplex_kept.specs.Splits.{AreSplits};
@@ -15,6 +18,7 @@ ghost use Rattle.simplex_kept.specs.Values.{evidence_value};
 ghost use Rattle.simplex_kept.specs.declared.evidence.Evidence.{Evidence};
 ghost use Rattle.simplex_kept.specs.declared.split.Split.{Split};
 
+use simplex_base::codec::Read;
 use simplex_scheme::scheme::{CertificateScheme, Digest, Listing};
 
 /// Committees with participants judge lawfully: whose signature is good is in the committee of the epoch, and what
@@ -62,4 +66,11 @@ pub fn splits_are_determined<S: CertificateScheme, D: Digest>()
 pub fn few_votes_are_kept<S: CertificateScheme, D: Digest>()
     ensures slots { (vs : List (Vote D S.Signature)) → KeptAreSlots D.eq vs }
     ensures few { (vs : List (Vote D S.Signature)) → FewAreKept D.eq vs }
+{}
+
+/// Of messages no more votes have to be kept than their encodings have bytes.
+pub fn kept_votes_have_room<S: Listing<D>, D: Digest>()
+    ensures { (schedule : Schedule S) (messages : List (Activity S D S.Certificate S.PublicKey S.Signature)) →
+        votes_kept D.eq (good_votes (rules_of D.eq S.keys S.good S.certified S.listed schedule) messages) ≤
+        length (flat_map (activity_spelling D.eq (format_of ⟦<D as Read>⟧) S.Certificate.spelling (format_of ⟦<S::Signature as Read>⟧)) messages) }
 {}

@@ -1,5 +1,6 @@
-use Rattle.std.proofs.Common.{◌≡◌, true, subst, sym}
+use Rattle.std.proofs.Common.{◌≡◌, true, subst, sym, ◌∙◌}
 use Rattle.std.specs.Prelude.{All}
+use Rattle.std.proofs.lemmas.Bool.{and_parts}
 use Rattle.simplex_scheme.specs.Subject.{subject_value}
 use Rattle.simplex_kept.proofs.Results.{on_ok}
 use Rattle.simplex_kept.proofs.TallyLemmas.{takes_certificate, KeepsGood}
@@ -10,7 +11,7 @@ pub keep_all-requires : goal.keep_all-requires
 keep_all-requires g c = λ certifies.
     let x = subject_value c.args.subject.now in
     subst (All (λ a. g.S.Scheme.good c.args.committee.now x a.signer a.signature ≡ true)) (sym c.attestations-attestations.ensures)
-    (g.met.S.Listing.lists_quorums c.args.committee.now x c.args.certificate.now (c.see-certifies.ensures.certifies certifies)).each_good
+    (g.met.S.Listing.lists_quorums c.args.committee.now x c.args.certificate.now (and_parts _ _ (sym c.see-certifies.ensures.verified ∙ certifies)).1).each_good
 
 pub returns : goal.returns
 returns g c =
