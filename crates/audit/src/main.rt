@@ -3,14 +3,7 @@
 //! certificates contradict.
 #![tactic(auto)]
 
-mod arguments;
-mod command;
-mod groups;
-mod keys;
-mod start;
-mod status;
-
-use crate::start::start;
+use audit_cli::start::start;
 use simplex_audit::audit::Watched;
 use std::env;
 use std::process::ExitCode;

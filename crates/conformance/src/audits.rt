@@ -1,8 +1,11 @@
 //! Audits of streams, whole and in pieces.
 
+use devices::{Source, Trouble};
 use message_rows::refusals::name;
 use message_rows::rows::{Unanswered, bytes, committee, epoch};
-use simplex_audit::audit::{Auditor, Committees, Evidence, Report, audit};
+use simplex_audit::audit::{
+    Auditor, Committees, Evidence, Fault, Report, RunError, Watched, audit, run,
+};
 use simplex_base::positions::Epoch;
 use simplex_plain::marked::{Marked, MarkedDigest};
 use simplex_scheme::scheme::{Digest, SchemeTypes};
@@ -29,14 +32,53 @@ fn pair(alloc: Global, word: &str) -> Result<(Epoch, Marked), Unanswered> {
     }
 }
 
-/// The answer to an audit of a stream.
+/// The answer to an audit of a stream: that of `audit` and of two runs, one of which reads a byte a call, where all agree.
 pub(crate) fn audit_row(
     alloc: Global,
     committees: &Committees<Marked>,
     stream: &[u8],
 ) -> Result<String, Unanswered> {
     let report = audit::<Marked, MarkedDigest>(alloc, committees, stream)?;
-    Ok(told(alloc, &report)?)
+    let answer = told(alloc, &report)?;
+    for step in [usize::MAX, 1] {
+        if ran(alloc, committees, stream, step)? != answer {
+            return Ok("the runs differ".to_string(alloc)?);
+        }
+    }
+    Ok(answer)
+}
+
+/// What a run says that reads so many bytes a call.
+fn ran(
+    alloc: Global,
+    committees: &Committees<Marked>,
+    stream: &[u8],
+    step: usize,
+) -> Result<String, Unanswered> {
+    let mut reader = Watched::new(Source::new(stream, step.max(1), Trouble::Never));
+    let mut writer = Watched::new(Vec::<u8>::new(alloc));
+    let summary = match run::<Marked, MarkedDigest, _, _>(
+        alloc,
+        committees,
+        &mut reader,
+        &mut writer,
+    ) {
+        Ok(summary) => summary,
+        Err(RunError::Read | RunError::TooLong) => return Err(Unanswered::NoRow),
+        Err(RunError::Write | RunError::OutOfMemory) => return Err(Unanswered::OutOfMemory),
+    };
+    let text = String::from_utf8(writer.into_inner()).map_err(|_| Unanswered::NoRow)?;
+    let mut answer = format!(in alloc; "read {}", summary.read)?;
+    let mut lines: usize = 0;
+    for line in text.lines() {
+        push_part(&mut answer, line)?;
+        lines = lines.saturating_add(1);
+    }
+    if lines != summary.evidence.saturating_add(summary.splits) {
+        return Err(Unanswered::NoRow);
+    }
+    push_fault(alloc, &mut answer, summary.fault)?;
+    Ok(answer)
 }
 
 /// The answer to an audit of a stream in pieces: how it stands after each, and then what the audit finds.
@@ -84,12 +126,18 @@ fn told(alloc: Global, report: &Report<Marked, MarkedDigest>) -> Result<String, 
     for split in &report.splits {
         push_part(&mut text, split.line(alloc)?.as_str())?;
     }
-    if let Some(fault) = report.fault {
+    push_fault(alloc, &mut text, report.fault)?;
+    Ok(text)
+}
+
+/// Appends the fault, if there is one, as a part of an answer.
+fn push_fault(alloc: Global, text: &mut String, fault: Option<Fault>) -> Result<(), AllocError> {
+    if let Some(fault) = fault {
         let error = name(alloc, fault.error)?;
         let said = format!(in alloc; "fault at {}: {error}", fault.place)?;
-        push_part(&mut text, said.as_str())?;
+        push_part(text, said.as_str())?;
     }
-    Ok(text)
+    Ok(())
 }
 
 /// The lines of some evidence, each as a further part of an answer.

@@ -67,7 +67,7 @@ const TAILS: [&[u8]; 6] = [
 ];
 
 #[test]
-fn every_small_stream_is_audited_by_the_definition(rt: HostRuntime) -> Result<(), Fail> {
+fn ample_every_small_stream_is_audited_by_the_definition(rt: HostRuntime) -> Result<(), Fail> {
     let alloc = rt.alloc();
     let committees = four_and_one(alloc)?;
     for (messages, streams) in [(0, 1), (1, 24), (2, 576), (3, 13824)] {

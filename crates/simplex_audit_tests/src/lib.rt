@@ -4,6 +4,10 @@
 #[cfg(test)]
 mod against_model;
 #[cfg(test)]
+mod command;
+#[cfg(test)]
+mod counted;
+#[cfg(test)]
 mod long;
 #[cfg(test)]
 mod model;
@@ -13,3 +17,9 @@ mod names;
 mod outcome;
 #[cfg(test)]
 mod runs;
+#[cfg(test)]
+mod verified;
+#[cfg(test)]
+mod watched;
+#[cfg(test)]
+mod without_memory;

@@ -36,7 +36,7 @@ fn nullification(alloc: Global) -> Result<Vec<u8>, Fail> {
 }
 
 #[test]
-fn a_long_message_in_short_reads_is_read(rt: HostRuntime) -> Result<(), Fail> {
+fn ample_a_long_message_in_short_reads_is_read(rt: HostRuntime) -> Result<(), Fail> {
     let alloc = rt.alloc();
     let committees = marked(alloc, FIRST + ATTESTATIONS)?;
     let stream = nullification(alloc)?;

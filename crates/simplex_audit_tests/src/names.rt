@@ -8,13 +8,14 @@ use std::test::Fail;
 
 /// Two messages: the notarizes of two payloads for view 10 of epoch 0, after view 5, that the one participant with a key of
 /// zeros signs under the base `test`.
-const TWICE: &str = "00000a05060606060606060606060606060606060606060606060606060606060606060600\
+pub(crate) const TWICE: &str =
+    "00000a05060606060606060606060606060606060606060606060606060606060606060600\
     8c6774d2f68c567d3d7099353ba7b9a73b4a3919f00bf8571c6cf14b8b0e1fbc\
     00000a05070707070707070707070707070707070707070707070707070707070707070700\
     85c5f612872154ca52e992a79aec3bfdc407bf2873f7f4372e33b4be6de3d71b";
 
 #[test]
-fn the_example_names_the_signer(rt: HostRuntime) -> Result<(), Fail> {
+fn ample_the_example_names_the_signer(rt: HostRuntime) -> Result<(), Fail> {
     let alloc = rt.alloc();
     let stream = hex::decode(alloc, TWICE)?;
     let key = PlainKey::from_bytes(&[0; 32]);

@@ -28,6 +28,8 @@ struct Case<'a> {
     room: usize,
     error: Option<RunError>,
     held: &'a str,
+    /// How many flushes are made.
+    flushes: usize,
 }
 
 /// A run in which no device fails.
@@ -40,6 +42,7 @@ const STEADY: Case<'static> = Case {
     room: usize::MAX,
     error: None,
     held: LINE,
+    flushes: 1,
 };
 
 /// Makes a run, and compares.
@@ -60,14 +63,14 @@ fn ends(rt: &impl Abort, alloc: Global, case: Case<'_>) -> Result<(), Fail> {
     assert_eq!(rt; answer.err(), case.error);
     let target = writer.into_inner();
     assert_eq!(rt; target.held(), case.held.as_bytes());
-    if case.error == Some(RunError::Read) {
-        assert_eq!(rt; target.calls(), (0, 0));
-    }
+    let (writes, flushes) = target.calls();
+    assert_eq!(rt; flushes, case.flushes);
+    assert!(rt; writes == 0 || case.error != Some(RunError::Read));
     Ok(())
 }
 
 #[test]
-fn devices_that_do_not_fail(rt: HostRuntime) -> Result<(), Fail> {
+fn ample_devices_that_do_not_fail(rt: HostRuntime) -> Result<(), Fail> {
     for steps in [
         (usize::MAX, usize::MAX),
         (usize::MAX, 1),
@@ -80,7 +83,7 @@ fn devices_that_do_not_fail(rt: HostRuntime) -> Result<(), Fail> {
 }
 
 #[test]
-fn readers_that_fail(rt: HostRuntime) -> Result<(), Fail> {
+fn ample_readers_that_fail(rt: HostRuntime) -> Result<(), Fail> {
     let troubles = [
         Trouble::Once(2, ErrorKind::Interrupted),
         Trouble::Once(2, ErrorKind::Other),
@@ -93,6 +96,7 @@ fn readers_that_fail(rt: HostRuntime) -> Result<(), Fail> {
             reading,
             error: Some(RunError::Read),
             held: "",
+            flushes: 0,
             ..STEADY
         };
         ends(&rt, rt.alloc(), case)?;
@@ -101,9 +105,10 @@ fn readers_that_fail(rt: HostRuntime) -> Result<(), Fail> {
 }
 
 #[test]
-fn writers_that_fail(rt: HostRuntime) -> Result<(), Fail> {
+fn ample_writers_that_fail(rt: HostRuntime) -> Result<(), Fail> {
     let failing = Case {
         error: Some(RunError::Write),
+        flushes: 0,
         ..STEADY
     };
     let cases: [Case; 6] = [
@@ -130,11 +135,13 @@ fn writers_that_fail(rt: HostRuntime) -> Result<(), Fail> {
         },
         Case {
             flushing: Trouble::Once(0, ErrorKind::Other),
+            flushes: 1,
             ..failing
         },
         Case {
             stream: b"",
             flushing: Trouble::Once(0, ErrorKind::Other),
+            flushes: 1,
             held: "",
             ..failing
         },
@@ -176,7 +183,7 @@ impl Twenty {
 
 /// A read that fails, or is interrupted, lets nothing be written. One that is short changes nothing.
 #[test]
-fn each_read_in_turn(rt: HostRuntime) -> Result<(), Fail> {
+fn ample_each_read_in_turn(rt: HostRuntime) -> Result<(), Fail> {
     let twenty = Twenty::new(rt.alloc())?;
     let steady = twenty.steady();
     for call in 0..10 {
@@ -185,6 +192,7 @@ fn each_read_in_turn(rt: HostRuntime) -> Result<(), Fail> {
                 reading: Trouble::Once(call, kind),
                 error: Some(RunError::Read),
                 held: "",
+                flushes: 0,
                 ..steady
             };
             ends(&rt, rt.alloc(), case)?;
@@ -198,7 +206,7 @@ fn each_read_in_turn(rt: HostRuntime) -> Result<(), Fail> {
 
 /// A write that fails, or is interrupted, leaves what was written before it. One that is short changes nothing.
 #[test]
-fn each_write_in_turn(rt: HostRuntime) -> Result<(), Fail> {
+fn ample_each_write_in_turn(rt: HostRuntime) -> Result<(), Fail> {
     let twenty = Twenty::new(rt.alloc())?;
     let steady = twenty.steady();
     for call in 0..24 {
@@ -207,6 +215,7 @@ fn each_write_in_turn(rt: HostRuntime) -> Result<(), Fail> {
                 writing: Trouble::Once(call, kind),
                 error: Some(RunError::Write),
                 held: twenty.text.get(..16 * call).unwrap_or(""),
+                flushes: 0,
                 ..steady
             };
             ends(&rt, rt.alloc(), case)?;

@@ -1,0 +1,77 @@
+-- What the program makes of its arguments and its input.
+use Rattle.std.specs.Prelude.{◌≡◌, ◌⊎◌, ◌≤◌, ◌^◌, ℕ, Bool, IsTrue, List, [], length, Option, Some, None, Result, Ok, Err}
+use Rattle.std.specs.Io.KnownBytes.{Consumes, IsAtEnd, Appends, Keeps}
+use Rattle.simplex_plain.specs.Plain.{PlainScheme}
+use Rattle.simplex_scheme.specs.declared.scheme.Attestation.{Attestation}
+use Rattle.simplex_kept.specs.Committees.{Schedule}
+use Rattle.simplex_audit.specs.Run.{IsAccount, AppendsBeginning}
+use Rattle.simplex_audit.specs.Basis.{Basis}
+use Rattle.simplex_audit.specs.declared.audit.Fault.{Fault}
+use Rattle.simplex_audit.specs.declared.run.Summary.{Summary}
+use Rattle.audit_cli.specs.Arguments.{AreArguments, AreNoArguments}
+use Rattle.audit_cli.specs.Status.{status_after, complaint_of, complaint_at}
+use Rattle.audit_cli.specs.declared.status.Status.{Status}
+use Rattle.audit_cli.specs.declared.status.Status.TheVariants as statuses
+use Rattle.audit_cli.specs.declared.status.Failure.{Failure}
+use Rattle.audit_cli.specs.declared.status.Failure.TheVariants.{Usage, Read, Write, OutOfMemory}
+
+-- what a certificate is: the attestations that it lists
+abbrev pub Certificate : Type 0
+Certificate = List (Attestation PlainScheme (List ℕ) (List ℕ))
+
+-- what an audit goes by under committees: how messages are read, and what they are judged by
+abbrev pub Bases : Type 1
+Bases = Schedule PlainScheme → Basis PlainScheme (List ℕ) Certificate (List ℕ) (List ℕ)
+
+-- what became of a reader: its bytes before and after, where it tells them, and whether a read failed
+pub record ReaderUse : Type 0 where
+  pub before : Option (List ℕ)
+  pub after : Option (List ℕ)
+  pub failed : Bool
+
+-- what became of a writer: its bytes before and after, where it tells them, whether a call failed, and whether it was
+-- flushed after its last write
+pub record WriterUse : Type 0 where
+  pub before : Option (List ℕ)
+  pub after : Option (List ℕ)
+  pub failed : Bool
+  pub flushed : Bool
+
+-- a whole input was read, and its text and its fault are those for the committees that the arguments name
+pub record IsRead (basis : Bases) (words : List (List ℕ)) (reader : ReaderUse) (text : List ℕ) (fault : Option Fault) : Type 0 where
+  pub committees : Schedule PlainScheme
+  pub input : List ℕ
+  pub summary : Summary
+  pub named : AreArguments words committees
+  pub consumed : Consumes reader.before reader.after input
+  pub ended : IsAtEnd reader.after
+  pub account : IsAccount (basis committees) (λ bytes. bytes) input summary text
+  pub fault_is : summary.fault ≡ fault
+
+-- a reader gave more bytes than are counted
+abbrev pub GaveTooMuch : ReaderUse → Type 0
+GaveTooMuch reader = (input : List ℕ) × (2 ^ 64 ≤ length input) × Consumes reader.before reader.after input
+
+-- how a run ends: with the fault of its input, if there is one, or with a failure
+abbrev pub Ending : Type 0
+Ending = Result (Option Fault) Failure
+
+-- the status of an ending
+abbrev pub status_of : Ending → Status
+status_of (Ok None) = statuses.Whole
+status_of (Ok (Some fault)) = statuses.Fault
+status_of (Err failure) = status_after failure
+
+-- what is said of an ending
+abbrev pub said_of : Ending → List ℕ
+said_of (Ok None) = []
+said_of (Ok (Some fault)) = complaint_at fault.place
+said_of (Err failure) = complaint_of failure
+
+-- what an ending says of the arguments, of the reader and of the writer
+abbrev pub Ends : Bases → List (List ℕ) → ReaderUse → WriterUse → Ending → Type 0
+Ends basis words reader writer (Ok fault) = (text : List ℕ) × IsRead basis words reader text fault × Appends writer.before writer.after text × IsTrue writer.flushed
+Ends basis words reader writer (Err Usage) = AreNoArguments words × Keeps writer.before writer.after
+Ends basis words reader writer (Err Read) = ((committees : Schedule PlainScheme) × AreArguments words committees) × (IsTrue reader.failed ⊎ GaveTooMuch reader) × Keeps writer.before writer.after
+Ends basis words reader writer (Err OutOfMemory) = Keeps writer.before writer.after
+Ends basis words reader writer (Err Write) = (text : List ℕ) × (fault : Option Fault) × IsRead basis words reader text fault × AppendsBeginning writer.before writer.after text × IsTrue writer.failed

@@ -1,0 +1,41 @@
+-- How the program ends, and what it says then.
+use Rattle.std.specs.Prelude.{ℕ, List, ◌++◌, codes, decimal}
+use Rattle.simplex_audit.specs.declared.run.RunError.{RunError}
+use Rattle.simplex_audit.specs.declared.run.RunError.TheVariants as errors
+use Rattle.audit_cli.specs.declared.status.Status.{Status}
+use Rattle.audit_cli.specs.declared.status.Status.TheVariants as statuses
+use Rattle.audit_cli.specs.declared.status.Failure.{Failure}
+use Rattle.audit_cli.specs.declared.status.Failure.TheVariants.{Usage, Read, Write, OutOfMemory}
+
+-- the number that the process ends with: 0 where the whole stream was read, 1 where there is a fault in it, 2 where
+-- the arguments are no namespace and keys, 3 where a read, a write or memory failed
+abbrev pub number_of : Status → ℕ
+number_of statuses.Whole = 0
+number_of statuses.Fault = 1
+number_of statuses.Usage = 2
+number_of statuses.Failed = 3
+
+-- the status after a failure
+abbrev pub status_after : Failure → Status
+status_after Usage = statuses.Usage
+status_after Read = statuses.Failed
+status_after Write = statuses.Failed
+status_after OutOfMemory = statuses.Failed
+
+-- the failure that an error of a run is; too much to count is no input that can be read
+abbrev pub failure_of : RunError → Failure
+failure_of errors.Read = Read
+failure_of errors.TooLong = Read
+failure_of errors.Write = Write
+failure_of errors.OutOfMemory = OutOfMemory
+
+-- what is said of a failure
+abbrev pub complaint_of : Failure → List ℕ
+complaint_of Usage = codes "usage: audit NAMESPACE KEY...\n"
+complaint_of Read = codes "audit: read failed\n"
+complaint_of Write = codes "audit: write failed\n"
+complaint_of OutOfMemory = codes "audit: out of memory\n"
+
+-- what is said of a fault at a byte of the stream
+abbrev pub complaint_at : ℕ → List ℕ
+complaint_at place = codes "audit: fault at byte " ++ (decimal place ++ codes "\n")

@@ -1,0 +1,33 @@
+//! The arguments of the program: a namespace, and the keys of one committee or of one for each of some epochs.
+
+ghost use Rattle.std.specs.Prelude.{◌≡◌, ◌⊎◌, Err, IfOk, IfErr, map, string_bytes};
+ghost use Rattle.audit_cli.specs.Arguments.{AreArguments, AreNoArguments};
+
+use crate::groups::{count_keys, parse_groups};
+use crate::keys::parse_committee;
+use crate::status::Failure;
+use simplex_audit::audit::Committees;
+use simplex_plain::plain::Plain;
+use std::alloc::Global;
+
+/// Reads the arguments, without the program's name: a namespace, and then keys, or groups of an epoch and keys. They are
+/// judged from left to right; `Failure::Usage` where they are no such arguments, `Failure::OutOfMemory` where a growth is
+/// refused meanwhile.
+pub fn parse(alloc: Global, arguments: &[String]) -> Result<Committees<Plain>, Failure>
+    ensures committees { IfOk result (AreArguments (map string_bytes arguments.now)) }
+    ensures usage { result ≡ Err Failure.Usage → AreNoArguments (map string_bytes arguments.now) }
+    ensures failure { IfErr result (λ e. (e ≡ Failure.Usage) ⊎ (e ≡ Failure.OutOfMemory)) }
+{
+    let Some((namespace, texts)) = arguments.split_first() else {
+        return Err(Failure::Usage);
+    };
+    if count_keys(texts) > 0 {
+        let committee = parse_committee(alloc, namespace.as_str(), texts)?;
+        return Ok(Committees::every(committee));
+    }
+    let pairs = parse_groups(alloc, namespace.as_str(), texts)?;
+    match Committees::try_from_vec(pairs) {
+        Ok(committees) => Ok(committees),
+        Err(_) => Err(Failure::Usage),
+    }
+}

@@ -1,0 +1,109 @@
+//! The program as a function over its arguments and streams.
+
+ghost use Rattle.std.specs.Prelude.{◌≡◌, ◌⊎◌, false, Err, IsTrue, map, string_bytes};
+ghost use Rattle.simplex_audit.specs.Run.{AppendsBeginning};
+ghost use Rattle.simplex_audit.specs.Watched.{inner_of, has_failed, is_flushed};
+ghost use Rattle.audit_cli.specs.Arguments.{AreNoArguments};
+ghost use Rattle.audit_cli.specs.Answer.{Ends, Ending, status_of, said_of};
+ghost use Rattle.audit_cli.specs.Status.{complaint_of};
+
+use crate::arguments;
+use crate::status::{Failure, Status, complaint};
+use simplex_audit::audit::{Fault, Watched, run};
+use simplex_audit::basis::Audited;
+use simplex_plain::plain::Plain;
+use simplex_scheme::hash::Sha256Digest;
+use std::alloc::Global;
+use std::io::{ErrorKind, Read, Write};
+
+/// Audits the input under the committees that the arguments name, and writes its text. Answers its fault, if there is one.
+fn audit_input<R: Read, W: Write>(
+    alloc: Global,
+    arguments: &[String],
+    input: &mut Watched<R>,
+    output: &mut Watched<W>,
+) -> Result<Option<Fault>, Failure>
+    requires input_well { has_failed input.old ≡ false }
+    requires output_well { has_failed output.old ≡ false }
+    ensures ends { Ends ⟦<Plain as Audited<Sha256Digest>>⟧.basis (map string_bytes arguments.now)
+        (record { before = R.remaining (inner_of input.old); after = R.remaining (inner_of input.new); failed = has_failed input.new })
+        (record { before = W.contents (inner_of output.old); after = W.contents (inner_of output.new); failed = has_failed output.new; flushed = is_flushed output.new })
+        result }
+    ensures read_failed { IsTrue (has_failed input.new) → result ≡ Err Failure.Read }
+    ensures write_failed { IsTrue (has_failed output.new) → result ≡ Err Failure.Write }
+    ensures untouched { AreNoArguments (map string_bytes arguments.now) → (input.new ≡ input.old) × (output.new ≡ output.old) }
+{
+    let committees = arguments::parse(alloc, arguments)?;
+    let summary = run::<Plain, Sha256Digest, R, W>(alloc, &committees, input, output)?;
+    Ok(summary.fault)
+}
+
+/// Says something, and flushes. An interrupted write is made again; any other failure changes nothing.
+fn say<E: Write>(errors: &mut E, text: &[u8])
+    ensures { AppendsBeginning (E.contents errors.old) (E.contents errors.new) text.now }
+{
+    let mut count = 0;
+    'parts: for _ in 0..u64::MAX {
+        if count >= text.len() {
+            break;
+        }
+        match errors.write(&text[count..]) {
+            Ok(0) => return,
+            Ok(taken) => count += taken,
+            Err(error) if error.kind() == ErrorKind::Interrupted => {}
+            Err(_) => return,
+        }
+    }
+    let _ = errors.flush();
+}
+
+/// Says on standard error how a run ended, and gives its status. That it can't be said changes nothing.
+pub(crate) fn conclude<E: Write>(errors: &mut E, ended: Result<Option<Fault>, Failure>) -> Status
+    ensures status { result ≡ status_of ended }
+    ensures said { AppendsBeginning (E.contents errors.old) (E.contents errors.new) (said_of ended) }
+{
+    match ended {
+        Ok(None) => Status::Whole,
+        Ok(Some(fault)) => {
+            if let Ok(text) = complaint(fault.place) {
+                say(errors, text.as_bytes());
+            }
+            Status::Fault
+        }
+        Err(failure) => {
+            say(errors, failure.complaint().as_bytes());
+            failure.status()
+        }
+    }
+}
+
+/// Runs the program over its arguments, without the program's name, and its three streams.
+///
+/// The arguments are judged before anything is read, and nothing is written before the whole input is read
+/// and all memory is had. What can't be said on `errors` leaves the status.
+pub fn command<R: Read, W: Write, E: Write>(
+    alloc: Global,
+    arguments: &[String],
+    input: &mut Watched<R>,
+    output: &mut Watched<W>,
+    errors: &mut E,
+) -> Status
+    requires input_well { has_failed input.old ≡ false }
+    requires output_well { has_failed output.old ≡ false }
+    ensures ends { (ending : Ending) × (result ≡ status_of ending)
+        × AppendsBeginning (E.contents errors.old) (E.contents errors.new) (said_of ending)
+        × Ends ⟦<Plain as Audited<Sha256Digest>>⟧.basis (map string_bytes arguments.now)
+        (record { before = R.remaining (inner_of input.old); after = R.remaining (inner_of input.new); failed = has_failed input.new })
+        (record { before = W.contents (inner_of output.old); after = W.contents (inner_of output.new); failed = has_failed output.new; flushed = is_flushed output.new })
+        ending }
+    // Where a device failed the status tells it, and nothing else is said.
+    ensures read_failed { IsTrue (has_failed input.new) → (result ≡ Status.Failed)
+        × AppendsBeginning (E.contents errors.old) (E.contents errors.new) (complaint_of Failure.Read) }
+    ensures write_failed { IsTrue (has_failed output.new) → (result ≡ Status.Failed)
+        × AppendsBeginning (E.contents errors.old) (E.contents errors.new) (complaint_of Failure.Write) }
+    ensures refused { AreNoArguments (map string_bytes arguments.now) → (result ≡ Status.Usage) ⊎ (result ≡ Status.Failed) }
+    ensures untouched { AreNoArguments (map string_bytes arguments.now) → (input.new ≡ input.old) × (output.new ≡ output.old) }
+{
+    let ended = audit_input(alloc, arguments, input, output);
+    conclude(errors, ended)
+}

@@ -1,0 +1,80 @@
+//! The program as a function over what its process is given.
+
+ghost use Rattle.std.specs.Prelude.{◌≡◌, ◌≢◌, ◌⊎◌, false, IfOk, IfErr, OnErr, map, string_bytes};
+ghost use Rattle.std.specs.IoError.{error_kind};
+ghost use Rattle.std.specs.Vec.Iter.{into_iter_items};
+ghost use Rattle.audit_cli.specs.Arguments.{AreNoArguments, words_of};
+ghost use Rattle.audit_cli.specs.Answer.{Ends, Ending, status_of, said_of};
+ghost use Rattle.audit_cli.specs.Status.{complaint_of, number_of};
+ghost use Rattle.simplex_audit.specs.Run.{AppendsBeginning};
+ghost use Rattle.simplex_audit.specs.Watched.{inner_of, has_failed, is_flushed};
+
+use crate::command::{command, conclude};
+use crate::status::{Failure, Status};
+use simplex_audit::audit::Watched;
+use simplex_audit::basis::Audited;
+use simplex_plain::plain::Plain;
+use simplex_scheme::hash::Sha256Digest;
+use std::alloc::{AllocError, Global};
+use std::env::Args;
+use std::io;
+use std::io::{ErrorKind, Read, Write};
+
+/// The arguments after the program's name.
+fn without_name(alloc: Global, given: Args) -> Result<Vec<String>, AllocError>
+    ensures { IfOk result (λ words. map string_bytes words.items ≡ words_of (into_iter_items given)) }
+{
+    let mut words = Vec::with_capacity(alloc, given.len())?;
+    words.extend(given.skip(1))?;
+    Ok(words)
+}
+
+/// Why arguments can't be had: for want of memory, or because one of them is not UTF-8.
+fn no_arguments(error: &io::Error) -> Failure
+    ensures memory { error_kind error.now ≡ ErrorKind.OutOfMemory → result ≡ Failure.OutOfMemory }
+    ensures usage { error_kind error.now ≢ ErrorKind.OutOfMemory → result ≡ Failure.Usage }
+{
+    if error.kind() == ErrorKind::OutOfMemory {
+        Failure::OutOfMemory
+    } else {
+        Failure::Usage
+    }
+}
+
+/// Runs the program over the arguments that its process is given, the program's name first, and its three
+/// streams, and answers the number that the process ends with.
+///
+/// Where the arguments can't be had nothing is read or written, and the number is that of a failure for want
+/// of memory, or else of arguments that are no namespace and keys.
+pub fn start<R: Read, W: Write, E: Write>(
+    alloc: Global,
+    given: io::Result<Args>,
+    input: &mut Watched<R>,
+    output: &mut Watched<W>,
+    errors: &mut E,
+) -> u8
+    requires input_well { has_failed input.old ≡ false }
+    requires output_well { has_failed output.old ≡ false }
+    ensures ends { IfOk given (λ given. (ending : Ending) × (result ≡ number_of (status_of ending))
+        × AppendsBeginning (E.contents errors.old) (E.contents errors.new) (said_of ending)
+        × Ends ⟦<Plain as Audited<Sha256Digest>>⟧.basis (words_of (into_iter_items given))
+        (record { before = R.remaining (inner_of input.old); after = R.remaining (inner_of input.new); failed = has_failed input.new })
+        (record { before = W.contents (inner_of output.old); after = W.contents (inner_of output.new); failed = has_failed output.new; flushed = is_flushed output.new })
+        ending) }
+    ensures refused { IfOk given (λ given. AreNoArguments (words_of (into_iter_items given)) → (result ≡ 2) ⊎ (result ≡ 3)) }
+    ensures untouched { IfOk given (λ given. AreNoArguments (words_of (into_iter_items given)) → (input.new ≡ input.old) × (output.new ≡ output.old)) }
+    ensures memory { IfErr given (λ error. error_kind error ≡ ErrorKind.OutOfMemory → (result ≡ 3)
+        × AppendsBeginning (E.contents errors.old) (E.contents errors.new) (complaint_of Failure.OutOfMemory)) }
+    ensures usage { IfErr given (λ error. error_kind error ≢ ErrorKind.OutOfMemory → (result ≡ 2)
+        × AppendsBeginning (E.contents errors.old) (E.contents errors.new) (complaint_of Failure.Usage)) }
+    ensures unused { OnErr given ((input.new ≡ input.old) × (output.new ≡ output.old)) }
+{
+    let given = match given {
+        Ok(given) => given,
+        Err(error) => return conclude(errors, Err(no_arguments(&error))).number(),
+    };
+    match without_name(alloc, given) {
+        Ok(words) => command(alloc, words.as_slice(), input, output, errors).number(),
+        Err(_) => conclude(errors, Err(Failure::OutOfMemory)).number(),
+    }
+}

@@ -1,0 +1,106 @@
+//! How the program ends, and what it says then.
+
+ghost use Rattle.std.specs.Prelude.{◌≡◌, IfOk};
+ghost use Rattle.audit_cli.specs.Status.{number_of, status_after, complaint_of, complaint_at, failure_of};
+
+use arrayvec::ArrayString;
+use simplex_audit::run::RunError;
+use std::alloc::AllocError;
+use std::fmt;
+use std::fmt::Write;
+
+/// How the program ends.
+#[derive(Clone, Copy, Debug, PartialEq, Eq)]
+pub enum Status {
+    /// The whole stream was read as messages.
+    Whole,
+    /// The stream stops being messages somewhere. What stands before was audited.
+    Fault,
+    /// The arguments are no namespace and keys, or groups of them.
+    Usage,
+    /// A read, a write or memory failed.
+    Failed,
+}
+
+impl Status {
+    /// The number that the process ends with: 0 to 3, in the order of the variants.
+    pub fn number(self) -> u8
+        ensures { result ≡ number_of self }
+    {
+        match self {
+            Status::Whole => 0,
+            Status::Fault => 1,
+            Status::Usage => 2,
+            Status::Failed => 3,
+        }
+    }
+}
+
+/// Why the program gives up.
+#[derive(Clone, Copy, Debug, PartialEq, Eq)]
+pub enum Failure {
+    /// The arguments are no namespace and keys, or groups of them.
+    Usage,
+    /// The input can't be read to its end.
+    Read,
+    /// The text can't be written, or flushed.
+    Write,
+    /// A growth was refused.
+    OutOfMemory,
+}
+
+impl From<AllocError> for Failure {
+    ghost use Rattle.audit_cli.specs.declared.status.Failure.{Failure};
+
+    ghost from_gives = { λ _ e. e ≡ Failure.OutOfMemory };
+
+    fn from(_error: AllocError) -> Failure {
+        Failure::OutOfMemory
+    }
+}
+
+impl From<RunError> for Failure {
+    ghost from_gives = { λ error failure. failure ≡ failure_of error };
+
+    fn from(error: RunError) -> Failure {
+        match error {
+            RunError::Read | RunError::TooLong => Failure::Read,
+            RunError::Write => Failure::Write,
+            RunError::OutOfMemory => Failure::OutOfMemory,
+        }
+    }
+}
+
+impl Failure {
+    /// The status after this failure: `Usage` for the arguments, else `Failed`.
+    pub fn status(self) -> Status
+        ensures { result ≡ status_after self }
+    {
+        match self {
+            Failure::Usage => Status::Usage,
+            Failure::Read | Failure::Write | Failure::OutOfMemory => Status::Failed,
+        }
+    }
+
+    /// What is said on standard error, with its line's end.
+    pub fn complaint(self) -> &'static str
+        ensures { result.now ≡ complaint_of self }
+    {
+        match self {
+            Failure::Usage => "usage: audit NAMESPACE KEY...\n",
+            Failure::Read => "audit: read failed\n",
+            Failure::Write => "audit: write failed\n",
+            Failure::OutOfMemory => "audit: out of memory\n",
+        }
+    }
+}
+
+/// What is said on standard error of a fault at a byte, with its line's end. It takes no memory. The longest is 42 bytes
+/// long.
+pub fn complaint(place: usize) -> Result<ArrayString<64>, fmt::Error>
+    ensures { IfOk result (λ text. text.bytes ≡ complaint_at place) }
+{
+    let mut text = ArrayString::new();
+    writeln!(text, "audit: fault at byte {place}")?;
+    Ok(text)
+}

@@ -1,0 +1,198 @@
+//! A scheme that counts what it verifies.
+
+ghost use Rattle.std.specs.Prelude.{◌≡◌, ◌+◌, ◌*◌, ◌<◌, ◌≤◌, ◌^◌, ◌&&◌, ◌∷◌, [], None, Some, Ok, Err, IsOk, IfOk, MatchOption, All, length, nat_eq, nat_lt, true};
+ghost use Rattle.std.specs.List.{IsDistinct};
+ghost use Rattle.std.specs.Str.{bytes_eq};
+ghost use Rattle.std.proofs.Common.{lit≤};
+ghost use Rattle.simplex_scheme.specs.Subject.{SubjectValue, subject_value};
+ghost use Rattle.simplex_scheme.specs.Committee.{IsInOrder, is_quorum, quorum_of, signers_of};
+ghost use Rattle.simplex_plain.specs.CommitteeLaws.{quorum_meaning, fixed_within};
+ghost use Rattle.simplex_plain.specs.Marked.{marked_good, marked_members};
+ghost use Rattle.simplex_audit_tests.specs.Counted.{nobody};
+
+use simplex_base::codec::Fixed;
+use simplex_base::codec::fixed_bytes::FixedBytes;
+use simplex_base::positions::Participant;
+use simplex_plain::certificates::{AttestationVerifier, are_certified, assembled, is_certified};
+use simplex_plain::listed::Listed;
+use simplex_plain::marked::{MarkedKey, MarkedKeyRole, MarkedSignatureRole};
+use simplex_scheme::scheme::{
+    AssemblyError, Attestation, CertificateScheme, CertificateVerifier, Digest, Listing, Scheme,
+    SchemeTypes,
+};
+use simplex_scheme::set::Set;
+use simplex_scheme::subject::Subject;
+use std::alloc::{AllocError, Global};
+use std::cell::Cell;
+use std::marker::Model;
+
+/// A marked committee that verifies only, and counts how many attestations it has verified.
+#[derive(Drop)]
+pub(crate) struct Counted {
+    participants: Set<MarkedKey>,
+    verified: Cell<usize>,
+}
+
+impl Model for Counted {
+    ghost use Rattle.std.specs.Prelude.{◌<◌, ◌≤◌, ◌^◌, ℕ, List, length};
+
+    ghost Value = { List (List ℕ) };
+
+    ghost view = { λ counted. counted.participants };
+
+    ghost invariant = { λ counted. (1 ≤ length counted.participants) × (length counted.participants < 2 ^ 32) };
+}
+
+impl Counted {
+    /// The committee of these keys, which has verified nothing yet.
+    pub(crate) fn new(participants: Set<MarkedKey>) -> Self
+        requires some { 1 ≤ length participants }
+        requires few { length participants < 2 ^ 32 }
+    {
+        Counted {
+            participants,
+            verified: Cell::new(0),
+        }
+    }
+
+    /// How many attestations were verified.
+    pub(crate) fn verified(&self) -> usize {
+        self.verified.get()
+    }
+
+    /// Whether the signer is in the committee and the signature is the mark, counted.
+    fn is_marked(&self, attestation: &Attestation<Self>) -> bool
+        ensures { result ≡ (nat_lt attestation.now.signer (length self.now) && bytes_eq attestation.now.signature (170 ∷ [])) }
+    {
+        self.verified.set(self.verified.get().saturating_add(1));
+        (attestation.signer.get() as usize) < self.participants.len()
+            && attestation.signature == FixedBytes::from_bytes(&[0xaa])
+    }
+}
+
+impl SchemeTypes for Counted {
+    type PublicKey = FixedBytes<MarkedKeyRole, 4>;
+
+    type Signature = FixedBytes<MarkedSignatureRole, 1>;
+}
+
+impl CertificateScheme for Counted {
+    type Certificate = Listed<Counted>;
+
+    ghost keys = { λ counted. counted };
+
+    ghost own = { λ counted. nobody };
+
+    ghost max_size = { λ participants. 5 + participants * 6 };
+
+    ghost attributable = { true };
+
+    fn participants(&self) -> &Set<MarkedKey> {
+        &self.participants
+    }
+
+    fn me(&self) -> Option<Participant> {
+        let _ = &self.participants;
+        None
+    }
+
+    fn certificate_codec_config(&self) -> u32 {
+        self.participants.len() as u32
+    }
+
+    fn max_certificate_size(participants: u32) -> usize {
+        5 + participants as usize * 6
+    }
+
+    fn is_attributable() -> bool {
+        true
+    }
+
+    ghost certificates_limited = { lit≤ tt };
+
+    ghost certificates_within = { λ participants certificate few fits. fixed_within 1 (λ signature. signature) (λ bytes. bytes) participants certificate fits };
+}
+
+impl<D: Digest> AttestationVerifier<D> for Counted {
+    ghost accepted = { λ counted. marked_good (length counted) };
+
+    fn accepts(&self, _subject: &Subject<'_, D>, attestation: &Attestation<Self>) -> bool {
+        self.is_marked(attestation)
+    }
+}
+
+impl<D: Digest> CertificateVerifier<D> for Counted {
+    ghost certified = { λ scheme subject. is_quorum (length scheme) (marked_good (length scheme) subject) };
+
+    fn verify_certificate(&self, subject: Subject<'_, D>, certificate: &Listed<Counted>) -> bool
+        ensures { result ≡ is_quorum (length self.now) (marked_good (length self.now) (subject_value subject.entry)) certificate.now }
+    {
+        let subject = match subject {
+            Subject::Notarize { proposal } => Subject::Notarize { proposal },
+            Subject::Nullify { round } => Subject::Nullify { round },
+            Subject::Finalize { proposal } => Subject::Finalize { proposal },
+        };
+        is_certified(self, &subject, certificate)
+    }
+
+    fn verify_all<'a>(&self, items: &[(Subject<'a, D>, &'a Listed<Counted>)]) -> bool {
+        are_certified(self, items)
+    }
+}
+
+impl<D: Digest> Scheme<D> for Counted {
+    ghost good = { λ counted. marked_good (length counted) };
+
+    ghost made_of = { IsInOrder };
+
+    fn sign(
+        &self,
+        _alloc: Global,
+        _subject: Subject<'_, D>,
+    ) -> Result<Option<Attestation<Self>>, AllocError>
+        ensures none { nobody ≡ None → result ≡ Ok None }
+        ensures signed { IfOk result (λ signed. MatchOption signed (nobody ≡ None) (λ a.
+            (nobody ≡ Some a.signer) × (marked_good (length self.now) (subject_value _subject.entry) a.signer a.signature ≡ true))) }
+    {
+        Ok(None)
+    }
+
+    fn verify_attestation(&self, _subject: Subject<'_, D>, attestation: &Attestation<Self>) -> bool
+        ensures { result ≡ marked_good (length self.now) (subject_value _subject.entry) attestation.now.signer attestation.now.signature }
+    {
+        self.is_marked(attestation)
+    }
+
+    fn assemble(
+        &self,
+        _alloc: Global,
+        attestations: Vec<Attestation<Self>>,
+    ) -> Result<Listed<Counted>, AssemblyError>
+        requires distinct { IsDistinct nat_eq (signers_of attestations.items) }
+        requires members { All (λ a. a.signer < length self.now) attestations.items }
+        ensures below { length attestations.items < quorum_of (length self.now) →
+            result ≡ Err (AssemblyError.InsufficientAttestations (quorum_of (length self.now)) (length attestations.items)) }
+        // No memory is taken.
+        ensures ample { quorum_of (length self.now) ≤ length attestations.items → IsOk result }
+        ensures made { IfOk result (λ certificate. IsInOrder attestations.items certificate) }
+        ensures certified { IfOk result (λ certificate. (subject : SubjectValue D) →
+            All (λ a. marked_good (length self.now) subject a.signer a.signature ≡ true) attestations.items →
+            is_quorum (length self.now) (marked_good (length self.now) subject) certificate ≡ true) }
+    {
+        assembled(self, attestations)
+    }
+
+    ghost members = { λ counted subject signer signature h. marked_members (length counted) subject signer signature h };
+}
+
+impl<D: Digest> Listing<D> for Counted {
+    ghost listed = { λ certificate. certificate };
+
+    fn attestations(certificate: &Listed<Counted>) -> &[Attestation<Self>] {
+        certificate.attestations()
+    }
+
+    ghost lists_quorums = { λ scheme subject certificate. (quorum_meaning (length scheme) (marked_good (length scheme) subject) certificate).0 };
+
+    ghost lists_given = { λ given certificate made. made };
+}

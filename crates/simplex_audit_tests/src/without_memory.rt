@@ -1,0 +1,105 @@
+//! Calls that take no memory: what they return while every allocation fails.
+//!
+//! `.ci/refusals` runs each test here with every allocation refused from the one that `memory_ends` asks for.
+
+use crate::outcome::marked;
+use devices::{Source, Target, Trouble};
+use simplex_audit::audit::{Auditor, Committees, CommitteesError, Watched, audit};
+use simplex_base::positions::{Epoch, Participant, Round, View};
+use simplex_plain::marked::{Marked, MarkedDigest};
+use simplex_scheme::scheme::CertificateScheme;
+use std::alloc::Global;
+use std::io::{ErrorKind, Read};
+use std::test::Fail;
+
+/// Asks for the room from which on every allocation may be refused.
+fn memory_ends(alloc: Global) {
+    let _ = Vec::<u8>::with_capacity(alloc, 12345);
+}
+
+/// Marked committees of one participant and of four for these epochs.
+fn one_and_four(alloc: Global, first: u64, second: u64) -> Result<Vec<(Epoch, Marked)>, Fail> {
+    let one = (Epoch::new(first), Marked::new(alloc, 1, None)?);
+    let four = (Epoch::new(second), Marked::new(alloc, 4, None)?);
+    Ok(Vec::from_array(alloc, [one, four])?)
+}
+
+/// How many participants the committee of an epoch has.
+fn size_at(committees: &Committees<Marked>, epoch: u64) -> Option<usize> {
+    let committee = committees.get(Epoch::new(epoch))?;
+    Some(committee.participants().len())
+}
+
+#[test]
+fn without_memory_committees(rt: HostRuntime) -> Result<(), Fail> {
+    let alloc = rt.alloc();
+    let (none, twice) = (Vec::new(alloc), one_and_four(alloc, 1, 1)?);
+    let (falling, rising) = (one_and_four(alloc, 2, 1)?, one_and_four(alloc, 1, 3)?);
+    let every = Marked::new(alloc, 4, None)?;
+    memory_ends(alloc);
+    let empty = Committees::<Marked>::try_from_vec(none);
+    assert_eq!(rt; empty.err(), Some(CommitteesError::Empty));
+    for pairs in [twice, falling] {
+        let unordered = Committees::try_from_vec(pairs);
+        assert_eq!(rt; unordered.err(), Some(CommitteesError::Unordered));
+    }
+    let listed = Committees::try_from_vec(rising)?;
+    assert_eq!(rt; listed.bound(), 4);
+    for (epoch, size) in [(0, None), (1, Some(1)), (2, None), (3, Some(4)), (4, None)] {
+        assert_eq!(rt; size_at(&listed, epoch), size, "at {epoch}");
+    }
+    let every = Committees::every(every);
+    assert_eq!(rt; every.bound(), 4);
+    assert_eq!(rt; size_at(&every, 9), Some(4));
+    Ok(())
+}
+
+#[test]
+fn without_memory_auditors(rt: HostRuntime) -> Result<(), Fail> {
+    let alloc = rt.alloc();
+    let committees = marked(alloc, 4)?;
+    let stream = [0, 0, 10, 5, 6, 1, 0xaa, 3, 0, 10, 1, 0xaa, 0, 0];
+    let auditor = Auditor::<Marked, MarkedDigest>::new(alloc, &committees).feed(&stream)?;
+    memory_ends(alloc);
+    assert_eq!(rt; auditor.fed(), 14);
+    assert_eq!(rt; auditor.rest(), [0, 0].as_slice());
+    assert_eq!(rt; auditor.votes(), 2);
+    let auditor = Auditor::<Marked, MarkedDigest>::new(alloc, &committees);
+    assert_eq!(rt; auditor.fed(), 0);
+    assert!(rt; auditor.rest().is_empty());
+    assert_eq!(rt; auditor.votes(), 0);
+    Ok(())
+}
+
+#[test]
+fn without_memory_evidence(rt: HostRuntime) -> Result<(), Fail> {
+    let alloc = rt.alloc();
+    let committees = marked(alloc, 4)?;
+    let stream = [
+        8, 0, 10, 5, 7, 1, 0xaa, 0, 10, 5, 6, 1, 0xaa, // Two finalizes.
+        0, 0, 10, 5, 6, 1, 0xaa, 0, 0, 10, 5, 7, 1, 0xaa, // Two notarizes.
+        3, 0, 10, 1, 0xaa, // A nullify.
+    ];
+    let report = audit::<Marked, MarkedDigest>(alloc, &committees, &stream)?;
+    memory_ends(alloc);
+    assert_eq!(rt; report.evidence.len(), 3);
+    for evidence in &report.evidence {
+        assert_eq!(rt; evidence.round(), Round::new(Epoch::new(0), View::new(10)));
+        assert_eq!(rt; evidence.signer(), Participant::new(1));
+    }
+    Ok(())
+}
+
+#[test]
+fn without_memory_watched(rt: HostRuntime) {
+    memory_ends(rt.alloc());
+    let failing = Trouble::Once(0, ErrorKind::Other);
+    let mut reader = Watched::new(Source::new(b"", 1, failing));
+    assert!(rt; !reader.failed());
+    assert!(rt; reader.read(&mut [0]).is_err());
+    assert!(rt; reader.failed());
+    assert_eq!(rt; reader.into_inner().calls(), 1);
+    let writer = Watched::new(Target::steady());
+    assert!(rt; !writer.failed());
+    assert_eq!(rt; writer.into_inner().calls(), (0, 0));
+}
