@@ -10,4 +10,3 @@ pub mod Sizes
 pub mod Positions
 pub mod Terms
 pub mod TermLaws
-pub mod Shortest

@@ -1,9 +1,9 @@
 -- A number that is read is the number that was written, and what was written is read again.
 -- They stand beside the definitions because ghost members of impls cite them, and those see no proofs.
 use Rattle.std.proofs.Math.Nat.{mul-le-mul_left}
-use Rattle.std.proofs.Common.{◌≡◌, ℕ, zero, suc, length, zero-add, ◌+◌, ◌-◌, ◌*◌, ◌/◌, ◌%◌, ◌^◌, ◌<◌, ◌≤◌, Bool, true, false, cond, List, [], ◌∷◌, ◌++◌, Result, Ok, Err, refl, sym, ap, subst, ◌∙◌, arith, inl, inr, ltb, eqb, ◌⊎◌}
+use Rattle.std.proofs.Common.{◌≡◌, ℕ, zero, suc, length, nat_lt, zero-add, ◌+◌, ◌-◌, ◌*◌, ◌/◌, ◌%◌, ◌^◌, ◌<◌, ◌≤◌, Bool, true, false, cond, List, [], ◌∷◌, ◌++◌, Result, Ok, Err, refl, sym, ap, subst, ◌∙◌, arith, inl, inr, ltb, eqb, ◌⊎◌}
 use Rattle.std.proofs.Math.Dec.{eqb-suc-zero}
-use Rattle.std.proofs.lemmas.Bool.{cases_lt, lt-ltb, le-ltb, ltb-true, ltb-false}
+use Rattle.std.proofs.lemmas.Bool.{cases_Bool, cases_lt, lt-ltb, le-ltb, ltb-true, ltb-false}
 use Rattle.std.specs.Prelude.{◌≢◌}
 use Rattle.simplex_base.specs.declared.codec.error.Error.{Error}
 use Rattle.simplex_base.specs.declared.codec.error.Error.TheVariants as errors
@@ -524,3 +524,13 @@ reads_number k top t t' (Err x) old new fit g = record {
     last r e (gave n rest) never uncut f = absurd (never n rest (begins k top t t' old n rest fit e))
     last r e ended never uncut f = absurd (uncut (number_cut old k top t' fit e))
     last r e wrong never uncut f = wrong_fails x f
+
+-- ---- no encoding is empty
+
+pub groups_some : (k n : ℕ) → 1 ≤ length (groups k n)
+unfolding groups
+groups_some zero n = omega arith
+groups_some (suc k) n = elim (cases_Bool (nat_lt n 128)) [
+  | inl small ↦ rw small (omega arith)
+  | inr large ↦ rw large (omega arith)
+]

@@ -6,7 +6,7 @@ use Rattle.std.proofs.lemmas.List.{length-map}
 use Rattle.std.proofs.lemmas.List.Sums.{length-filter, count_by-le-length}
 use Rattle.simplex_base.specs.Format.{Format}
 use Rattle.simplex_base.specs.Positions.{Round, round_format}
-use Rattle.simplex_base.specs.Shortest.{groups_some}
+use Rattle.simplex_base.specs.VarintLaws.{groups_some}
 use Rattle.simplex_scheme.specs.declared.proposal.Proposal.{Proposal}
 use Rattle.simplex_scheme.specs.Proposal.{proposal_format}
 use Rattle.simplex_scheme.specs.declared.scheme.Attestation.{Attestation}

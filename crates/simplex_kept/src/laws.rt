@@ -68,9 +68,11 @@ pub fn few_votes_are_kept<S: CertificateScheme, D: Digest>()
     ensures few { (vs : List (Vote D S.Signature)) → FewAreKept D.eq vs }
 {}
 
-/// Of messages no more votes have to be kept than their encodings have bytes.
+/// Of messages no more votes have to be kept than their encodings have bytes, where no certificate lists more
+/// attestations than its encoding has bytes.
 pub fn kept_votes_have_room<S: Listing<D>, D: Digest>()
-    ensures { (schedule : Schedule S) (messages : List (Activity S D S.Certificate S.PublicKey S.Signature)) →
+    ensures { ((certificate : S.Certificate) → length (S.listed certificate) ≤ length (S.Certificate.spelling certificate)) →
+        (schedule : Schedule S) (messages : List (Activity S D S.Certificate S.PublicKey S.Signature)) →
         votes_kept D.eq (good_votes (rules_of D.eq S.keys S.good S.certified S.listed schedule) messages) ≤
         length (flat_map (activity_spelling D.eq (format_of ⟦<D as Read>⟧) S.Certificate.spelling (format_of ⟦<S::Signature as Read>⟧)) messages) }
 {}

@@ -3,9 +3,8 @@
 //! A scheme has to show these laws, each in the ghost member that is named. `certificates_limited` and
 //! `certificates_within`: how long a certificate is at most. `members`: whose signature is good is in the committee. And
 //! where its certificates list their attestations, `lists_quorums`: what certifies lists a quorum of distinct signers, each
-//! signature good, `lists_given`: an assembled certificate lists what was given, and `lists_within`: it lists no more
-//! attestations than its encoding has bytes. By `AttestationVerifier` and the calls of `simplex_plain::certificates` it has
-//! to write only what makes one signature good.
+//! signature good, and `lists_given`: an assembled certificate lists what was given. By `AttestationVerifier` and the
+//! calls of `simplex_plain::certificates` it has to write only what makes one signature good.
 
 ghost use Rattle.std.specs.Prelude.{◌≡◌, ◌≢◌, ◌↔◌, ◌&&◌, ◌==◌, ◌++◌, ◌<◌, ◌≤◌, ◌^◌, ◌+◌, ◌*◌, ℕ, List, None, Some, Ok, Err, IsOk, IfOk, IfSome, IsTrue, MatchOption, All, length, nat_eq, nat_lt, true};
 ghost use Rattle.std.specs.List.{IsDistinct, list_any};
@@ -15,7 +14,6 @@ ghost use Rattle.simplex_base.specs.Readable.{format_of};
 ghost use Rattle.simplex_scheme.specs.Subject.{SubjectValue, subject_value, message_of};
 ghost use Rattle.simplex_scheme.specs.Committee.{IsInOrder, is_quorum, quorum_of, signers_of};
 ghost use Rattle.simplex_plain.specs.CommitteeLaws.{quorum_meaning, fixed_within};
-ghost use Rattle.simplex_plain.specs.ListedRoom.{fixed_has_room};
 ghost use Rattle.simplex_node.specs.Judged.{nobody, vote_of, is_on, judged_good, judged_members};
 
 use simplex_base::codec::Read;
@@ -259,6 +257,4 @@ impl<D: Digest> Listing<D> for Judged {
     ghost lists_quorums = { λ scheme subject certificate. (quorum_meaning (length scheme.keys) (judged_good (format_of ⟦<D as Read>⟧) scheme subject) certificate).0 };
 
     ghost lists_given = { λ given certificate made. made };
-
-    ghost lists_within = { λ certificate. fixed_has_room 32 (λ signature. signature) (λ bytes. bytes) certificate };
 }

@@ -1,6 +1,5 @@
 pub mod Listed
 pub mod ListedLaws
-pub mod ListedRoom
 pub mod CommitteeLaws
 pub mod Plain
 pub mod Marked

@@ -1,6 +1,6 @@
 //! Certificates that list their attestations.
 
-ghost use Rattle.std.specs.Prelude.{◌≡◌, ◌+◌, ◌/◌, min, ◌<◌, ◌≤◌, ◌^◌, [], IfOk, length, true, false, refl};
+ghost use Rattle.std.specs.Prelude.{◌≡◌, ◌+◌, ◌/◌, min, ◌<◌, ◌≤◌, ◌^◌, [], List, IfOk, length, true, false, refl};
 ghost use Rattle.std.specs.Hash as fed;
 ghost use Rattle.std.specs.Vec.{vec_capacity};
 ghost use Rattle.std.specs.Cmp.Lexicographic.{pointwise, lists_per};
@@ -9,6 +9,7 @@ ghost use Rattle.std.proofs.Common.{rules};
 ghost use Rattle.std.proofs.lemmas.Cmp.{lists_equiv};
 ghost use Rattle.simplex_base.specs.Readable.{format_of};
 ghost use Rattle.simplex_base.specs.Reading.{Gives};
+ghost use Rattle.simplex_scheme.specs.declared.scheme.Attestation.{Attestation};
 ghost use Rattle.simplex_plain.specs.Listed.{AreListed, ListedFits, listed_spelling, attestation_at, attestations_at, listed_at};
 ghost use Rattle.simplex_plain.specs.ListedLaws.{listed_lawful};
 
@@ -123,6 +124,12 @@ impl<S: SchemeTypes> EncodeSize for Listed<S> {
         size_counted(self.attestations())
     }
 }
+
+/// A certificate lists no more attestations than its encoding has bytes.
+pub fn lists_within<S: SchemeTypes>()
+    ensures { (certificate : List (Attestation S S.PublicKey S.Signature)) →
+        length certificate ≤ length (listed_spelling (format_of ⟦<S::Signature as Read>⟧) certificate) }
+{}
 
 /// A certificate is read under a bound, the number of participants. `Invalid` comes at once where the count is 0 or
 /// above the bound, and behind an attestation whose signer is at or past the bound or not above the one before it.

@@ -7,7 +7,6 @@ ghost use Rattle.std.proofs.Common.{lit<, lit≤};
 ghost use Rattle.simplex_scheme.specs.Subject.{SubjectValue, subject_value};
 ghost use Rattle.simplex_scheme.specs.Committee.{IsInOrder, IsQuorum, is_quorum, quorum_of, signers_of};
 ghost use Rattle.simplex_plain.specs.CommitteeLaws.{quorum_meaning, fixed_within};
-ghost use Rattle.simplex_plain.specs.ListedRoom.{fixed_has_room};
 ghost use Rattle.std.specs.List.{IsDistinct};
 ghost use Rattle.simplex_plain.specs.Marked.{numbered, marked_good, marked_members};
 
@@ -253,6 +252,4 @@ impl<D: Digest> Listing<D> for Marked {
     ghost lists_quorums = { λ scheme subject certificate. (quorum_meaning (length scheme.keys) (marked_good (length scheme.keys) subject) certificate).0 };
 
     ghost lists_given = { λ given certificate made. made };
-
-    ghost lists_within = { λ certificate. fixed_has_room 1 (λ signature. signature) (λ bytes. bytes) certificate };
 }

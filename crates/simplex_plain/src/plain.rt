@@ -9,7 +9,6 @@ ghost use Rattle.simplex_scheme.specs.Namespace.{names_of};
 ghost use Rattle.simplex_scheme.specs.Subject.{SubjectValue, subject_value};
 ghost use Rattle.simplex_scheme.specs.Committee.{IsInOrder, IsQuorum, is_quorum, quorum_of, signers_of};
 ghost use Rattle.simplex_plain.specs.CommitteeLaws.{quorum_meaning, fixed_within};
-ghost use Rattle.simplex_plain.specs.ListedRoom.{fixed_has_room};
 ghost use Rattle.std.specs.List.{IsDistinct};
 ghost use Rattle.simplex_plain.specs.Plain.{hashed, plain_good, good_members};
 ghost use Rattle.simplex_scheme.specs.Proposal.{proposal_format};
@@ -357,6 +356,4 @@ impl<D: Digest> Listing<D> for Plain {
     ghost lists_quorums = { λ scheme subject certificate. (quorum_meaning (length scheme.keys) (plain_good (format_of ⟦<D as Read>⟧) scheme subject) certificate).0 };
 
     ghost lists_given = { λ given certificate made. made };
-
-    ghost lists_within = { λ certificate. fixed_has_room 32 (λ signature. signature) (λ bytes. bytes) certificate };
 }

@@ -247,9 +247,6 @@ pub trait Listing<D: Digest>: Scheme<D> {
     /// An assembled certificate lists what was given, ascending by signer.
     ghost lists_given: { (given : List (Attestation Self Self.PublicKey Self.Signature)) (certificate : Self.Certificate) →
         Self.made_of given certificate → IsInOrder given (listed certificate) };
-
-    /// Each attestation that a certificate lists takes a byte of its encoding, at least.
-    ghost lists_within: { (certificate : Self.Certificate) → length (listed certificate) ≤ length (Self.Certificate.spelling certificate) };
 }
 
 impl<S: SchemeTypes> Spell for Attestation<S> {

@@ -4,7 +4,7 @@ use Rattle.simplex_kept.proofs.RoomLemmas.{kept_have_room}
 use Rattle.simplex_kept.proofs.laws.kept_votes_have_room.Goals as goal
 
 pub returns : goal.returns
-returns g c schedule messages =
+returns g c room schedule messages =
     kept_have_room (rules_of g.D.PartialEq.eq g.S.CertificateScheme.keys g.S.Scheme.good g.S.CertificateVerifier.certified g.S.Listing.listed schedule)
     g.D.PartialEq.eq (fixed g.D.FixedSize.SIZE g.D.Fixed.bytes_of g.D.Fixed.of_bytes) g.S.Certificate.Spell.spelling (fixed g.S.Signature.FixedSize.SIZE g.S.Signature.Fixed.bytes_of g.S.Signature.Fixed.of_bytes)
-    g.met.S.Listing.lists_within messages
+    room messages

@@ -1,9 +1,8 @@
 -- A certificate has no more attestations than its encoding has bytes.
--- It stands beside the definitions because ghost members of impls cite it, and those see no proofs.
 use Rattle.std.proofs.Common.{ℕ, ◌≤◌, List, [], ◌∷◌, length, arith, length-append}
 use Rattle.std.specs.List.{flat_map}
-use Rattle.simplex_base.specs.Format.{Format, fixed}
-use Rattle.simplex_base.specs.Shortest.{groups_some}
+use Rattle.simplex_base.specs.Format.{Format}
+use Rattle.simplex_base.specs.VarintLaws.{groups_some}
 use Rattle.simplex_base.specs.Varint.{number_32}
 use Rattle.simplex_scheme.specs.Attestation.{attestation_format}
 use Rattle.simplex_scheme.specs.declared.scheme.Attestation.{Attestation}
@@ -22,11 +21,7 @@ each_has_room {S} {P} {G} signature (a ∷ xs) =
     )
 
 -- each attestation takes a byte, at least
-listed_has_room : {S P G : Type 0} (signature : Format G) (xs : List (Attestation S P G)) → length xs ≤ length (listed_spelling signature xs)
+pub listed_has_room : {S P G : Type 0} (signature : Format G) (xs : List (Attestation S P G)) → length xs ≤ length (listed_spelling signature xs)
 listed_has_room {S} {P} signature xs =
     let form = attestation_format {S = S} {P = P} signature in
     omega (arith, length-append (number_32.spelling (length xs)) (flat_map form.spelling xs), each_has_room signature xs)
-
--- signatures of one size
-pub fixed_has_room : {S P G : Type 0} (size : ℕ) (bytes_of : G → List ℕ) (of_bytes : List ℕ → G) (xs : List (Attestation S P G)) → length xs ≤ length (listed_spelling (fixed size bytes_of of_bytes) xs)
-fixed_has_room size bytes_of of_bytes = listed_has_room (fixed size bytes_of of_bytes)
