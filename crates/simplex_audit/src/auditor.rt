@@ -1,6 +1,6 @@
 //! The audit of a stream that comes in pieces.
 
-ghost use Rattle.std.specs.Prelude.{◌≡◌, ◌+◌, ◌<◌, ◌≤◌, ◌^◌, ◌-◌, min, vec_len, ℕ, List, [], ◌++◌, length, drop, IfOk};
+ghost use Rattle.std.specs.Prelude.{◌≡◌, ◌+◌, ◌<◌, ◌≤◌, ◌^◌, vec_len, ℕ, List, [], ◌++◌, length, drop, IfOk};
 ghost use Rattle.simplex_audit.specs.Headline.{HasOneReading, ReadsAgain};
 ghost use Rattle.simplex_audit.specs.Messages.{AreMessages};
 ghost use Rattle.simplex_audit.specs.Report.{IsReport};
@@ -15,7 +15,7 @@ use crate::reading::{read_messages, reading_bound};
 use crate::reporting::make_report;
 use simplex_base::codec::error::Error;
 use simplex_kept::committees::Committees;
-use simplex_kept::laws::{evidence_is_determined, few_votes_are_kept};
+use simplex_kept::laws::{evidence_is_determined, few_votes_are_kept, kept_votes_have_room};
 use simplex_kept::seen::Seen;
 use simplex_scheme::scheme::{Digest, Listing, SchemeTypes};
 use std::alloc::{AllocError, Global};
@@ -255,13 +255,12 @@ impl<'a, S: Listing<D>, D: Digest> Auditor<'a, S, D> {
     }
 
     /// How many votes are kept, of the good ones in the stream's messages: of each signer in a round the earliest of each
-    /// sort, and of notarizes and finalizes also the earliest with another proposal, so at most five. The number stops at
-    /// 2^64 - 1.
+    /// sort, and of notarizes and finalizes also the earliest with another proposal, so at most five.
     pub fn votes(&self) -> usize
         ensures number { (committees : Schedule S) (stream : List ℕ) (messages : List (Activity S D S.Certificate S.PublicKey S.Signature)) (rest : List ℕ) →
             Stands ⟦<S as Audited<D>>⟧.basis committees self.now stream →
             AreMessages (⟦<S as Audited<D>>⟧.basis committees).format stream messages rest →
-            result ≡ min (votes_kept D.eq (good_votes (⟦<S as Audited<D>>⟧.basis committees).rules messages)) (2 ^ 64 - 1) }
+            result ≡ votes_kept D.eq (good_votes (⟦<S as Audited<D>>⟧.basis committees).rules messages) }
         // They are the earliest of each sort and the earliest with another proposal,
         ensures slots { (committees : Schedule S) (messages : List (Activity S D S.Certificate S.PublicKey S.Signature)) →
             KeptAreSlots D.eq (good_votes (⟦<S as Audited<D>>⟧.basis committees).rules messages) }
@@ -270,9 +269,16 @@ impl<'a, S: Listing<D>, D: Digest> Auditor<'a, S, D> {
             FewAreKept D.eq (good_votes (⟦<S as Audited<D>>⟧.basis committees).rules messages) }
     {
         few_votes_are_kept::<S, D>();
+        kept_votes_have_room::<S, D>();
+        counts_are_few(self.taken.fed);
         self.seen.votes()
     }
 }
+
+/// A count of bytes is below 2^64.
+fn counts_are_few(count: usize)
+    ensures { count < 2 ^ 64 }
+{}
 
 /// Drops so many bytes in front.
 fn drop_front(bytes: &mut Vec<u8>, count: usize)

@@ -1,4 +1,5 @@
-use Rattle.std.proofs.Common.{ℕ, List, subst}
+use Rattle.std.proofs.Common.{◌≡◌, ℕ, ◌<◌, ◌≤◌, ◌-◌, ◌^◌, List, ◌++◌, length, ap, subst, arith, length-append}
+use Rattle.std.specs.Prelude.{min}
 use Rattle.simplex_evidence.specs.declared.types.activity.Activity.{Activity}
 use Rattle.simplex_kept.specs.Committees.{Schedule}
 use Rattle.simplex_kept.specs.Seen.{Recalls}
@@ -16,5 +17,11 @@ stands_recalls basis committees auditor stream rest messages stands are =
     (messages_once (basis committees).format stands.fed.readable stream auditor.taken.rest.items rest stands.progress.messages messages stands.progress.are_messages are).0
     stands.progress.kept
 
+-- a number that stops at 2^64 - 1 does not stop where it is at most a number of bytes
+not_stopped : (number kept fed : ℕ) (stream front rest : List ℕ) → stream ≡ front ++ rest → fed ≡ length stream → fed < 2 ^ 64 → kept ≤ length front → number ≡ min kept (2 ^ 64 - 1) → number ≡ kept
+not_stopped number kept fed stream front rest whole is few room stops = let len = ap length whole in omega (arith, length-append front rest)
+
 pub returns-clause-number : goal.returns-clause-number
-returns-clause-number g c = λ committees stream messages rest stands are. c.votes.ensures committees messages (stands_recalls _ committees c.args.self.now stream rest messages stands are)
+returns-clause-number g c = λ committees stream messages rest stands are.
+    not_stopped _ _ _ stream _ rest are.whole stands.fed.fed_is c.counts_are_few.ensures (c.kept_votes_have_room.ensures committees messages)
+    (c.votes.ensures committees messages (stands_recalls _ committees c.args.self.now stream rest messages stands are))
