@@ -1,6 +1,6 @@
 //! The audit of a stream that comes in pieces.
 
-ghost use Rattle.std.specs.Prelude.{◌≡◌, ◌+◌, ◌<◌, ◌≤◌, ◌^◌, vec_len, ℕ, List, [], ◌++◌, length, drop, IfOk};
+ghost use Rattle.std.specs.Prelude.{◌≡◌, ◌+◌, ◌<◌, ◌≤◌, ◌^◌, ◌-◌, min, vec_len, ℕ, List, [], ◌++◌, length, drop, IfOk};
 ghost use Rattle.simplex_audit.specs.Headline.{HasOneReading, ReadsAgain};
 ghost use Rattle.simplex_audit.specs.Messages.{AreMessages};
 ghost use Rattle.simplex_audit.specs.Report.{IsReport};
@@ -255,9 +255,16 @@ impl<'a, S: Listing<D>, D: Digest> Auditor<'a, S, D> {
     }
 
     /// How many votes are kept, of the good ones in the stream's messages: of each signer in a round the earliest of each
-    /// sort, and of notarizes and finalizes also the earliest with another proposal, so at most five.
+    /// sort, and of notarizes and finalizes also the earliest with another proposal, so at most five. The number stops at
+    /// 2^64 - 1, which it can reach only where certificates list more attestations than they have bytes.
     pub fn votes(&self) -> usize
         ensures number { (committees : Schedule S) (stream : List ℕ) (messages : List (Activity S D S.Certificate S.PublicKey S.Signature)) (rest : List ℕ) →
+            Stands ⟦<S as Audited<D>>⟧.basis committees self.now stream →
+            AreMessages (⟦<S as Audited<D>>⟧.basis committees).format stream messages rest →
+            result ≡ min (votes_kept D.eq (good_votes (⟦<S as Audited<D>>⟧.basis committees).rules messages)) (2 ^ 64 - 1) }
+        // It does not stop where no certificate lists more attestations than its encoding has bytes.
+        ensures exact { ((certificate : S.Certificate) → length (S.listed certificate) ≤ length (S.Certificate.spelling certificate)) →
+            (committees : Schedule S) (stream : List ℕ) (messages : List (Activity S D S.Certificate S.PublicKey S.Signature)) (rest : List ℕ) →
             Stands ⟦<S as Audited<D>>⟧.basis committees self.now stream →
             AreMessages (⟦<S as Audited<D>>⟧.basis committees).format stream messages rest →
             result ≡ votes_kept D.eq (good_votes (⟦<S as Audited<D>>⟧.basis committees).rules messages) }

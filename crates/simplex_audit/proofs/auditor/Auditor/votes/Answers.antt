@@ -22,6 +22,9 @@ not_stopped : (number kept fed : ℕ) (stream front rest : List ℕ) → stream 
 not_stopped number kept fed stream front rest whole is few room stops = let len = ap length whole in omega (arith, length-append front rest)
 
 pub returns-clause-number : goal.returns-clause-number
-returns-clause-number g c = λ committees stream messages rest stands are.
-    not_stopped _ _ _ stream _ rest are.whole stands.fed.fed_is c.counts_are_few.ensures (c.kept_votes_have_room.ensures committees messages)
+returns-clause-number g c = λ committees stream messages rest stands are. c.votes.ensures committees messages (stands_recalls _ committees c.args.self.now stream rest messages stands are)
+
+pub returns-clause-exact : goal.returns-clause-exact
+returns-clause-exact g c = λ room committees stream messages rest stands are.
+    not_stopped _ _ _ stream _ rest are.whole stands.fed.fed_is c.counts_are_few.ensures (c.kept_votes_have_room.ensures room committees messages)
     (c.votes.ensures committees messages (stands_recalls _ committees c.args.self.now stream rest messages stands are))
