@@ -85,7 +85,7 @@ fn is_refused(rt: &impl Abort, alloc: Global, case: Case<'_>) -> bool {
         assert_eq!(rt; target.calls(), (0, 0));
         return true;
     }
-    assert_eq!(rt; status, case.status, "{}", case.said);
+    assert_eq!(rt; status, case.status);
     assert_eq!(rt; target.held(), case.text.as_bytes());
     assert_eq!(rt; errors.held(), case.said.as_bytes());
     assert_eq!(rt; source.calls() == 0, status == Status::Usage);
