@@ -149,34 +149,35 @@ def name(base, kind):
     return base + b"_" + kind.upper().encode()
 
 
-def signature(base, signer, kind, message):
-    """The marked signature where the base is None, and else the plain one."""
+def signature(base, signer, kind, message, first=0):
+    """The marked signature where the base is None, and else the plain one by the key `first + signer`."""
     if base is None:
         return b"\xaa"
     names = name(base, kind)
-    return hashlib.sha256(number(len(names)) + names + signer.to_bytes(32, "big") + message).digest()
+    key = (first + signer).to_bytes(32, "big")
+    return hashlib.sha256(number(len(names)) + names + key + message).digest()
 
 
-def vote(base, signer, kind, message):
-    return message + number(signer) + signature(base, signer, kind, message)
+def vote(base, signer, kind, message, first=0):
+    return message + number(signer) + signature(base, signer, kind, message, first)
 
 
-def certificate(base, signers, kind, message):
-    listed = b"".join(number(i) + signature(base, i, kind, message) for i in signers)
+def certificate(base, signers, kind, message, first=0):
+    listed = b"".join(number(i) + signature(base, i, kind, message, first) for i in signers)
     return message + number(len(signers)) + listed
 
 
-def is_good(base, n, kind, subject, attestation):
+def is_good(base, n, kind, subject, attestation, first=0):
     signer, given = attestation
-    return signer < n and given == signature(base, signer, kind, spelled_subject(kind, subject))
+    return signer < n and given == signature(base, signer, kind, spelled_subject(kind, subject), first)
 
 
 def quorum(n):
     return n - (n - 1) // 3
 
 
-def is_certified(base, n, kind, subject, listed):
-    return len(listed) >= quorum(n) and all(is_good(base, n, kind, subject, one) for one in listed)
+def is_certified(base, n, kind, subject, listed, first=0):
+    return len(listed) >= quorum(n) and all(is_good(base, n, kind, subject, one, first) for one in listed)
 
 
 def decode(kind, bound, data):
@@ -459,19 +460,19 @@ def hear(finalized, current, retention, length, ahead, certified, view):
     return "takes {}, casts {}, heard {}".format(*words)
 
 
-def verify(base, n, data):
+def verify(base, n, data, first=0):
     reader = Reader(data, base is not None, n)
     try:
         tag = reader.tag("Activity", 10)
         kinds = ("notarize", "notarize", "notarize", "nullify", "nullify", "finalize", "finalize")
         if tag in (1, 2, 4, 6):
-            good = is_certified(base, n, kinds[tag], *reader.certificate(kinds[tag]))
+            good = is_certified(base, n, kinds[tag], *reader.certificate(kinds[tag]), first)
         elif tag < 7:
-            good = is_good(base, n, kinds[tag], *reader.vote(kinds[tag]))
+            good = is_good(base, n, kinds[tag], *reader.vote(kinds[tag]), first)
         else:
             word = ("conflicting-notarize", "conflicting-finalize", "nullify-finalize")[tag - 7]
             pair = (("notarize",) * 2, ("finalize",) * 2, ("nullify", "finalize"))[tag - 7]
-            good = all(is_good(base, n, kind, *one) for kind, one in zip(pair, reader.kind(word)))
+            good = all(is_good(base, n, kind, *one, first) for kind, one in zip(pair, reader.kind(word)))
     except Refused as refused:
         return str(refused)
     verified = tag in (1, 2, 4, 6)
@@ -599,6 +600,40 @@ def rows_of_verifying(base):
         if base is not None:
             # The same keys under another base.
             yield f"verify {scheme_word(base + b's', 4)} {data.hex()}", verify(base + b"s", 4, data)
+
+
+def messages(base, first):
+    """A message of each tag, signed under the base by the keys from `first` on."""
+    here = subjects(base)
+    second = here["notarize"][:2] + b"\x04" + here["notarize"][3:]
+    votes = {kind: vote(base, 1, kind, here[kind], first) for kind in KINDS}
+    seconds = {kind: vote(base, 1, kind, second, first) for kind in ("notarize", "finalize")}
+    listed = {kind: certificate(base, (0, 1, 2), kind, here[kind], first) for kind in KINDS}
+    yield b"\x00" + votes["notarize"]
+    yield b"\x01" + listed["notarize"]
+    yield b"\x02" + listed["notarize"]
+    yield b"\x03" + votes["nullify"]
+    yield b"\x04" + listed["nullify"]
+    yield b"\x05" + votes["finalize"]
+    yield b"\x06" + listed["finalize"]
+    yield b"\x07" + votes["notarize"] + seconds["notarize"]
+    yield b"\x08" + votes["finalize"] + seconds["finalize"]
+    yield b"\x09" + votes["nullify"] + votes["finalize"]
+
+
+def rows_of_strangers():
+    """Each message, valid where it was signed, asked there and of another base or of other keys."""
+    places = ((b"test", 0), (b"tests", 0), (b"test", 4))
+    for base, first in places:
+        for data in messages(base, first):
+            for there, keys in places:
+                numbers = "4" if keys == 0 else f"{keys}+4"
+                yield f"verify {there.hex()}:{numbers} {data.hex()}", verify(there, 4, data, keys)
+    here = subjects(b"test")["nullify"]
+    yield f"sign 74657374:4+4/1 nullify {here.hex()}", vote(b"test", 1, "nullify", here, 4).hex()
+    for word in ("4+0", "+4", "4+", "4294967295+1", "1+2+3", "4+4/4"):
+        yield f"sign 74657374:{word} nullify 000a", "no row"
+    yield "sign 74657374:4294967294+1/0 nullify 000a", vote(b"test", 0, "nullify", b"\x00\x0a", 2**32 - 2).hex()
 
 
 def values(base):
@@ -815,6 +850,7 @@ def rows():
         yield from rows_of_assembling(base)
         yield from rows_of_many(base)
         yield from rows_of_verifying(base)
+    yield from rows_of_strangers()
     yield from rows_of_reading()
     yield from rows_of_batching()
     yield from rows_of_resolving()

@@ -2,7 +2,7 @@
 
 ghost use Rattle.std.specs.Prelude.{◌≤◌, ◌<◌, ◌^◌, length, IfOk};
 
-use crate::rows::{Unanswered, bytes, committee_size, participant};
+use crate::rows::{Unanswered, bytes, committee_size, participant, small};
 use simplex_base::codec::Fixed;
 use simplex_base::positions::Participant;
 use simplex_plain::marked::Marked;
@@ -24,28 +24,39 @@ pub(crate) fn marked(alloc: Global, word: &str) -> Result<Marked, Unanswered> {
     }
 }
 
-/// The plain scheme under a base of a committee of so many, or of a participant of it, as [`marked`] has it.
+/// The plain scheme under a base of a committee of so many, `N`, whose keys have the numbers from 0 on, or `FIRST+N`, from
+/// FIRST on; or of a participant of it, as [`marked`] has it.
 pub(crate) fn plain(alloc: Global, base: &str, word: &str) -> Result<Plain, Unanswered> {
     let base = bytes(alloc, &[base])?;
     match word.split_once('/') {
         None => {
-            let keys = numbered_keys(alloc, committee_size(word)?)?;
+            let keys = numbered_keys(alloc, word)?;
             Ok(Plain::verifier(alloc, base.as_slice(), keys)?)
         }
-        Some((size, signer)) => {
-            let keys = numbered_keys(alloc, committee_size(size)?)?;
-            let own = numbered_key(participant(signer)?);
+        Some((committee, signer)) => {
+            let keys = numbered_keys(alloc, committee)?;
+            let Some(own) = keys.get(participant(signer)?.get() as usize) else {
+                return Err(Unanswered::NoRow);
+            };
+            let own = *own;
             Plain::signer(alloc, base.as_slice(), keys, &own)?.ok_or(Unanswered::NoRow)
         }
     }
 }
 
-/// The plain keys of the first so many participants.
-fn numbered_keys(alloc: Global, size: u32) -> Result<Set<PlainKey>, Unanswered>
+/// The plain keys of a committee, `N` of them or `FIRST+N`.
+fn numbered_keys(alloc: Global, word: &str) -> Result<Set<PlainKey>, Unanswered>
     ensures { IfOk result (λ keys. (1 ≤ length keys) × (length keys < 2 ^ 32)) }
 {
+    let (first, size) = match word.split_once('+') {
+        None => (0, committee_size(word)?),
+        Some((first, size)) => (small(first)?, committee_size(size)?),
+    };
+    let Some(end) = first.checked_add(size) else {
+        return Err(Unanswered::NoRow);
+    };
     let mut keys = Vec::new(alloc);
-    for number in 0..size {
+    for number in first..end {
         keys.push(numbered_key(Participant::new(number)))
             .map_err(AllocError::from)?;
     }

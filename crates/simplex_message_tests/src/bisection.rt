@@ -3,54 +3,119 @@
 use simplex_base::codec::{Fixed, decode_cfg};
 use simplex_base::positions::{Epoch, Round, View};
 use simplex_evidence::types::verify_certificates;
-use simplex_plain::listed::Listed;
 use simplex_plain::marked::{Marked, MarkedDigest};
+use simplex_plain::plain::{Plain, PlainKey};
 use simplex_scheme::proposal::Proposal;
+use simplex_scheme::scheme::{CertificateVerifier, Digest, Sha256Digest};
+use simplex_scheme::set::Set;
 use simplex_scheme::subject::Subject;
+use std::alloc::Global;
 use std::process::Abort;
 
-/// Verifies five certificates for a proposal, of which the first has a participant too few and the fourth a bad signature.
-/// Answers whether memory was refused; then the same list is verified when it is asked about again.
-fn is_refused(rt: &(impl Abort + AllocGlobal)) -> bool {
+/// The certificate of this encoding in hexadecimal, under a bound of four.
+fn certificate<S: CertificateVerifier<D>, D: Digest>(
+    alloc: Global,
+    encoding: &str,
+) -> Option<S::Certificate> {
+    let bytes = hex::decode(alloc, encoding).ok()?;
+    decode_cfg(alloc, bytes.as_slice(), &4).ok()
+}
+
+/// Certificates of these encodings for the proposal with this payload in round (0, 10) verify as wanted. Returns whether memory
+/// was refused; then the same list is verified when it is asked about again.
+fn is_refused<S: CertificateVerifier<D>, D: Digest>(
+    rt: &(impl Abort + AllocGlobal),
+    scheme: &S,
+    payload: D,
+    encodings: &[&str],
+    wanted: &[bool],
+) -> bool {
     let alloc = rt.alloc();
-    let Ok(scheme) = Marked::new(alloc, 4, None) else {
-        return true;
-    };
-    let few = [2, 0, 0xaa, 1, 0xaa];
-    let Ok(few) = decode_cfg::<Listed<Marked>>(alloc, &few, &4) else {
-        return true;
-    };
-    let good = [3, 0, 0xaa, 1, 0xaa, 2, 0xaa];
-    let Ok(good) = decode_cfg::<Listed<Marked>>(alloc, &good, &4) else {
-        return true;
-    };
-    let bad = [3, 0, 0xaa, 1, 0xaa, 2, 0];
-    let Ok(bad) = decode_cfg::<Listed<Marked>>(alloc, &bad, &4) else {
-        return true;
-    };
+    let mut certificates = Vec::new(alloc);
+    for encoding in encodings {
+        let Some(certificate) = certificate::<S, D>(alloc, encoding) else {
+            return true;
+        };
+        if certificates.push(certificate).is_err() {
+            return true;
+        }
+    }
     let round = Round::new(Epoch::new(0), View::new(10));
-    let proposal = Proposal::new(round, View::new(5), MarkedDigest::from_bytes(&[6]));
-    let items = [&few, &good, &good, &bad, &good].map(|certificate| {
+    let proposal = Proposal::new(round, View::new(5), payload);
+    let items = certificates.iter().map(|certificate| {
         let subject = Subject::Notarize {
             proposal: &proposal,
         };
         (subject, certificate)
     });
-    let first = verify_certificates(alloc, &scheme, &items);
+    let Ok(items) = items.collect::<Vec<_>>(alloc) else {
+        return true;
+    };
+    let first = verify_certificates(alloc, scheme, items.as_slice());
     let refused = first.is_err();
-    let answers = first.or_else(|_| verify_certificates(alloc, &scheme, &items));
-    let wanted = [false, true, true, false, true];
-    assert!(rt; matches!(&answers, Ok(answers) if answers.as_slice() == wanted.as_slice()));
+    let answers = first.or_else(|_| verify_certificates(alloc, scheme, items.as_slice()));
+    assert!(rt; matches!(&answers, Ok(answers) if answers.as_slice() == wanted));
     refused
+}
+
+/// Five certificates, of which the first has a participant too few and the fourth a bad signature, the second of them alone, the
+/// fourth alone, and none. Returns whether memory was refused.
+fn any_list_is_refused<S: CertificateVerifier<D>, D: Digest>(
+    rt: &(impl Abort + AllocGlobal),
+    scheme: &S,
+    payload: D,
+    [few, good, bad]: [&str; 3],
+) -> bool {
+    let wanted = [false, true, true, false, true];
+    let five = is_refused(rt, scheme, payload, &[few, good, good, bad, good], &wanted);
+    let second = is_refused(rt, scheme, payload, &[good], &[true]);
+    let fourth = is_refused(rt, scheme, payload, &[bad], &[false]);
+    five || second || fourth || is_refused(rt, scheme, payload, &[], &[])
+}
+
+/// The plain scheme under the base `test` of four participants, whose keys are their numbers.
+fn plain(alloc: Global) -> Option<Plain> {
+    let mut keys = Vec::new(alloc);
+    for number in 0..4 {
+        let mut key = [0; 32];
+        key[31] = number;
+        keys.push(PlainKey::from_bytes(&key)).ok()?;
+    }
+    let keys = Set::try_from_vec(keys).ok()?;
+    if keys.len() != 4 {
+        return None;
+    }
+    Plain::verifier(alloc, b"test", keys).ok()
+}
+
+/// The certificates of the marked scheme.
+const MARKED: [&str; 3] = ["0200aa01aa", "0300aa01aa02aa", "0300aa01aa0200"];
+
+/// The certificates of the plain scheme.
+const PLAIN: [&str; 3] = [
+    "02008c6774d2f68c567d3d7099353ba7b9a73b4a3919f00bf8571c6cf14b8b0e1fbc01045f6c82c9c6a62e370b1625789d3877a1e768f34ec0eaf45ca823338253d469",
+    "03008c6774d2f68c567d3d7099353ba7b9a73b4a3919f00bf8571c6cf14b8b0e1fbc01045f6c82c9c6a62e370b1625789d3877a1e768f34ec0eaf45ca823338253d4690256b0150cd77310b6cc13b4743086ea7b3f8068421bc0c1da306cbc8083376afa",
+    "03008c6774d2f68c567d3d7099353ba7b9a73b4a3919f00bf8571c6cf14b8b0e1fbc01045f6c82c9c6a62e370b1625789d3877a1e768f34ec0eaf45ca823338253d4690256b0150cd77310b6cc13b4743086ea7b3f8068421bc0c1da306cbc8083376a00",
+];
+
+/// The lists of both schemes.
+fn any_is_refused(rt: &(impl Abort + AllocGlobal)) -> bool {
+    let alloc = rt.alloc();
+    let (Ok(marked), Some(plain)) = (Marked::new(alloc, 4, None), plain(alloc)) else {
+        return true;
+    };
+    let marked = any_list_is_refused(rt, &marked, MarkedDigest::from_bytes(&[6]), MARKED);
+    let plain = any_list_is_refused(rt, &plain, Sha256Digest::from_bytes(&[6; 32]), PLAIN);
+    marked || plain
 }
 
 #[test]
 fn ample(rt: HostRuntime) {
-    assert!(rt; !is_refused(&rt));
+    assert!(rt; !any_is_refused(&rt));
 }
 
 /// Where the answers' memory is refused there is none.
 #[test]
 fn refused(rt: HostRuntime) {
-    let _ = is_refused(&rt);
+    let _ = any_is_refused(&rt);
 }

@@ -1,34 +1,27 @@
 //! Numbers that are given, and that no row asks for.
 
-use simplex_base::codec::{Encode, MaxEncodeSize, decode};
+use crate::without_memory::is_out;
+use simplex_base::codec::MaxEncodeSize;
 use simplex_plain::marked::{Marked, MarkedDigest};
 use simplex_plain::plain::Plain;
 use simplex_scheme::faults::{max_faults, quorum};
 use simplex_scheme::proposal::Proposal;
-use simplex_scheme::scheme::{CertificateScheme, Digest, Scheme, Sha256Digest};
-use simplex_votes::types::{Artifact, Certificate, Context, Notarization, Vote};
-use std::alloc::Global;
+use simplex_scheme::scheme::{CertificateScheme, Digest, Sha256Digest};
+use simplex_votes::types::{
+    Certificate, Context, Finalization, Kind, Notarization, Nullification, Vote,
+};
 use std::process::Abort;
 use std::test::Fail;
 
-/// The vote that the first bytes spell becomes the artifact that the others do.
-fn check_stored<S: Scheme<D>, D: Digest>(
-    rt: &impl Abort,
-    alloc: Global,
-    vote: &[u8],
-    artifact: &[u8],
-) -> Result<(), Fail> {
-    let vote: Vote<S, D> = decode(alloc, vote)?;
-    let stored = Artifact::from(vote).encode(alloc)?;
-    assert_eq!(rt; stored.as_slice(), artifact);
-    Ok(())
-}
-
-/// A vote becomes the artifact with its parts behind the artifact's tag.
+/// Each kind of certificate message prints as its word.
 #[test]
-fn ample_stored(rt: HostRuntime) -> Result<(), Fail> {
-    let (vote, artifact) = ([1, 0, 10, 1, 0xaa], [3, 0, 10, 1, 0xaa]);
-    check_stored::<Marked, MarkedDigest>(&rt, rt.alloc(), &vote, &artifact)
+fn ample_kinds(rt: HostRuntime) -> Result<(), Fail> {
+    let kinds = [Kind::Notarization, Kind::Nullification, Kind::Finalization];
+    let words = ["notarization", "nullification", "finalization"];
+    for (kind, word) in kinds.into_iter().zip(words) {
+        assert_eq!(rt; format!(in rt.alloc(); "{kind}")?.as_str(), word);
+    }
+    Ok(())
 }
 
 #[test]
@@ -40,24 +33,30 @@ fn one_of_four_may_lie(rt: HostRuntime) {
     }
 }
 
-/// Greatest sizes of a proposal, a vote, a context, and for four participants of a certificate, a notarization and a
-/// certificate message.
-fn sizes<S: CertificateScheme, D: Digest>() -> [usize; 6] {
+/// Greatest sizes of a proposal, a vote, a context, and for four participants of a certificate, a notarization, a
+/// nullification, a finalization and a certificate message.
+fn sizes<S: CertificateScheme, D: Digest>() -> [usize; 8] {
     [
         Proposal::<D>::max_encode_size(),
         Vote::<S, D>::max_encode_size(),
         Context::<D, S::PublicKey>::max_encode_size(),
         S::max_certificate_size(4),
         Notarization::<S, D>::max_encode_size(4),
+        Nullification::<S>::max_encode_size(4),
+        Finalization::<S, D>::max_encode_size(4),
         Certificate::<S, D>::max_encode_size(4),
     ]
 }
 
 #[test]
-fn no_value_is_longer(rt: HostRuntime) {
+fn without_memory(rt: HostRuntime) {
+    let _ = is_out(rt.alloc());
     assert_eq!(rt;
         sizes::<Plain, Sha256Digest>(),
-        [62, 100, 94, 153, 215, 216]
+        [62, 100, 94, 153, 215, 173, 215, 216]
     );
-    assert_eq!(rt; sizes::<Marked, MarkedDigest>(), [31, 38, 35, 29, 60, 61]);
+    assert_eq!(rt;
+        sizes::<Marked, MarkedDigest>(),
+        [31, 38, 35, 29, 60, 49, 60, 61]
+    );
 }

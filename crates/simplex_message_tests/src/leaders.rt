@@ -6,12 +6,15 @@ ghost use Rattle.simplex_base.specs.Positions as positions;
 ghost use Rattle.simplex_lead.specs.Structure as structure;
 ghost use Rattle.simplex_lead.specs.declared.elector.mode.Mode.TheVariants.{Dynamic};
 
+use crate::without_memory::is_out;
+use sha2::Digest as _;
 use simplex_base::codec::Fixed;
 use simplex_base::codec::fixed_bytes::FixedBytes;
 use simplex_base::positions::{Epoch, Participant, Round, TermLength, View, ViewDelta};
-use simplex_lead::Lookahead;
 use simplex_lead::elector::{Config, Elector, Mode, RoundRobin, Terms, can_be_stable};
+use simplex_lead::{Lookahead, Viewport};
 use simplex_plain::marked::{Marked, MarkedDigest, MarkedDigestRole};
+use simplex_scheme::faults::{max_faults, quorum};
 use simplex_scheme::hash::{Hasher, Sha256};
 use simplex_scheme::scheme::CertificateScheme;
 use simplex_scheme::set::Set;
@@ -166,6 +169,37 @@ fn ample_chosen_hashes(rt: HostRuntime) -> Result<(), Fail> {
     check_order::<Falling>(&rt, rt.alloc(), [4, 3, 2, 1, 0, 4])
 }
 
+/// The first so many participants in the order of SHA-256 of the seed followed by their number in four bytes, the most
+/// significant first.
+fn by_digest(alloc: Global, seed: &[u8], participants: u32) -> Result<Vec<u32>, AllocError> {
+    let mut order = Vec::new(alloc);
+    for number in 0..participants {
+        let digest = sha2::Sha256::new()
+            .chain_update(seed)
+            .chain_update(number.to_be_bytes())
+            .finalize();
+        order.push((digest, number))?;
+    }
+    order.sort_unstable();
+    order.into_iter().map(|(_, number)| number).collect(alloc)
+}
+
+/// A rotation by a seed goes round in the order of the digests, which differs from seed to seed.
+#[test]
+fn ample_seeds(rt: HostRuntime) -> Result<(), Fail> {
+    let alloc = rt.alloc();
+    let mut orders = Vec::new(alloc);
+    for seed in [b"seed1", b"seed2"] {
+        let shuffled: RoundRobin<Sha256> = RoundRobin::shuffled(alloc, seed)?;
+        let elector = built(&rt, alloc, shuffled, 10)?;
+        let order = by_digest(alloc, seed, 10)?;
+        assert_eq!(rt; leaders(alloc, &elector, 10)?.as_slice(), order.as_slice());
+        orders.push(order)?;
+    }
+    assert!(rt; orders[0].as_slice() != orders[1].as_slice());
+    Ok(())
+}
+
 #[test]
 fn ample_elector_of_its_own(rt: HostRuntime) -> Result<(), Fail> {
     let terms = Terms::stable(
@@ -209,4 +243,71 @@ fn the_last_view_that_fits(rt: HostRuntime) {
     };
     assert!(rt; look.fits(View::new(18_446_744_065_119_617_025)));
     assert!(rt; !look.fits(View::new(18_446_744_065_119_617_026)));
+}
+
+/// What terms, modes and electors answer.
+#[test]
+fn without_memory_leaders(rt: HostRuntime) -> Result<(), Fail> {
+    let elector = built(&rt, rt.alloc(), RoundRobin::<Sha256>::default(), 4)?;
+    let _ = is_out(rt.alloc());
+    let round = Round::new(Epoch::new(0), View::new(3));
+    assert_eq!(rt;
+        Elector::<Marked>::elect(&elector, round, None),
+        Participant::new(3)
+    );
+    assert_eq!(rt;
+        mode_and_terms(&elector),
+        (Mode::Scheduled, Terms::default())
+    );
+    assert_eq!(rt; Mode::Scheduled.input(Some(&7)), None);
+    assert_eq!(rt; Mode::Dynamic.input(Some(&7)), Some(&7));
+    assert_eq!(rt; Mode::Dynamic.early::<u32>(), None);
+    assert_eq!(rt; Mode::Scheduled.early::<u32>(), Some(None));
+    let (length, second) = (TermLength::new(20), Duration::from_secs(1));
+    assert!(rt; can_be_stable(length, second));
+    let terms = Terms::stable(length, second, ViewDelta::new(2));
+    assert_eq!(rt;
+        (terms.length().get(), terms.stall_timeout()),
+        (20, Some(second))
+    );
+    assert_eq!(rt; terms.optimistic_views(), ViewDelta::new(2));
+    Ok(())
+}
+
+/// What is counted of views and of participants.
+#[test]
+fn without_memory_views(rt: HostRuntime) {
+    let _ = is_out(rt.alloc());
+    let (view, length) = (View::new(10), TermLength::new(20));
+    let terms = Terms::stable(length, Duration::from_secs(1), ViewDelta::new(2));
+    assert_eq!(rt; view.saturating_add(ViewDelta::new(5)), View::new(15));
+    assert_eq!(rt; view.saturating_sub(ViewDelta::new(11)), View::zero());
+    assert!(rt; View::zero().is_zero() && !view.is_zero());
+    assert_eq!(rt;
+        (view.term_index(length), view.term_start(length)),
+        (1, View::new(1))
+    );
+    assert!(rt; view.term_fits(length) && !view.is_term_start(length));
+    assert_eq!(rt;
+        (view.term_end(length), view.next_term_start(length)),
+        (View::new(20), View::new(21))
+    );
+    assert!(rt; view.admits(View::new(21), length) && !view.admits(View::new(12), length));
+    let lookahead = Lookahead::new(&terms);
+    assert!(rt; lookahead.fits(view));
+    assert_eq!(rt; lookahead.admission_limit(view), View::new(15));
+    assert!(rt; lookahead.in_admission_window(view, View::new(15)));
+    assert!(rt; lookahead.admits(view, View::new(24)) && !lookahead.admits(view, View::new(25)));
+    assert!(rt; lookahead.admits_outbound(view, View::new(12)));
+    assert_eq!(rt; lookahead.issuance_floor(view), Some(View::new(7)));
+    let viewport = Viewport {
+        finalized: View::new(5),
+        current: view,
+        view_retention: ViewDelta::new(10),
+        lookahead,
+    };
+    assert_eq!(rt; viewport.floor(), View::zero());
+    assert!(rt; viewport.retains(View::new(1)) && !viewport.retains(View::zero()));
+    assert!(rt; viewport.admits_vote(View::new(15)) && viewport.admits_certificate(View::new(99)));
+    assert_eq!(rt; (max_faults(4), quorum(4)), (1, 3));
 }

@@ -1,5 +1,6 @@
 //! The map of first votes: who has an item, clears, many inserts, and refused growths.
 
+use crate::without_memory::is_out;
 use simplex_base::positions::Participant;
 use simplex_evidence::types::AttributableMap;
 use simplex_votes::types::Attributable;
@@ -86,6 +87,29 @@ fn ample(rt: HostRuntime) {
 #[test]
 fn refused(rt: HostRuntime) {
     let _ = is_refused(&rt);
+}
+
+/// An untouched map and one with an item take no memory. A clear gives the items' memory up, so that the next insert asks for
+/// some.
+#[test]
+fn without_memory(rt: HostRuntime) -> Result<(), Fail> {
+    let mut map = AttributableMap::new(rt.alloc(), 5);
+    assert!(rt; map.insert(Ballot::of(3))?);
+    let is_out = is_out(rt.alloc());
+    let mut untouched = AttributableMap::new(rt.alloc(), 5);
+    assert_eq!(rt; untouched.get(Participant::new(3)), None);
+    assert!(rt; untouched.is_empty() && untouched.iter().next().is_none());
+    assert!(rt; matches!(untouched.insert(Ballot::of(5)), Ok(false)));
+    for (signer, is_new) in [(4, true), (3, false), (0, true), (5, false)] {
+        assert!(rt; matches!(map.insert(Ballot::of(signer)), Ok(answer) if answer == is_new));
+    }
+    assert_eq!(rt; map.get(Participant::new(4)), Some(&Ballot::of(4)));
+    assert_eq!(rt; map.get(Participant::new(1)), None);
+    assert!(rt; map.len() == 3 && map.iter().count() == 3);
+    map.clear();
+    assert!(rt; map.is_empty());
+    assert_eq!(rt; map.insert(Ballot::of(3)).is_err(), is_out);
+    Ok(())
 }
 
 /// No memory has room for so many participants.

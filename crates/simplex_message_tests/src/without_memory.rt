@@ -1,0 +1,377 @@
+//! Calls that take no memory, made when none is left.
+//!
+//! Each test makes first what takes memory, and then asks for [`SIGNAL`] bytes. An allocator that refuses this request and every
+//! later one leaves the calls behind it without memory; under any other allocator they are made with memory.
+
+use simplex_base::codec::error::Error;
+use simplex_base::codec::{EncodeSize, Fixed, Read, decode, decode_cfg, read_value};
+use simplex_base::positions::{Epoch, Epochable, Participant, Round, View, Viewable};
+use simplex_evidence::types::{
+    Activity, ConflictingFinalize, ConflictingNotarize, NullifyFinalize,
+};
+use simplex_plain::marked::{Marked, MarkedDigest, MarkedKey};
+use simplex_plain::plain::{Plain, PlainKey};
+use simplex_scheme::proposal::Proposal;
+use simplex_scheme::scheme::{AssemblyError, Attestation, Digest, Scheme, Sha256Digest};
+use simplex_scheme::set::{Set, SetError};
+use simplex_scheme::subject::Subject;
+use simplex_votes::types::{
+    Artifact, Attributable, Certificate, Context, Finalization, Finalize, Notarization, Notarize,
+    Nullification, Nullify, Vote,
+};
+use std::alloc::Global;
+use std::process::Abort;
+use std::test::Fail;
+
+/// The number of bytes of the request from which on an allocator may refuse every request.
+const SIGNAL: usize = 12_345;
+
+/// Asks for [`SIGNAL`] bytes and for one more, and returns whether both were refused: then no memory is left.
+pub(crate) fn is_out(alloc: Global) -> bool {
+    let signal = Vec::<u8>::with_capacity(alloc, SIGNAL);
+    let behind = Vec::<u8>::with_capacity(alloc, 1);
+    signal.is_err() && behind.is_err()
+}
+
+/// Whether a value is read from the front of its encoding, and the encoding without its last byte is refused for that alone.
+fn is_read<T: Read<Cfg = ()> + EncodeSize + Drop>(alloc: Global, encoding: &[u8]) -> bool {
+    let mut rest = encoding;
+    let Ok(value) = read_value::<T>(alloc, &mut rest) else {
+        return false;
+    };
+    let Some((_, short)) = encoding.split_last() else {
+        return false;
+    };
+    let is_whole = rest.is_empty() && value.encode_size() == encoding.len();
+    is_whole && matches!(decode::<T>(alloc, short), Err(Error::EndOfBuffer))
+}
+
+#[test]
+fn without_memory_reading(rt: HostRuntime) {
+    let alloc = rt.alloc();
+    let _ = is_out(alloc);
+    let (proposal, vote) = ([0, 10, 5, 6], [0, 10, 5, 6, 1, 0xaa]);
+    let pair = [0, 10, 5, 6, 1, 0xaa, 0, 10, 5, 7, 1, 0xaa];
+    assert!(rt; is_read::<Epoch>(alloc, &[0xcd, 2]) && is_read::<View>(alloc, &[10]));
+    assert!(rt; is_read::<Participant>(alloc, &[1]) && is_read::<Round>(alloc, &[0, 10]));
+    assert!(rt; is_read::<Attestation<Marked>>(alloc, &[1, 0xaa]));
+    assert!(rt; is_read::<Proposal<MarkedDigest>>(alloc, &proposal));
+    assert!(rt; is_read::<Context<MarkedDigest, MarkedKey>>(alloc, &[0, 10, 0, 0, 0, 1, 5, 6]));
+    assert!(rt; is_read::<Notarize<Marked, MarkedDigest>>(alloc, &vote));
+    assert!(rt; is_read::<Nullify<Marked>>(alloc, &[0, 10, 1, 0xaa]));
+    assert!(rt; is_read::<Finalize<Marked, MarkedDigest>>(alloc, &vote));
+    assert!(rt; is_read::<Vote<Marked, MarkedDigest>>(alloc, &[1, 0, 10, 1, 0xaa]));
+    assert!(rt; is_read::<ConflictingNotarize<Marked, MarkedDigest>>(alloc, &pair));
+    assert!(rt; is_read::<ConflictingFinalize<Marked, MarkedDigest>>(alloc, &pair));
+    let pair = [0, 10, 1, 0xaa, 0, 10, 5, 6, 1, 0xaa];
+    assert!(rt; is_read::<NullifyFinalize<Marked, MarkedDigest>>(alloc, &pair));
+}
+
+/// Whether the vote with this encoding is one of participant 1 in round (0, 10), and becomes the artifact with the other.
+fn is_stored(alloc: Global, vote: &[u8], artifact: &[u8]) -> bool {
+    let Ok(vote) = decode::<Vote<Marked, MarkedDigest>>(alloc, vote) else {
+        return false;
+    };
+    let is_by = vote.signer() == Participant::new(1);
+    let is_at = vote.epoch() == Epoch::new(0) && vote.view() == View::new(10);
+    let artifact = decode_cfg::<Artifact<Marked, MarkedDigest>>(alloc, artifact, &4);
+    is_by && is_at && matches!(artifact, Ok(artifact) if artifact == Artifact::from(vote))
+}
+
+/// Whether participant 1 signs a vote of each kind that verifies, and nobody signs none.
+fn are_signed(alloc: Global, me: &Marked, nobody: &Marked) -> bool {
+    let round = Round::new(Epoch::new(0), View::new(10));
+    let (Ok(None), Ok(None), Ok(None)) = (
+        Notarize::sign(alloc, nobody, marked_proposal()),
+        Nullify::sign::<MarkedDigest>(alloc, nobody, round),
+        Finalize::sign(alloc, nobody, marked_proposal()),
+    ) else {
+        return false;
+    };
+    let (Ok(Some(notarize)), Ok(Some(nullify)), Ok(Some(finalize))) = (
+        Notarize::sign(alloc, me, marked_proposal()),
+        Nullify::sign::<MarkedDigest>(alloc, me, round),
+        Finalize::sign(alloc, me, marked_proposal()),
+    ) else {
+        return false;
+    };
+    notarize.verify(nobody) && nullify.verify::<MarkedDigest>(nobody) && finalize.verify(nobody)
+}
+
+/// Two notarizes by participant 1 contradict, and are the evidence that is made of them.
+fn are_conflicting_notarizes(alloc: Global, scheme: &Marked) -> bool {
+    let (Ok(first), Ok(second)) = (
+        decode::<Notarize<Marked, MarkedDigest>>(alloc, &[0, 10, 5, 6, 1, 0xaa]),
+        decode::<Notarize<Marked, MarkedDigest>>(alloc, &[0, 10, 5, 7, 1, 0xaa]),
+    ) else {
+        return false;
+    };
+    if !ConflictingNotarize::conflicts(&first, &second) {
+        return false;
+    }
+    let (one, other) = (first.copy(), second.copy());
+    let evidence = ConflictingNotarize::new(first, second);
+    evidence.verify(scheme) && evidence.notarize_1() == &one && evidence.notarize_2() == &other
+}
+
+/// As [`are_conflicting_notarizes`], of two finalizes.
+fn are_conflicting_finalizes(alloc: Global, scheme: &Marked) -> bool {
+    let (Ok(first), Ok(second)) = (
+        decode::<Finalize<Marked, MarkedDigest>>(alloc, &[0, 10, 5, 6, 1, 0xaa]),
+        decode::<Finalize<Marked, MarkedDigest>>(alloc, &[0, 10, 5, 7, 1, 0xaa]),
+    ) else {
+        return false;
+    };
+    if !ConflictingFinalize::conflicts(&first, &second) {
+        return false;
+    }
+    let (one, other) = (first.copy(), second.copy());
+    let evidence = ConflictingFinalize::new(first, second);
+    evidence.verify(scheme) && evidence.finalize_1() == &one && evidence.finalize_2() == &other
+}
+
+/// As [`are_conflicting_notarizes`], of a nullify and a finalize.
+fn are_nullify_and_finalize(alloc: Global, scheme: &Marked) -> bool {
+    let (Ok(first), Ok(second)) = (
+        decode::<Nullify<Marked>>(alloc, &[0, 10, 1, 0xaa]),
+        decode::<Finalize<Marked, MarkedDigest>>(alloc, &[0, 10, 5, 6, 1, 0xaa]),
+    ) else {
+        return false;
+    };
+    if !NullifyFinalize::conflicts(&first, &second) {
+        return false;
+    }
+    let (one, other) = (first.copy(), second.copy());
+    let evidence = NullifyFinalize::new(first, second);
+    evidence.verify(scheme) && evidence.nullify() == &one && evidence.finalize() == &other
+}
+
+#[test]
+fn without_memory_votes(rt: HostRuntime) -> Result<(), Fail> {
+    let alloc = rt.alloc();
+    let me = Marked::new(alloc, 4, Some(Participant::new(1)))?;
+    let nobody = Marked::new(alloc, 4, None)?;
+    let _ = is_out(alloc);
+    assert!(rt; are_signed(alloc, &me, &nobody));
+    assert!(rt;
+        is_stored(
+            alloc,
+            &[0, 0, 10, 5, 6, 1, 0xaa],
+            &[0, 0, 10, 5, 6, 1, 0xaa]
+        )
+    );
+    assert!(rt; is_stored(alloc, &[1, 0, 10, 1, 0xaa], &[3, 0, 10, 1, 0xaa]));
+    assert!(rt;
+        is_stored(
+            alloc,
+            &[2, 0, 10, 5, 6, 1, 0xaa],
+            &[5, 0, 10, 5, 6, 1, 0xaa]
+        )
+    );
+    assert!(rt; are_conflicting_notarizes(alloc, &nobody));
+    assert!(rt; are_conflicting_finalizes(alloc, &nobody));
+    assert!(rt; are_nullify_and_finalize(alloc, &nobody));
+    Ok(())
+}
+
+/// The values with these encodings.
+fn decoded<T: Read + Drop>(
+    alloc: Global,
+    cfg: &T::Cfg,
+    encodings: &[&[u8]],
+) -> Result<Vec<T>, Fail> {
+    let mut values = Vec::new(alloc);
+    for encoding in encodings {
+        values.push(decode_cfg(alloc, encoding, cfg)?)?;
+    }
+    Ok(values)
+}
+
+/// The encodings of a message of each tag, from 0 on.
+const ACTIVITIES: [&[u8]; 10] = [
+    &[0, 0, 10, 5, 6, 1, 0xaa],
+    &[1, 0, 10, 5, 6, 3, 0, 0xaa, 1, 0xaa, 2, 0xaa],
+    &[2, 0, 10, 5, 6, 3, 0, 0xaa, 1, 0xaa, 2, 0xaa],
+    &[3, 0, 10, 1, 0xaa],
+    &[4, 0, 10, 3, 0, 0xaa, 1, 0xaa, 2, 0xaa],
+    &[5, 0, 10, 5, 6, 1, 0xaa],
+    &[6, 0, 10, 5, 6, 3, 0, 0xaa, 1, 0xaa, 2, 0xaa],
+    &[7, 0, 10, 5, 6, 1, 0xaa, 0, 10, 5, 7, 1, 0xaa],
+    &[8, 0, 10, 5, 6, 1, 0xaa, 0, 10, 5, 7, 1, 0xaa],
+    &[9, 0, 10, 1, 0xaa, 0, 10, 5, 6, 1, 0xaa],
+];
+
+/// Every message verifies, and those with a certificate are verified before they are reported.
+#[test]
+fn without_memory_activities(rt: HostRuntime) -> Result<(), Fail> {
+    let scheme = Marked::new(rt.alloc(), 4, None)?;
+    let messages = decoded::<Activity<Marked, MarkedDigest>>(rt.alloc(), &4, &ACTIVITIES)?;
+    let _ = is_out(rt.alloc());
+    for (message, encoding) in messages.iter().zip(ACTIVITIES) {
+        assert!(rt; message.verify(&scheme));
+        assert_eq!(rt; message.verified(), matches!(encoding[0], 1 | 2 | 4 | 6));
+        assert_eq!(rt; message.encode_size(), encoding.len());
+    }
+    Ok(())
+}
+
+/// A certificate message is of this kind, which has this word, verifies, and becomes the artifact.
+fn check_certificate(
+    rt: &impl Abort,
+    scheme: &Marked,
+    message: Certificate<Marked, MarkedDigest>,
+    artifact: &Artifact<Marked, MarkedDigest>,
+    word: &str,
+) {
+    assert!(rt; message.verify(scheme));
+    assert_eq!(rt; message.kind().as_str(), word);
+    assert_eq!(rt; message.encode_size(), artifact.encode_size());
+    assert!(rt; &Artifact::from(message) == artifact);
+}
+
+#[test]
+fn without_memory_certificates(rt: HostRuntime) -> Result<(), Fail> {
+    let encodings: [&[u8]; 3] = [
+        &[0, 0, 10, 5, 6, 3, 0, 0xaa, 1, 0xaa, 2, 0xaa],
+        &[1, 0, 10, 3, 0, 0xaa, 1, 0xaa, 2, 0xaa],
+        &[2, 0, 10, 5, 6, 3, 0, 0xaa, 1, 0xaa, 2, 0xaa],
+    ];
+    let stored = [ACTIVITIES[1], ACTIVITIES[4], ACTIVITIES[6]];
+    let scheme = Marked::new(rt.alloc(), 4, None)?;
+    let messages = decoded::<Certificate<Marked, MarkedDigest>>(rt.alloc(), &4, &encodings)?;
+    let artifacts = decoded::<Artifact<Marked, MarkedDigest>>(rt.alloc(), &4, &stored)?;
+    let _ = is_out(rt.alloc());
+    let words = ["notarization", "nullification", "finalization"];
+    for ((message, artifact), word) in messages.into_iter().zip(artifacts.iter()).zip(words) {
+        check_certificate(&rt, &scheme, message, artifact, word);
+    }
+    Ok(())
+}
+
+/// Two votes of each kind are too few, lent or owned.
+#[test]
+fn without_memory_builders(rt: HostRuntime) -> Result<(), Fail> {
+    let alloc = rt.alloc();
+    let votes: [&[u8]; 2] = [&[0, 10, 5, 6, 1, 0xaa], &[0, 10, 5, 6, 2, 0xaa]];
+    let scheme = Marked::new(alloc, 4, None)?;
+    let notarizes = decoded::<Notarize<Marked, MarkedDigest>>(alloc, &(), &votes)?;
+    let nullifies = decoded::<Nullify<Marked>>(
+        alloc,
+        &(),
+        &[&[0, 10, 1, 0xaa], &[0, 10, 2, 0xaa]],
+    )?;
+    let finalizes = decoded::<Finalize<Marked, MarkedDigest>>(alloc, &(), &votes)?;
+    let _ = is_out(alloc);
+    let few = AssemblyError::InsufficientAttestations(3, 2);
+    assert!(rt; Notarization::can_assemble(&scheme, notarizes.as_slice()));
+    let made = Notarization::from_notarizes(alloc, &scheme, notarizes.as_slice());
+    assert!(rt; matches!(made, Err(error) if error == few));
+    let made = Notarization::from_owned_notarizes(alloc, &scheme, notarizes);
+    assert!(rt; matches!(made, Err(error) if error == few));
+    assert!(rt; Nullification::can_assemble::<MarkedDigest>(&scheme, nullifies.as_slice()));
+    let made = Nullification::from_nullifies::<MarkedDigest>(alloc, &scheme, nullifies.as_slice());
+    assert!(rt; matches!(made, Err(error) if error == few));
+    let made = Nullification::from_owned_nullifies::<MarkedDigest>(alloc, &scheme, nullifies);
+    assert!(rt; matches!(made, Err(error) if error == few));
+    assert!(rt; Finalization::can_assemble(&scheme, finalizes.as_slice()));
+    let made = Finalization::from_finalizes(alloc, &scheme, finalizes.as_slice());
+    assert!(rt; matches!(made, Err(error) if error == few));
+    let made = Finalization::from_owned_finalizes(alloc, &scheme, finalizes);
+    assert!(rt; matches!(made, Err(error) if error == few));
+    Ok(())
+}
+
+/// Whether the participant of a committee of one signs a proposal, and its attestation makes a certificate of it, nobody signs,
+/// and no attestations are too few. `room` has room for one.
+fn is_assembled<S: Scheme<D>, D: Digest>(
+    alloc: Global,
+    me: &S,
+    nobody: &S,
+    mut room: Vec<Attestation<S>>,
+    proposal: &Proposal<D>,
+) -> bool {
+    room.clear();
+    let Ok(None) = nobody.sign(alloc, Subject::Notarize { proposal }) else {
+        return false;
+    };
+    let Ok(Some(attestation)) = me.sign(alloc, Subject::Notarize { proposal }) else {
+        return false;
+    };
+    let is_valid = nobody.verify_attestation(Subject::Notarize { proposal }, &attestation);
+    let is_member = (attestation.signer.get() as usize) < me.participants().len();
+    if !is_valid || !is_member || room.push(attestation).is_err() {
+        return false;
+    }
+    let few = AssemblyError::InsufficientAttestations(1, 0);
+    if !matches!(me.assemble(alloc, Vec::new(alloc)), Err(error) if error == few) {
+        return false;
+    }
+    let Ok(certificate) = me.assemble(alloc, room) else {
+        return false;
+    };
+    certificate.encode_size() <= S::max_certificate_size(1)
+        && nobody.verify_certificate(Subject::Notarize { proposal }, &certificate)
+        && nobody.verify_all(&[(Subject::Notarize { proposal }, &certificate)])
+}
+
+/// The proposal for this payload in round (0, 10), built on view 5.
+fn proposal<D: Digest>(payload: D) -> Proposal<D> {
+    let round = Round::new(Epoch::new(0), View::new(10));
+    Proposal::new(round, View::new(5), payload)
+}
+
+/// The proposal of the marked scheme for payload 6.
+fn marked_proposal() -> Proposal<MarkedDigest> {
+    proposal(MarkedDigest::from_bytes(&[6]))
+}
+
+/// The set of the key of zeros.
+fn key_of_zeros(alloc: Global) -> Result<Set<PlainKey>, Fail> {
+    let mut keys = Vec::new(alloc);
+    keys.push(PlainKey::from_bytes(&[0; 32]))?;
+    Ok(Set::try_from_vec(keys)?)
+}
+
+#[test]
+fn without_memory_marked(rt: HostRuntime) -> Result<(), Fail> {
+    let alloc = rt.alloc();
+    let me = Marked::new(alloc, 1, Some(Participant::new(0)))?;
+    let nobody = Marked::new(alloc, 1, None)?;
+    let room = Vec::with_capacity(alloc, 1)?;
+    let _ = is_out(alloc);
+    assert!(rt; is_assembled(alloc, &me, &nobody, room, &marked_proposal()));
+    Ok(())
+}
+
+#[test]
+fn without_memory_plain(rt: HostRuntime) -> Result<(), Fail> {
+    let alloc = rt.alloc();
+    let (keys, others, members) = (
+        key_of_zeros(alloc)?,
+        key_of_zeros(alloc)?,
+        key_of_zeros(alloc)?,
+    );
+    assert!(rt; keys.len() == 1 && others.len() == 1 && members.len() == 1);
+    let me = Plain::signer(alloc, b"test", keys, &PlainKey::from_bytes(&[0; 32]))?;
+    let nobody = Plain::verifier(alloc, b"test", others)?;
+    let room = Vec::with_capacity(alloc, 1)?;
+    let _ = is_out(alloc);
+    let proposal = proposal(Sha256Digest::from_bytes(&[6; 32]));
+    assert!(rt; matches!(&me, Some(me) if is_assembled(alloc, me, &nobody, room, &proposal)));
+    let stranger = PlainKey::from_bytes(&[1; 32]);
+    assert!(rt; matches!(Plain::signer(alloc, b"test", members, &stranger), Ok(None)));
+    Ok(())
+}
+
+/// Keys become a set in place, and a repeated one is refused.
+#[test]
+fn without_memory_sets(rt: HostRuntime) -> Result<(), Fail> {
+    let falling = [3, 1, 2].to_vec(rt.alloc())?;
+    let repeated = [1, 2, 1].to_vec(rt.alloc())?;
+    let _ = is_out(rt.alloc());
+    let set = Set::<u32>::try_from_vec(falling)?;
+    assert!(rt; set.len() == 3 && set.position(&3) == Some(2));
+    let set = Set::<u32>::try_from_vec(repeated);
+    assert!(rt; matches!(set, Err(SetError::Repeated)));
+    Ok(())
+}
