@@ -65,9 +65,7 @@ pub(crate) fn conclude<E: Write>(errors: &mut E, ended: Result<Option<Fault>, Fa
     match ended {
         Ok(None) => Status::Whole,
         Ok(Some(fault)) => {
-            if let Ok(text) = complaint(fault.place) {
-                say(errors, text.as_bytes());
-            }
+            say(errors, complaint(fault.place).as_bytes());
             Status::Fault
         }
         Err(failure) => {

@@ -1,13 +1,13 @@
 //! How the program ends, and what it says then.
 
-ghost use Rattle.std.specs.Prelude.{◌≡◌, IfOk};
+ghost use Rattle.std.specs.Prelude.{◌≡◌};
 ghost use Rattle.audit_cli.specs.Status.{number_of, status_after, complaint_of, complaint_at, failure_of};
 
 use arrayvec::ArrayString;
+use itoa::Buffer;
 use simplex_audit::run::RunError;
+use simplex_base::values::ExactClone;
 use std::alloc::AllocError;
-use std::fmt;
-use std::fmt::Write;
 
 /// How the program ends.
 #[derive(Clone, Copy, Debug, PartialEq, Eq)]
@@ -20,6 +20,10 @@ pub enum Status {
     Usage,
     /// A read, a write or memory failed.
     Failed,
+}
+
+impl ExactClone for Status {
+    ghost exact = { λ x y same. same };
 }
 
 impl Status {
@@ -71,6 +75,10 @@ impl From<RunError> for Failure {
     }
 }
 
+impl ExactClone for Failure {
+    ghost exact = { λ x y same. same };
+}
+
 impl Failure {
     /// The status after this failure: `Usage` for the arguments, else `Failed`.
     pub fn status(self) -> Status
@@ -95,12 +103,15 @@ impl Failure {
     }
 }
 
-/// What is said on standard error of a fault at a byte, with its line's end. It takes no memory. The longest is 42 bytes
-/// long.
-pub fn complaint(place: usize) -> Result<ArrayString<64>, fmt::Error>
-    ensures { IfOk result (λ text. text.bytes ≡ complaint_at place) }
+/// What is said on standard error of a fault at a byte, with its line's end. It takes no memory, and the longest, of 42 bytes,
+/// has room.
+pub fn complaint(place: usize) -> ArrayString<64>
+    ensures { result.bytes ≡ complaint_at place }
 {
+    let mut number = Buffer::new();
     let mut text = ArrayString::new();
-    writeln!(text, "audit: fault at byte {place}")?;
-    Ok(text)
+    text.push_str("audit: fault at byte ");
+    text.push_str(number.format(place));
+    text.push_str("\n");
+    text
 }

@@ -7,19 +7,18 @@ use Rattle.simplex_base.specs.Format.{Format}
 use Rattle.simplex_base.specs.declared.codec.error.Error.{Error}
 use Rattle.simplex_evidence.specs.declared.types.activity.Activity.{Activity}
 use Rattle.simplex_kept.specs.Committees.{Schedule}
-use Rattle.simplex_kept.specs.Evidence.{IsEvidence}
-use Rattle.simplex_kept.specs.Laws.{IsEvidenceAgain}
-use Rattle.simplex_kept.specs.Rules.{Rules, AreLawful, good_votes}
+use Rattle.simplex_kept.specs.Rules.{Rules, AreLawful}
 use Rattle.simplex_kept.specs.Seen.{Recalls, RecallsMore}
 use Rattle.simplex_kept.specs.declared.seen.Seen.{Seen}
 use Rattle.simplex_audit.specs.Auditor.{Stands, Holds}
 use Rattle.simplex_audit.specs.Basis.{Basis}
 use Rattle.simplex_audit.specs.Progress.{IsProgress}
-use Rattle.simplex_audit.specs.Headline.{ReadsAgain}
-use Rattle.simplex_audit.specs.Report.{IsReport, as_messages, evidence_in}
+use Rattle.simplex_audit.specs.Headline.{IsAudit}
+use Rattle.simplex_audit.specs.Report.{IsReport, as_messages}
 use Rattle.simplex_audit.specs.declared.audit.Report.{Report}
 use Rattle.simplex_audit.specs.declared.auditor.Auditor.{Auditor}
-use Rattle.simplex_audit.proofs.StreamLemmas.{IsNeverEmpty, are_joined, nothing_stuck, progress_of_pieces}
+use Rattle.simplex_audit.proofs.NamesLemmas.{Laws, audited}
+use Rattle.simplex_audit.proofs.StreamLemmas.{IsNeverEmpty, nothing_stuck, progress_of_pieces}
 
 -- ---- from message to message
 
@@ -148,16 +147,12 @@ stands_reported {S} basis auditor place report at is committees stream h =
     let here : reported auditor.committees.now = λ lawful read. is stream auditor.taken.rest.items lawful (at ∙ h.fed.fed_is) read in
     subst reported h.fed.committees_are here h.fed.lawful h.progress
 
--- the evidence of that report can be spelled, and read again it gives itself
-pub stands_again : {S D C P G : Type 0} (basis : Schedule S → Basis S D C P G) (auditor : Auditor S D P G) (report : Report S D P G) →
-    ((committees : Schedule S) → IsNeverEmpty (basis committees).format) →
-    ((committees : Schedule S) (messages : List (Activity S D C P G)) → AreLawful (basis committees).rules → IsEvidence (basis committees).rules.eq (good_votes (basis committees).rules messages) (evidence_in report) → IsEvidenceAgain (basis committees).rules report.evidence.items) →
+-- and all that an audit says holds of it, where its evidence can be spelled
+pub stands_audited : {S D C P G : Type 0} (basis : Schedule S → Basis S D C P G) (auditor : Auditor S D P G) (report : Report S D P G) →
+    ((committees : Schedule S) → IsNeverEmpty (basis committees).format) → ((committees : Schedule S) → Laws (basis committees).rules) →
     ((committees : Schedule S) (stream : List ℕ) → Stands basis committees auditor stream → IsReport (basis committees) stream report) →
     All (basis auditor.committees.now).format.is_value (as_messages report) →
-    (committees : Schedule S) (stream : List ℕ) → Stands basis committees auditor stream → ReadsAgain (basis committees) report
-stands_again {S} basis auditor report some again is each committees stream h =
-    let reported = is committees stream h in
-    record {
-      stream = are_joined (basis committees).format (some committees) (as_messages report) (subst (λ (s : Schedule S). All (basis s).format.is_value (as_messages report)) h.fed.committees_are each);
-      evidence = again committees reported.messages h.fed.lawful reported.evidence_is;
-    }
+    (committees : Schedule S) (stream : List ℕ) → Stands basis committees auditor stream → IsAudit (basis committees) stream report
+stands_audited {S} basis auditor report some laws is each committees stream h =
+    audited (basis committees) h.fed.readable (some committees) h.fed.lawful (laws committees) stream report (is committees stream h)
+    (subst (λ (s : Schedule S). All (basis s).format.is_value (as_messages report)) h.fed.committees_are each)

@@ -1,18 +1,25 @@
 -- What a report says of the messages of its stream.
-use Rattle.std.proofs.Common.{ℕ, List, ◌++◌, subst, sym, Result, Ok, Err, IfOk}
-use Rattle.std.specs.Prelude.{IsTrue}
+use Rattle.std.proofs.Common.{ℕ, List, ◌++◌, map, subst, sym, Result, Ok, Err, IfOk}
+use Rattle.std.specs.Prelude.{All, IsTrue}
 use Rattle.simplex_base.specs.Format.{Format, IsLawful}
+use Rattle.simplex_votes.specs.Votes.{Vote}
+use Rattle.simplex_evidence.specs.Contradiction.{Evidence}
 use Rattle.simplex_evidence.specs.declared.types.activity.Activity.{Activity}
-use Rattle.simplex_kept.specs.Evidence.{IsEvidence}
-use Rattle.simplex_kept.specs.Laws.{NamesStay}
+use Rattle.simplex_kept.specs.Evidence.{IsEvidence, IsEquivocation}
+use Rattle.simplex_kept.specs.Laws.{EvidenceIsUnique, NamesExactly, NamedInAnyOrder, NamesStay, IsEvidenceAgain}
 use Rattle.simplex_kept.specs.Named.{Named, is_named}
-use Rattle.simplex_kept.specs.Rules.{Rules, good_votes}
+use Rattle.simplex_kept.specs.Rules.{Rules, AreLawful, good_votes}
 use Rattle.simplex_kept.specs.Splits.{AreSplits}
+use Rattle.simplex_kept.specs.SplitLaws.{EnoughAreNamed, SignersAreAccountable, SplitsAreUnique, SplitsHaveNames}
+use Rattle.simplex_kept.specs.Values.{evidence_value, message_of}
+use Rattle.simplex_kept.specs.declared.evidence.Evidence as kept
+use Rattle.simplex_kept.specs.declared.split.Split.{Split}
 use Rattle.simplex_audit.specs.Basis.{Basis}
+use Rattle.simplex_audit.specs.Headline.{NamesExactlyThem, ShowsTwoVotes, HasNoOtherEvidence, ShowsForks, ReadsAgain, IsAudit}
 use Rattle.simplex_audit.specs.Messages.{AreMessages}
-use Rattle.simplex_audit.specs.Report.{IsReport, evidence_in}
+use Rattle.simplex_audit.specs.Report.{IsReport, as_messages, evidence_in}
 use Rattle.simplex_audit.specs.declared.audit.Report.{Report}
-use Rattle.simplex_audit.proofs.StreamLemmas.{messages_once, messages_continue}
+use Rattle.simplex_audit.proofs.StreamLemmas.{IsNeverEmpty, are_joined, messages_once, messages_continue}
 
 -- what follows from an answer
 pub if_ok : {X E : Type 0} (Given Wanted : X → Type 0) → ((x : X) → Given x → Wanted x) → (r : Result X E) → IfOk r Given → IfOk r Wanted
@@ -42,3 +49,43 @@ pub names_stay : {S D C P G : Type 0} (format : Format (Activity S D C P G)) (ru
 names_stay format rules law stream more rest left messages later stay are are' n h =
     let c = messages_continue format law stream more rest left messages later are are' in
     subst (λ ms. IsTrue (is_named rules.eq (good_votes rules ms) n)) (sym c.same) (stay c.further n h)
+
+-- what holds of any messages by these rules
+pub record Laws {S D C P G : Type 0} (rules : Rules S D C P G) : Type 0 where
+  pub any_order : (messages : List (Activity S D C P G)) → NamedInAnyOrder rules messages
+  pub later : (messages : List (Activity S D C P G)) → NamesStay rules messages
+  pub names : (vs : List (Vote D G)) (es : List (Evidence D G)) → IsEvidence rules.eq vs es → NamesExactly rules.eq vs es
+  pub sound : (vs : List (Vote D G)) (es : List (Evidence D G)) → IsEvidence rules.eq vs es → All (IsEquivocation rules.eq vs) es
+  pub only : (vs : List (Vote D G)) (es : List (Evidence D G)) → IsEvidence rules.eq vs es → EvidenceIsUnique rules.eq vs es
+  pub again : (messages : List (Activity S D C P G)) (es : List (kept.Evidence S D P G)) → AreLawful rules → IsEvidence rules.eq (good_votes rules messages) (map evidence_value es) → IsEvidenceAgain rules es
+  pub enough : (messages : List (Activity S D C P G)) → AreLawful rules → EnoughAreNamed rules messages
+  pub signers : (messages : List (Activity S D C P G)) → AreLawful rules → SignersAreAccountable rules messages
+  pub only_splits : (messages : List (Activity S D C P G)) (splits : List Split) → AreSplits rules messages splits → SplitsAreUnique rules messages splits
+  pub split_names : (messages : List (Activity S D C P G)) (splits : List Split) → AreLawful rules → AreSplits rules messages splits → SplitsHaveNames splits
+
+-- the report of a stream, whose evidence can be spelled, is that of an audit
+pub audited : {S D C P G : Type 0} (basis : Basis S D C P G) → IsLawful basis.format → IsNeverEmpty basis.format → AreLawful basis.rules → Laws basis.rules →
+    (stream : List ℕ) (report : Report S D P G) → IsReport basis stream report → All basis.format.is_value (as_messages report) → IsAudit basis stream report
+audited basis law some lawful laws stream report is each =
+    let of_evidence = report_evidence basis law stream report is in
+    let of_splits = report_splits basis law stream report is in
+    record {
+      report_is = is;
+      single = λ messages others rest left are are'. messages_once basis.format law stream rest left messages others are are';
+      names = λ messages rest are. laws.names (good_votes basis.rules messages) (evidence_in report) (of_evidence messages rest are);
+      sound = λ messages rest are. laws.sound (good_votes basis.rules messages) (evidence_in report) (of_evidence messages rest are);
+      only = λ messages rest are. laws.only (good_votes basis.rules messages) (evidence_in report) (of_evidence messages rest are);
+      any_order = laws.any_order;
+      stays = λ more n messages rest are later left are'. names_stay basis.format basis.rules law stream more rest left messages later (laws.later messages) are are' n;
+      enough = λ messages rest are. laws.enough messages lawful;
+      splits = record {
+        are_splits = of_splits;
+        only = λ messages rest are. laws.only_splits messages report.splits.items (of_splits messages rest are);
+        enough = laws.split_names is.messages report.splits.items lawful is.splits_are;
+      };
+      accountable = λ messages rest are. laws.signers messages lawful;
+      again = record {
+        stream = are_joined basis.format some (as_messages report) each;
+        evidence = laws.again is.messages report.evidence.items lawful is.evidence_is;
+      };
+    }

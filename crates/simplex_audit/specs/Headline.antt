@@ -10,7 +10,7 @@ use Rattle.simplex_kept.specs.Splits.{AreSplits}
 use Rattle.simplex_kept.specs.SplitLaws.{EnoughAreNamed, SignersAreAccountable, SplitsAreUnique, SplitsHaveNames}
 use Rattle.simplex_audit.specs.Basis.{Basis}
 use Rattle.simplex_audit.specs.Messages.{AreMessages}
-use Rattle.simplex_audit.specs.Report.{evidence_in, as_messages}
+use Rattle.simplex_audit.specs.Report.{IsReport, evidence_in, as_messages}
 use Rattle.simplex_audit.specs.declared.audit.Report.{Report}
 
 -- something holds of the messages of the stream
@@ -66,3 +66,19 @@ pub record ShowsForks {S D C P G : Type 0} (basis : Basis S D C P G) (stream : L
 pub record ReadsAgain {S D C P G : Type 0} (basis : Basis S D C P G) (report : Report S D P G) : Type 0 where
   pub stream : AreMessages basis.format (flat_map basis.format.spelling (as_messages report)) (as_messages report) []
   pub evidence : IsEvidence basis.rules.eq (good_votes basis.rules (as_messages report)) (evidence_in report)
+
+-- The report is that of an audit of the stream: all that an audit says of a stream, and of its report. The evidence names
+-- exactly who cast two good votes that contradict, each by two such votes, and the splits are the rounds with certified messages
+-- that contradict.
+pub record IsAudit {S D C P G : Type 0} (basis : Basis S D C P G) (stream : List ℕ) (report : Report S D P G) : Type 0 where
+  pub report_is : IsReport basis stream report
+  pub single : HasOneReading basis stream
+  pub names : NamesExactlyThem basis stream report
+  pub sound : ShowsTwoVotes basis stream report
+  pub only : HasNoOtherEvidence basis stream report
+  pub any_order : NamesInAnyOrder basis
+  pub stays : NamesStayWithMore basis stream
+  pub enough : ForksNameEnough basis stream
+  pub splits : ShowsForks basis stream report
+  pub accountable : SignersOfBothAreNamed basis stream
+  pub again : ReadsAgain basis report

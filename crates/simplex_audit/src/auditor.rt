@@ -1,9 +1,8 @@
 //! The audit of a stream that comes in pieces.
 
 ghost use Rattle.std.specs.Prelude.{◌≡◌, ◌+◌, ◌<◌, ◌≤◌, ◌^◌, ◌-◌, min, vec_len, ℕ, List, [], ◌++◌, length, drop, IfOk};
-ghost use Rattle.simplex_audit.specs.Headline.{HasOneReading, ReadsAgain};
+ghost use Rattle.simplex_audit.specs.Headline.{HasOneReading, IsAudit};
 ghost use Rattle.simplex_audit.specs.Messages.{AreMessages};
-ghost use Rattle.simplex_audit.specs.Report.{IsReport};
 ghost use Rattle.simplex_evidence.specs.declared.types.activity.Activity.{Activity};
 ghost use Rattle.simplex_kept.specs.Committees.{Schedule};
 ghost use Rattle.simplex_kept.specs.KeptVotes.{KeptAreSlots, FewAreKept, votes_kept};
@@ -15,7 +14,10 @@ use crate::reading::{read_messages, reading_bound};
 use crate::reporting::make_report;
 use simplex_base::codec::error::Error;
 use simplex_kept::committees::Committees;
-use simplex_kept::laws::{evidence_is_determined, few_votes_are_kept, kept_votes_have_room};
+use simplex_kept::laws::{
+    certificates_are_accountable, evidence_is_determined, few_votes_are_kept, kept_votes_have_room,
+    names_stay, splits_are_determined,
+};
 use simplex_kept::seen::Seen;
 use simplex_scheme::scheme::{Digest, Listing, SchemeTypes};
 use std::alloc::{AllocError, Global};
@@ -213,16 +215,17 @@ impl<'a, S: Listing<D>, D: Digest> Auditor<'a, S, D> {
 
     /// What the audit of the stream finds.
     pub fn report(&self) -> Result<Report<S, D>, AllocError>
-        ensures report { IfOk result (λ report. (committees : Schedule S) (stream : List ℕ) →
-            Stands ⟦<S as Audited<D>>⟧.basis committees self.now stream → IsReport (⟦<S as Audited<D>>⟧.basis committees) stream report) }
+        // All that `audit` says of a stream and of its report holds of each stream that the auditor stands for.
+        ensures audit { IfOk result (λ report. (committees : Schedule S) (stream : List ℕ) →
+            Stands ⟦<S as Audited<D>>⟧.basis committees self.now stream → IsAudit (⟦<S as Audited<D>>⟧.basis committees) stream report) }
         // Each stream has one list of messages.
         ensures single { (committees : Schedule S) (stream other : List ℕ) →
             Stands ⟦<S as Audited<D>>⟧.basis committees self.now stream → HasOneReading (⟦<S as Audited<D>>⟧.basis committees) other }
-        // The evidence is enough: spelled as messages and audited again, it gives itself in the same order.
-        ensures again { IfOk result (λ report. (committees : Schedule S) (stream : List ℕ) →
-            Stands ⟦<S as Audited<D>>⟧.basis committees self.now stream → ReadsAgain (⟦<S as Audited<D>>⟧.basis committees) report) }
     {
+        names_stay::<S, D>();
         evidence_is_determined::<S, D>();
+        certificates_are_accountable::<S, D>();
+        splits_are_determined::<S, D>();
         let alloc = *self.taken.rest.allocator();
         let rest = self.taken.rest.as_slice();
         let place = self.taken.fed - rest.len();

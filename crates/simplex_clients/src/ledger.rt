@@ -75,7 +75,6 @@ impl<'a, S: Listing<D>, D: Digest> Ledger<'a, S, D> {
             WasFed ⟦<S as Audited<D>>⟧.basis committees self.now stream →
             IsEvidenceOf (⟦<S as Audited<D>>⟧.basis committees) stream held.items) }
     {
-        evidence_is_determined::<S, D>();
         let report = self.auditor.report()?;
         Ok(report.evidence)
     }
