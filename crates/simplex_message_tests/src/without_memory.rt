@@ -4,13 +4,16 @@
 //! later one leaves the calls behind it without memory; under any other allocator they are made with memory.
 
 use simplex_base::codec::error::Error;
-use simplex_base::codec::{EncodeSize, Fixed, Read, decode, decode_cfg, read_value};
+use simplex_base::codec::{
+    EncodeSize, Fixed, MaxEncodeSize, Read, ReadExt, decode, decode_cfg, read_value,
+};
 use simplex_base::positions::{Epoch, Epochable, Participant, Round, View, Viewable};
 use simplex_evidence::types::{
     Activity, ConflictingFinalize, ConflictingNotarize, NullifyFinalize,
 };
 use simplex_plain::marked::{Marked, MarkedDigest, MarkedKey};
 use simplex_plain::plain::{Plain, PlainKey};
+use simplex_scheme::assembly::can_assemble;
 use simplex_scheme::proposal::Proposal;
 use simplex_scheme::scheme::{AssemblyError, Attestation, Digest, Scheme, Sha256Digest};
 use simplex_scheme::set::{Set, SetError};
@@ -34,7 +37,7 @@ pub(crate) fn is_out(alloc: Global) -> bool {
 }
 
 /// Whether a value is read from the front of its encoding, and the encoding without its last byte is refused for that alone.
-fn is_read<T: Read<Cfg = ()> + EncodeSize + Drop>(alloc: Global, encoding: &[u8]) -> bool {
+fn is_read<T: ReadExt + EncodeSize + Drop>(alloc: Global, encoding: &[u8]) -> bool {
     let mut rest = encoding;
     let Ok(value) = read_value::<T>(alloc, &mut rest) else {
         return false;
@@ -74,8 +77,12 @@ fn is_stored(alloc: Global, vote: &[u8], artifact: &[u8]) -> bool {
     };
     let is_by = vote.signer() == Participant::new(1);
     let is_at = vote.epoch() == Epoch::new(0) && vote.view() == View::new(10);
+    let is_bounded = vote.bounded_encode_size() <= Vote::<Marked, MarkedDigest>::max_encode_size();
     let artifact = decode_cfg::<Artifact<Marked, MarkedDigest>>(alloc, artifact, &4);
-    is_by && is_at && matches!(artifact, Ok(artifact) if artifact == Artifact::from(vote))
+    is_by
+        && is_at
+        && is_bounded
+        && matches!(artifact, Ok(artifact) if artifact == Artifact::from(vote))
 }
 
 /// Whether participant 1 signs a vote of each kind that verifies, and nobody signs none.
@@ -298,8 +305,10 @@ fn is_assembled<S: Scheme<D>, D: Digest>(
         return false;
     };
     let is_valid = nobody.verify_attestation(Subject::Notarize { proposal }, &attestation);
-    let is_member = (attestation.signer.get() as usize) < me.participants().len();
-    if !is_valid || !is_member || room.push(attestation).is_err() {
+    if !is_valid || room.push(attestation).is_err() {
+        return false;
+    }
+    if !can_assemble(me, room.as_slice()) {
         return false;
     }
     let few = AssemblyError::InsufficientAttestations(1, 0);
@@ -373,5 +382,6 @@ fn without_memory_sets(rt: HostRuntime) -> Result<(), Fail> {
     assert!(rt; set.len() == 3 && set.position(&3) == Some(2));
     let set = Set::<u32>::try_from_vec(repeated);
     assert!(rt; matches!(set, Err(SetError::Repeated)));
+    assert!(rt; Set::<u32>::are_ascending(&[1, 2]) && !Set::<u32>::are_ascending(&[1, 1]));
     Ok(())
 }
