@@ -268,7 +268,11 @@ fn without_memory_builders(rt: HostRuntime) -> Result<(), Fail> {
         &[&[0, 10, 1, 0xaa], &[0, 10, 2, 0xaa]],
     )?;
     let finalizes = decoded::<Finalize<Marked, MarkedDigest>>(alloc, &(), &votes)?;
+    let distinct = decoded::<Attestation<Marked>>(alloc, &(), &[&[1, 0xaa], &[2, 0xaa]])?;
+    let repeated = decoded::<Attestation<Marked>>(alloc, &(), &[&[1, 0xaa], &[1, 0xaa]])?;
     let _ = is_out(alloc);
+    assert!(rt; can_assemble(&scheme, distinct.as_slice()));
+    assert!(rt; !can_assemble(&scheme, repeated.as_slice()));
     let few = AssemblyError::InsufficientAttestations(3, 2);
     assert!(rt; Notarization::can_assemble(&scheme, notarizes.as_slice()));
     let made = Notarization::from_notarizes(alloc, &scheme, notarizes.as_slice());
@@ -305,10 +309,8 @@ fn is_assembled<S: Scheme<D>, D: Digest>(
         return false;
     };
     let is_valid = nobody.verify_attestation(Subject::Notarize { proposal }, &attestation);
-    if !is_valid || room.push(attestation).is_err() {
-        return false;
-    }
-    if !can_assemble(me, room.as_slice()) {
+    let is_member = (attestation.signer.get() as usize) < me.participants().len();
+    if !is_valid || !is_member || room.push(attestation).is_err() {
         return false;
     }
     let few = AssemblyError::InsufficientAttestations(1, 0);
