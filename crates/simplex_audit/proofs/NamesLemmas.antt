@@ -11,11 +11,11 @@ use Rattle.simplex_kept.specs.Named.{Named, is_named}
 use Rattle.simplex_kept.specs.Rules.{Rules, AreLawful, good_votes}
 use Rattle.simplex_kept.specs.Splits.{AreSplits}
 use Rattle.simplex_kept.specs.SplitLaws.{EnoughAreNamed, SignersAreAccountable, SplitsAreUnique, SplitsHaveNames}
-use Rattle.simplex_kept.specs.Values.{evidence_value, message_of}
+use Rattle.simplex_kept.specs.Values.{evidence_value}
 use Rattle.simplex_kept.specs.declared.evidence.Evidence as kept
 use Rattle.simplex_kept.specs.declared.split.Split.{Split}
 use Rattle.simplex_audit.specs.Basis.{Basis}
-use Rattle.simplex_audit.specs.Headline.{NamesExactlyThem, ShowsTwoVotes, HasNoOtherEvidence, ShowsForks, ReadsAgain, IsAudit}
+use Rattle.simplex_audit.specs.Headline.{IsAudit}
 use Rattle.simplex_audit.specs.Messages.{AreMessages}
 use Rattle.simplex_audit.specs.Report.{IsReport, as_messages, evidence_in}
 use Rattle.simplex_audit.specs.declared.audit.Report.{Report}

@@ -1,5 +1,5 @@
 -- A certificate has no more attestations than its encoding has bytes.
-use Rattle.std.proofs.Common.{ℕ, ◌≤◌, List, [], ◌∷◌, length, arith, length-append}
+use Rattle.std.proofs.Common.{◌≤◌, List, [], ◌∷◌, length, arith, length-append}
 use Rattle.std.specs.List.{flat_map}
 use Rattle.simplex_base.specs.Format.{Format}
 use Rattle.simplex_base.specs.VarintLaws.{groups_some}
