@@ -11,6 +11,7 @@ use simplex_base::positions::{Epoch, Epochable, Participant, Round, View, Viewab
 use simplex_evidence::types::{
     Activity, ConflictingFinalize, ConflictingNotarize, NullifyFinalize,
 };
+use simplex_plain::listed::Listed;
 use simplex_plain::marked::{Marked, MarkedDigest, MarkedKey};
 use simplex_plain::plain::{Plain, PlainKey};
 use simplex_scheme::assembly::can_assemble;
@@ -309,12 +310,15 @@ fn is_assembled<S: Scheme<D>, D: Digest>(
         return false;
     };
     let is_valid = nobody.verify_attestation(Subject::Notarize { proposal }, &attestation);
-    let is_member = (attestation.signer.get() as usize) < me.participants().len();
-    if !is_valid || !is_member || room.push(attestation).is_err() {
+    if !is_valid || room.push(attestation).is_err() {
+        return false;
+    }
+    let none = Vec::new(alloc);
+    if !can_assemble(me, none.as_slice()) || !can_assemble(me, room.as_slice()) {
         return false;
     }
     let few = AssemblyError::InsufficientAttestations(1, 0);
-    if !matches!(me.assemble(alloc, Vec::new(alloc)), Err(error) if error == few) {
+    if !matches!(me.assemble(alloc, none), Err(error) if error == few) {
         return false;
     }
     let Ok(certificate) = me.assemble(alloc, room) else {
@@ -322,7 +326,19 @@ fn is_assembled<S: Scheme<D>, D: Digest>(
     };
     certificate.encode_size() <= S::max_certificate_size(1)
         && nobody.verify_certificate(Subject::Notarize { proposal }, &certificate)
-        && nobody.verify_all(&[(Subject::Notarize { proposal }, &certificate)])
+}
+
+/// Whether a certificate certifies a proposal, twice in one list.
+fn is_certified_twice(
+    scheme: &Marked,
+    proposal: &Proposal<MarkedDigest>,
+    certificate: &Listed<Marked>,
+) -> bool {
+    let items = [certificate, certificate].map(|certificate| {
+        let subject = Subject::Notarize { proposal };
+        (subject, certificate)
+    });
+    scheme.verify_all(&items)
 }
 
 /// The proposal for this payload in round (0, 10), built on view 5.
@@ -348,9 +364,13 @@ fn without_memory_marked(rt: HostRuntime) -> Result<(), Fail> {
     let alloc = rt.alloc();
     let me = Marked::new(alloc, 1, Some(Participant::new(0)))?;
     let nobody = Marked::new(alloc, 1, None)?;
+    let certificates = decoded::<Listed<Marked>>(alloc, &1, &[&[1, 0, 0xaa]])?;
     let room = Vec::with_capacity(alloc, 1)?;
     let _ = is_out(alloc);
     assert!(rt; is_assembled(alloc, &me, &nobody, room, &marked_proposal()));
+    for certificate in &certificates {
+        assert!(rt; is_certified_twice(&nobody, &marked_proposal(), certificate));
+    }
     Ok(())
 }
 
