@@ -16,7 +16,9 @@ use simplex_plain::marked::{Marked, MarkedDigest, MarkedKey};
 use simplex_plain::plain::{Plain, PlainKey};
 use simplex_scheme::assembly::can_assemble;
 use simplex_scheme::proposal::Proposal;
-use simplex_scheme::scheme::{AssemblyError, Attestation, Digest, Scheme, Sha256Digest};
+use simplex_scheme::scheme::{
+    AssemblyError, Attestation, CertificateVerifier, Digest, Scheme, Sha256Digest,
+};
 use simplex_scheme::set::{Set, SetError};
 use simplex_scheme::subject::Subject;
 use simplex_votes::types::{
