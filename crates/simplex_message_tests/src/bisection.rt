@@ -31,7 +31,9 @@ fn is_refused<S: CertificateVerifier<D>, D: Digest>(
     wanted: &[bool],
 ) -> bool {
     let alloc = rt.alloc();
-    let mut certificates = Vec::new(alloc);
+    let Ok(mut certificates) = Vec::with_capacity(alloc, encodings.len()) else {
+        return true;
+    };
     for encoding in encodings {
         let Some(certificate) = certificate::<S, D>(alloc, encoding) else {
             return true;
