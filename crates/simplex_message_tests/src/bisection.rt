@@ -50,12 +50,15 @@ fn is_refused<S: CertificateVerifier<D>, D: Digest>(
         };
         (subject, certificate)
     });
-    let Ok(items) = items.collect::<Vec<_>>(alloc) else {
+    let Ok(mut pairs) = Vec::with_capacity(alloc, encodings.len()) else {
         return true;
     };
-    let first = verify_certificates(alloc, scheme, items.as_slice());
+    if pairs.extend(items).is_err() {
+        return true;
+    }
+    let first = verify_certificates(alloc, scheme, pairs.as_slice());
     let refused = first.is_err();
-    let answers = first.or_else(|_| verify_certificates(alloc, scheme, items.as_slice()));
+    let answers = first.or_else(|_| verify_certificates(alloc, scheme, pairs.as_slice()));
     assert!(rt; matches!(&answers, Ok(answers) if answers.as_slice() == wanted));
     refused
 }
