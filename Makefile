@@ -5,7 +5,7 @@
 run:
 	cd crates/audit && rt run -- $$(cat args) < stdin
 
-# The gate: proves everything from nothing, tries the wrong bodies, runs the tests and the programs, and then tries what was
+# The gate: proves everything from nothing, tries the mutants, runs the tests and the programs, and then tries what was
 # built as its users would, and with each growth refused in turn.
 test:
 	.ci/gate

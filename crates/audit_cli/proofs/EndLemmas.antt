@@ -2,7 +2,7 @@
 use Rattle.std.proofs.Common.{◌≡◌, ◌⊎◌, inl, inr, ℕ, List, Option, Err, Ok, IsTrue, refl, sym, ap, subst}
 use Rattle.std.specs.Io.KnownBytes.{Keeps}
 use Rattle.simplex_plain.specs.Plain.{PlainScheme}
-use Rattle.simplex_kept.specs.Committees.{Schedule}
+use Rattle.simplex_detector.specs.Committees.{Schedule}
 use Rattle.simplex_audit.specs.Run.{AppendsBeginning}
 use Rattle.simplex_audit.specs.declared.audit.Fault.{Fault}
 use Rattle.simplex_audit.specs.declared.run.RunError.{RunError}

@@ -14,8 +14,8 @@ use Rattle.hex.specs.Hex.{decode_pairs}
 use Rattle.hex.specs.declared.error.FromHexError.{FromHexError}
 use Rattle.hex.specs.declared.error.FromHexError.TheVariants.{OddLength, InvalidStringLength}
 use Rattle.simplex_plain.specs.Plain.{PlainScheme}
-use Rattle.simplex_kept.specs.Committees.{AreRising}
-use Rattle.audit_cli.specs.Arguments.{IsCommittee, AreGroups, BeginsGroup, StandsBeforeGroup, epoch_text, key_of, key_named, keys_named, with_key}
+use Rattle.simplex_detector.specs.Committees.{AreRising}
+use Rattle.audit_cli.specs.Arguments.{IsNamedCommittee, AreGroups, BeginsGroup, StandsBeforeGroup, epoch_text, key_of, key_named, keys_named, with_key}
 
 -- ---- keys and groups
 
@@ -94,7 +94,7 @@ pub record FirstGroup (namespace : List ℕ) (text : List ℕ) (behind : List (L
   pub pairs_are : pairs ≡ pair ∷ more
   pub text_is : text ≡ epoch_text pair.0
   pub small : pair.0 < 2 ^ 64
-  pub ends : (n : ℕ) → All (λ t. BeginsGroup t → ⊥) (take n behind) → StandsBeforeGroup (drop n behind) → IsCommittee namespace (take n behind) pair.1 × AreGroups namespace (drop n behind) more
+  pub ends : (n : ℕ) → All (λ t. BeginsGroup t → ⊥) (take n behind) → StandsBeforeGroup (drop n behind) → IsNamedCommittee namespace (take n behind) pair.1 × AreGroups namespace (drop n behind) more
 
 pub first_group : (namespace : List ℕ) (text : List ℕ) (behind : List (List ℕ)) (pairs : List (ℕ × PlainScheme)) → AreGroups namespace (text ∷ behind) pairs → FirstGroup namespace text behind pairs
 first_group namespace text behind [] e = absurd cc
@@ -108,7 +108,7 @@ first_group namespace text behind (pair ∷ more) (keys, rest, e, small, is, oth
       let parts : behind ≡ keys ++ rest = ap (drop 1) e in
       let same = same_front keys rest n (keys_begin_no_group keys is.keys is.named.named) (groups_stand namespace rest more others)
       (subst (λ ts. All (λ t. BeginsGroup t → ⊥) (take n ts)) parts none) (subst (λ ts. StandsBeforeGroup (drop n ts)) parts stands) in
-      (subst (λ ts. IsCommittee namespace ts pair.1) (same.0 ∙ ap (take n) (sym parts)) is, subst (λ ts. AreGroups namespace ts more) (same.1 ∙ ap (drop n) (sym parts)) others);
+      (subst (λ ts. IsNamedCommittee namespace ts pair.1) (same.0 ∙ ap (take n) (sym parts)) is, subst (λ ts. AreGroups namespace ts more) (same.1 ∙ ap (drop n) (sym parts)) others);
 }
 
 -- ---- epochs that rise
@@ -165,7 +165,7 @@ risen {S} pairs before more p rising same k d lt =
 -- the next group in front of more
 pub next_group : (namespace : List ℕ) (rest behind keys after : List (String Global)) (first : String Global) (n epoch : ℕ) (committee : PlainScheme) (more : List (ℕ × PlainScheme))
     → rest ≡ first ∷ behind → string_bytes first ≡ epoch_text epoch → epoch < 2 ^ 64 → keys ≡ take n behind → after ≡ drop n behind
-    → IsCommittee namespace (map string_bytes keys) committee → AreGroups namespace (map string_bytes after) more → AreGroups namespace (map string_bytes rest) ((epoch, committee) ∷ more)
+    → IsNamedCommittee namespace (map string_bytes keys) committee → AreGroups namespace (map string_bytes after) more → AreGroups namespace (map string_bytes rest) ((epoch, committee) ∷ more)
 next_group namespace rest behind keys after first n epoch committee more whole begins small front back is others =
     let parts : behind ≡ keys ++ after = sym (take-append-drop n behind) ∙ (λ i. sym front i ++ sym back i) in
     let split : map string_bytes behind ≡ map string_bytes keys ++ map string_bytes after = ap (map string_bytes) parts ∙ map-append string_bytes keys after in (

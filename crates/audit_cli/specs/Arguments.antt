@@ -8,7 +8,7 @@ use Rattle.hex.specs.Hex.{decode_sized}
 use Rattle.hex.specs.declared.error.FromHexError.{FromHexError}
 use Rattle.simplex_scheme.specs.Namespace.{names_of}
 use Rattle.simplex_plain.specs.Plain.{PlainScheme}
-use Rattle.simplex_kept.specs.Committees.{Schedule, Every, Listed, AreRising}
+use Rattle.simplex_detector.specs.Committees.{Schedule, Every, Listed, AreRising}
 
 -- the words of the arguments of a process: those after the program's name
 abbrev pub words_of : List (String Global) → List (List ℕ)
@@ -35,7 +35,7 @@ keys_named [] = Some []
 keys_named (text ∷ texts) = with_key (key_named text) (keys_named texts)
 
 -- the texts name these keys: at least one, fewer than 2^32, and none twice
-pub record AreKeys (texts : List (List ℕ)) (keys : List (List ℕ)) : Type 0 where
+pub record AreKeyTexts (texts : List (List ℕ)) (keys : List (List ℕ)) : Type 0 where
   pub named : keys_named texts ≡ Some keys
   pub some : 1 ≤ length keys
   pub few : length keys < 2 ^ 32
@@ -43,7 +43,7 @@ pub record AreKeys (texts : List (List ℕ)) (keys : List (List ℕ)) : Type 0 w
 
 -- the texts name no such keys
 abbrev pub AreNoKeys : List (List ℕ) → Type 0
-AreNoKeys texts = (keys : List (List ℕ)) → ¬ AreKeys texts keys
+AreNoKeys texts = (keys : List (List ℕ)) → ¬ AreKeyTexts texts keys
 
 -- these keys ascend: each is before the next by the first byte in which they differ
 abbrev pub Ascend : List (List ℕ) → Type 0
@@ -51,10 +51,10 @@ Ascend = IsStrictlySortedBy (slice_cmp nat_cmp)
 
 -- the scheme verifies for the committee whose keys the texts name: whatever their order there, a participant's number is
 -- the place of its key among them in ascending order
-pub record IsCommittee (namespace : List ℕ) (texts : List (List ℕ)) (scheme : PlainScheme) : Type 0 where
+pub record IsNamedCommittee (namespace : List ℕ) (texts : List (List ℕ)) (scheme : PlainScheme) : Type 0 where
   pub keys : List (List ℕ)
   pub participants : List (List ℕ)
-  pub named : AreKeys texts keys
+  pub named : AreKeyTexts texts keys
   pub same : IsPermutation keys participants
   pub ascending : Ascend participants
   pub verifies : scheme ≡ record { names = names_of namespace; keys = participants; me = None }
@@ -76,11 +76,11 @@ epoch_text epoch = codes "@" ++ decimal epoch
 abbrev pub AreGroups : List ℕ → List (List ℕ) → List (ℕ × PlainScheme) → Type 0
 AreGroups namespace texts [] = texts ≡ []
 AreGroups namespace texts (pair ∷ pairs) =
-    (keys rest : List (List ℕ)) × (texts ≡ epoch_text pair.0 ∷ (keys ++ rest)) × (pair.0 < 2 ^ 64) × IsCommittee namespace keys pair.1 × AreGroups namespace rest pairs
+    (keys rest : List (List ℕ)) × (texts ≡ epoch_text pair.0 ∷ (keys ++ rest)) × (pair.0 < 2 ^ 64) × IsNamedCommittee namespace keys pair.1 × AreGroups namespace rest pairs
 
 -- the texts name one committee for every epoch, or in groups one for each of some epochs, which rise strictly
 abbrev pub NameCommittees : List ℕ → List (List ℕ) → Schedule PlainScheme → Type 0
-NameCommittees namespace texts (Every committee) = IsCommittee namespace texts committee
+NameCommittees namespace texts (Every committee) = IsNamedCommittee namespace texts committee
 NameCommittees namespace texts (Listed pairs) = (pairs ≢ []) × AreRising pairs × AreGroups namespace texts pairs
 
 -- the words are a namespace and texts that name these committees

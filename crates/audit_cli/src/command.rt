@@ -26,12 +26,22 @@ fn audit_input<R: Read, W: Write>(
     requires input_well { has_failed input.old ≡ false }
     requires output_well { has_failed output.old ≡ false }
     ensures ends { Ends ⟦<Plain as Audited<Sha256Digest>>⟧.basis (map string_bytes arguments.now)
-        (record { before = R.remaining (inner_of input.old); after = R.remaining (inner_of input.new); failed = has_failed input.new })
-        (record { before = W.contents (inner_of output.old); after = W.contents (inner_of output.new); failed = has_failed output.new; flushed = is_flushed output.new })
+        (record {
+          before = R.remaining (inner_of input.old);
+          after = R.remaining (inner_of input.new);
+          failed = has_failed input.new;
+        })
+        (record {
+          before = W.contents (inner_of output.old);
+          after = W.contents (inner_of output.new);
+          failed = has_failed output.new;
+          flushed = is_flushed output.new;
+        })
         result }
     ensures read_failed { IsTrue (has_failed input.new) → result ≡ Err Failure.Read }
     ensures write_failed { IsTrue (has_failed output.new) → result ≡ Err Failure.Write }
-    ensures untouched { AreNoArguments (map string_bytes arguments.now) → (input.new ≡ input.old) × (output.new ≡ output.old) }
+    ensures untouched { AreNoArguments (map string_bytes arguments.now) → (input.new ≡ input.old) ×
+        (output.new ≡ output.old) }
 {
     let committees = arguments::parse(alloc, arguments)?;
     let summary = run::<Plain, Sha256Digest, R, W>(alloc, &committees, input, output)?;
@@ -91,16 +101,27 @@ pub fn command<R: Read, W: Write, E: Write>(
     ensures ends { (ending : Ending) × (result ≡ status_of ending)
         × AppendsBeginning (E.contents errors.old) (E.contents errors.new) (said_of ending)
         × Ends ⟦<Plain as Audited<Sha256Digest>>⟧.basis (map string_bytes arguments.now)
-        (record { before = R.remaining (inner_of input.old); after = R.remaining (inner_of input.new); failed = has_failed input.new })
-        (record { before = W.contents (inner_of output.old); after = W.contents (inner_of output.new); failed = has_failed output.new; flushed = is_flushed output.new })
+        (record {
+          before = R.remaining (inner_of input.old);
+          after = R.remaining (inner_of input.new);
+          failed = has_failed input.new;
+        })
+        (record {
+          before = W.contents (inner_of output.old);
+          after = W.contents (inner_of output.new);
+          failed = has_failed output.new;
+          flushed = is_flushed output.new;
+        })
         ending }
     // Where a device failed the status tells it, and nothing else is said.
     ensures read_failed { IsTrue (has_failed input.new) → (result ≡ Status.Failed)
         × AppendsBeginning (E.contents errors.old) (E.contents errors.new) (complaint_of Failure.Read) }
     ensures write_failed { IsTrue (has_failed output.new) → (result ≡ Status.Failed)
         × AppendsBeginning (E.contents errors.old) (E.contents errors.new) (complaint_of Failure.Write) }
-    ensures refused { AreNoArguments (map string_bytes arguments.now) → (result ≡ Status.Usage) ⊎ (result ≡ Status.Failed) }
-    ensures untouched { AreNoArguments (map string_bytes arguments.now) → (input.new ≡ input.old) × (output.new ≡ output.old) }
+    ensures refused { AreNoArguments (map string_bytes arguments.now) → (result ≡ Status.Usage) ⊎
+        (result ≡ Status.Failed) }
+    ensures untouched { AreNoArguments (map string_bytes arguments.now) → (input.new ≡ input.old) ×
+        (output.new ≡ output.old) }
 {
     let ended = audit_input(alloc, arguments, input, output);
     conclude(errors, ended)

@@ -1,7 +1,7 @@
 //! Groups of arguments, each an epoch and the keys of its committee.
 
 ghost use Rattle.std.specs.Prelude.{◌≡◌, ◌≢◌, ◌↔◌, ◌≤◌, ◌<◌, ◌^◌, ◌++◌, ◌⊎◌, ◌∷◌, ℕ, List, Ok, Err, All, IfOk, IfErr, map, length, take, drop, string_bytes, IsTrue, codes, decimal};
-ghost use Rattle.simplex_kept.specs.Committees.{AreRising};
+ghost use Rattle.simplex_detector.specs.Committees.{AreRising};
 ghost use Rattle.simplex_plain.specs.Plain.{PlainScheme};
 ghost use Rattle.audit_cli.specs.Arguments.{AreGroups, BeginsGroup, StandsBeforeGroup, epoch_text};
 
@@ -35,7 +35,8 @@ pub fn count_keys(texts: &[String]) -> usize
 /// The epoch whose group a text begins: `@` and decimal digits, without sign or leading zeros.
 fn parse_epoch(alloc: Global, text: &str) -> Result<Epoch, Failure>
     ensures epoch { IfOk result (λ epoch. text.now ≡ epoch_text epoch) }
-    ensures usage { result ≡ Err Failure.Usage → (epoch : ℕ) → epoch < 2 ^ 64 → text.now ≢ epoch_text epoch }
+    ensures usage { result ≡ Err Failure.Usage → (epoch : ℕ) → epoch < 2 ^ 64 →
+        text.now ≢ epoch_text epoch }
     ensures failure { IfErr result (λ e. (e ≡ Failure.Usage) ⊎ (e ≡ Failure.OutOfMemory)) }
 {
     let Some(digits) = text.strip_prefix('@') else {
@@ -44,8 +45,8 @@ fn parse_epoch(alloc: Global, text: &str) -> Result<Epoch, Failure>
     let Ok(epoch) = digits.parse::<u64>() else {
         return Err(Failure::Usage);
     };
-    let spelled = format!(in alloc; "@{epoch}")?;
-    if spelled.as_str() != text {
+    let encoded = format!(in alloc; "@{epoch}")?;
+    if encoded.as_str() != text {
         return Err(Failure::Usage);
     }
     Ok(Epoch::new(epoch))
@@ -68,7 +69,8 @@ pub fn parse_groups(
     namespace: &str,
     texts: &[String],
 ) -> Result<Vec<(Epoch, Plain)>, Failure>
-    ensures groups { IfOk result (λ pairs. AreGroups namespace.now (map string_bytes texts.now) pairs.items) }
+    ensures groups { IfOk result (λ pairs.
+        AreGroups namespace.now (map string_bytes texts.now) pairs.items) }
     ensures rising { IfOk result (λ pairs. AreRising pairs.items) }
     ensures usage { result ≡ Err Failure.Usage → (pairs : List (ℕ × PlainScheme)) →
         AreGroups namespace.now (map string_bytes texts.now) pairs → ¬ AreRising pairs }

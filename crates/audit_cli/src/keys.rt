@@ -2,7 +2,7 @@
 
 ghost use Rattle.std.specs.Prelude.{◌≡◌, ◌↔◌, ◌≤◌, ◌<◌, ◌^◌, ℕ, List, Some, Ok, Err, IfOk, IfErr, None, ◌⊎◌, map, length, string_bytes, IsTrue, IsPermutation};
 ghost use Rattle.std.specs.List.Sorted.{IsStrictlySortedBy};
-ghost use Rattle.audit_cli.specs.Arguments.{AreKeys, AreNoKeys, IsCommittee, key_named, keys_named};
+ghost use Rattle.audit_cli.specs.Arguments.{AreKeyTexts, AreNoKeys, IsNamedCommittee, key_named, keys_named};
 
 use crate::status::Failure;
 use hex::FromHex;
@@ -51,7 +51,8 @@ fn parse_keys(alloc: Global, texts: &[String]) -> Result<Vec<PlainKey>, Failure>
 
 /// The keys that texts name, in any order: `Failure::Usage` where they are no keys of a committee.
 fn parse_set(alloc: Global, texts: &[String]) -> Result<Set<PlainKey>, Failure>
-    ensures named { IfOk result (λ set. (keys : List (List ℕ)) × AreKeys (map string_bytes texts.now) keys × IsPermutation keys set) }
+    ensures named { IfOk result (λ set. (keys : List (List ℕ)) ×
+        AreKeyTexts (map string_bytes texts.now) keys × IsPermutation keys set) }
     ensures size { IfOk result (λ set. (1 ≤ length set) × (length set < 2 ^ 32)) }
     ensures ascending { IfOk result (λ set. IsStrictlySortedBy ⟦<PlainKey as Ord>⟧.cmp set) }
     ensures usage { result ≡ Err Failure.Usage → AreNoKeys (map string_bytes texts.now) }
@@ -69,7 +70,7 @@ fn parse_set(alloc: Global, texts: &[String]) -> Result<Set<PlainKey>, Failure>
 
 /// The committee of the keys that texts name, in any order: `Failure::Usage` where they are no keys of a committee.
 pub fn parse_committee(alloc: Global, namespace: &str, texts: &[String]) -> Result<Plain, Failure>
-    ensures committee { IfOk result (IsCommittee namespace.now (map string_bytes texts.now)) }
+    ensures committee { IfOk result (IsNamedCommittee namespace.now (map string_bytes texts.now)) }
     ensures usage { result ≡ Err Failure.Usage → AreNoKeys (map string_bytes texts.now) }
     ensures failure { IfErr result (λ e. (e ≡ Failure.Usage) ⊎ (e ≡ Failure.OutOfMemory)) }
 {

@@ -22,7 +22,8 @@ use std::io::{ErrorKind, Read, Write};
 
 /// The arguments after the program's name.
 fn without_name(alloc: Global, given: Args) -> Result<Vec<String>, AllocError>
-    ensures { IfOk result (λ words. map string_bytes words.items ≡ words_of (into_iter_items given)) }
+    ensures { IfOk result (λ words.
+        map string_bytes words.items ≡ words_of (into_iter_items given)) }
 {
     let mut words = Vec::with_capacity(alloc, given.len())?;
     words.extend(given.skip(1))?;
@@ -58,11 +59,22 @@ pub fn start<R: Read, W: Write, E: Write>(
     ensures ends { IfOk given (λ given. (ending : Ending) × (result ≡ number_of (status_of ending))
         × AppendsBeginning (E.contents errors.old) (E.contents errors.new) (said_of ending)
         × Ends ⟦<Plain as Audited<Sha256Digest>>⟧.basis (words_of (into_iter_items given))
-        (record { before = R.remaining (inner_of input.old); after = R.remaining (inner_of input.new); failed = has_failed input.new })
-        (record { before = W.contents (inner_of output.old); after = W.contents (inner_of output.new); failed = has_failed output.new; flushed = is_flushed output.new })
+        (record {
+          before = R.remaining (inner_of input.old);
+          after = R.remaining (inner_of input.new);
+          failed = has_failed input.new;
+        })
+        (record {
+          before = W.contents (inner_of output.old);
+          after = W.contents (inner_of output.new);
+          failed = has_failed output.new;
+          flushed = is_flushed output.new;
+        })
         ending) }
-    ensures refused { IfOk given (λ given. AreNoArguments (words_of (into_iter_items given)) → (result ≡ 2) ⊎ (result ≡ 3)) }
-    ensures untouched { IfOk given (λ given. AreNoArguments (words_of (into_iter_items given)) → (input.new ≡ input.old) × (output.new ≡ output.old)) }
+    ensures refused { IfOk given (λ given. AreNoArguments (words_of (into_iter_items given)) →
+        (result ≡ 2) ⊎ (result ≡ 3)) }
+    ensures untouched { IfOk given (λ given. AreNoArguments (words_of (into_iter_items given)) →
+        (input.new ≡ input.old) × (output.new ≡ output.old)) }
     ensures memory { IfErr given (λ error. error_kind error ≡ ErrorKind.OutOfMemory → (result ≡ 3)
         × AppendsBeginning (E.contents errors.old) (E.contents errors.new) (complaint_of Failure.OutOfMemory)) }
     ensures usage { IfErr given (λ error. error_kind error ≢ ErrorKind.OutOfMemory → (result ≡ 2)

@@ -1,8 +1,8 @@
 //! Audits of streams, whole and in pieces.
 
-use devices::{Source, Trouble};
-use message_rows::refusals::name;
-use message_rows::rows::{Unanswered, bytes, committee, epoch};
+use conformance_messages::refusals::name;
+use conformance_messages::vectors::{Unanswered, bytes, committee, epoch};
+use faulty_io::{Source, Trouble};
 use simplex_audit::audit::{
     Auditor, Committees, Evidence, Fault, Report, RunError, Watched, audit, run,
 };
@@ -21,19 +21,19 @@ pub(crate) fn committees(alloc: Global, word: &str) -> Result<Committees<Marked>
     for part in word.split(',') {
         pairs.push(pair(alloc, part)?).map_err(AllocError::from)?;
     }
-    Committees::try_from_vec(pairs).map_err(|_| Unanswered::NoRow)
+    Committees::try_from_vec(pairs).map_err(|_| Unanswered::NoVector)
 }
 
 /// An epoch and its marked committee.
 fn pair(alloc: Global, word: &str) -> Result<(Epoch, Marked), Unanswered> {
     match word.split_once(':') {
         Some((at, participants)) => Ok((epoch(at)?, committee(alloc, participants)?)),
-        None => Err(Unanswered::NoRow),
+        None => Err(Unanswered::NoVector),
     }
 }
 
 /// The answer to an audit of a stream: that of `audit` and of two runs, one of which reads a byte a call, where all agree.
-pub(crate) fn audit_row(
+pub(crate) fn audit_vector(
     alloc: Global,
     committees: &Committees<Marked>,
     stream: &[u8],
@@ -64,10 +64,10 @@ fn ran(
         &mut writer,
     ) {
         Ok(summary) => summary,
-        Err(RunError::Read | RunError::TooLong) => return Err(Unanswered::NoRow),
+        Err(RunError::Read | RunError::TooLong) => return Err(Unanswered::NoVector),
         Err(RunError::Write | RunError::OutOfMemory) => return Err(Unanswered::OutOfMemory),
     };
-    let text = String::from_utf8(writer.into_inner()).map_err(|_| Unanswered::NoRow)?;
+    let text = String::from_utf8(writer.into_inner()).map_err(|_| Unanswered::NoVector)?;
     let mut answer = format!(in alloc; "read {}", summary.read)?;
     let mut lines: usize = 0;
     for line in text.lines() {
@@ -75,14 +75,14 @@ fn ran(
         lines = lines.saturating_add(1);
     }
     if lines != summary.evidence.saturating_add(summary.splits) {
-        return Err(Unanswered::NoRow);
+        return Err(Unanswered::NoVector);
     }
     push_fault(alloc, &mut answer, summary.fault)?;
     Ok(answer)
 }
 
 /// The answer to an audit of a stream in pieces: how it stands after each, and then what the audit finds.
-pub(crate) fn feed_row(
+pub(crate) fn feed_vector(
     alloc: Global,
     committees: &Committees<Marked>,
     pieces: &[&str],
@@ -98,13 +98,13 @@ pub(crate) fn feed_row(
     Ok(text)
 }
 
-/// Feeds a piece. A stream that is longer than can be counted is no row.
+/// Feeds a piece. A stream that is longer than can be counted is no test vector.
 fn fed_on<'a>(
     auditor: Auditor<'a, Marked, MarkedDigest>,
     piece: &[u8],
 ) -> Result<Auditor<'a, Marked, MarkedDigest>, Unanswered> {
     if piece.len() > usize::MAX - auditor.fed() {
-        return Err(Unanswered::NoRow);
+        return Err(Unanswered::NoVector);
     }
     Ok(auditor.feed(piece)?)
 }

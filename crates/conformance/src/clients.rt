@@ -1,8 +1,8 @@
 //! What those answer who audit what nodes say: a light client and a ledger.
 
 use crate::audits::lines;
-use message_rows::refusals::name;
-use message_rows::rows::{Unanswered, bytes};
+use conformance_messages::refusals::name;
+use conformance_messages::vectors::{Unanswered, bytes};
 use simplex_audit::audit::Committees;
 use simplex_clients::ledger::Ledger;
 use simplex_clients::light_client::{Followed, LightClient};
@@ -65,13 +65,13 @@ pub(crate) fn store(
     Ok(text)
 }
 
-/// Feeds a piece. A stream that is longer than can be counted is no row.
+/// Feeds a piece. A stream that is longer than can be counted is no test vector.
 fn fed_on<'a>(
     ledger: Ledger<'a, Marked, MarkedDigest>,
     piece: &[u8],
 ) -> Result<Ledger<'a, Marked, MarkedDigest>, Unanswered> {
     if piece.len() > usize::MAX - ledger.fed() {
-        return Err(Unanswered::NoRow);
+        return Err(Unanswered::NoVector);
     }
     Ok(ledger.feed(piece)?)
 }

@@ -1,4 +1,4 @@
-//! `conformance`: answers each row of standard input by one line of standard output (docs/CONFORMANCE.md).
+//! `conformance`: answers each test vector of standard input by one line of standard output (docs/CONFORMANCE.md).
 #![tactic(auto)]
 
 mod answers;

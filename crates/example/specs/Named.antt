@@ -7,9 +7,9 @@ use Rattle.simplex_base.specs.Positions.{Round}
 use Rattle.simplex_scheme.specs.Namespace.{names_of}
 use Rattle.simplex_plain.specs.Plain.{PlainScheme}
 use Rattle.simplex_scheme.specs.Subject.{round_of}
-use Rattle.simplex_kept.specs.Committees.{Schedule, Every}
-use Rattle.simplex_kept.specs.Values.{evidence_value}
-use Rattle.simplex_kept.specs.declared.evidence.Evidence.{Evidence}
+use Rattle.simplex_detector.specs.Committees.{Schedule, Every}
+use Rattle.simplex_detector.specs.Values.{evidence_value}
+use Rattle.simplex_detector.specs.declared.evidence.Evidence.{Evidence}
 use Rattle.simplex_audit.specs.Basis.{Basis}
 use Rattle.simplex_audit.specs.Report.{IsReport}
 use Rattle.simplex_audit.specs.declared.audit.Report.{Report}

@@ -19,7 +19,9 @@ pub fn named(
     keys: Vec<PlainKey>,
     stream: &[u8],
 ) -> Result<Option<Vec<(Round, Participant)>>, AllocError>
-    ensures named { IfOk result (λ answer. IfSome answer (λ named. AreNamed ⟦<Plain as Audited<Sha256Digest>>⟧.basis namespace.now keys.items stream.now named.items)) }
+    ensures named { IfOk result (λ answer.
+        IfSome answer (λ named. AreNamed ⟦<Plain as Audited<Sha256Digest>>⟧.basis namespace.now
+        keys.items stream.now named.items)) }
     ensures none { result ≡ Ok None ↔ ¬ AreKeys keys.items }
 {
     let Some(committee) = committee_of(alloc, namespace, keys)? else {
@@ -36,7 +38,8 @@ fn committee_of(
     namespace: &[u8],
     keys: Vec<PlainKey>,
 ) -> Result<Option<Plain>, AllocError>
-    ensures committee { IfOk result (λ answer. IfSome answer (IsCommittee namespace.now keys.items)) }
+    ensures committee { IfOk result (λ answer.
+        IfSome answer (IsCommittee namespace.now keys.items)) }
     ensures none { result ≡ Ok None ↔ ¬ AreKeys keys.items }
 {
     if keys.is_empty() || keys.len() > 4_294_967_295 {

@@ -2,20 +2,20 @@
 use Rattle.std.proofs.Common.{ℕ, List, ◌++◌, map, subst, sym, Result, Ok, Err, IfOk}
 use Rattle.std.specs.Prelude.{All, IsTrue}
 use Rattle.simplex_base.specs.Format.{Format, IsLawful}
-use Rattle.simplex_votes.specs.Votes.{Vote}
+use Rattle.simplex_votes.specs.Votes.{SignedVote}
 use Rattle.simplex_evidence.specs.Contradiction.{Evidence}
 use Rattle.simplex_evidence.specs.declared.types.activity.Activity.{Activity}
-use Rattle.simplex_kept.specs.Evidence.{IsEvidence, IsEquivocation}
-use Rattle.simplex_kept.specs.Laws.{EvidenceIsUnique, NamesExactly, NamedInAnyOrder, NamesStay, IsEvidenceAgain}
-use Rattle.simplex_kept.specs.Named.{Named, is_named}
-use Rattle.simplex_kept.specs.Rules.{Rules, AreLawful, good_votes}
-use Rattle.simplex_kept.specs.Splits.{AreSplits}
-use Rattle.simplex_kept.specs.SplitLaws.{EnoughAreNamed, SignersAreAccountable, SplitsAreUnique, SplitsHaveNames}
-use Rattle.simplex_kept.specs.Values.{evidence_value}
-use Rattle.simplex_kept.specs.declared.evidence.Evidence as kept
-use Rattle.simplex_kept.specs.declared.split.Split.{Split}
+use Rattle.simplex_detector.specs.Evidence.{IsEvidence, IsEquivocation}
+use Rattle.simplex_detector.specs.Laws.{EvidenceIsUnique, NamesExactly, NamedInAnyOrder, NamesStay, IsEvidenceAgain}
+use Rattle.simplex_detector.specs.Named.{Named, is_named}
+use Rattle.simplex_detector.specs.Rules.{Rules, AreLawful, valid_votes}
+use Rattle.simplex_detector.specs.Splits.{AreSplits}
+use Rattle.simplex_detector.specs.SplitLaws.{EnoughAreNamed, SignersAreAccountable, SplitsAreUnique, SplitsHaveNames}
+use Rattle.simplex_detector.specs.Values.{evidence_value}
+use Rattle.simplex_detector.specs.declared.evidence.Evidence as recorded
+use Rattle.simplex_detector.specs.declared.split.Split.{Split}
 use Rattle.simplex_audit.specs.Basis.{Basis}
-use Rattle.simplex_audit.specs.Headline.{IsAudit}
+use Rattle.simplex_audit.specs.Guarantees.{IsAudit}
 use Rattle.simplex_audit.specs.Messages.{AreMessages}
 use Rattle.simplex_audit.specs.Report.{IsReport, as_messages, evidence_in}
 use Rattle.simplex_audit.specs.declared.audit.Report.{Report}
@@ -33,9 +33,9 @@ if_both Given Also Wanted f (Err e) h k = tt
 
 -- the evidence of a report is that of any list of the stream's messages
 pub report_evidence : {S D C P G : Type 0} (basis : Basis S D C P G) → IsLawful basis.format → (stream : List ℕ) (report : Report S D P G) → IsReport basis stream report →
-    (messages : List (Activity S D C P G)) (rest : List ℕ) → AreMessages basis.format stream messages rest → IsEvidence basis.rules.eq (good_votes basis.rules messages) (evidence_in report)
+    (messages : List (Activity S D C P G)) (rest : List ℕ) → AreMessages basis.format stream messages rest → IsEvidence basis.rules.eq (valid_votes basis.rules messages) (evidence_in report)
 report_evidence basis law stream report is messages rest are =
-    subst (λ ms. IsEvidence basis.rules.eq (good_votes basis.rules ms) (evidence_in report)) (messages_once basis.format law stream is.rest rest is.messages messages is.are_messages are).0 is.evidence_is
+    subst (λ ms. IsEvidence basis.rules.eq (valid_votes basis.rules ms) (evidence_in report)) (messages_once basis.format law stream is.rest rest is.messages messages is.are_messages are).0 is.evidence_is
 
 -- and so are the splits
 pub report_splits : {S D C P G : Type 0} (basis : Basis S D C P G) → IsLawful basis.format → (stream : List ℕ) (report : Report S D P G) → IsReport basis stream report →
@@ -45,25 +45,25 @@ report_splits basis law stream report is messages rest are =
 
 -- who is named stays named in the stream with anything appended
 pub names_stay : {S D C P G : Type 0} (format : Format (Activity S D C P G)) (rules : Rules S D C P G) → IsLawful format → (stream more rest left : List ℕ) (messages later : List (Activity S D C P G)) → NamesStay rules messages → AreMessages format stream messages rest → AreMessages format (stream ++ more) later left →
-    (n : Named) → IsTrue (is_named rules.eq (good_votes rules messages) n) → IsTrue (is_named rules.eq (good_votes rules later) n)
+    (n : Named) → IsTrue (is_named rules.eq (valid_votes rules messages) n) → IsTrue (is_named rules.eq (valid_votes rules later) n)
 names_stay format rules law stream more rest left messages later stay are are' n h =
     let c = messages_continue format law stream more rest left messages later are are' in
-    subst (λ ms. IsTrue (is_named rules.eq (good_votes rules ms) n)) (sym c.same) (stay c.further n h)
+    subst (λ ms. IsTrue (is_named rules.eq (valid_votes rules ms) n)) (sym c.same) (stay c.further n h)
 
 -- what holds of any messages by these rules
 pub record Laws {S D C P G : Type 0} (rules : Rules S D C P G) : Type 0 where
   pub any_order : (messages : List (Activity S D C P G)) → NamedInAnyOrder rules messages
   pub later : (messages : List (Activity S D C P G)) → NamesStay rules messages
-  pub names : (vs : List (Vote D G)) (es : List (Evidence D G)) → IsEvidence rules.eq vs es → NamesExactly rules.eq vs es
-  pub sound : (vs : List (Vote D G)) (es : List (Evidence D G)) → IsEvidence rules.eq vs es → All (IsEquivocation rules.eq vs) es
-  pub only : (vs : List (Vote D G)) (es : List (Evidence D G)) → IsEvidence rules.eq vs es → EvidenceIsUnique rules.eq vs es
-  pub again : (messages : List (Activity S D C P G)) (es : List (kept.Evidence S D P G)) → AreLawful rules → IsEvidence rules.eq (good_votes rules messages) (map evidence_value es) → IsEvidenceAgain rules es
+  pub names : (vs : List (SignedVote D G)) (es : List (Evidence D G)) → IsEvidence rules.eq vs es → NamesExactly rules.eq vs es
+  pub sound : (vs : List (SignedVote D G)) (es : List (Evidence D G)) → IsEvidence rules.eq vs es → All (IsEquivocation rules.eq vs) es
+  pub only : (vs : List (SignedVote D G)) (es : List (Evidence D G)) → IsEvidence rules.eq vs es → EvidenceIsUnique rules.eq vs es
+  pub again : (messages : List (Activity S D C P G)) (es : List (recorded.Evidence S D P G)) → AreLawful rules → IsEvidence rules.eq (valid_votes rules messages) (map evidence_value es) → IsEvidenceAgain rules es
   pub enough : (messages : List (Activity S D C P G)) → AreLawful rules → EnoughAreNamed rules messages
   pub signers : (messages : List (Activity S D C P G)) → AreLawful rules → SignersAreAccountable rules messages
   pub only_splits : (messages : List (Activity S D C P G)) (splits : List Split) → AreSplits rules messages splits → SplitsAreUnique rules messages splits
   pub split_names : (messages : List (Activity S D C P G)) (splits : List Split) → AreLawful rules → AreSplits rules messages splits → SplitsHaveNames splits
 
--- the report of a stream, whose evidence can be spelled, is that of an audit
+-- the report of a stream, whose evidence can be encoded, is that of an audit
 pub audited : {S D C P G : Type 0} (basis : Basis S D C P G) → IsLawful basis.format → IsNeverEmpty basis.format → AreLawful basis.rules → Laws basis.rules →
     (stream : List ℕ) (report : Report S D P G) → IsReport basis stream report → All basis.format.is_value (as_messages report) → IsAudit basis stream report
 audited basis law some lawful laws stream report is each =
@@ -72,9 +72,9 @@ audited basis law some lawful laws stream report is each =
     record {
       report_is = is;
       single = λ messages others rest left are are'. messages_once basis.format law stream rest left messages others are are';
-      names = λ messages rest are. laws.names (good_votes basis.rules messages) (evidence_in report) (of_evidence messages rest are);
-      sound = λ messages rest are. laws.sound (good_votes basis.rules messages) (evidence_in report) (of_evidence messages rest are);
-      only = λ messages rest are. laws.only (good_votes basis.rules messages) (evidence_in report) (of_evidence messages rest are);
+      names = λ messages rest are. laws.names (valid_votes basis.rules messages) (evidence_in report) (of_evidence messages rest are);
+      sound = λ messages rest are. laws.sound (valid_votes basis.rules messages) (evidence_in report) (of_evidence messages rest are);
+      only = λ messages rest are. laws.only (valid_votes basis.rules messages) (evidence_in report) (of_evidence messages rest are);
       any_order = laws.any_order;
       stays = λ more n messages rest are later left are'. names_stay basis.format basis.rules law stream more rest left messages later (laws.later messages) are are' n;
       enough = λ messages rest are. laws.enough messages lawful;

@@ -5,17 +5,17 @@ use Rattle.simplex_base.specs.Readable.{Readable, format_under}
 use Rattle.simplex_scheme.specs.Subject.{SubjectValue}
 use Rattle.simplex_scheme.specs.declared.scheme.Attestation.{Attestation}
 use Rattle.simplex_evidence.specs.declared.types.activity.Activity.{Activity}
-use Rattle.simplex_kept.specs.Committees.{Schedule, bound_of, rules_of}
-use Rattle.simplex_kept.specs.Rules.{Rules}
+use Rattle.simplex_detector.specs.Committees.{Schedule, bound_of, rules_of}
+use Rattle.simplex_detector.specs.Rules.{Rules}
 
 -- How messages are read, and what they are judged by. S, P and G are the types of the scheme, its keys and its
 -- signatures, C that of its certificates, and D that of payloads.
 pub record Basis (S D C P G : Type 0) : Type 1 where
   -- the number of participants of the greatest committee, under which certificates are read
   pub bound : ℕ
-  -- how messages are spelled and read
+  -- how messages are encoded and read
   pub format : Format (Activity S D C P G)
-  -- whose votes and which certificates are good, each by the committee of its round's epoch
+  -- whose votes and which certificates are valid, each by the committee of its round's epoch
   pub rules : Rules S D C P G
 
 -- what an audit goes by under committees

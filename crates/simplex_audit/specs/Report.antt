@@ -3,10 +3,10 @@ use Rattle.std.specs.Prelude.{◌≡◌, ℕ, List, map, length}
 use Rattle.std.specs.List.{flat_map}
 use Rattle.simplex_evidence.specs.Contradiction.{Evidence}
 use Rattle.simplex_evidence.specs.declared.types.activity.Activity.{Activity}
-use Rattle.simplex_kept.specs.Evidence.{IsEvidence}
-use Rattle.simplex_kept.specs.Rules.{good_votes}
-use Rattle.simplex_kept.specs.Splits.{AreSplits}
-use Rattle.simplex_kept.specs.Values.{evidence_value, message_of}
+use Rattle.simplex_detector.specs.Evidence.{IsEvidence}
+use Rattle.simplex_detector.specs.Rules.{valid_votes}
+use Rattle.simplex_detector.specs.Splits.{AreSplits}
+use Rattle.simplex_detector.specs.Values.{evidence_value, message_of}
 use Rattle.simplex_audit.specs.Basis.{Basis}
 use Rattle.simplex_audit.specs.Messages.{AreMessages, IsFault}
 use Rattle.simplex_audit.specs.declared.audit.Report.{Report}
@@ -19,13 +19,13 @@ evidence_in report = map evidence_value report.evidence.items
 abbrev pub as_messages : {S D C P G : Type 0} → Report S D P G → List (Activity S D C P G)
 as_messages report = map message_of report.evidence.items
 
--- The stream's messages were read up to its end or first fault, the evidence is that of their good votes, and the splits
+-- The stream's messages were read up to its end or first fault, the evidence is that of their valid votes, and the splits
 -- are those of the messages.
 pub record IsReport {S D C P G : Type 0} (basis : Basis S D C P G) (stream : List ℕ) (report : Report S D P G) : Type 0 where
   pub messages : List (Activity S D C P G)
   pub rest : List ℕ
   pub are_messages : AreMessages basis.format stream messages rest
   pub read_is : report.read ≡ length messages
-  pub fault_is : IsFault basis.format.reading (length (flat_map basis.format.spelling messages)) rest report.fault
-  pub evidence_is : IsEvidence basis.rules.eq (good_votes basis.rules messages) (evidence_in report)
+  pub fault_is : IsFault basis.format.reading (length (flat_map basis.format.encoding messages)) rest report.fault
+  pub evidence_is : IsEvidence basis.rules.eq (valid_votes basis.rules messages) (evidence_in report)
   pub splits_are : AreSplits basis.rules messages report.splits.items

@@ -2,9 +2,9 @@
 
 ghost use Rattle.std.specs.Prelude.{◌&&◌, All, IfOk, nat_eq, refl};
 ghost use Rattle.simplex_base.specs.Format.{IsLawful};
-ghost use Rattle.simplex_audit.specs.Headline.{HasOneReading, NamesExactlyThem, ShowsTwoVotes, HasNoOtherEvidence, NamesInAnyOrder, NamesStayWithMore, ForksNameEnough, SignersOfBothAreNamed, ShowsForks, ReadsAgain};
+ghost use Rattle.simplex_audit.specs.Guarantees.{HasOneReading, NamesExactlyThem, ShowsTwoVotes, HasNoOtherEvidence, NamesInAnyOrder, NamesStayWithMore, ForksNameEnough, SignersOfBothAreNamed, ShowsForks, ReadsAgain};
 ghost use Rattle.simplex_audit.specs.Report.{IsReport, as_messages};
-ghost use Rattle.simplex_kept.specs.Rules.{AreLawful};
+ghost use Rattle.simplex_detector.specs.Rules.{AreLawful};
 
 pub use crate::auditor::Auditor;
 use crate::basis::Audited;
@@ -14,13 +14,13 @@ pub use crate::run::{RunError, Summary, run};
 pub use crate::watched::Watched;
 use simplex_base::codec::error::Error;
 use simplex_base::values::{EqByParts, ExactClone};
-pub use simplex_kept::committees::{Committees, CommitteesError};
-pub use simplex_kept::evidence::Evidence;
-use simplex_kept::laws::{
+pub use simplex_detector::committees::{Committees, CommitteesError};
+use simplex_detector::detector::Detector;
+pub use simplex_detector::evidence::Evidence;
+use simplex_detector::laws::{
     certificates_are_accountable, evidence_is_determined, names_stay, splits_are_determined,
 };
-use simplex_kept::seen::Seen;
-pub use simplex_kept::split::Split;
+pub use simplex_detector::split::Split;
 use simplex_scheme::scheme::{Digest, Listing, SchemeTypes};
 use std::alloc::{AllocError, Global};
 
@@ -59,37 +59,43 @@ pub struct Report<S: SchemeTypes, D: Digest> {
 /// Reads a stream of messages, one after another, under the bound of the greatest committee until its end or the
 /// first fault, and names exactly the signers, rounds and kinds with two contradictory votes that verify
 /// there, each once with the earliest such votes. A vote or a certificate is judged by the committee of its epoch, and
-/// none is good without one. Beside them it tells the rounds whose certificates contradict. Nothing is assumed of the
+/// none is valid without one. Beside them it reports the rounds whose certificates contradict. Nothing is assumed of the
 /// bytes. `AllocError` comes where memory is refused, and then there is no report.
 pub fn audit<S: Listing<D>, D: Digest>(
     alloc: Global,
     committees: &Committees<S>,
     stream: &[u8],
 ) -> Result<Report<S, D>, AllocError>
-    // The stream's messages were read up to its end or first fault, the evidence is that of their good votes, and the
+    // The stream's messages were read up to its end or first fault, the evidence is that of their valid votes, and the
     // splits are theirs.
-    ensures report { IfOk result (λ report. IsReport (⟦<S as Audited<D>>⟧.basis committees.now) stream.now report) }
+    ensures report { IfOk result (λ report.
+        IsReport (⟦<S as Audited<D>>⟧.basis committees.now) stream.now report) }
     // A stream has one list of messages.
     ensures single { HasOneReading (⟦<S as Audited<D>>⟧.basis committees.now) stream.now }
-    // The evidence names exactly the signers, rounds and kinds with two good votes that contradict, and no other.
-    ensures names { IfOk result (λ report. NamesExactlyThem (⟦<S as Audited<D>>⟧.basis committees.now) stream.now report) }
-    // Each evidence is two of the stream's good votes, which contradict.
-    ensures sound { IfOk result (λ report. ShowsTwoVotes (⟦<S as Audited<D>>⟧.basis committees.now) stream.now report) }
-    // No other list is the evidence of the stream's good votes.
-    ensures only { IfOk result (λ report. HasNoOtherEvidence (⟦<S as Audited<D>>⟧.basis committees.now) stream.now report) }
+    // The evidence names exactly the signers, rounds and kinds with two valid votes that contradict, and no other.
+    ensures names { IfOk result (λ report.
+        NamesExactlyThem (⟦<S as Audited<D>>⟧.basis committees.now) stream.now report) }
+    // Each evidence is two of the stream's valid votes, which contradict.
+    ensures sound { IfOk result (λ report.
+        ShowsTwoVotes (⟦<S as Audited<D>>⟧.basis committees.now) stream.now report) }
+    // No other list is the evidence of the stream's valid votes.
+    ensures only { IfOk result (λ report.
+        HasNoOtherEvidence (⟦<S as Audited<D>>⟧.basis committees.now) stream.now report) }
     // Who is named does not depend on the order of the messages.
     ensures any_order { NamesInAnyOrder (⟦<S as Audited<D>>⟧.basis committees.now) }
-    // Who is named stays named, whatever bytes follow.
+    // Who is named stays named, with any bytes behind.
     ensures stays { NamesStayWithMore (⟦<S as Audited<D>>⟧.basis committees.now) stream.now }
     // Two certified messages of a round that contradict name at least f + 1 signers there, f of its epoch's committee.
     ensures enough { ForksNameEnough (⟦<S as Audited<D>>⟧.basis committees.now) stream.now }
     // The splits are the rounds with such messages, each once with the number of who is named there and that f + 1, and
     // no other.
-    ensures splits { IfOk result (λ report. ShowsForks (⟦<S as Audited<D>>⟧.basis committees.now) stream.now report) }
-    // Whoever signed in both certificates is named.
+    ensures splits { IfOk result (λ report.
+        ShowsForks (⟦<S as Audited<D>>⟧.basis committees.now) stream.now report) }
+    // Every signer of both certificates is named.
     ensures accountable { SignersOfBothAreNamed (⟦<S as Audited<D>>⟧.basis committees.now) stream.now }
-    // The evidence is enough: spelled as messages and audited again, it gives itself in the same order.
-    ensures again { IfOk result (λ report. ReadsAgain (⟦<S as Audited<D>>⟧.basis committees.now) report) }
+    // The evidence is enough: encoded as messages and audited again, it gives itself in the same order.
+    ensures again { IfOk result (λ report.
+        ReadsAgain (⟦<S as Audited<D>>⟧.basis committees.now) report) }
 {
     // What holds of any messages.
     names_stay::<S, D>();
@@ -107,17 +113,19 @@ fn audit_stream<S: Listing<D>, D: Digest>(
 ) -> Result<Report<S, D>, AllocError>
     ensures readable { IsLawful (⟦<S as Audited<D>>⟧.basis committees.now).format }
     ensures lawful { AreLawful (⟦<S as Audited<D>>⟧.basis committees.now).rules }
-    ensures report { IfOk result (λ report. IsReport (⟦<S as Audited<D>>⟧.basis committees.now) stream.now report) }
-    ensures spelled { IfOk result (λ report. All (⟦<S as Audited<D>>⟧.basis committees.now).format.is_value (as_messages report)) }
+    ensures report { IfOk result (λ report.
+        IsReport (⟦<S as Audited<D>>⟧.basis committees.now) stream.now report) }
+    ensures encoded { IfOk result (λ report.
+        All (⟦<S as Audited<D>>⟧.basis committees.now).format.is_value (as_messages report)) }
 {
     let bound = reading_bound::<S, D>(committees);
-    let mut seen = Seen::new(alloc);
-    let progress = read_messages(alloc, committees, bound, stream, &mut seen)?;
+    let mut detector = Detector::new(alloc);
+    let progress = read_messages(alloc, committees, bound, stream, &mut detector)?;
     let place = stream.len() - progress.rest.len();
     make_report(
         alloc,
         committees,
-        &seen,
+        &detector,
         progress.read,
         place,
         progress.stop,

@@ -1,35 +1,35 @@
 //! The audit of a stream that comes in pieces.
 
 ghost use Rattle.std.specs.Prelude.{◌≡◌, ◌+◌, ◌<◌, ◌≤◌, ◌^◌, ◌-◌, min, vec_len, ℕ, List, [], ◌++◌, length, drop, IfOk};
-ghost use Rattle.simplex_audit.specs.Headline.{HasOneReading, IsAudit};
+ghost use Rattle.simplex_audit.specs.Guarantees.{HasOneReading, IsAudit};
 ghost use Rattle.simplex_audit.specs.Messages.{AreMessages};
 ghost use Rattle.simplex_evidence.specs.declared.types.activity.Activity.{Activity};
-ghost use Rattle.simplex_kept.specs.Committees.{Schedule};
-ghost use Rattle.simplex_kept.specs.KeptVotes.{KeptAreSlots, FewAreKept, votes_kept};
-ghost use Rattle.simplex_kept.specs.Rules.{good_votes};
+ghost use Rattle.simplex_detector.specs.Committees.{Schedule};
+ghost use Rattle.simplex_detector.specs.Recorded.{RecordedAreSlots, FewAreRecorded, votes_recorded};
+ghost use Rattle.simplex_detector.specs.Rules.{valid_votes};
 
 use crate::audit::Report;
 use crate::basis::Audited;
 use crate::reading::{read_messages, reading_bound};
 use crate::reporting::make_report;
 use simplex_base::codec::error::Error;
-use simplex_kept::committees::Committees;
-use simplex_kept::laws::{
-    certificates_are_accountable, evidence_is_determined, few_votes_are_kept, kept_votes_have_room,
-    names_stay, splits_are_determined,
+use simplex_detector::committees::Committees;
+use simplex_detector::detector::Detector;
+use simplex_detector::laws::{
+    certificates_are_accountable, evidence_is_determined, few_votes_are_recorded, names_stay,
+    recorded_votes_have_room, splits_are_determined,
 };
-use simplex_kept::seen::Seen;
 use simplex_scheme::scheme::{Digest, Listing, SchemeTypes};
 use std::alloc::{AllocError, Global};
 
-/// Audits a stream that comes in pieces. It keeps the bytes after the last whole message, of each signer in a round at
+/// Audits a stream that comes in pieces. It holds the bytes after the last whole message, and of each signer in a round at
 /// most the five votes that its evidence can be made of, and of each round the first certified subject of each sort until two
 /// contradict, but not the stream.
 #[derive(Drop)]
 pub struct Auditor<'a, S: SchemeTypes, D: Digest> {
     committees: &'a Committees<S>,
     bound: u32,
-    seen: Seen<S, D>,
+    detector: Detector<S, D>,
     taken: Taken,
 }
 
@@ -60,7 +60,7 @@ impl<'a, S: Listing<D>, D: Digest> Auditor<'a, S, D> {
         Auditor {
             committees,
             bound: reading_bound::<S, D>(committees),
-            seen: Seen::new(alloc),
+            detector: Detector::new(alloc),
             taken: Taken {
                 rest: Vec::new(alloc),
                 tried: 0,
@@ -76,7 +76,8 @@ impl<'a, S: Listing<D>, D: Digest> Auditor<'a, S, D> {
         requires { fed_of self + length piece.now < 2 ^ 64 }
         ensures fed { IfOk result (λ next. fed_of next ≡ fed_of self.entry + length piece.now) }
         ensures stands { IfOk result (λ next. (committees : Schedule S) (stream : List ℕ) →
-            Stands ⟦<S as Audited<D>>⟧.basis committees self.entry stream → Stands ⟦<S as Audited<D>>⟧.basis committees next (stream ++ piece.now)) }
+            Stands ⟦<S as Audited<D>>⟧.basis committees self.entry stream →
+            Stands ⟦<S as Audited<D>>⟧.basis committees next (stream ++ piece.now)) }
     {
         if self.taken.rest.is_empty() {
             return self.read_piece(piece);
@@ -90,7 +91,8 @@ impl<'a, S: Listing<D>, D: Digest> Auditor<'a, S, D> {
         requires { fed_of self + length piece.now < 2 ^ 64 }
         ensures fed { IfOk result (λ next. fed_of next ≡ fed_of self.entry + length piece.now) }
         ensures holds { IfOk result (λ next. (committees : Schedule S) (stream : List ℕ) →
-            Holds ⟦<S as Audited<D>>⟧.basis committees self.entry stream → Holds ⟦<S as Audited<D>>⟧.basis committees next (stream ++ piece.now)) }
+            Holds ⟦<S as Audited<D>>⟧.basis committees self.entry stream →
+            Holds ⟦<S as Audited<D>>⟧.basis committees next (stream ++ piece.now)) }
     {
         if self.taken.rest.is_empty() {
             return self.read_piece(piece);
@@ -102,18 +104,19 @@ impl<'a, S: Listing<D>, D: Digest> Auditor<'a, S, D> {
         next.read_rest()
     }
 
-    /// Looks for messages where they stand in the piece, and keeps a copy of the bytes after the last.
+    /// Looks for messages where they stand in the piece, and holds a copy of the bytes after the last.
     fn read_piece(self, piece: &[u8]) -> Result<Self, AllocError>
         requires empty { self.taken.rest.items ≡ [] }
         requires fits { fed_of self + length piece.now < 2 ^ 64 }
         ensures fed { IfOk result (λ next. fed_of next ≡ fed_of self.entry + length piece.now) }
         ensures stands { IfOk result (λ next. (committees : Schedule S) (stream : List ℕ) →
-            Holds ⟦<S as Audited<D>>⟧.basis committees self.entry stream → Stands ⟦<S as Audited<D>>⟧.basis committees next (stream ++ piece.now)) }
+            Holds ⟦<S as Audited<D>>⟧.basis committees self.entry stream →
+            Stands ⟦<S as Audited<D>>⟧.basis committees next (stream ++ piece.now)) }
     {
         let Auditor {
             committees,
             bound,
-            mut seen,
+            mut detector,
             taken,
         } = self;
         let Taken {
@@ -124,12 +127,12 @@ impl<'a, S: Listing<D>, D: Digest> Auditor<'a, S, D> {
             stop: _,
         } = taken;
         let alloc = *rest.allocator();
-        let progress = read_messages(alloc, committees, bound, piece, &mut seen)?;
+        let progress = read_messages(alloc, committees, bound, piece, &mut detector)?;
         rest.extend_from_slice(progress.rest)?;
         Ok(Auditor {
             committees,
             bound,
-            seen,
+            detector,
             taken: Taken {
                 tried: rest.len(),
                 rest,
@@ -145,12 +148,13 @@ impl<'a, S: Listing<D>, D: Digest> Auditor<'a, S, D> {
         requires { fed_of self + length piece.now < 2 ^ 64 }
         ensures fed { IfOk result (λ next. fed_of next ≡ fed_of self.entry + length piece.now) }
         ensures holds { IfOk result (λ next. (committees : Schedule S) (stream : List ℕ) →
-            Holds ⟦<S as Audited<D>>⟧.basis committees self.entry stream → Holds ⟦<S as Audited<D>>⟧.basis committees next (stream ++ piece.now)) }
+            Holds ⟦<S as Audited<D>>⟧.basis committees self.entry stream →
+            Holds ⟦<S as Audited<D>>⟧.basis committees next (stream ++ piece.now)) }
     {
         let Auditor {
             committees,
             bound,
-            seen,
+            detector,
             taken,
         } = self;
         let Taken {
@@ -164,7 +168,7 @@ impl<'a, S: Listing<D>, D: Digest> Auditor<'a, S, D> {
         Ok(Auditor {
             committees,
             bound,
-            seen,
+            detector,
             taken: Taken {
                 rest,
                 tried,
@@ -179,12 +183,13 @@ impl<'a, S: Listing<D>, D: Digest> Auditor<'a, S, D> {
     pub(crate) fn read_rest(self) -> Result<Self, AllocError>
         ensures fed { IfOk result (λ next. fed_of next ≡ fed_of self.entry) }
         ensures stands { IfOk result (λ next. (committees : Schedule S) (stream : List ℕ) →
-            Holds ⟦<S as Audited<D>>⟧.basis committees self.entry stream → Stands ⟦<S as Audited<D>>⟧.basis committees next stream) }
+            Holds ⟦<S as Audited<D>>⟧.basis committees self.entry stream →
+            Stands ⟦<S as Audited<D>>⟧.basis committees next stream) }
     {
         let Auditor {
             committees,
             bound,
-            mut seen,
+            mut detector,
             taken,
         } = self;
         let Taken {
@@ -195,14 +200,14 @@ impl<'a, S: Listing<D>, D: Digest> Auditor<'a, S, D> {
             stop: _,
         } = taken;
         let alloc = *rest.allocator();
-        let progress = read_messages(alloc, committees, bound, rest.as_slice(), &mut seen)?;
+        let progress = read_messages(alloc, committees, bound, rest.as_slice(), &mut detector)?;
         let (more, stop) = (progress.read, progress.stop);
         let count = rest.len() - progress.rest.len();
         drop_front(&mut rest, count);
         Ok(Auditor {
             committees,
             bound,
-            seen,
+            detector,
             taken: Taken {
                 tried: rest.len(),
                 rest,
@@ -217,10 +222,12 @@ impl<'a, S: Listing<D>, D: Digest> Auditor<'a, S, D> {
     pub fn report(&self) -> Result<Report<S, D>, AllocError>
         // All that `audit` says of a stream and of its report holds of each stream that the auditor stands for.
         ensures audit { IfOk result (λ report. (committees : Schedule S) (stream : List ℕ) →
-            Stands ⟦<S as Audited<D>>⟧.basis committees self.now stream → IsAudit (⟦<S as Audited<D>>⟧.basis committees) stream report) }
+            Stands ⟦<S as Audited<D>>⟧.basis committees self.now stream →
+            IsAudit (⟦<S as Audited<D>>⟧.basis committees) stream report) }
         // Each stream has one list of messages.
         ensures single { (committees : Schedule S) (stream other : List ℕ) →
-            Stands ⟦<S as Audited<D>>⟧.basis committees self.now stream → HasOneReading (⟦<S as Audited<D>>⟧.basis committees) other }
+            Stands ⟦<S as Audited<D>>⟧.basis committees self.now stream →
+            HasOneReading (⟦<S as Audited<D>>⟧.basis committees) other }
     {
         names_stay::<S, D>();
         evidence_is_determined::<S, D>();
@@ -232,7 +239,7 @@ impl<'a, S: Listing<D>, D: Digest> Auditor<'a, S, D> {
         make_report(
             alloc,
             self.committees,
-            &self.seen,
+            &self.detector,
             self.taken.read,
             place,
             self.taken.stop,
@@ -250,38 +257,46 @@ impl<'a, S: Listing<D>, D: Digest> Auditor<'a, S, D> {
 
     /// The bytes after the last whole message.
     pub fn rest(&self) -> &[u8]
-        ensures { (committees : Schedule S) (stream : List ℕ) (messages : List (Activity S D S.Certificate S.PublicKey S.Signature)) (rest : List ℕ) →
+        ensures { (committees : Schedule S) (stream : List ℕ)
+            (messages : List (Activity S D S.Certificate S.PublicKey S.Signature)) (rest : List ℕ) →
             Stands ⟦<S as Audited<D>>⟧.basis committees self.now stream →
-            AreMessages (⟦<S as Audited<D>>⟧.basis committees).format stream messages rest → result.now ≡ rest }
+            AreMessages (⟦<S as Audited<D>>⟧.basis committees).format stream messages rest →
+            result.now ≡ rest }
     {
         self.taken.rest.as_slice()
     }
 
-    /// How many votes are kept, of the good ones in the stream's messages: of each signer in a round the earliest of each
+    /// How many votes are recorded, of the valid ones in the stream's messages: of each signer in a round the earliest of each
     /// sort, and of notarizes and finalizes also the earliest with another proposal, so at most five. The number stops at
     /// 2^64 - 1, which it can reach only where certificates list more attestations than they have bytes.
     pub fn votes(&self) -> usize
-        ensures number { (committees : Schedule S) (stream : List ℕ) (messages : List (Activity S D S.Certificate S.PublicKey S.Signature)) (rest : List ℕ) →
+        ensures number { (committees : Schedule S) (stream : List ℕ)
+            (messages : List (Activity S D S.Certificate S.PublicKey S.Signature)) (rest : List ℕ) →
             Stands ⟦<S as Audited<D>>⟧.basis committees self.now stream →
             AreMessages (⟦<S as Audited<D>>⟧.basis committees).format stream messages rest →
-            result ≡ min (votes_kept D.eq (good_votes (⟦<S as Audited<D>>⟧.basis committees).rules messages)) (2 ^ 64 - 1) }
+            result ≡ min (votes_recorded D.eq
+            (valid_votes (⟦<S as Audited<D>>⟧.basis committees).rules messages)) (2 ^ 64 - 1) }
         // It does not stop where no certificate lists more attestations than its encoding has bytes.
-        ensures exact { ((certificate : S.Certificate) → length (S.listed certificate) ≤ length (S.Certificate.spelling certificate)) →
-            (committees : Schedule S) (stream : List ℕ) (messages : List (Activity S D S.Certificate S.PublicKey S.Signature)) (rest : List ℕ) →
+        ensures exact { ((certificate : S.Certificate) →
+            length (S.listed certificate) ≤ length (S.Certificate.encoding certificate)) →
+            (committees : Schedule S) (stream : List ℕ)
+            (messages : List (Activity S D S.Certificate S.PublicKey S.Signature)) (rest : List ℕ) →
             Stands ⟦<S as Audited<D>>⟧.basis committees self.now stream →
             AreMessages (⟦<S as Audited<D>>⟧.basis committees).format stream messages rest →
-            result ≡ votes_kept D.eq (good_votes (⟦<S as Audited<D>>⟧.basis committees).rules messages) }
+            result ≡ votes_recorded D.eq (valid_votes (⟦<S as Audited<D>>⟧.basis committees).rules messages) }
         // They are the earliest of each sort and the earliest with another proposal,
-        ensures slots { (committees : Schedule S) (messages : List (Activity S D S.Certificate S.PublicKey S.Signature)) →
-            KeptAreSlots D.eq (good_votes (⟦<S as Audited<D>>⟧.basis committees).rules messages) }
+        ensures slots { (committees : Schedule S)
+            (messages : List (Activity S D S.Certificate S.PublicKey S.Signature)) →
+            RecordedAreSlots D.eq (valid_votes (⟦<S as Audited<D>>⟧.basis committees).rules messages) }
         // of a signer in a round at most five.
-        ensures few { (committees : Schedule S) (messages : List (Activity S D S.Certificate S.PublicKey S.Signature)) →
-            FewAreKept D.eq (good_votes (⟦<S as Audited<D>>⟧.basis committees).rules messages) }
+        ensures few { (committees : Schedule S)
+            (messages : List (Activity S D S.Certificate S.PublicKey S.Signature)) →
+            FewAreRecorded D.eq (valid_votes (⟦<S as Audited<D>>⟧.basis committees).rules messages) }
     {
-        few_votes_are_kept::<S, D>();
-        kept_votes_have_room::<S, D>();
+        few_votes_are_recorded::<S, D>();
+        recorded_votes_have_room::<S, D>();
         counts_are_few(self.taken.fed);
-        self.seen.votes()
+        self.detector.votes()
     }
 }
 
@@ -290,7 +305,7 @@ fn counts_are_few(count: usize)
     ensures { count < 2 ^ 64 }
 {}
 
-/// Drops so many bytes in front.
+/// Drops this many bytes in front.
 fn drop_front(bytes: &mut Vec<u8>, count: usize)
     requires { count ≤ vec_len bytes.old }
     ensures { bytes.new.items ≡ drop count bytes.old.items }

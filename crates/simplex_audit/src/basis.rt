@@ -1,7 +1,7 @@
 //! What an audit goes by, for contracts alone.
 
 ghost use Rattle.simplex_audit.specs.Basis.{Basis, basis_of};
-ghost use Rattle.simplex_kept.specs.Committees.{Schedule};
+ghost use Rattle.simplex_detector.specs.Committees.{Schedule};
 
 use simplex_base::codec::Read;
 use simplex_evidence::types::Activity;

@@ -3,7 +3,7 @@
 use crate::names::TWICE;
 use audit_cli::command::command;
 use audit_cli::status::Status;
-use devices::{Source, Target, Trouble};
+use faulty_io::{Source, Target, Trouble};
 use simplex_audit::audit::Watched;
 use std::alloc::{AllocError, Global};
 use std::io::ErrorKind;

@@ -40,7 +40,8 @@ impl Model for Counted {
 
     ghost view = { λ counted. counted.participants };
 
-    ghost invariant = { λ counted. (1 ≤ length counted.participants) × (length counted.participants < 2 ^ 32) };
+    ghost invariant = { λ counted. (1 ≤ length counted.participants) ×
+        (length counted.participants < 2 ^ 32) };
 }
 
 impl Counted {
@@ -62,7 +63,8 @@ impl Counted {
 
     /// Whether the signer is in the committee and the signature is the mark, counted.
     fn is_marked(&self, attestation: &Attestation<Self>) -> bool
-        ensures { result ≡ (nat_lt attestation.now.signer (length self.now) && bytes_eq attestation.now.signature (170 ∷ [])) }
+        ensures { result ≡ (nat_lt attestation.now.signer (length self.now) &&
+            bytes_eq attestation.now.signature (170 ∷ [])) }
     {
         self.verified.set(self.verified.get().saturating_add(1));
         (attestation.signer.get() as usize) < self.participants.len()
@@ -110,7 +112,8 @@ impl CertificateScheme for Counted {
 
     ghost certificates_limited = { lit≤ tt };
 
-    ghost certificates_within = { λ participants certificate few fits. fixed_within 1 (λ signature. signature) (λ bytes. bytes) participants certificate fits };
+    ghost certificates_within = { λ participants certificate few fits.
+        fixed_within 1 (λ signature. signature) (λ bytes. bytes) participants certificate fits };
 }
 
 impl<D: Digest> AttestationVerifier<D> for Counted {
@@ -122,10 +125,12 @@ impl<D: Digest> AttestationVerifier<D> for Counted {
 }
 
 impl<D: Digest> CertificateVerifier<D> for Counted {
-    ghost certified = { λ scheme subject. is_quorum (length scheme) (marked_good (length scheme) subject) };
+    ghost certified = { λ scheme subject.
+        is_quorum (length scheme) (marked_good (length scheme) subject) };
 
     fn verify_certificate(&self, subject: Subject<'_, D>, certificate: &Listed<Counted>) -> bool
-        ensures { result ≡ is_quorum (length self.now) (marked_good (length self.now) (subject_value subject.entry)) certificate.now }
+        ensures { result ≡ is_quorum (length self.now)
+            (marked_good (length self.now) (subject_value subject.entry)) certificate.now }
     {
         let subject = match subject {
             Subject::Notarize { proposal } => Subject::Notarize { proposal },
@@ -152,13 +157,16 @@ impl<D: Digest> Scheme<D> for Counted {
     ) -> Result<Option<Attestation<Self>>, AllocError>
         ensures none { nobody ≡ None → result ≡ Ok None }
         ensures signed { IfOk result (λ signed. MatchOption signed (nobody ≡ None) (λ a.
-            (nobody ≡ Some a.signer) × (marked_good (length self.now) (subject_value _subject.entry) a.signer a.signature ≡ true))) }
+            (nobody ≡ Some a.signer) ×
+            (marked_good (length self.now) (subject_value _subject.entry) a.signer a.signature ≡
+            true))) }
     {
         Ok(None)
     }
 
     fn verify_attestation(&self, _subject: Subject<'_, D>, attestation: &Attestation<Self>) -> bool
-        ensures { result ≡ marked_good (length self.now) (subject_value _subject.entry) attestation.now.signer attestation.now.signature }
+        ensures { result ≡ marked_good (length self.now) (subject_value _subject.entry)
+            attestation.now.signer attestation.now.signature }
     {
         self.is_marked(attestation)
     }
@@ -171,18 +179,22 @@ impl<D: Digest> Scheme<D> for Counted {
         requires distinct { IsDistinct nat_eq (signers_of attestations.items) }
         requires members { All (λ a. a.signer < length self.now) attestations.items }
         ensures below { length attestations.items < quorum_of (length self.now) →
-            result ≡ Err (AssemblyError.InsufficientAttestations (quorum_of (length self.now)) (length attestations.items)) }
+            result ≡ Err (AssemblyError.InsufficientAttestations (quorum_of (length self.now))
+            (length attestations.items)) }
         // No memory is taken.
         ensures ample { quorum_of (length self.now) ≤ length attestations.items → IsOk result }
         ensures made { IfOk result (λ certificate. IsInOrder attestations.items certificate) }
         ensures certified { IfOk result (λ certificate. (subject : SubjectValue D) →
-            All (λ a. marked_good (length self.now) subject a.signer a.signature ≡ true) attestations.items →
-            is_quorum (length self.now) (marked_good (length self.now) subject) certificate ≡ true) }
+            All (λ a. marked_good (length self.now) subject a.signer a.signature ≡
+            true) attestations.items →
+            is_quorum (length self.now) (marked_good (length self.now) subject) certificate ≡
+            true) }
     {
         assembled(self, attestations)
     }
 
-    ghost members = { λ counted subject signer signature h. marked_members (length counted) subject signer signature h };
+    ghost members = { λ counted subject signer signature h.
+        marked_members (length counted) subject signer signature h };
 }
 
 impl<D: Digest> Listing<D> for Counted {
@@ -192,7 +204,8 @@ impl<D: Digest> Listing<D> for Counted {
         certificate.attestations()
     }
 
-    ghost lists_quorums = { λ scheme subject certificate. (quorum_meaning (length scheme) (marked_good (length scheme) subject) certificate).0 };
+    ghost lists_quorums = { λ scheme subject certificate.
+        (quorum_meaning (length scheme) (marked_good (length scheme) subject) certificate).0 };
 
     ghost lists_given = { λ given certificate made. made };
 }

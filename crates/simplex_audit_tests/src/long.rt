@@ -1,20 +1,20 @@
 //! A long message that comes in short reads.
 
 use crate::outcome::marked;
-use devices::{Source, Target, Trouble};
+use faulty_io::{Source, Target, Trouble};
 use simplex_audit::audit::{Watched, run};
 use simplex_plain::marked::{Marked, MarkedDigest};
 use std::alloc::Global;
 use std::test::Fail;
 
-/// The first signer whose number is spelled in four bytes.
+/// The first signer whose number is encoded in four bytes.
 const FIRST: u32 = 2_097_152;
 
 /// How many attestations the message lists.
 const ATTESTATIONS: u32 = 3_200_000;
 
-/// The four bytes that spell a number from 2^21 to 2^28 - 1.
-fn spelled(number: u32) -> [u8; 4] {
+/// The four bytes that encode a number from 2^21 to 2^28 - 1.
+fn encoded(number: u32) -> [u8; 4] {
     [
         (number % 128 + 128) as u8,
         (number / 128 % 128 + 128) as u8,
@@ -27,9 +27,9 @@ fn spelled(number: u32) -> [u8; 4] {
 fn nullification(alloc: Global) -> Result<Vec<u8>, Fail> {
     let mut bytes = Vec::new(alloc);
     bytes.extend_from_slice(b"\x04\x00\x0a")?;
-    bytes.extend_from_slice(&spelled(ATTESTATIONS))?;
+    bytes.extend_from_slice(&encoded(ATTESTATIONS))?;
     for signer in FIRST..FIRST + ATTESTATIONS {
-        bytes.extend_from_slice(&spelled(signer))?;
+        bytes.extend_from_slice(&encoded(signer))?;
         bytes.push(0xaa)?;
     }
     Ok(bytes)

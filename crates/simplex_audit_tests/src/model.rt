@@ -1,4 +1,4 @@
-//! The auditor by its definition: the good votes stand in one list and the subjects of certified messages in another, and of
+//! The auditor by its definition: the valid votes stand in one list and the subjects of certified messages in another, and of
 //! each list any two are compared. It is slow, and there to be run against.
 
 use crate::outcome::Outcome;
@@ -65,7 +65,7 @@ impl Matter {
     }
 }
 
-/// A good vote.
+/// A valid vote.
 #[derive(Clone, Copy)]
 struct Vote {
     matter: Matter,
@@ -81,7 +81,7 @@ struct Finding {
     line: String,
 }
 
-/// All good votes and all that is certified, in the order of the stream.
+/// All valid votes and all that is certified, in the order of the stream.
 #[derive(Drop)]
 struct Lists {
     votes: Vec<Vote>,
@@ -136,7 +136,7 @@ fn read_messages(
     Ok((stream.len(), None))
 }
 
-/// Appends what is good of a message.
+/// Appends what is valid of a message.
 fn list_message(
     committees: &Committees<Marked>,
     message: Activity<Marked, MarkedDigest>,
@@ -209,7 +209,7 @@ fn faults_of(participants: usize) -> usize {
     participants.saturating_sub(1) / 3
 }
 
-/// Whether an attestation is good: marked so, by a member of the committee of its epoch.
+/// Whether an attestation is valid: marked so, by a member of the committee of its epoch.
 fn is_good(
     committees: &Committees<Marked>,
     round: Round,
@@ -219,7 +219,7 @@ fn is_good(
         && (attestation.signer.get() as usize) < size_at(committees, round)
 }
 
-/// Appends a vote if it is good.
+/// Appends a vote if it is valid.
 fn list_vote(
     committees: &Committees<Marked>,
     matter: Matter,
@@ -235,7 +235,7 @@ fn list_vote(
     Ok(())
 }
 
-/// Appends the good votes of a certificate, and what it is for if a quorum is listed and all are good.
+/// Appends the valid votes of a certificate, and what it is for if a quorum is listed and all are valid.
 fn list_certificate(
     committees: &Committees<Marked>,
     matter: Matter,

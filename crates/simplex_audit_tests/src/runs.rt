@@ -1,7 +1,7 @@
 //! Runs over readers and writers that do and do not fail.
 
 use crate::outcome::marked;
-use devices::{Source, Target, Trouble};
+use faulty_io::{Source, Target, Trouble};
 use simplex_audit::audit::{RunError, Watched, run};
 use simplex_plain::marked::{Marked, MarkedDigest};
 use std::alloc::Global;

@@ -1,6 +1,6 @@
 //! What a watched device hands on: each call once, and what it answers.
 
-use devices::{Source, Target, Trouble};
+use faulty_io::{Source, Target, Trouble};
 use simplex_audit::audit::Watched;
 use std::io;
 use std::io::{ErrorKind, Read, Write};

@@ -3,7 +3,7 @@
 //! `.ci/refusals` runs each test here with every allocation refused from the one that `memory_ends` asks for.
 
 use crate::outcome::marked;
-use devices::{Source, Target, Trouble};
+use faulty_io::{Source, Target, Trouble};
 use simplex_audit::audit::{Auditor, Committees, CommitteesError, Watched, audit};
 use simplex_base::positions::{Epoch, Participant, Round, View};
 use simplex_plain::marked::{Marked, MarkedDigest};

@@ -1,5 +1,6 @@
--- Positions in the protocol, and how they are spelled. An epoch, a view and a participant are numbers.
+-- Positions in the protocol, and how they are encoded. An epoch, a view and a participant are numbers.
 use Rattle.std.proofs.Common.{ℕ, refl}
+use Rattle.std.specs.Prelude.{◌==◌, ◌&&◌, Bool}
 use Rattle.simplex_base.specs.Format.{Format, IsLawful, both, made}
 use Rattle.simplex_base.specs.FormatLaws.{both_lawful, made_lawful}
 use Rattle.simplex_base.specs.Sizes.{IsWithin, Longest, both_within, both_longest, made_longest, number_64_within, number_64_longest}
@@ -10,6 +11,10 @@ use Rattle.simplex_base.specs.VarintLaws.{number_64_lawful}
 pub record Round : Type 0 where
   pub epoch : ℕ
   pub view : ℕ
+
+-- whether two rounds are one: the same view of the same epoch
+abbrev pub same_round : Round → Round → Bool
+same_round a b = (a.epoch == b.epoch) && (a.view == b.view)
 
 -- an epoch, and then a view
 abbrev pub round_format : Format Round

@@ -1,4 +1,4 @@
--- How long the spellings of a format are at most.
+-- How long the encodings of a format are at most.
 -- They stand beside the definitions because ghost members of impls cite them, and those see no proofs.
 use Rattle.std.proofs.Common.{◌≡◌, ℕ, zero, suc, ◌+◌, ◌≤◌, ◌-◌, ◌^◌, List, length, replicate, arith, length-append, lit<}
 use Rattle.std.proofs.lemmas.List.{length-replicate}
@@ -7,25 +7,25 @@ use Rattle.simplex_base.specs.Format.{Format, IsFixed, both, made, fixed}
 use Rattle.simplex_base.specs.Varint.{number_64, number_32}
 use Rattle.simplex_base.specs.VarintLaws.{groups_len, longest_64, longest_32}
 
--- no spelling is longer
+-- no encoding is longer
 abbrev pub IsWithin : {T : Type 0} → Format T → ℕ → Type 0
-IsWithin {T} f size = (x : T) → f.is_value x → length (f.spelling x) ≤ size
+IsWithin {T} f size = (x : T) → f.is_value x → length (f.encoding x) ≤ size
 
--- a value whose spelling is as long
+-- a value whose encoding is as long
 abbrev pub Longest : {T : Type 0} → Format T → ℕ → Type 0
-Longest {T} f size = (x : T) × f.is_value x × (length (f.spelling x) ≡ size)
+Longest {T} f size = (x : T) × f.is_value x × (length (f.encoding x) ≡ size)
 
 -- ---- of parts
 
 pub both_within : {A B : Type 0} (f : Format A) (g : Format B) {m n : ℕ} → IsWithin f m → IsWithin g n → IsWithin (both f g) (m + n)
-both_within f g first second p h = let one = first p.0 h.0 in let other = second p.1 h.1 in omega (arith, length-append (f.spelling p.0) (g.spelling p.1))
+both_within f g first second p h = let one = first p.0 h.0 in let other = second p.1 h.1 in omega (arith, length-append (f.encoding p.0) (g.encoding p.1))
 
 pub both_longest : {A B : Type 0} (f : Format A) (g : Format B) {m n : ℕ} → Longest f m → Longest g n → Longest (both f g) (m + n)
 both_longest f g first second = (
   (first.0, second.0),
   (first.1, second.1),
   let one =
-      first.2 in let other = second.2 in omega (arith, length-append (f.spelling first.0) (g.spelling second.0)),
+      first.2 in let other = second.2 in omega (arith, length-append (f.encoding first.0) (g.encoding second.0)),
 )
 
 pub made_longest : {A B : Type 0} (f : Format A) {m : ℕ} (make : A → B) (parts : B → A) → ((a : A) → parts (make a) ≡ a) → Longest f m →

@@ -7,21 +7,21 @@ use Rattle.simplex_base.specs.declared.codec.error.Error.TheVariants as errors
 
 -- ---- the grammar
 
--- A byte below 128 is the last group. One from 128 on has seven bits, and the bytes after it spell the
--- groups above, which aren't 0: so each number has one spelling.
+-- A byte below 128 is the last group. One from 128 on has seven bits, and the bytes after it encode the
+-- groups above, which aren't 0: so each number has one encoding.
 abbrev pub IsNumber : List ℕ → ℕ → Type 0
 IsNumber [] n = ⊥
 IsNumber (b ∷ []) n = (b < 128) × (n ≡ b)
 IsNumber (b ∷ c ∷ bs) n = (128 ≤ b) × (b < 256) × (high : ℕ) × (0 < high) × (n + 128 ≡ b + 128 * high) × IsNumber (c ∷ bs) high
 
--- the spelling of n, a number below the limit, begins the bytes
+-- the encoding of n, a number below the limit, begins the bytes
 pub record BeginsWith (limit : ℕ) (bytes : List ℕ) (n : ℕ) (rest : List ℕ) : Type 0 where
   pub below : n < limit
   pub front : List ℕ
   pub number : IsNumber front n
   pub parts : bytes ≡ front ++ rest
 
--- the bytes are a proper beginning of the spelling of a number below the limit
+-- the bytes are a proper beginning of the encoding of a number below the limit
 pub record IsCutOff (limit : ℕ) (bytes : List ℕ) : Type 0 where
   pub n : ℕ
   pub below : n < limit
@@ -66,8 +66,8 @@ number_at k top (b ∷ bytes) = if nat_lt b 128 then Ok (b, bytes) else with_gro
 
 -- a number of 64 bits: at most ten groups, a tenth being 1
 abbrev pub number_64 : Format ℕ
-number_64 = record { is_value = λ n. n < 2 ^ 64; spelling = groups 9; reading = number_at 9 2 }
+number_64 = record { is_value = λ n. n < 2 ^ 64; encoding = groups 9; reading = number_at 9 2 }
 
 -- a number of 32 bits: at most five groups, a fifth being below 16
 abbrev pub number_32 : Format ℕ
-number_32 = record { is_value = λ n. n < 2 ^ 32; spelling = groups 4; reading = number_at 4 16 }
+number_32 = record { is_value = λ n. n < 2 ^ 32; encoding = groups 4; reading = number_at 4 16 }

@@ -8,7 +8,7 @@ use Rattle.std.specs.Prelude.{◌≢◌}
 use Rattle.simplex_base.specs.declared.codec.error.Error.{Error}
 use Rattle.simplex_base.specs.declared.codec.error.Error.TheVariants as errors
 use Rattle.simplex_base.specs.Reading.{Reading, Refusal, end_of_buffer, invalid_varint, ◌>>=◌, IsBytes, Fails, Gives}
-use Rattle.simplex_base.specs.Format.{Lawful, Spelled, IsLawful}
+use Rattle.simplex_base.specs.Format.{Lawful, Encoded, IsLawful}
 use Rattle.simplex_base.specs.FormatLaws.{bind_ok}
 use Rattle.simplex_base.specs.Varint.{groups, groups_at, number_at, with_group, IsNumber, BeginsWith, IsCutOff, ReadsNumber, number_64, number_32}
 
@@ -134,7 +134,7 @@ groups_takes (b ∷ bytes) (suc k) top n rest t t' fit e =
     ]
 
 number_takes : (k top : ℕ) → top ≤ 128 → 1 ≤ top → (bytes : List ℕ) (n : ℕ) (rest : List ℕ) → IsBytes bytes →
-    number_at (suc k) top bytes ≡ read n rest → Spelled (λ n. n < top * 128 ^ suc k) (groups (suc k)) bytes n rest
+    number_at (suc k) top bytes ≡ read n rest → Encoded (λ n. n < top * 128 ^ suc k) (groups (suc k)) bytes n rest
 unfolding groups number_at
 number_takes k top t t' [] n rest fit e = absurd cc
 number_takes k top t t' (b ∷ bytes) n rest fit e =
@@ -215,7 +215,7 @@ unfolding groups
 one_group zero n lt = refl
 one_group (suc k) n lt = rw (lt-ltb n 128 lt) refl
 
--- the spelling of a number spells it
+-- the encoding of a number encodes it
 pub groups_number : (k n : ℕ) → n < 128 * 128 ^ k → IsNumber (groups k n) n
 unfolding groups
 groups_number zero n lt = (omega arith, refl)
@@ -244,18 +244,18 @@ number_groups (b ∷ c ∷ bs) (suc k) n lt h =
     let lt' : n < 128 * (128 * 128 ^ k) = rw pw at lt in
     rw (le-ltb n 128 big) (rw (low, up) (ap (λ (t : List ℕ). b ∷ t) (number_groups (c ∷ bs) k h.2 (omega arith) h.5)))
 
--- the spelling of a number by the grammar, and the only one
-pub spells_64 : (n : ℕ) → n < 2 ^ 64 → IsNumber (groups 9 n) n
-spells_64 n lt = groups_number 9 n (omega arith)
+-- the encoding of a number by the grammar, and the only one
+pub encodes_64 : (n : ℕ) → n < 2 ^ 64 → IsNumber (groups 9 n) n
+encodes_64 n lt = groups_number 9 n (omega arith)
 
-pub only_spelling_64 : (n : ℕ) (bytes : List ℕ) → n < 2 ^ 64 → IsNumber bytes n → bytes ≡ groups 9 n
-only_spelling_64 n bytes lt h = number_groups bytes 9 n (omega arith) h
+pub only_encoding_64 : (n : ℕ) (bytes : List ℕ) → n < 2 ^ 64 → IsNumber bytes n → bytes ≡ groups 9 n
+only_encoding_64 n bytes lt h = number_groups bytes 9 n (omega arith) h
 
-pub spells_32 : (n : ℕ) → n < 2 ^ 32 → IsNumber (groups 4 n) n
-spells_32 n lt = groups_number 4 n (omega arith)
+pub encodes_32 : (n : ℕ) → n < 2 ^ 32 → IsNumber (groups 4 n) n
+encodes_32 n lt = groups_number 4 n (omega arith)
 
-pub only_spelling_32 : (n : ℕ) (bytes : List ℕ) → n < 2 ^ 32 → IsNumber bytes n → bytes ≡ groups 4 n
-only_spelling_32 n bytes lt h = number_groups bytes 4 n (omega arith) h
+pub only_encoding_32 : (n : ℕ) (bytes : List ℕ) → n < 2 ^ 32 → IsNumber bytes n → bytes ≡ groups 4 n
+only_encoding_32 n bytes lt h = number_groups bytes 4 n (omega arith) h
 
 pub number_64_lawful : IsLawful number_64
 number_64_lawful = number_lawful 8 2 (omega arith) (omega arith)

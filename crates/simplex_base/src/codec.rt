@@ -1,4 +1,4 @@
-//! Values as bytes: each value has one spelling, and reading finds it wherever it begins the input.
+//! Values as bytes: each value has one encoding, and reading finds it wherever it begins the input.
 
 ghost use Rattle.std.specs.Prelude.{◌≡◌, ◌↔◌, true, ℕ, Bool, Ok, Err, List, ◌++◌, length, OnOk, OnErr, IfOk, ◌≤◌, ◌<◌};
 ghost use Rattle.std.specs.Ordering.{nat_cmp};
@@ -22,62 +22,62 @@ pub use error::Error;
 use std::alloc::{AllocError, Global};
 use std::hash::Hash;
 
-/// What the values of a type are, and how each of them is spelled. It has no code of its own.
-pub trait Spell {
+/// What the values of a type are, and how each of them is encoded. It has no code of its own.
+pub trait Encoding {
     /// Holds of the values of the type.
     ghost is_value: { Self → Type 0 };
 
     /// The bytes of a value.
-    ghost spelling: { Self → List ℕ };
+    ghost encoding: { Self → List ℕ };
 }
 
 /// A value that can be written.
-pub trait Write: Spell {
-    /// Appends the spelling. `AllocError` comes where the buffer had to grow and could not; the buffer
+pub trait Write: Encoding {
+    /// Appends the encoding. `AllocError` comes where the buffer had to grow and could not; the buffer
     /// is then as before.
     fn write(&self, buf: &mut Vec<u8>) -> Result<(), AllocError>
-        ensures ok { OnOk result (buf.new.items ≡ buf.old.items ++ Self.spelling self.now) }
+        ensures ok { OnOk result (buf.new.items ≡ buf.old.items ++ Self.encoding self.now) }
         ensures err { OnErr result (buf.new.items ≡ buf.old.items) };
 }
 
-/// A value that knows how long its spelling is.
-pub trait EncodeSize: Spell {
+/// A value that knows how long its encoding is.
+pub trait EncodeSize: Encoding {
     /// A bound on the lengths, so that they can be added up.
     ghost limit: { ℕ };
 
-    /// The number of bytes of the spelling.
+    /// The number of bytes of the encoding.
     fn encode_size(&self) -> usize
-        ensures size { result ≡ length (Self.spelling self.now) }
+        ensures size { result ≡ length (Self.encoding self.now) }
         ensures value { Self.is_value self.now }
         ensures limited { result ≤ limit };
 }
 
-/// A type whose spellings have a greatest length.
+/// A type whose encodings have a greatest length.
 pub trait MaxEncodeSize: EncodeSize {
     /// The greatest length.
     ghost max_size: { ℕ };
 
-    /// The greatest number of bytes that a spelling has.
+    /// The greatest number of bytes that an encoding has.
     fn max_encode_size() -> usize
         ensures { result ≡ max_size };
 
-    /// The number of bytes of the spelling, which is at most the greatest.
+    /// The number of bytes of the encoding, which is at most the greatest.
     final fn bounded_encode_size(&self) -> usize
-        ensures size { result ≡ length (Self.spelling self.now) }
+        ensures size { result ≡ length (Self.encoding self.now) }
         ensures bounded { result ≤ max_size }
     {
         self.encode_size()
     }
 
-    /// No spelling is longer,
-    ghost within: { (x : Self) → Self.is_value x → length (Self.spelling x) ≤ max_size };
+    /// No encoding is longer,
+    ghost within: { (x : Self) → Self.is_value x → length (Self.encoding x) ≤ max_size };
 
-    /// and some spelling is as long.
-    ghost reached: { (x : Self) × Self.is_value x × (length (Self.spelling x) ≡ max_size) };
+    /// and some encoding is as long.
+    ghost reached: { (x : Self) × Self.is_value x × (length (Self.encoding x) ≡ max_size) };
 }
 
 /// A value that can be read.
-pub trait Read: Spell {
+pub trait Read: Encoding {
     /// What bounds the values that are read.
     type Cfg;
 
@@ -95,8 +95,8 @@ pub trait Read: Spell {
     fn read_cfg(alloc: Global, input: &mut &[u8], cfg: &Self::Cfg) -> Result<Self, Error>
         ensures { Gives takes_memory result input.old.now input.new.now (reading cfg.now input.old.now) };
 
-    /// Reading gives the value whose spelling begins the input, whatever follows, and only that.
-    ghost lawful: { (cfg : Self.Cfg) → Lawful (fits cfg) Self.spelling (reading cfg) };
+    /// Reading gives the value whose encoding begins the input, with any bytes behind it, and only that.
+    ghost lawful: { (cfg : Self.Cfg) → Lawful (fits cfg) Self.encoding (reading cfg) };
 }
 
 /// A type that needs no configuration to be read, as all but those with a certificate: each of its values can be read.
@@ -107,9 +107,9 @@ pub trait ReadExt: Read<Cfg = ()> {
 
 /// A value that can be written as one byte string.
 pub trait Encode: Write + EncodeSize {
-    /// The spelling, in memory of just its size.
+    /// The encoding, in memory of just its size.
     fn encode(&self, alloc: Global) -> Result<Bytes, AllocError>
-        ensures spelling { IfOk result (λ bytes. bytes ≡ Self.spelling self.now) }
+        ensures encoding { IfOk result (λ bytes. bytes ≡ Self.encoding self.now) }
         ensures value { Self.is_value self.now }
     {
         let mut buf = Vec::with_capacity(alloc, self.encode_size())?;
@@ -120,7 +120,7 @@ pub trait Encode: Write + EncodeSize {
 
 impl<T: Write + EncodeSize> Encode for T {}
 
-/// A type whose spellings all have one length.
+/// A type whose encodings all have one length.
 pub trait FixedSize {
     ghost SIZE: { ℕ };
 
@@ -150,14 +150,15 @@ pub trait Fixed: FixedSize + Copy + Eq + Ord + Hash {
     /// The size is from 1 to 65,535.
     ghost sized: { (0 < Self.SIZE) × (Self.SIZE ≤ 65535) };
 
-    /// Each list of so many bytes is the bytes of a value,
+    /// Each list of that many bytes is the bytes of a value,
     ghost back: { (bytes : List ℕ) → IsFixed Self.SIZE bytes → bytes_of (of_bytes bytes) ≡ bytes };
 
     /// and of one only.
     ghost forth: { (x : Self) → IsFixed Self.SIZE (bytes_of x) → of_bytes (bytes_of x) ≡ x };
 
-    /// Reading so many bytes gives the value of them, and nothing else is read.
-    ghost lawful: { Lawful (λ x. IsFixed Self.SIZE (bytes_of x)) bytes_of (fixed_at Self.SIZE of_bytes) } = { fixed_lawful Self.SIZE bytes_of of_bytes back forth };
+    /// Reading that many bytes gives the value of them, and no more are read.
+    ghost lawful: { Lawful (λ x. IsFixed Self.SIZE (bytes_of x)) bytes_of
+        (fixed_at Self.SIZE of_bytes) } = { fixed_lawful Self.SIZE bytes_of of_bytes back forth };
 
     /// No value has more bytes than the size,
     ghost within: { IsWithin (fixed Self.SIZE bytes_of of_bytes) Self.SIZE } = { fixed_within Self.SIZE bytes_of of_bytes };
@@ -175,9 +176,10 @@ pub trait Fixed: FixedSize + Copy + Eq + Ord + Hash {
 /// Reads a value that needs no configuration, and moves the slice past it. After an error the slice is as before.
 pub fn read_value<T: ReadExt>(alloc: Global, input: &mut &[u8]) -> Result<T, Error>
     // What is read begins the input, and the slice is what follows it.
-    ensures taken { IfOk result (λ x. T.fits tt x × (input.old.now ≡ T.spelling x ++ input.new.now)) }
-    // A value that begins the input is read, whatever follows, memory aside.
-    ensures again { (x : T) (rest : List ℕ) → T.is_value x → input.old.now ≡ T.spelling x ++ rest →
+    ensures taken { IfOk result (λ x. T.fits tt x ×
+        (input.old.now ≡ T.encoding x ++ input.new.now)) }
+    // A value that begins the input is read, with any bytes behind it, unless an allocation fails.
+    ensures again { (x : T) (rest : List ℕ) → T.is_value x → input.old.now ≡ T.encoding x ++ rest →
         Gives T.takes_memory result input.old.now input.new.now (Ok (x, rest)) }
     // Which refusal it is.
     ensures refusal { Gives T.takes_memory result input.old.now input.new.now (T.reading tt input.old.now) }
@@ -188,15 +190,16 @@ pub fn read_value<T: ReadExt>(alloc: Global, input: &mut &[u8]) -> Result<T, Err
 
 /// Reads a value that is all of the bytes. A rest after the value is refused by `ExtraData`.
 pub fn decode_cfg<T: Read + Drop>(alloc: Global, bytes: &[u8], cfg: &T::Cfg) -> Result<T, Error>
-    // What is read is spelled so,
-    ensures taken { IfOk result (λ x. T.fits cfg.now x × (bytes.now ≡ T.spelling x)) }
-    // and what is spelled so is read, memory aside.
-    ensures again { (x : T) → T.fits cfg.now x → bytes.now ≡ T.spelling x → GivesAll T.takes_memory result (Ok x) }
+    // What is read is encoded so,
+    ensures taken { IfOk result (λ x. T.fits cfg.now x × (bytes.now ≡ T.encoding x)) }
+    // and what is encoded so is read, memory aside.
+    ensures again { (x : T) → T.fits cfg.now x → bytes.now ≡ T.encoding x →
+        GivesAll T.takes_memory result (Ok x) }
     // Which refusal it is.
     ensures refusal { GivesAll T.takes_memory result (all_of (T.reading cfg.now) bytes.now) }
-    // No spelling begins another's, so each spelling is one value's.
+    // No encoding begins another's, so each encoding is one value's.
     ensures one { (x y : T) (rest more : List ℕ) → T.fits cfg.now x → T.fits cfg.now y →
-        T.spelling x ++ rest ≡ T.spelling y ++ more → (x ≡ y) × (rest ≡ more) }
+        T.encoding x ++ rest ≡ T.encoding y ++ more → (x ≡ y) × (rest ≡ more) }
 {
     read_all(alloc, bytes, cfg)
 }
@@ -214,13 +217,14 @@ fn read_all<T: Read + Drop>(alloc: Global, bytes: &[u8], cfg: &T::Cfg) -> Result
 
 /// Reads a value that is all of the bytes and needs no configuration. A rest after the value is refused by `ExtraData`.
 pub fn decode<T: ReadExt + Drop>(alloc: Global, bytes: &[u8]) -> Result<T, Error>
-    ensures taken { IfOk result (λ x. T.fits tt x × (bytes.now ≡ T.spelling x)) }
+    ensures taken { IfOk result (λ x. T.fits tt x × (bytes.now ≡ T.encoding x)) }
     // Each value that was written is read again, memory aside.
-    ensures again { (x : T) → T.is_value x → bytes.now ≡ T.spelling x → GivesAll T.takes_memory result (Ok x) }
+    ensures again { (x : T) → T.is_value x → bytes.now ≡ T.encoding x →
+        GivesAll T.takes_memory result (Ok x) }
     ensures refusal { GivesAll T.takes_memory result (all_of (T.reading tt) bytes.now) }
-    // No spelling begins another's, whatever follows.
+    // No encoding is a prefix of another, with any bytes behind it.
     ensures one { (x y : T) (rest more : List ℕ) → T.is_value x → T.is_value y →
-        T.spelling x ++ rest ≡ T.spelling y ++ more → (x ≡ y) × (rest ≡ more) }
+        T.encoding x ++ rest ≡ T.encoding y ++ more → (x ≡ y) × (rest ≡ more) }
 {
     decode_cfg(alloc, bytes, &())
 }

@@ -1,4 +1,4 @@
-//! The bottom layer of the simplex message layer: how values are spelled as bytes, and the positions
+//! The bottom layer of the simplex message layer: how values are encoded as bytes, and the positions
 //! (epochs, views, rounds, participants) that messages speak of.
 #![tactic(auto)]
 

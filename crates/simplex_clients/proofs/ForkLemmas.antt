@@ -7,16 +7,16 @@ use Rattle.std.proofs.lemmas.List.{append-nil}
 use Rattle.std.proofs.lemmas.List.Elements.{All-cons, All-nil}
 use Rattle.simplex_base.specs.Format.{Format}
 use Rattle.simplex_base.specs.Positions.{Round}
-use Rattle.simplex_votes.specs.Spellings.{IsFinalization}
-use Rattle.simplex_votes.specs.Votes.{Vote}
+use Rattle.simplex_votes.specs.Encodings.{IsFinalization}
+use Rattle.simplex_votes.specs.Votes.{SignedVote}
 use Rattle.simplex_evidence.specs.Contradiction.{Kind, Evidence, Conflicting_notarize, Conflicting_finalize, Nullify_finalize}
-use Rattle.simplex_kept.specs.Committees.{bound_of}
-use Rattle.simplex_kept.specs.Evidence.{IsEvidence}
-use Rattle.simplex_kept.specs.Laws.{NamesExactly}
-use Rattle.simplex_kept.specs.Named.{is_named}
-use Rattle.simplex_kept.specs.Rules.{Rules, good_votes}
-use Rattle.simplex_kept.specs.Splits.{is_named_in}
-use Rattle.simplex_kept.specs.SplitLaws.{IsAccountable, shared_signers}
+use Rattle.simplex_detector.specs.Committees.{bound_of}
+use Rattle.simplex_detector.specs.Evidence.{IsEvidence}
+use Rattle.simplex_detector.specs.Laws.{NamesExactly}
+use Rattle.simplex_detector.specs.Named.{is_named}
+use Rattle.simplex_detector.specs.Rules.{Rules, valid_votes}
+use Rattle.simplex_detector.specs.Splits.{is_named_in}
+use Rattle.simplex_detector.specs.SplitLaws.{IsAccountable, shared_signers}
 use Rattle.simplex_evidence.specs.declared.types.activity.Activity.{Activity}
 use Rattle.simplex_audit.specs.Messages.{AreMessages}
 use Rattle.simplex_votes.specs.declared.types.finalization.Finalization.{Finalization}
@@ -24,8 +24,8 @@ use Rattle.simplex_clients.specs.declared.light_client.Followed.{Followed}
 use Rattle.simplex_clients.specs.declared.light_client.Followed.TheVariants as followed
 use Rattle.simplex_clients.specs.Following.{Following, latest_after, BlamesEnough}
 
--- whoever is named in a round is named there for some kind of contradiction
-kind_of_named : {D G : Type 0} (eq : D → D → Bool) (vs : List (Vote D G)) (round : Round) (q : ℕ) → is_named_in eq vs round q ≡ true →
+-- who is named in a round is named there for some kind of contradiction
+kind_of_named : {D G : Type 0} (eq : D → D → Bool) (vs : List (SignedVote D G)) (round : Round) (q : ℕ) → is_named_in eq vs round q ≡ true →
     (kind : Kind) × IsTrue (is_named eq vs (record { round = round; signer = q; kind = kind }))
 kind_of_named eq vs round q h =
     elim (cases_Bool (is_named eq vs (record { round = round; signer = q; kind = Conflicting_notarize }))) [
@@ -40,22 +40,22 @@ kind_of_named eq vs round q h =
     third : (a b c : Bool) → a ≡ false → b ≡ false → (a || (b || c)) ≡ true → c ≡ true
     third a b c first second h = sym (ap (λ x. x || (b || c)) first ∙ ap (λ x. x || c) second) ∙ h
 
--- evidence that names exactly who is named blames whoever signed both of two certificates
+-- evidence that names exactly who is named blames every signer of both of two certificates
 pub blames : {S D C P G : Type 0} (rules : Rules S D C P G) (messages : List (Activity S D C P G)) (round : Round) (c d : C) (es : List (Evidence D G)) →
-    NamesExactly rules.eq (good_votes rules messages) es → IsAccountable rules messages round c d → BlamesEnough (rules.size round.epoch) round es
+    NamesExactly rules.eq (valid_votes rules messages) es → IsAccountable rules messages round c d → BlamesEnough (rules.size round.epoch) round es
 blames rules messages round c d es names accountable = record {
   signers = shared_signers rules c d;
   distinct = accountable.distinct;
   enough = omega (arith, accountable.many, accountable.more_than_faults);
   blamed = λ k q lt.
-      let (kind, named) = kind_of_named rules.eq (good_votes rules messages) round _ (accountable.named k q lt) in
+      let (kind, named) = kind_of_named rules.eq (valid_votes rules messages) round _ (accountable.named k q lt) in
       (kind, (names (record { round = round; signer = _; kind = kind })).1 named);
 }
 
 -- the evidence of the votes of some messages is that of the same messages
 pub evidence_of_same : {S D C P G : Type 0} (rules : Rules S D C P G) (given wanted : List (Activity S D C P G)) (es : List (Evidence D G)) → given ≡ wanted →
-    IsEvidence rules.eq (good_votes rules given) es → IsEvidence rules.eq (good_votes rules wanted) es
-evidence_of_same {S} {D} {C} {P} {G} rules given wanted es same is = subst (λ (ms : List (Activity S D C P G)). IsEvidence rules.eq (good_votes rules ms) es) same is
+    IsEvidence rules.eq (valid_votes rules given) es → IsEvidence rules.eq (valid_votes rules wanted) es
+evidence_of_same {S} {D} {C} {P} {G} rules given wanted es same is = subst (λ (ms : List (Activity S D C P G)). IsEvidence rules.eq (valid_votes rules ms) es) same is
 
 -- a finalization that is read under the bound of the committees inside is under that of the client's
 pub value_outside : {S D C P G : Type 0} (payload : Format D) (fits : ℕ → C → Type 0) (keys : S → List P) (inside before : Following S D C P G) (f : Finalization S D C P G) → inside ≡ before →
@@ -78,9 +78,9 @@ pub nothing_first : {X : Type 0} (x : X) (xs : List X) → [] ≡ x ∷ xs → �
 nothing_first x xs is = absurd cc
 
 -- a stream of two messages
-pub two_messages : {M : Type 0} (format : Format M) (x y : M) (stream : List ℕ) → format.is_value x → format.is_value y → ((m : M) (more : List ℕ) → [] ≡ format.spelling m ++ more → ⊥) → stream ≡ format.spelling x ++ format.spelling y → AreMessages format stream (x ∷ y ∷ []) []
+pub two_messages : {M : Type 0} (format : Format M) (x y : M) (stream : List ℕ) → format.is_value x → format.is_value y → ((m : M) (more : List ℕ) → [] ≡ format.encoding m ++ more → ⊥) → stream ≡ format.encoding x ++ format.encoding y → AreMessages format stream (x ∷ y ∷ []) []
 two_messages format x y stream one other filled is = record {
-  whole = is ∙ sym (append-nil (flat_map format.spelling (x ∷ y ∷ [])) ∙ ap (λ r. format.spelling x ++ r) (append-nil (format.spelling y)));
+  whole = is ∙ sym (append-nil (flat_map format.encoding (x ∷ y ∷ [])) ∙ ap (λ r. format.encoding x ++ r) (append-nil (format.encoding y)));
   each = both_of_two format.is_value x y one other;
   stuck = λ m more value is_front. filled m more is_front;
 }

@@ -7,19 +7,19 @@ use Rattle.std.proofs.lemmas.List.{take_more, take_all}
 use Rattle.std.proofs.lemmas.List.Elements.{All-append, All-contains, All-filter, All-head, All-nil, All-tail, Contains-append_cases, Contains-append_left, Contains-append_right, filter-append}
 use Rattle.std.proofs.lemmas.List.Folds.{Any-from_list_any, list_any-from_Any, flat_map-map}
 use Rattle.simplex_base.specs.Format.{Format}
-use Rattle.simplex_votes.specs.Votes.{Vote, is_of}
+use Rattle.simplex_votes.specs.Votes.{SignedVote, is_of}
 use Rattle.simplex_evidence.specs.Activity.{votes_in}
 use Rattle.simplex_evidence.specs.Contradiction as contradiction
 use Rattle.simplex_evidence.specs.declared.types.activity.Activity.{Activity}
-use Rattle.simplex_kept.specs.Evidence.{IsEvidence, IsEquivocation}
-use Rattle.simplex_kept.specs.Laws.{EvidenceIsUnique, NamesExactly}
-use Rattle.simplex_kept.specs.Named.{Named, is_named}
-use Rattle.simplex_kept.specs.Rules.{Rules, good_votes, is_good}
-use Rattle.simplex_kept.specs.Values.{evidence_value, message_of}
-use Rattle.simplex_kept.specs.declared.evidence.Evidence.{Evidence}
-use Rattle.simplex_kept.specs.declared.evidence.Evidence.TheVariants as variants
+use Rattle.simplex_detector.specs.Evidence.{IsEvidence, IsEquivocation}
+use Rattle.simplex_detector.specs.Laws.{EvidenceIsUnique, NamesExactly}
+use Rattle.simplex_detector.specs.Named.{Named, is_named}
+use Rattle.simplex_detector.specs.Rules.{Rules, valid_votes, is_valid}
+use Rattle.simplex_detector.specs.Values.{evidence_value, message_of}
+use Rattle.simplex_detector.specs.declared.evidence.Evidence.{Evidence}
+use Rattle.simplex_detector.specs.declared.evidence.Evidence.TheVariants as variants
 use Rattle.simplex_audit.specs.Basis.{Basis}
-use Rattle.simplex_audit.specs.Headline.{HasOneReading}
+use Rattle.simplex_audit.specs.Guarantees.{HasOneReading}
 use Rattle.simplex_audit.specs.Messages.{AreMessages}
 use Rattle.simplex_clients.specs.Holding.{IsEvidenceOf, IsStored}
 use Rattle.simplex_clients.proofs.ForkLemmas.{both_of_two}
@@ -39,84 +39,84 @@ and_more true b c more h = more h
 and_more false b c more h = h
 
 -- more votes name more
-named_within : {D G : Type 0} (eq : D → D → Bool) (vs ws : List (Vote D G)) (n : Named) → Within vs ws → IsTrue (is_named eq vs n) → IsTrue (is_named eq ws n)
+named_within : {D G : Type 0} (eq : D → D → Bool) (vs ws : List (SignedVote D G)) (n : Named) → Within vs ws → IsTrue (is_named eq vs n) → IsTrue (is_named eq ws n)
 named_within eq vs ws n within h =
     any_within _ _ vs ws within
     (λ v. and_more (is_of n.round n.signer v) _ _ (any_within (contradiction.contradicts eq n.kind v) _ vs ws within (λ w yes. yes))) h
 
-good_append : {S D C P G : Type 0} (rules : Rules S D C P G) (ms ks : List (Activity S D C P G)) → good_votes rules (ms ++ ks) ≡ good_votes rules ms ++ good_votes rules ks
-good_append rules ms ks = ap (filter (is_good rules)) (flat_map-append (votes_in rules.listed) ms ks) ∙ filter-append (is_good rules) (flat_map (votes_in rules.listed) ms) (flat_map (votes_in rules.listed) ks)
+valid_append : {S D C P G : Type 0} (rules : Rules S D C P G) (ms ks : List (Activity S D C P G)) → valid_votes rules (ms ++ ks) ≡ valid_votes rules ms ++ valid_votes rules ks
+valid_append rules ms ks = ap (filter (is_valid rules)) (flat_map-append (votes_in rules.listed) ms ks) ∙ filter-append (is_valid rules) (flat_map (votes_in rules.listed) ms) (flat_map (votes_in rules.listed) ks)
 
-within_left : {S D C P G : Type 0} (rules : Rules S D C P G) (ms ks : List (Activity S D C P G)) → Within (good_votes rules ms) (good_votes rules (ms ++ ks))
-within_left {S} {D} {C} {P} {G} rules ms ks v h = subst (λ (vs : List (Vote D G)). Contains vs v) (sym (good_append rules ms ks)) (Contains-append_left (good_votes rules ms) (good_votes rules ks) v h)
+within_left : {S D C P G : Type 0} (rules : Rules S D C P G) (ms ks : List (Activity S D C P G)) → Within (valid_votes rules ms) (valid_votes rules (ms ++ ks))
+within_left {S} {D} {C} {P} {G} rules ms ks v h = subst (λ (vs : List (SignedVote D G)). Contains vs v) (sym (valid_append rules ms ks)) (Contains-append_left (valid_votes rules ms) (valid_votes rules ks) v h)
 
-within_right : {S D C P G : Type 0} (rules : Rules S D C P G) (ms ks : List (Activity S D C P G)) → Within (good_votes rules ks) (good_votes rules (ms ++ ks))
-within_right {S} {D} {C} {P} {G} rules ms ks v h = subst (λ (vs : List (Vote D G)). Contains vs v) (sym (good_append rules ms ks)) (Contains-append_right (good_votes rules ms) (good_votes rules ks) v h)
+within_right : {S D C P G : Type 0} (rules : Rules S D C P G) (ms ks : List (Activity S D C P G)) → Within (valid_votes rules ks) (valid_votes rules (ms ++ ks))
+within_right {S} {D} {C} {P} {G} rules ms ks v h = subst (λ (vs : List (SignedVote D G)). Contains vs v) (sym (valid_append rules ms ks)) (Contains-append_right (valid_votes rules ms) (valid_votes rules ks) v h)
 
-within_both : {S D C P G : Type 0} (rules : Rules S D C P G) (ms ls ks : List (Activity S D C P G)) → Within (good_votes rules ms) (good_votes rules ls) → Within (good_votes rules (ms ++ ks)) (good_votes rules (ls ++ ks))
+within_both : {S D C P G : Type 0} (rules : Rules S D C P G) (ms ls ks : List (Activity S D C P G)) → Within (valid_votes rules ms) (valid_votes rules ls) → Within (valid_votes rules (ms ++ ks)) (valid_votes rules (ls ++ ks))
 within_both {S} {D} {C} {P} {G} rules ms ls ks within v h =
-    elim (Contains-append_cases (good_votes rules ms) (good_votes rules ks) v (subst (λ (vs : List (Vote D G)). Contains vs v) (good_append rules ms ks) h)) [
+    elim (Contains-append_cases (valid_votes rules ms) (valid_votes rules ks) v (subst (λ (vs : List (SignedVote D G)). Contains vs v) (valid_append rules ms ks) h)) [
       | inl a ↦ within_left rules ls ks v (within v a)
       | inr b ↦ within_right rules ls ks v b
     ]
 
 -- the votes of evidence are among those that it is the evidence of
-both_votes : {D G : Type 0} (eq : D → D → Bool) (vs : List (Vote D G)) (e : contradiction.Evidence D G) → IsEquivocation eq vs e → All (Contains vs) (e.first ∷ e.second ∷ [])
+both_votes : {D G : Type 0} (eq : D → D → Bool) (vs : List (SignedVote D G)) (e : contradiction.Evidence D G) → IsEquivocation eq vs e → All (Contains vs) (e.first ∷ e.second ∷ [])
 both_votes eq vs e h = both_of_two (Contains vs) e.first e.second h.first_cast h.second_cast
 
-votes_of_one : {S D C P G : Type 0} (rules : Rules S D C P G) (vs : List (Vote D G)) (e : Evidence S D P G) → IsEquivocation rules.eq vs (evidence_value e) → All (Contains vs) (votes_in rules.listed (message_of e))
+votes_of_one : {S D C P G : Type 0} (rules : Rules S D C P G) (vs : List (SignedVote D G)) (e : Evidence S D P G) → IsEquivocation rules.eq vs (evidence_value e) → All (Contains vs) (votes_in rules.listed (message_of e))
 votes_of_one rules vs (variants.ConflictingNotarize c) h = both_votes rules.eq vs (evidence_value (variants.ConflictingNotarize c)) h
 votes_of_one rules vs (variants.ConflictingFinalize c) h = both_votes rules.eq vs (evidence_value (variants.ConflictingFinalize c)) h
 votes_of_one rules vs (variants.NullifyFinalize c) h = both_votes rules.eq vs (evidence_value (variants.NullifyFinalize c)) h
 
-votes_of_all : {S D C P G : Type 0} (rules : Rules S D C P G) (vs : List (Vote D G)) (es : List (Evidence S D P G)) → All (IsEquivocation rules.eq vs) (map evidence_value es) → All (Contains vs) (flat_map (votes_in rules.listed) (map message_of es))
+votes_of_all : {S D C P G : Type 0} (rules : Rules S D C P G) (vs : List (SignedVote D G)) (es : List (Evidence S D P G)) → All (IsEquivocation rules.eq vs) (map evidence_value es) → All (Contains vs) (flat_map (votes_in rules.listed) (map message_of es))
 votes_of_all rules vs [] h = All-nil (Contains vs)
 votes_of_all rules vs (e ∷ es) h =
     All-append (Contains vs) (votes_in rules.listed (message_of e)) (flat_map (votes_in rules.listed) (map message_of es))
     (votes_of_one rules vs e (All-head (IsEquivocation rules.eq vs) (evidence_value e) (map evidence_value es) h))
     (votes_of_all rules vs es (All-tail (IsEquivocation rules.eq vs) (evidence_value e) (map evidence_value es) h))
 
-stored_within : {S D C P G : Type 0} (rules : Rules S D C P G) (vs : List (Vote D G)) (es : List (Evidence S D P G)) → All (IsEquivocation rules.eq vs) (map evidence_value es) → Within (good_votes rules (map message_of es)) vs
-stored_within rules vs es h v = All-contains (Contains vs) (good_votes rules (map message_of es)) v (All-filter (is_good rules) (Contains vs) (flat_map (votes_in rules.listed) (map message_of es)) (votes_of_all rules vs es h))
+stored_within : {S D C P G : Type 0} (rules : Rules S D C P G) (vs : List (SignedVote D G)) (es : List (Evidence S D P G)) → All (IsEquivocation rules.eq vs) (map evidence_value es) → Within (valid_votes rules (map message_of es)) vs
+stored_within rules vs es h v = All-contains (Contains vs) (valid_votes rules (map message_of es)) v (All-filter (is_valid rules) (Contains vs) (flat_map (votes_in rules.listed) (map message_of es)) (votes_of_all rules vs es h))
 
 -- the messages of a piece behind messages that are joined
 joined : {M : Type 0} (format : Format M) (bytes piece rest : List ℕ) (messages further : List M) → AreMessages format bytes messages [] → AreMessages format piece further rest → AreMessages format (bytes ++ piece) (messages ++ further) rest
 joined format bytes piece rest messages further are are' = record {
   whole =
-      ap (λ (t : List ℕ). t ++ piece) (are.whole ∙ append-nil (flat_map format.spelling messages)) ∙ (ap (λ (t : List ℕ). flat_map format.spelling messages ++ t) are'.whole ∙ (sym (append_assoc (flat_map format.spelling messages) (flat_map format.spelling further) rest) ∙ ap (λ (t : List ℕ). t ++ rest) (sym (flat_map-append format.spelling messages further))));
+      ap (λ (t : List ℕ). t ++ piece) (are.whole ∙ append-nil (flat_map format.encoding messages)) ∙ (ap (λ (t : List ℕ). flat_map format.encoding messages ++ t) are'.whole ∙ (sym (append_assoc (flat_map format.encoding messages) (flat_map format.encoding further) rest) ∙ ap (λ (t : List ℕ). t ++ rest) (sym (flat_map-append format.encoding messages further))));
   each = All-append format.is_value messages further are.each are'.each;
   stuck = are'.stuck;
 }
 
 -- what holds of the evidence of any votes
 pub record Laws (D G : Type 0) (eq : D → D → Bool) : Type 0 where
-  pub names : (vs : List (Vote D G)) (es : List (contradiction.Evidence D G)) → IsEvidence eq vs es → NamesExactly eq vs es
-  pub sound : (vs : List (Vote D G)) (es : List (contradiction.Evidence D G)) → IsEvidence eq vs es → All (IsEquivocation eq vs) es
-  pub only : (vs : List (Vote D G)) (es : List (contradiction.Evidence D G)) → IsEvidence eq vs es → EvidenceIsUnique eq vs es
+  pub names : (vs : List (SignedVote D G)) (es : List (contradiction.Evidence D G)) → IsEvidence eq vs es → NamesExactly eq vs es
+  pub sound : (vs : List (SignedVote D G)) (es : List (contradiction.Evidence D G)) → IsEvidence eq vs es → All (IsEquivocation eq vs) es
+  pub only : (vs : List (SignedVote D G)) (es : List (contradiction.Evidence D G)) → IsEvidence eq vs es → EvidenceIsUnique eq vs es
 
--- evidence that is spelled as messages, which have it again, is stored
+-- evidence that is encoded as messages, which have it again, is stored
 pub stored : {S D C P G : Type 0} (basis : Basis S D C P G) → Laws D G basis.rules.eq → ((other : List ℕ) → HasOneReading basis other) →
-    (stream bytes : List ℕ) (es given : List (Evidence S D P G)) → IsEvidenceOf basis stream es → given ≡ es → bytes ≡ flat_map (λ e. basis.format.spelling (message_of e)) given →
-    AreMessages basis.format (flat_map basis.format.spelling (map message_of es)) (map message_of es) [] →
-    IsEvidence basis.rules.eq (good_votes basis.rules (map message_of es)) (map evidence_value es) → IsStored basis stream bytes
+    (stream bytes : List ℕ) (es given : List (Evidence S D P G)) → IsEvidenceOf basis stream es → given ≡ es → bytes ≡ flat_map (λ e. basis.format.encoding (message_of e)) given →
+    AreMessages basis.format (flat_map basis.format.encoding (map message_of es)) (map message_of es) [] →
+    IsEvidence basis.rules.eq (valid_votes basis.rules (map message_of es)) (map evidence_value es) → IsStored basis stream bytes
 stored {S} {D} {C} {P} {G} basis laws single stream bytes es given is same joined_is are evidence =
-    let spelled : bytes ≡ flat_map basis.format.spelling (map message_of es) = joined_is ∙ (ap (flat_map (λ e. basis.format.spelling (message_of e))) same ∙ sym (flat_map-map basis.format.spelling (message_of {C = C}) es)) in
-    let here : AreMessages basis.format bytes (map message_of es) [] = subst (λ (b : List ℕ). AreMessages basis.format b (map message_of es) []) (sym spelled) are in
-    let names = laws.names (good_votes basis.rules (map message_of es)) (map evidence_value es) evidence in
+    let encoded : bytes ≡ flat_map basis.format.encoding (map message_of es) = joined_is ∙ (ap (flat_map (λ e. basis.format.encoding (message_of e))) same ∙ sym (flat_map-map basis.format.encoding (message_of {C = C}) es)) in
+    let here : AreMessages basis.format bytes (map message_of es) [] = subst (λ (b : List ℕ). AreMessages basis.format b (map message_of es) []) (sym encoded) are in
+    let names = laws.names (valid_votes basis.rules (map message_of es)) (map evidence_value es) evidence in
     record {
       evidence = es;
       evidence_is = is;
-      spelled = spelled;
+      encoded = encoded;
       again = record { messages = map message_of es; rest = []; are_messages = here; evidence_is = evidence; names = names };
-      only = λ held h. laws.only (good_votes basis.rules (map message_of es)) (map evidence_value es) evidence (map evidence_value held)
-          (subst (λ (ms : List (Activity S D C P G)). IsEvidence basis.rules.eq (good_votes basis.rules ms) (map evidence_value held)) (single bytes h.messages (map message_of es) h.rest [] h.are_messages here).0 h.evidence_is);
+      only = λ held h. laws.only (valid_votes basis.rules (map message_of es)) (map evidence_value es) evidence (map evidence_value held)
+          (subst (λ (ms : List (Activity S D C P G)). IsEvidence basis.rules.eq (valid_votes basis.rules ms) (map evidence_value held)) (single bytes h.messages (map message_of es) h.rest [] h.are_messages here).0 h.evidence_is);
       reads = λ piece rest further of. joined basis.format bytes piece rest (map message_of es) further here of;
       then = λ piece rest further held of h.
-          let both_are : IsEvidence basis.rules.eq (good_votes basis.rules (map message_of es ++ further)) (map evidence_value held) =
-          subst (λ (ms : List (Activity S D C P G)). IsEvidence basis.rules.eq (good_votes basis.rules ms) (map evidence_value held))
+          let both_are : IsEvidence basis.rules.eq (valid_votes basis.rules (map message_of es ++ further)) (map evidence_value held) =
+          subst (λ (ms : List (Activity S D C P G)). IsEvidence basis.rules.eq (valid_votes basis.rules ms) (map evidence_value held))
           (single (bytes ++ piece) h.messages (map message_of es ++ further) h.rest rest h.are_messages (joined basis.format bytes piece rest (map message_of es) further here of)).0 h.evidence_is in
-          let both = laws.names (good_votes basis.rules (map message_of es ++ further)) (map evidence_value held) both_are in
-          let inside = stored_within basis.rules (good_votes basis.rules is.messages) es (laws.sound (good_votes basis.rules is.messages) (map evidence_value es) is.evidence_is) in
+          let both = laws.names (valid_votes basis.rules (map message_of es ++ further)) (map evidence_value held) both_are in
+          let inside = stored_within basis.rules (valid_votes basis.rules is.messages) es (laws.sound (valid_votes basis.rules is.messages) (map evidence_value es) is.evidence_is) in
           record {
             evidence_is = both_are;
             names = both;
@@ -126,7 +126,7 @@ stored {S} {D} {C} {P} {G} basis laws single stream bytes es given is same joine
           };
     }
 
--- one value more is spelled behind those before it, and all are when none is left
+-- one value more is encoded behind those before it, and all are when none is left
 pub one_more : {X : Type 0} (f : X → List ℕ) (xs : List X) (i : ℕ) (x : X) (old new : List ℕ) → i < length xs → x ≡ get_or xs i x → old ≡ flat_map f (take i xs) → new ≡ old ++ f x → new ≡ flat_map f (take (i + 1) xs)
 one_more {X} f xs i x old new lt here before after =
     after ∙ (ap (λ (t : List ℕ). t ++ f x) before ∙ sym (ap (flat_map f) (take_more xs i x lt ∙ ap (λ (z : X). take i xs ++ z ∷ []) (sym here)) ∙ (flat_map-append f (take i xs) (x ∷ []) ∙ ap (λ (t : List ℕ). flat_map f (take i xs) ++ t) (append-nil (f x)))))

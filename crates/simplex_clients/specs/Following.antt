@@ -5,16 +5,16 @@ use Rattle.simplex_base.specs.Format.{Format}
 use Rattle.simplex_base.specs.Positions.{Round}
 use Rattle.simplex_scheme.specs.Committee.{faults_of}
 use Rattle.simplex_scheme.specs.Subject.{SubjectValue, Finalizes}
-use Rattle.simplex_votes.specs.Spellings.{IsFinalization}
+use Rattle.simplex_votes.specs.Encodings.{IsFinalization}
 use Rattle.simplex_votes.specs.declared.types.finalization.Finalization.{Finalization}
 use Rattle.simplex_evidence.specs.Contradiction.{Kind, Evidence}
 use Rattle.simplex_evidence.specs.declared.types.activity.Activity.TheVariants as activity
-use Rattle.simplex_kept.specs.Certificates.{subjects_contradict}
-use Rattle.simplex_kept.specs.Committees.{Schedule, bound_of, certified_by, committee_of}
-use Rattle.simplex_kept.specs.Named.{named_by}
-use Rattle.simplex_kept.specs.Evidence.{IsEvidence}
-use Rattle.simplex_kept.specs.Rules.{Rules, good_votes}
-use Rattle.simplex_kept.specs.Values.{evidence_value}
+use Rattle.simplex_detector.specs.Certificates.{subjects_contradict}
+use Rattle.simplex_detector.specs.Committees.{Schedule, bound_of, certified_by, committee_of}
+use Rattle.simplex_detector.specs.Named.{named_by}
+use Rattle.simplex_detector.specs.Evidence.{IsEvidence}
+use Rattle.simplex_detector.specs.Rules.{Rules, valid_votes}
+use Rattle.simplex_detector.specs.Values.{evidence_value}
 use Rattle.simplex_clients.specs.declared.light_client.Followed.{Followed}
 use Rattle.simplex_clients.specs.declared.light_client.Followed.TheVariants as followed
 
@@ -52,10 +52,10 @@ pub record BlamesEnough {D G : Type 0} (n : ℕ) (round : Round) (es : List (Evi
   pub enough : faults_of n + 1 ≤ length signers
   pub blamed : All (IsBlamed round es) signers
 
--- the evidence of the good votes that the certificates of two finalizations list: one for each signer, in order, and nobody
+-- the evidence of the valid votes that the certificates of two finalizations list: one for each signer, in order, and nobody
 -- left out
 abbrev pub IsEvidenceOfBoth : {S D C P G : Type 0} → Rules S D C P G → Finalization S D C P G → Finalization S D C P G → List (Evidence D G) → Type 0
-IsEvidenceOfBoth rules f g es = IsEvidence rules.eq (good_votes rules (activity.Finalization f ∷ activity.Finalization g ∷ [])) es
+IsEvidenceOfBoth rules f g es = IsEvidence rules.eq (valid_votes rules (activity.Finalization f ∷ activity.Finalization g ∷ [])) es
 
 -- What becomes of a finalization, by the latest one. One that does not certify its proposal is refused. One that contradicts
 -- the latest is a fork, with the evidence of the votes of both, which names more participants than may lie. Of the others one of

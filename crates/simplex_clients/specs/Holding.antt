@@ -2,13 +2,13 @@
 use Rattle.std.specs.Prelude.{◌≡◌, ℕ, List, ◌++◌, map, Contains, IsTrue}
 use Rattle.std.specs.List.{flat_map}
 use Rattle.simplex_evidence.specs.declared.types.activity.Activity.{Activity}
-use Rattle.simplex_kept.specs.Committees.{Schedule}
-use Rattle.simplex_kept.specs.Evidence.{IsEvidence}
-use Rattle.simplex_kept.specs.Laws.{NamesExactly}
-use Rattle.simplex_kept.specs.Named.{Named, is_named, named_by}
-use Rattle.simplex_kept.specs.Rules.{good_votes}
-use Rattle.simplex_kept.specs.Values.{evidence_value, message_of}
-use Rattle.simplex_kept.specs.declared.evidence.Evidence.{Evidence}
+use Rattle.simplex_detector.specs.Committees.{Schedule}
+use Rattle.simplex_detector.specs.Evidence.{IsEvidence}
+use Rattle.simplex_detector.specs.Laws.{NamesExactly}
+use Rattle.simplex_detector.specs.Named.{Named, is_named, named_by}
+use Rattle.simplex_detector.specs.Rules.{valid_votes}
+use Rattle.simplex_detector.specs.Values.{evidence_value, message_of}
+use Rattle.simplex_detector.specs.declared.evidence.Evidence.{Evidence}
 use Rattle.simplex_audit.specs.Auditor.{Stands, fed_of}
 use Rattle.simplex_audit.specs.Basis.{Basis}
 use Rattle.simplex_audit.specs.Messages.{AreMessages}
@@ -22,34 +22,34 @@ bytes_fed ledger = fed_of ledger.auditor
 abbrev pub WasFed : {S D C P G : Type 0} → (Schedule S → Basis S D C P G) → Schedule S → Ledger S D P G → List ℕ → Type 0
 WasFed basis committees ledger stream = Stands basis committees ledger.auditor stream
 
--- The messages of the stream, up to its end or first fault, and the evidence of their good votes: in the order of rounds,
+-- The messages of the stream, up to its end or first fault, and the evidence of their valid votes: in the order of rounds,
 -- signers and kinds, each once, and nobody who is named left out.
 pub record IsEvidenceOf {S D C P G : Type 0} (basis : Basis S D C P G) (stream : List ℕ) (es : List (Evidence S D P G)) : Type 0 where
   pub messages : List (Activity S D C P G)
   pub rest : List ℕ
   pub are_messages : AreMessages basis.format stream messages rest
-  pub evidence_is : IsEvidence basis.rules.eq (good_votes basis.rules messages) (map evidence_value es)
-  pub names : NamesExactly basis.rules.eq (good_votes basis.rules messages) (map evidence_value es)
+  pub evidence_is : IsEvidence basis.rules.eq (valid_votes basis.rules messages) (map evidence_value es)
+  pub names : NamesExactly basis.rules.eq (valid_votes basis.rules messages) (map evidence_value es)
 
 -- evidence names a signer, in a round, with a kind of contradiction
-abbrev pub Names : {S D P G : Type 0} → List (Evidence S D P G) → Named → Type 0
-Names es n = Contains (map named_by (map evidence_value es)) n
+abbrev pub Accuses : {S D P G : Type 0} → List (Evidence S D P G) → Named → Type 0
+Accuses es n = Contains (map named_by (map evidence_value es)) n
 
--- What is held after stored evidence and then further messages: it is the evidence of the votes of both. So whoever is named by the stored evidence, or by the further messages alone, is named, and nobody whom the messages before and the further ones do not
+-- What is held after stored evidence and then further messages: it is the evidence of the votes of both. So who is named by the stored evidence, or by the further messages alone, is named, and nobody whom the messages before and the further ones do not
 -- name.
 pub record HoldsBoth {S D C P G : Type 0} (basis : Basis S D C P G) (before : List (Activity S D C P G)) (stored : List (Evidence S D P G)) (further : List (Activity S D C P G)) (held : List (Evidence S D P G)) : Type 0 where
-  pub evidence_is : IsEvidence basis.rules.eq (good_votes basis.rules (map message_of stored ++ further)) (map evidence_value held)
-  pub names : NamesExactly basis.rules.eq (good_votes basis.rules (map message_of stored ++ further)) (map evidence_value held)
-  pub stay : (n : Named) → Names stored n → Names held n
-  pub more : (n : Named) → IsTrue (is_named basis.rules.eq (good_votes basis.rules further) n) → Names held n
-  pub only : (n : Named) → Names held n → IsTrue (is_named basis.rules.eq (good_votes basis.rules (before ++ further)) n)
+  pub evidence_is : IsEvidence basis.rules.eq (valid_votes basis.rules (map message_of stored ++ further)) (map evidence_value held)
+  pub names : NamesExactly basis.rules.eq (valid_votes basis.rules (map message_of stored ++ further)) (map evidence_value held)
+  pub stay : (n : Named) → Accuses stored n → Accuses held n
+  pub more : (n : Named) → IsTrue (is_named basis.rules.eq (valid_votes basis.rules further) n) → Accuses held n
+  pub only : (n : Named) → Accuses held n → IsTrue (is_named basis.rules.eq (valid_votes basis.rules (before ++ further)) n)
 
--- The bytes spell the evidence of the stream as messages, in order. That evidence is the evidence of the bytes, and there is no
+-- The bytes encode the evidence of the stream as messages, in order. That evidence is the evidence of the bytes, and there is no
 -- other. Behind the bytes a piece is read as it is alone, and what is held then is the evidence of both.
 pub record IsStored {S D C P G : Type 0} (basis : Basis S D C P G) (stream bytes : List ℕ) : Type 0 where
   pub evidence : List (Evidence S D P G)
   pub evidence_is : IsEvidenceOf basis stream evidence
-  pub spelled : bytes ≡ flat_map basis.format.spelling (map message_of evidence)
+  pub encoded : bytes ≡ flat_map basis.format.encoding (map message_of evidence)
   pub again : IsEvidenceOf basis bytes evidence
   pub only : (held : List (Evidence S D P G)) → IsEvidenceOf basis bytes held → map evidence_value evidence ≡ map evidence_value held
   pub reads : (piece rest : List ℕ) (further : List (Activity S D C P G)) → AreMessages basis.format piece further rest →

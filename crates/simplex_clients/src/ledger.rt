@@ -2,20 +2,20 @@
 
 ghost use Rattle.std.specs.Prelude.{◌≡◌, ◌+◌, ◌<◌, ◌^◌, ◌++◌, ℕ, List, [], IfOk, OnOk, length};
 ghost use Rattle.std.specs.List.{flat_map};
-ghost use Rattle.simplex_kept.specs.Committees.{Schedule};
-ghost use Rattle.simplex_kept.specs.Values.{message_of};
+ghost use Rattle.simplex_detector.specs.Committees.{Schedule};
+ghost use Rattle.simplex_detector.specs.Values.{message_of};
 ghost use Rattle.simplex_clients.specs.Holding.{IsEvidenceOf, IsStored, WasFed, bytes_fed};
 
 use simplex_audit::audit::{Auditor, Committees, Evidence};
 use simplex_audit::basis::Audited;
 use simplex_base::codec::Read;
 use simplex_base::codec::unions::write_tagged;
+use simplex_detector::laws::evidence_is_determined;
 use simplex_evidence::types::Activity;
-use simplex_kept::laws::evidence_is_determined;
 use simplex_scheme::scheme::{Digest, Listing, SchemeTypes};
 use std::alloc::{AllocError, Global};
 
-/// Holds the evidence of all messages that it is fed, in pieces of whatever length, each once. It keeps the votes that
+/// Holds the evidence of all messages that it is fed, in pieces of any length, each once. It records the votes that
 /// evidence can be made of, and not the messages.
 #[derive(Drop)]
 pub struct Ledger<'a, S: SchemeTypes, D: Digest> {
@@ -42,7 +42,8 @@ impl<'a, S: Listing<D>, D: Digest> Ledger<'a, S, D> {
     ) -> Result<Self, AllocError>
         requires { length stored.now < 2 ^ 64 }
         ensures bytes { IfOk result (λ ledger. bytes_fed ledger ≡ length stored.now) }
-        ensures fed { IfOk result (λ ledger. WasFed ⟦<S as Audited<D>>⟧.basis committees.now ledger stored.now) }
+        ensures fed { IfOk result (λ ledger.
+            WasFed ⟦<S as Audited<D>>⟧.basis committees.now ledger stored.now) }
     {
         let ledger = Ledger::new(alloc, committees).feed(stored)?;
         Ok(ledger)
@@ -51,7 +52,8 @@ impl<'a, S: Listing<D>, D: Digest> Ledger<'a, S, D> {
     /// The ledger that was fed this piece too. Where memory is refused there is none.
     pub fn feed(self, piece: &[u8]) -> Result<Self, AllocError>
         requires { bytes_fed self + length piece.now < 2 ^ 64 }
-        ensures bytes { IfOk result (λ next. bytes_fed next ≡ bytes_fed self.entry + length piece.now) }
+        ensures bytes { IfOk result (λ next.
+            bytes_fed next ≡ bytes_fed self.entry + length piece.now) }
         ensures fed { IfOk result (λ next. (committees : Schedule S) (stream : List ℕ) →
             WasFed ⟦<S as Audited<D>>⟧.basis committees self.entry stream →
             WasFed ⟦<S as Audited<D>>⟧.basis committees next (stream ++ piece.now)) }
@@ -82,8 +84,8 @@ impl<'a, S: Listing<D>, D: Digest> Ledger<'a, S, D> {
     /// The evidence as bytes that `resume` takes: each a message, an `Activity`, one after the other in the order of
     /// `evidence`, and no bytes where there is none. Votes that contradict nothing yet are not among them.
     pub fn store(&self, alloc: Global) -> Result<Vec<u8>, AllocError>
-        // They spell the evidence and have it again. Behind them a piece is read as it is alone, and what is held then is the
-        // evidence of both: whoever was named stays named, and nobody is named whom the messages of both do not name.
+        // They encode the evidence and have it again. Behind them a piece is read as it is alone, and what is held then is the
+        // evidence of both: who was named stays named, and nobody is named whom the messages of both do not name.
         ensures { IfOk result (λ stored. (committees : Schedule S) (stream : List ℕ) →
             WasFed ⟦<S as Audited<D>>⟧.basis committees self.now stream →
             IsStored (⟦<S as Audited<D>>⟧.basis committees) stream stored.items) }
@@ -99,7 +101,9 @@ fn write_all<S: Listing<D>, D: Digest>(
     alloc: Global,
     evidence: &[Evidence<S, D>],
 ) -> Result<Vec<u8>, AllocError>
-    ensures { IfOk result (λ bytes. bytes.items ≡ flat_map (λ e. ⟦<Activity<S, D> as Read>⟧.spelling (message_of e)) evidence.now) }
+    ensures { IfOk result (λ bytes.
+        bytes.items ≡ flat_map (λ e.
+        ⟦<Activity<S, D> as Read>⟧.encoding (message_of e)) evidence.now) }
 {
     let mut bytes = Vec::new(alloc);
     for item in evidence {
@@ -113,7 +117,8 @@ fn write<S: Listing<D>, D: Digest>(
     evidence: &Evidence<S, D>,
     buf: &mut Vec<u8>,
 ) -> Result<(), AllocError>
-    ensures { OnOk result (buf.new.items ≡ buf.old.items ++ ⟦<Activity<S, D> as Read>⟧.spelling (message_of evidence.now)) }
+    ensures { OnOk result (buf.new.items ≡ buf.old.items ++
+        ⟦<Activity<S, D> as Read>⟧.encoding (message_of evidence.now)) }
 {
     match evidence {
         Evidence::ConflictingNotarize(conflict) => write_tagged(7, conflict, buf),

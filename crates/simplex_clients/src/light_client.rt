@@ -6,10 +6,10 @@ ghost use Rattle.simplex_base.specs.Readable.{format_of};
 ghost use Rattle.simplex_base.specs.Reading.{Fails, all_of};
 ghost use Rattle.simplex_base.specs.declared.codec.error.Error.TheVariants as errors;
 ghost use Rattle.simplex_evidence.specs.declared.types.activity.Activity.TheVariants as activity;
-ghost use Rattle.simplex_kept.specs.Committees.{Schedule, bound_of};
-ghost use Rattle.simplex_kept.specs.Values.{evidence_value};
+ghost use Rattle.simplex_detector.specs.Committees.{Schedule, bound_of};
+ghost use Rattle.simplex_detector.specs.Values.{evidence_value};
 ghost use Rattle.simplex_clients.specs.Following.{BlamesEnough, Follows, IsEvidenceOfBoth, IsFollowed, is_final, is_fork, is_later, latest_after};
-ghost use Rattle.simplex_votes.specs.Spellings.{IsFinalization};
+ghost use Rattle.simplex_votes.specs.Encodings.{IsFinalization};
 ghost use Rattle.simplex_votes.specs.declared.types.finalization.Finalization as finalizations;
 
 use simplex_audit::audit::{Committees, Evidence, audit};
@@ -35,7 +35,7 @@ pub enum Followed<S: SchemeTypes, D: Digest> {
     Fork(Vec<Evidence<S, D>>),
 }
 
-/// Follows the finalizations of the committees: it keeps the one of the latest round.
+/// Follows the finalizations of the committees: it holds the one of the latest round.
 #[derive(Drop)]
 pub struct LightClient<'a, S: Listing<D>, D: Digest> {
     committees: &'a Committees<S>,
@@ -49,10 +49,12 @@ impl<'a, S: Listing<D>, D: Digest> Model for LightClient<'a, S, D> {
 
     ghost Value = { Following S D S.Certificate S.PublicKey S.Signature };
 
-    ghost view = { λ client. record { committees = client.committees.now; latest = client.latest } };
+    ghost view = { λ client.
+        record { committees = client.committees.now; latest = client.latest } };
 
     ghost invariant = { λ client. MatchOption client.latest ⊤
-        (IsFollowed (fixed D.SIZE D.bytes_of D.of_bytes) S.Certificate.fits S.keys S.certified client.committees.now) };
+        (IsFollowed (fixed D.SIZE D.bytes_of D.of_bytes) S.Certificate.fits S.keys S.certified
+        client.committees.now) };
 }
 
 impl<'a, S: Listing<D>, D: Digest> LightClient<'a, S, D> {
@@ -70,22 +72,25 @@ impl<'a, S: Listing<D>, D: Digest> LightClient<'a, S, D> {
     pub fn latest(&self) -> Option<&Finalization<S, D>>
         ensures latest { option_copied result ≡ self.now.latest }
         // It certifies its proposal, by the committee of its epoch.
-        ensures certified { MatchOption self.now.latest ⊤ (λ f. is_final (⟦<S as Audited<D>>⟧.basis self.now.committees).rules f ≡ true) }
+        ensures certified { MatchOption self.now.latest ⊤ (λ f.
+            is_final (⟦<S as Audited<D>>⟧.basis self.now.committees).rules f ≡ true) }
     {
         self.latest.as_ref()
     }
 
     /// Follows a finalization that comes as bytes. Where they are none under the bound of the greatest committee, which the
-    /// codec's error tells, or where memory is refused, all is as before.
+    /// codec's error states, or where an allocation fails, all is as before.
     pub fn follow(&mut self, alloc: Global, bytes: &[u8]) -> Result<Followed<S, D>, Error>
-        ensures follows { IfOk result (λ answer. (f : finalizations.Finalization S D S.Certificate S.PublicKey S.Signature) ×
-            (bytes.now ≡ ⟦<Finalization<S, D> as Read>⟧.spelling f) ×
+        ensures follows { IfOk result (λ answer.
+            (f : finalizations.Finalization S D S.Certificate S.PublicKey S.Signature) ×
+            (bytes.now ≡ ⟦<Finalization<S, D> as Read>⟧.encoding f) ×
             IsFinalization (format_of ⟦<D as Read>⟧) (S.Certificate.fits (bound_of S.keys self.old.committees)) f ×
             Follows (⟦<S as Audited<D>>⟧.basis self.old.committees).rules self.old.latest f answer ×
             (self.new ≡ record self.old { latest = latest_after self.old.latest f answer })) }
         ensures refused { OnErr result (self.new ≡ self.old) }
         ensures error { IfErr result (λ e. (e ≡ errors.OutOfMemory) ⊎
-            Fails S.Certificate.takes_memory e (all_of (⟦<Finalization<S, D> as Read>⟧.reading (bound_of S.keys self.old.committees)) bytes.now)) }
+            Fails S.Certificate.takes_memory e
+            (all_of (⟦<Finalization<S, D> as Read>⟧.reading (bound_of S.keys self.old.committees)) bytes.now)) }
     {
         let finalization = read(alloc, self.committees, bytes)?;
         let followed = judge(alloc, self.committees, self.latest.as_ref(), &finalization)?;
@@ -96,15 +101,18 @@ impl<'a, S: Listing<D>, D: Digest> LightClient<'a, S, D> {
     }
 }
 
-/// The finalization that the bytes spell, under the bound of the greatest committee.
+/// The finalization that the bytes encode, under the bound of the greatest committee.
 fn read<S: Listing<D>, D: Digest>(
     alloc: Global,
     committees: &Committees<S>,
     bytes: &[u8],
 ) -> Result<Finalization<S, D>, Error>
-    ensures spelled { IfOk result (λ f. bytes.now ≡ ⟦<Finalization<S, D> as Read>⟧.spelling f) }
-    ensures error { IfErr result (λ e. Fails S.Certificate.takes_memory e (all_of (⟦<Finalization<S, D> as Read>⟧.reading (bound_of S.keys committees.now)) bytes.now)) }
-    ensures value { IfOk result (IsFinalization (format_of ⟦<D as Read>⟧) (S.Certificate.fits (bound_of S.keys committees.now))) }
+    ensures encoded { IfOk result (λ f. bytes.now ≡ ⟦<Finalization<S, D> as Read>⟧.encoding f) }
+    ensures error { IfErr result (λ e.
+        Fails S.Certificate.takes_memory e
+        (all_of (⟦<Finalization<S, D> as Read>⟧.reading (bound_of S.keys committees.now)) bytes.now)) }
+    ensures value { IfOk result
+        (IsFinalization (format_of ⟦<D as Read>⟧) (S.Certificate.fits (bound_of S.keys committees.now))) }
 {
     decode_cfg(alloc, bytes, &committees.bound())
 }
@@ -118,8 +126,10 @@ fn judge<S: Listing<D>, D: Digest>(
 ) -> Result<Followed<S, D>, Error>
     requires followed { MatchOption (option_copied latest) ⊤
         (IsFollowed (format_of ⟦<D as Read>⟧) S.Certificate.fits S.keys S.certified committees.now) }
-    requires value { IsFinalization (format_of ⟦<D as Read>⟧) (S.Certificate.fits (bound_of S.keys committees.now)) finalization.now }
-    ensures follows { IfOk result (Follows (⟦<S as Audited<D>>⟧.basis committees.now).rules (option_copied latest.entry) finalization.now) }
+    requires value { IsFinalization (format_of ⟦<D as Read>⟧)
+        (S.Certificate.fits (bound_of S.keys committees.now)) finalization.now }
+    ensures follows { IfOk result
+        (Follows (⟦<S as Audited<D>>⟧.basis committees.now).rules (option_copied latest.entry) finalization.now) }
     ensures error { IfErr result (λ e. e ≡ errors.OutOfMemory) }
 {
     if !is_final(committees, finalization) {
@@ -175,8 +185,8 @@ fn stream_of<S: Listing<D>, D: Digest>(
     other: &Finalization<S, D>,
 ) -> Result<Vec<u8>, AllocError>
     ensures { (committees : Schedule S) → IfOk result (λ stream. stream.items ≡
-        (⟦<S as Audited<D>>⟧.basis committees).format.spelling (activity.Finalization one.now) ++
-        (⟦<S as Audited<D>>⟧.basis committees).format.spelling (activity.Finalization other.now)) }
+        (⟦<S as Audited<D>>⟧.basis committees).format.encoding (activity.Finalization one.now) ++
+        (⟦<S as Audited<D>>⟧.basis committees).format.encoding (activity.Finalization other.now)) }
 {
     let mut stream = Vec::new(alloc);
     write_tagged(6, one, &mut stream)?;
@@ -192,11 +202,15 @@ fn blame<S: Listing<D>, D: Digest>(
     other: &Finalization<S, D>,
 ) -> Result<Vec<Evidence<S, D>>, AllocError>
     requires one { IsFollowed (format_of ⟦<D as Read>⟧) S.Certificate.fits S.keys S.certified committees.now one.now }
-    requires other { IsFollowed (format_of ⟦<D as Read>⟧) S.Certificate.fits S.keys S.certified committees.now other.now }
+    requires other { IsFollowed (format_of ⟦<D as Read>⟧) S.Certificate.fits S.keys S.certified
+        committees.now other.now }
     requires fork { is_fork D.eq one.now other.now ≡ true }
-    ensures enough { IfOk result (λ evidence. BlamesEnough ((⟦<S as Audited<D>>⟧.basis committees.now).rules.size one.now.proposal.round.epoch)
+    ensures enough { IfOk result (λ evidence.
+        BlamesEnough ((⟦<S as Audited<D>>⟧.basis committees.now).rules.size one.now.proposal.round.epoch)
         one.now.proposal.round (map evidence_value evidence.items)) }
-    ensures evidence { IfOk result (λ evidence. IsEvidenceOfBoth (⟦<S as Audited<D>>⟧.basis committees.now).rules one.now other.now (map evidence_value evidence.items)) }
+    ensures evidence { IfOk result (λ evidence.
+        IsEvidenceOfBoth (⟦<S as Audited<D>>⟧.basis committees.now).rules one.now other.now
+        (map evidence_value evidence.items)) }
 {
     let stream = stream_of(alloc, one, other)?;
     let report = audit(alloc, committees, &stream)?;

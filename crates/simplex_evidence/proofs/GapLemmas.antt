@@ -8,8 +8,7 @@ use Rattle.std.proofs.lemmas.List.Sorted.{IsPermutation-insert}
 use Rattle.std.proofs.lemmas.List.Edits.{length-insert, get_or-insert_below, get_or-insert_at, get_or-insert_above}
 use Rattle.std.proofs.lemmas.Bool.{cases_lt}
 use Rattle.std.proofs.lemmas.Bool.Decides.{nat_tests}
-use Rattle.simplex_evidence.specs.VoteMap.{item_of, IsBySigner, AreParticipants, AddsOnly}
-use Rattle.simplex_evidence.specs.Gap.{IsGap}
+use Rattle.simplex_evidence.specs.VoteMap.{item_of, IsBySigner, AreParticipants, AddsOnly, IsGap}
 
 module _ {X : Type 0} (signer : X → ℕ) where
   -- ---- how many items there are

@@ -1,4 +1,4 @@
--- The union of all messages: how they are spelled, the votes that one holds, and what makes one good.
+-- The union of all messages: how they are encoded, the votes that one holds, and what makes one valid.
 use Rattle.std.proofs.Common.{◌≡◌, ℕ, Bool, true, false, List, [], ◌∷◌, ◌++◌, refl, Ok}
 use Rattle.std.specs.Prelude.{codes, ◌&&◌, ⊤}
 use Rattle.simplex_base.specs.Reading.{Refusal, invalid, Reading}
@@ -7,8 +7,8 @@ use Rattle.simplex_base.specs.Union.{union_at, branch_at, no_branch, branch_take
 use Rattle.simplex_base.specs.Positions.{Round}
 use Rattle.simplex_scheme.specs.declared.scheme.Attestation.{Attestation}
 use Rattle.simplex_scheme.specs.Subject.{SubjectValue, Notarizes, Nullifies, Finalizes}
-use Rattle.simplex_votes.specs.Votes.{Vote, notarize_vote, nullify_vote, finalize_vote, notarization_votes, nullification_votes, finalization_votes}
-use Rattle.simplex_votes.specs.Spellings.{notarize_format, notarize_lawful, nullify_format, nullify_lawful, finalize_format, finalize_lawful, notarization_format, IsNotarization, notarization_spelling, notarization_lawful, nullification_format, IsNullification, nullification_spelling, nullification_lawful, finalization_format, IsFinalization, finalization_spelling, finalization_lawful}
+use Rattle.simplex_votes.specs.Votes.{SignedVote, notarize_vote, nullify_vote, finalize_vote, notarization_votes, nullification_votes, finalization_votes}
+use Rattle.simplex_votes.specs.Encodings.{notarize_format, notarize_lawful, nullify_format, nullify_lawful, finalize_format, finalize_lawful, notarization_format, IsNotarization, notarization_encoding, notarization_lawful, nullification_format, IsNullification, nullification_encoding, nullification_lawful, finalization_format, IsFinalization, finalization_encoding, finalization_lawful}
 use Rattle.simplex_evidence.specs.Conflict.{Conflict, conflicting_notarize_format, conflicting_notarize_lawful, conflicting_finalize_format, conflicting_finalize_lawful, nullify_finalize_format, nullify_finalize_lawful}
 use Rattle.simplex_votes.specs.declared.types.notarize.Notarize.{Notarize}
 use Rattle.simplex_votes.specs.declared.types.nullify.Nullify.{Nullify}
@@ -59,7 +59,7 @@ module _ {S D C P G : Type 0}
 -- ---- the votes that a message holds
 
 -- the votes that a message holds, in its order: `listed` gives the attestations that a certificate lists
-abbrev pub votes_in : {S D C P G : Type 0} → (C → List (Attestation S P G)) → Activity S D C P G → List (Vote D G)
+abbrev pub votes_in : {S D C P G : Type 0} → (C → List (Attestation S P G)) → Activity S D C P G → List (SignedVote D G)
 votes_in listed (activity.Notarize v) = notarize_vote v ∷ []
 votes_in listed (activity.Notarization n) = notarization_votes listed n
 votes_in listed (activity.Certification n) = notarization_votes listed n
@@ -71,10 +71,10 @@ votes_in listed (activity.ConflictingNotarize c) = notarize_vote c.first ∷ not
 votes_in listed (activity.ConflictingFinalize c) = finalize_vote c.first ∷ finalize_vote c.second ∷ []
 votes_in listed (activity.NullifyFinalize c) = nullify_vote c.first ∷ finalize_vote c.second ∷ []
 
--- ---- what makes a message good
+-- ---- what makes a message valid
 
 -- a vote's signature is one of its signer for its subject
-abbrev pub vote_verifies : {D G : Type 0} → (SubjectValue D → ℕ → G → Bool) → Vote D G → Bool
+abbrev pub vote_verifies : {D G : Type 0} → (SubjectValue D → ℕ → G → Bool) → SignedVote D G → Bool
 vote_verifies good v = good v.subject v.signer v.signature
 
 -- a vote by its signature, a certificate message by its certificate, and evidence by both of its signatures
@@ -116,7 +116,7 @@ ClonesCertificate {C = C} is_clone (activity.Nullification n) = (copy : C) → i
 ClonesCertificate {C = C} is_clone (activity.Finalization n) = (copy : C) → is_clone n.certificate copy → copy ≡ n.certificate
 ClonesCertificate is_clone _ = ⊤
 
--- ---- how messages are spelled; `eq` compares payloads
+-- ---- how messages are encoded; `eq` compares payloads
 
 -- the refusal of a tag that no message has
 abbrev pub unknown_activity : Refusal
@@ -146,22 +146,22 @@ activity_tag (activity.ConflictingNotarize c) = 7
 activity_tag (activity.ConflictingFinalize c) = 8
 activity_tag (activity.NullifyFinalize c) = 9
 
--- the spelling after the tag
+-- the encoding after the tag
 abbrev pub activity_body : {S D C P G : Type 0} → (D → D → Bool) → Format D → (C → List ℕ) → Format G → Activity S D C P G → List ℕ
-activity_body eq payload certificate signature (activity.Notarize v) = (notarize_format payload signature).spelling v
-activity_body eq payload certificate signature (activity.Notarization n) = notarization_spelling payload certificate n
-activity_body eq payload certificate signature (activity.Certification n) = notarization_spelling payload certificate n
-activity_body eq payload certificate signature (activity.Nullify v) = (nullify_format signature).spelling v
-activity_body eq payload certificate signature (activity.Nullification n) = nullification_spelling certificate n
-activity_body eq payload certificate signature (activity.Finalize v) = (finalize_format payload signature).spelling v
-activity_body eq payload certificate signature (activity.Finalization n) = finalization_spelling payload certificate n
-activity_body eq payload certificate signature (activity.ConflictingNotarize c) = (conflicting_notarize_format eq payload signature).spelling c
-activity_body eq payload certificate signature (activity.ConflictingFinalize c) = (conflicting_finalize_format eq payload signature).spelling c
-activity_body eq payload certificate signature (activity.NullifyFinalize c) = (nullify_finalize_format eq payload signature).spelling c
+activity_body eq payload certificate signature (activity.Notarize v) = (notarize_format payload signature).encoding v
+activity_body eq payload certificate signature (activity.Notarization n) = notarization_encoding payload certificate n
+activity_body eq payload certificate signature (activity.Certification n) = notarization_encoding payload certificate n
+activity_body eq payload certificate signature (activity.Nullify v) = (nullify_format signature).encoding v
+activity_body eq payload certificate signature (activity.Nullification n) = nullification_encoding certificate n
+activity_body eq payload certificate signature (activity.Finalize v) = (finalize_format payload signature).encoding v
+activity_body eq payload certificate signature (activity.Finalization n) = finalization_encoding payload certificate n
+activity_body eq payload certificate signature (activity.ConflictingNotarize c) = (conflicting_notarize_format eq payload signature).encoding c
+activity_body eq payload certificate signature (activity.ConflictingFinalize c) = (conflicting_finalize_format eq payload signature).encoding c
+activity_body eq payload certificate signature (activity.NullifyFinalize c) = (nullify_finalize_format eq payload signature).encoding c
 
--- the tag, and then the spelling after it
-abbrev pub activity_spelling : {S D C P G : Type 0} → (D → D → Bool) → Format D → (C → List ℕ) → Format G → Activity S D C P G → List ℕ
-activity_spelling eq payload certificate signature m = activity_tag m ∷ activity_body eq payload certificate signature m
+-- the tag, and then the encoding after it
+abbrev pub activity_encoding : {S D C P G : Type 0} → (D → D → Bool) → Format D → (C → List ℕ) → Format G → Activity S D C P G → List ℕ
+activity_encoding eq payload certificate signature m = activity_tag m ∷ activity_body eq payload certificate signature m
 
 abbrev pub activity_branches : {S D C P G : Type 0} → (D → D → Bool) → Format D → Format C → Format G → ℕ → List ℕ → Reading (Activity S D C P G)
 activity_branches eq payload certificate signature =
@@ -181,7 +181,7 @@ activity_branches eq payload certificate signature =
 abbrev pub activity_format : {S D C P G : Type 0} → (D → D → Bool) → Format D → Format C → Format G → Format (Activity S D C P G)
 activity_format eq payload certificate signature = record {
   is_value = IsActivity eq payload certificate.is_value signature;
-  spelling = activity_spelling eq payload certificate.spelling signature;
+  encoding = activity_encoding eq payload certificate.encoding signature;
   reading = union_at (activity_branches eq payload certificate signature);
 }
 
@@ -191,41 +191,41 @@ pub activity_lawful : {S D C P G : Type 0} (eq : D → D → Bool) (payload : Fo
 activity_lawful {S} {D} {C} {P} {G} eq payload certificate signature payloads certificates signatures =
     union_lawful
     (branch_takes (IsActivity {S = S} {P = P} eq payload certificate.is_value signature) activity_tag
-    (activity_body eq payload certificate.spelling signature) 0 (λ v. activity.Notarize v) _
+    (activity_body eq payload certificate.encoding signature) 0 (λ v. activity.Notarize v) _
     (notarize_lawful payload signature payloads signatures) (λ v. refl) (λ v. refl) (λ v h. h)
     (branch_takes (IsActivity {S = S} {P = P} eq payload certificate.is_value signature) activity_tag
-    (activity_body eq payload certificate.spelling signature) 1 (λ n. activity.Notarization n) _
+    (activity_body eq payload certificate.encoding signature) 1 (λ n. activity.Notarization n) _
     (notarization_lawful payload certificate payloads certificates) (λ n. refl) (λ n. refl) (λ n h. h)
     (branch_takes (IsActivity {S = S} {P = P} eq payload certificate.is_value signature) activity_tag
-    (activity_body eq payload certificate.spelling signature) 2 (λ n. activity.Certification n) _
+    (activity_body eq payload certificate.encoding signature) 2 (λ n. activity.Certification n) _
     (notarization_lawful payload certificate payloads certificates) (λ n. refl) (λ n. refl) (λ n h. h)
     (branch_takes (IsActivity {S = S} {P = P} eq payload certificate.is_value signature) activity_tag
-    (activity_body eq payload certificate.spelling signature) 3 (λ v. activity.Nullify v) _ (nullify_lawful signature signatures)
+    (activity_body eq payload certificate.encoding signature) 3 (λ v. activity.Nullify v) _ (nullify_lawful signature signatures)
     (λ v. refl) (λ v. refl) (λ v h. h)
     (branch_takes (IsActivity {S = S} {P = P} eq payload certificate.is_value signature) activity_tag
-    (activity_body eq payload certificate.spelling signature) 4 (λ n. activity.Nullification n) _
+    (activity_body eq payload certificate.encoding signature) 4 (λ n. activity.Nullification n) _
     (nullification_lawful certificate certificates) (λ n. refl) (λ n. refl) (λ n h. h)
     (branch_takes (IsActivity {S = S} {P = P} eq payload certificate.is_value signature) activity_tag
-    (activity_body eq payload certificate.spelling signature) 5 (λ v. activity.Finalize v) _
+    (activity_body eq payload certificate.encoding signature) 5 (λ v. activity.Finalize v) _
     (finalize_lawful payload signature payloads signatures) (λ v. refl) (λ v. refl) (λ v h. h)
     (branch_takes (IsActivity {S = S} {P = P} eq payload certificate.is_value signature) activity_tag
-    (activity_body eq payload certificate.spelling signature) 6 (λ n. activity.Finalization n) _
+    (activity_body eq payload certificate.encoding signature) 6 (λ n. activity.Finalization n) _
     (finalization_lawful payload certificate payloads certificates) (λ n. refl) (λ n. refl) (λ n h. h)
     (branch_takes (IsActivity {S = S} {P = P} eq payload certificate.is_value signature) activity_tag
-    (activity_body eq payload certificate.spelling signature) 7 (λ c. activity.ConflictingNotarize c) _
+    (activity_body eq payload certificate.encoding signature) 7 (λ c. activity.ConflictingNotarize c) _
     (conflicting_notarize_lawful eq payload signature payloads signatures) (λ c. refl) (λ c. refl) (λ c h. h)
     (branch_takes (IsActivity {S = S} {P = P} eq payload certificate.is_value signature) activity_tag
-    (activity_body eq payload certificate.spelling signature) 8 (λ c. activity.ConflictingFinalize c) _
+    (activity_body eq payload certificate.encoding signature) 8 (λ c. activity.ConflictingFinalize c) _
     (conflicting_finalize_lawful eq payload signature payloads signatures) (λ c. refl) (λ c. refl) (λ c h. h)
     (branch_takes (IsActivity {S = S} {P = P} eq payload certificate.is_value signature) activity_tag
-    (activity_body eq payload certificate.spelling signature) 9 (λ c. activity.NullifyFinalize c) _
+    (activity_body eq payload certificate.encoding signature) 9 (λ c. activity.NullifyFinalize c) _
     (nullify_finalize_lawful eq payload signature payloads signatures) (λ c. refl) (λ c. refl) (λ c h. h)
     (no_branch_takes unknown_activity)))))))))))
     again
   where
     again : (m : Activity S D C P G) (rest : List ℕ) → IsActivity eq payload certificate.is_value signature m →
         activity_branches eq payload certificate signature (activity_tag m)
-        (activity_body eq payload certificate.spelling signature m ++ rest) ≡ Ok (m, rest)
+        (activity_body eq payload certificate.encoding signature m ++ rest) ≡ Ok (m, rest)
     again (activity.Notarize v) rest h = rw ((notarize_lawful payload signature payloads signatures).again v rest h) refl
     again (activity.Notarization n) rest h = rw ((notarization_lawful {S = S} {P = P} {G = G} payload certificate payloads certificates).again n rest h) refl
     again (activity.Certification n) rest h = rw ((notarization_lawful {S = S} {P = P} {G = G} payload certificate payloads certificates).again n rest h) refl

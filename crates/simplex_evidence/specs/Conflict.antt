@@ -1,10 +1,10 @@
--- Two messages that contradict, as a value, and how they are spelled.
+-- Two messages that contradict, as a value, and how they are encoded.
 use Rattle.std.proofs.Common.{Bool, refl}
 use Rattle.std.specs.Prelude.{codes}
 use Rattle.simplex_base.specs.Reading.{Refusal, invalid}
 use Rattle.simplex_base.specs.Format.{Format, IsLawful, both, made, tested}
 use Rattle.simplex_base.specs.FormatLaws.{both_lawful, made_lawful, tested_lawful}
-use Rattle.simplex_votes.specs.Spellings.{notarize_format, notarize_lawful, nullify_format, nullify_lawful, finalize_format, finalize_lawful}
+use Rattle.simplex_votes.specs.Encodings.{notarize_format, notarize_lawful, nullify_format, nullify_lawful, finalize_format, finalize_lawful}
 use Rattle.simplex_votes.specs.declared.types.notarize.Notarize.{Notarize}
 use Rattle.simplex_votes.specs.declared.types.nullify.Nullify.{Nullify}
 use Rattle.simplex_votes.specs.declared.types.finalize.Finalize.{Finalize}
@@ -20,7 +20,15 @@ pub record Conflict (V W : Type 0) : Type 0 where
 abbrev pub notarize_evidence : {S D P G : Type 0} → Conflict (Notarize S D P G) (Notarize S D P G) → Evidence D G
 notarize_evidence c = record { kind = Conflicting_notarize; first = notarize_vote c.first; second = notarize_vote c.second }
 
--- ---- how evidence is spelled: the first vote, and then the second; they have to contradict
+-- two finalizes, as evidence
+abbrev pub finalize_evidence : {S D P G : Type 0} → Conflict (Finalize S D P G) (Finalize S D P G) → Evidence D G
+finalize_evidence c = record { kind = Conflicting_finalize; first = finalize_vote c.first; second = finalize_vote c.second }
+
+-- a nullify and a finalize, as evidence
+abbrev pub nullify_evidence : {S D P G : Type 0} → Conflict (Nullify S P G) (Finalize S D P G) → Evidence D G
+nullify_evidence c = record { kind = Nullify_finalize; first = nullify_vote c.first; second = finalize_vote c.second }
+
+-- ---- how evidence is encoded: the first vote, and then the second; they have to contradict
 
 abbrev pub conflict_format : {V W : Type 0} → (V → W → Bool) → Refusal → Format V → Format W → Format (Conflict V W)
 conflict_format contradict refusal f g =

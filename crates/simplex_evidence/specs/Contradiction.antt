@@ -1,7 +1,7 @@
 -- Which two votes no honest participant casts both, and the evidence of them.
 use Rattle.std.specs.Prelude.{Bool, true, false, not, ◌&&◌}
 use Rattle.simplex_scheme.specs.Subject.{SubjectValue, Notarizes, Nullifies, Finalizes, round_of}
-use Rattle.simplex_votes.specs.Votes.{Vote, Sort, Notarizing, Nullifying, Finalizing, is_of, same_proposal}
+use Rattle.simplex_votes.specs.Votes.{SignedVote, Sort, Notarizing, Nullifying, Finalizing, is_of, same_proposal}
 
 -- the three kinds of equivocation
 pub data Kind : Type 0 where
@@ -17,7 +17,7 @@ clash eq Nullify_finalize (Nullifies r) (Finalizes q) = true
 clash _ _ _ _ = false
 
 -- whether two votes contradict with that kind: one round, one signer, and subjects that clash
-abbrev pub contradicts : {D G : Type 0} → (D → D → Bool) → Kind → Vote D G → Vote D G → Bool
+abbrev pub contradicts : {D G : Type 0} → (D → D → Bool) → Kind → SignedVote D G → SignedVote D G → Bool
 contradicts eq kind v w = is_of (round_of v.subject) v.signer w && clash eq kind v.subject w.subject
 
 -- the sort of the first of two votes that contradict with that kind
@@ -29,5 +29,5 @@ first_sort Nullify_finalize = Nullifying
 -- two votes, and the kind of their contradiction
 pub record Evidence (D G : Type 0) : Type 0 where
   pub kind : Kind
-  pub first : Vote D G
-  pub second : Vote D G
+  pub first : SignedVote D G
+  pub second : SignedVote D G

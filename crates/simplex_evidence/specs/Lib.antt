@@ -2,4 +2,3 @@ pub mod Contradiction
 pub mod Conflict
 pub mod Activity
 pub mod VoteMap
-pub mod Gap

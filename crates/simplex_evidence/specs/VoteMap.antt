@@ -1,5 +1,5 @@
 -- The first item of each signer: a finite map from signers, walked in their order.
-use Rattle.std.specs.Prelude.{◌≡◌, ℕ, ◌+◌, ◌<◌, ◌==◌, List, length, All, Option, Some, find, map, nat_eq, nat_lt}
+use Rattle.std.specs.Prelude.{◌≡◌, ℕ, ◌+◌, ◌<◌, ◌==◌, List, length, All, Option, Some, find, map, nat_eq, nat_lt, ◌≤◌, slice_index_or}
 use Rattle.std.specs.List.{AllPairs, filter}
 use Rattle.std.specs.Set.{distinct_count}
 
@@ -37,3 +37,9 @@ module _ {X : Type 0} (signer : X → ℕ) where
   -- how many of n participants signed some of these
   abbrev pub signers_among : ℕ → List X → ℕ
   signers_among n items = distinct_count nat_eq (filter (λ s. nat_lt s n) (map signer items))
+
+-- the item of signer s would go to this place: smaller signers stand before it, and greater ones from it on
+pub record IsGap {X : Type 0} (signer : X → ℕ) (items : List X) (s place : ℕ) : Type 0 where
+  pub in_range : place ≤ length items
+  pub smaller_before : (i : ℕ) (d : X) → i < place → signer (slice_index_or items i d) < s
+  pub greater_after : (i : ℕ) (d : X) → place ≤ i → i < length items → s < signer (slice_index_or items i d)

@@ -1,7 +1,7 @@
 -- Who elects, and by what.
 use Rattle.std.specs.Prelude.{◌≡◌, ℕ, Bool, true, false, Option, None}
 use Rattle.simplex_base.specs.Positions.{Round}
-use Rattle.simplex_lead.specs.Structure.{Terms}
+use Rattle.simplex_lead.specs.Terms.{Terms}
 use Rattle.simplex_lead.specs.declared.elector.mode.Mode.{Mode}
 use Rattle.simplex_lead.specs.declared.elector.mode.Mode.TheVariants.{Scheduled, Dynamic}
 

@@ -2,7 +2,7 @@
 -- They stand beside the definitions because ghost members of impls cite them, and those see no proofs.
 use Rattle.std.proofs.Common.{◌≡◌, ℕ, Option, ap}
 use Rattle.simplex_base.specs.Positions.{Round}
-use Rattle.simplex_lead.specs.Structure.{Terms}
+use Rattle.simplex_lead.specs.Terms.{Terms}
 use Rattle.simplex_lead.specs.Election.{ElectAlike}
 use Rattle.simplex_lead.specs.declared.elector.mode.Mode.{Mode}
 

@@ -1,6 +1,6 @@
 pub mod Counting
 pub mod Windows
-pub mod Structure
+pub mod Terms
 pub mod Election
 pub mod ElectionLaws
 pub mod Rotation

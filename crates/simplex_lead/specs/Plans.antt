@@ -2,15 +2,11 @@
 use Rattle.std.specs.Prelude.{◌≡◌, Bool, true, false, ⊤, ◌&&◌, nat_eq, length}
 use Rattle.std.specs.List.{AllZip}
 use Rattle.std.specs.Cmp.Lexicographic.{pointwise}
-use Rattle.simplex_base.specs.Positions as positions
+use Rattle.simplex_base.specs.Positions.{same_round}
 use Rattle.simplex_lead.specs.declared.plan.Recipients.{Recipients}
 use Rattle.simplex_lead.specs.declared.plan.Recipients.TheVariants.{All, Some, One}
 use Rattle.simplex_lead.specs.declared.plan.Plan.{Plan}
 use Rattle.simplex_lead.specs.declared.plan.Plan.TheVariants.{Prepare, Propose, Forward}
-
--- whether rounds are the same
-abbrev pub same_round : positions.Round → positions.Round → Bool
-same_round x y = nat_eq x.epoch y.epoch && nat_eq x.view y.view
 
 -- whether recipients are the same, where this says which keys are
 abbrev pub same_recipients : {P : Type 0} → (P → P → Bool) → Recipients P → Recipients P → Bool

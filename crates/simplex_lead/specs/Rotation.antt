@@ -7,7 +7,7 @@ use Rattle.std.specs.declared.cmp.Ordering.{Ordering}
 use Rattle.std.specs.declared.cmp.Ordering.TheVariants.{Less, Equal}
 use Rattle.simplex_base.specs.Positions.{Round}
 use Rattle.simplex_base.specs.Terms.{term_of}
-use Rattle.simplex_lead.specs.Structure.{Terms}
+use Rattle.simplex_lead.specs.Terms.{Terms}
 
 -- each of the numbers from 0 to n - 1 once
 abbrev pub IsArrangement : ℕ → List ℕ → Type 0
@@ -32,7 +32,7 @@ module _ {D : Type 0} (compare : D → D → Ordering) (hash : List ℕ → D) w
   abbrev pub Precedes : List ℕ → ℕ → ℕ → Type 0
   Precedes seed i j = (compare (ticket seed i) (ticket seed j) ≡ Less) ⊎ ((compare (ticket seed i) (ticket seed j) ≡ Equal) × (i < j))
 
-  -- whoever stands earlier comes before
+  -- a participant that stands earlier comes before
   abbrev pub RisesByHash : List ℕ → List ℕ → Type 0
   RisesByHash seed order = (i j : ℕ) → i < j → j < length order → Precedes seed (slice_index order i) (slice_index order j)
 

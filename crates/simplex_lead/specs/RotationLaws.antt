@@ -6,7 +6,7 @@ use Rattle.simplex_base.specs.Positions.{Round}
 use Rattle.simplex_base.specs.Terms.{HoldsView}
 use Rattle.simplex_base.specs.TermLaws.{same_term}
 use Rattle.simplex_lead.specs.OrderLaws.{one_order}
-use Rattle.simplex_lead.specs.Structure.{Terms}
+use Rattle.simplex_lead.specs.Terms.{Terms}
 use Rattle.simplex_lead.specs.Rotation.{Rotation, Settings, IsRotation, leader_of_round}
 
 -- two rounds of one term have one leader

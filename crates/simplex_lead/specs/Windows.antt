@@ -51,6 +51,6 @@ Leads l k c p q = IsInReach l k c p × ((p ≤ term_end l c) ⊎ (l ≡ 1)) × I
 abbrev pub views_between : ℕ → ℕ → ℕ
 views_between earlier later = later - (earlier + 1)
 
--- view v is kept by a node that finalized a view and keeps so many views before it
+-- view v is retained by a node that finalized a view and retains a number of views before it
 abbrev pub IsRetained : ℕ → ℕ → ℕ → Type 0
 IsRetained finalized retention v = (0 < v) × (finalized ≤ v + retention)

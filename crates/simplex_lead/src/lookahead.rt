@@ -1,4 +1,4 @@
-//! Which views a node takes votes of, sends messages of and keeps.
+//! Which views a node takes votes of, sends messages of and retains.
 
 ghost use Rattle.std.specs.Prelude.{◌≡◌, ℕ, ◌+◌, ◌-◌, ◌<◌, ◌≤◌, ◌^◌, ◌↔◌, ◌⊎◌, IsTrue, IfSome, MatchOption};
 ghost use Rattle.simplex_base.specs.Terms.{term_start, term_end};
@@ -64,7 +64,8 @@ impl Lookahead {
     pub fn in_admission_window(&self, current: View, pending: View) -> bool
         requires { FitsWindow self.now.term_length current }
         ensures { IsTrue result ↔
-            ((current < pending) × (pending ≤ own_limit self.now.term_length self.now.optimistic_views current)) }
+            ((current < pending) × (pending ≤
+            own_limit self.now.term_length self.now.optimistic_views current)) }
     {
         current < pending && pending <= self.admission_limit(current)
     }
@@ -74,17 +75,21 @@ impl Lookahead {
     /// one, at most a term) and one view past the next term's start.
     pub fn admits(&self, current: View, pending: View) -> bool
         requires { FitsWindow self.now.term_length current }
-        ensures admitted { IsTrue result ↔ IsAdmitted self.now.term_length self.now.optimistic_views current pending }
+        ensures admitted { IsTrue result ↔
+            IsAdmitted self.now.term_length self.now.optimistic_views current pending }
         // So many later views are admitted, and no more.
         ensures number { NumberExactly
             (λ q. (current < q) × IsAdmitted self.now.term_length self.now.optimistic_views current q)
             (admitted_above self.now.term_length self.now.optimistic_views current) }
         // All of them are 64-bit numbers.
-        ensures views { (q : ℕ) → IsAdmitted self.now.term_length self.now.optimistic_views current q → q < 2 ^ 64 }
+        ensures views { (q : ℕ) →
+            IsAdmitted self.now.term_length self.now.optimistic_views current q → q < 2 ^ 64 }
         // A view to which some view in reach of `current` leads is admitted,
-        ensures lead { (p : ℕ) → Leads self.now.term_length self.now.optimistic_views current p pending → IsTrue result }
+        ensures lead { (p : ℕ) →
+            Leads self.now.term_length self.now.optimistic_views current p pending → IsTrue result }
         // and no other later view of the term of `current` is.
-        ensures led { IsTrue result → current < pending → pending ≤ term_end self.now.term_length current →
+        ensures led { IsTrue result → current < pending →
+            pending ≤ term_end self.now.term_length current →
             (p : ℕ) × Leads self.now.term_length self.now.optimistic_views current p pending }
     {
         let past = self
@@ -96,13 +101,14 @@ impl Lookahead {
         self.is_admitted(current, pending, past)
     }
 
-    /// Whether the view is in the set of those that are admitted, where so many views past the next term's
+    /// Whether the view is in the set of those that are admitted, where this many views past the next term's
     /// start are.
     fn is_admitted(&self, current: View, pending: View, past: u64) -> bool
         requires fits { FitsWindow self.now.term_length current }
         requires past { next_start self.now.term_length current + past ≡
             next_limit self.now.term_length self.now.optimistic_views current }
-        ensures { IsTrue result ↔ IsAdmitted self.now.term_length self.now.optimistic_views current pending }
+        ensures { IsTrue result ↔
+            IsAdmitted self.now.term_length self.now.optimistic_views current pending }
     {
         let next = current.next_term_start(self.term_length);
         current.admits(pending, self.term_length)
@@ -115,8 +121,10 @@ impl Lookahead {
     /// are admitted.
     pub fn admits_outbound(&self, current: View, pending: View) -> bool
         requires { FitsWindow self.now.term_length current }
-        ensures outbound { IsTrue result ↔ IsOutbound self.now.term_length self.now.optimistic_views current pending }
-        ensures admitted { IsTrue result → IsAdmitted self.now.term_length self.now.optimistic_views current pending }
+        ensures outbound { IsTrue result ↔
+            IsOutbound self.now.term_length self.now.optimistic_views current pending }
+        ensures admitted { IsTrue result →
+            IsAdmitted self.now.term_length self.now.optimistic_views current pending }
     {
         current.admits(pending, self.term_length)
             || pending <= current.saturating_add(self.optimistic_views)
@@ -125,9 +133,10 @@ impl Lookahead {
 
     /// Whether the view `other` is in reach of `view`, so that a node in `view` may vote in it: it is at most
     /// `view`, or of the term of `view` and at most the lookahead later, or the first view of the next term and
-    /// at most the lookahead and one view later. It is told for all views.
+    /// at most the lookahead and one view later. It is total: it has no precondition.
     pub fn reaches(&self, view: View, other: View) -> bool
-        ensures { IsTrue result ↔ IsInReach self.now.term_length self.now.optimistic_views view other }
+        ensures { IsTrue result ↔
+            IsInReach self.now.term_length self.now.optimistic_views view other }
     {
         let ahead = view.saturating_add(self.optimistic_views);
         if other <= view || !view.term_fits(self.term_length) {
@@ -143,7 +152,8 @@ impl Lookahead {
     pub fn issuance_floor(&self, view: View) -> Option<View>
         ensures none { MatchOption result
             ((self.now.optimistic_views ≡ 0) ⊎ (view ≡ term_start self.now.term_length view))
-            (λ floor. ¬ (self.now.optimistic_views ≡ 0) × ¬ (view ≡ term_start self.now.term_length view)) }
+            (λ floor. ¬ (self.now.optimistic_views ≡ 0) ×
+            ¬ (view ≡ term_start self.now.term_length view)) }
         ensures value { IfSome result (λ floor. floor ≡ view - self.now.optimistic_views - 1) }
         // An earlier view is at least the floor exactly where at most the lookahead many views lie strictly between.
         ensures between { IfSome result (λ floor. (q : ℕ) → q < view →

@@ -7,7 +7,7 @@ use simplex_base::positions::Round;
 use simplex_base::values::EqByParts;
 use std::alloc::AllocError;
 
-/// Whom something is sent to, of participants that are told by their keys.
+/// Whom something is sent to, of participants that are known by their keys.
 #[derive(Debug, Drop, PartialEq, Eq)]
 pub enum Recipients<P> {
     /// Every participant.

@@ -1,4 +1,4 @@
-//! Which messages a node keeps, by what it has finalized and where it is.
+//! Which messages a node retains, by what it has finalized and where it is.
 
 ghost use Rattle.std.specs.Prelude.{◌≡◌, ℕ, ◌-◌, ◌↔◌, IsTrue};
 ghost use Rattle.simplex_lead.specs.Windows.{FitsWindow, IsAdmitted, IsRetained, Leads};
@@ -14,7 +14,7 @@ pub struct Viewport {
     pub finalized: View,
     /// The view that the node is in.
     pub current: View,
-    /// The number of views before the finalized one that the node keeps.
+    /// The number of views before the finalized one that the node retains.
     pub view_retention: ViewDelta,
     /// How far ahead of its view the node looks.
     pub lookahead: Lookahead,
@@ -26,27 +26,27 @@ impl ExactClone for Viewport {
 
 impl Viewport {
     /// The finalized view less the retention, or view 0 where there is no such view. View 0 itself is never
-    /// kept.
+    /// retained.
     pub fn floor(&self) -> View
         ensures { result ≡ self.now.finalized - self.now.view_retention }
     {
         self.finalized.saturating_sub(self.view_retention)
     }
 
-    /// Whether messages of the view are kept: it is not view 0 and at least the floor.
+    /// Whether messages of the view are retained: it is not view 0 and at least the floor.
     pub fn retains(&self, view: View) -> bool
         ensures { IsTrue result ↔ IsRetained self.now.finalized self.now.view_retention view }
     {
         !view.is_zero() && view >= self.floor()
     }
 
-    /// Whether votes of the view are taken: it is kept, and admitted from the current view.
+    /// Whether votes of the view are taken: it is retained, and admitted from the current view.
     pub fn admits_vote(&self, pending: View) -> bool
         requires { FitsWindow self.now.lookahead.term_length self.now.current }
         ensures taken { IsTrue result ↔
             (IsRetained self.now.finalized self.now.view_retention pending ×
             IsAdmitted self.now.lookahead.term_length self.now.lookahead.optimistic_views self.now.current pending) }
-        // A view that is kept, and to which some view in reach of the current one leads, is taken.
+        // Every retained view in which a correct peer may still vote is admitted.
         ensures lead { (p : ℕ) → IsRetained self.now.finalized self.now.view_retention pending →
             Leads self.now.lookahead.term_length self.now.lookahead.optimistic_views self.now.current p pending →
             IsTrue result }
@@ -54,7 +54,7 @@ impl Viewport {
         self.lookahead.admits(self.current, pending) && self.retains(pending)
     }
 
-    /// Whether certificates of the view are taken: it is kept, however late it is.
+    /// Whether certificates of the view are taken: it is retained, however late it is.
     pub fn admits_certificate(&self, pending: View) -> bool
         ensures { IsTrue result ↔ IsRetained self.now.finalized self.now.view_retention pending }
     {

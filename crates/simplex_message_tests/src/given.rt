@@ -1,4 +1,4 @@
-//! Numbers that are given, and that no row asks for.
+//! Numbers that are given, and that no test vector asks for.
 
 use crate::without_memory::is_out;
 use simplex_base::codec::MaxEncodeSize;

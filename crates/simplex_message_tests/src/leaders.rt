@@ -3,7 +3,7 @@
 ghost use Rattle.std.specs.Prelude.{◌≡◌, ◌≤◌, ◌-◌, ◌∷◌, [], length, refl};
 ghost use Rattle.std.specs.List.{fold};
 ghost use Rattle.simplex_base.specs.Positions as positions;
-ghost use Rattle.simplex_lead.specs.Structure as structure;
+ghost use Rattle.simplex_lead.specs.Terms as structure;
 ghost use Rattle.simplex_lead.specs.declared.elector.mode.Mode.TheVariants.{Dynamic};
 
 use crate::without_memory::is_out;
@@ -77,7 +77,8 @@ impl<S: CertificateScheme> Config<S> for FirstAlways {
 
     type Elector = First;
 
-    ghost builds = { λ config keys elector. (elector.terms ≡ config.0) × (elector.participants ≡ length keys) };
+    ghost builds = { λ config keys elector. (elector.terms ≡ config.0) ×
+        (elector.participants ≡ length keys) };
 
     fn build(self, _alloc: Global, participants: &Set<S::PublicKey>) -> Result<First, AllocError> {
         Ok(First {

@@ -11,8 +11,8 @@ use std::process::Abort;
 use std::test::Fail;
 
 /// The value of the bytes that are named by two digits each, parted by blanks.
-fn read<T: Read + Drop>(alloc: Global, cfg: &T::Cfg, spelling: &str) -> Result<T, Fail> {
-    let digits: Vec<u8> = spelling
+fn read<T: Read + Drop>(alloc: Global, cfg: &T::Cfg, encoding: &str) -> Result<T, Fail> {
+    let digits: Vec<u8> = encoding
         .bytes()
         .filter(|byte| *byte != b' ')
         .collect(alloc)?;
@@ -25,16 +25,16 @@ fn are_told_apart<T: Read + PartialEq + Drop>(
     rt: &impl Abort,
     alloc: Global,
     cfg: &T::Cfg,
-    spellings: &[&str],
+    encodings: &[&str],
 ) -> Result<(), Fail> {
-    for (place, spelling) in spellings.iter().enumerate() {
-        let value = read::<T>(alloc, cfg, spelling)?;
-        for (other_place, other_spelling) in spellings.iter().enumerate() {
-            let other = read::<T>(alloc, cfg, other_spelling)?;
+    for (place, encoding) in encodings.iter().enumerate() {
+        let value = read::<T>(alloc, cfg, encoding)?;
+        for (other_place, other_encoding) in encodings.iter().enumerate() {
+            let other = read::<T>(alloc, cfg, other_encoding)?;
             assert_eq!(rt;
                 value == other,
                 place == other_place,
-                "{spelling}, {other_spelling}"
+                "{encoding}, {other_encoding}"
             );
         }
     }

@@ -27,7 +27,7 @@ impl Attributable for Ballot {
     }
 }
 
-/// Who has an item and who has none, and a clear, of which no row tells.
+/// Who has an item and who has none, and a clear, of which no test vector tells.
 #[test]
 fn ample_clear(rt: HostRuntime) -> Result<(), Fail> {
     let mut map = AttributableMap::new(rt.alloc(), 5);

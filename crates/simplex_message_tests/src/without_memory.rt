@@ -258,40 +258,68 @@ fn without_memory_certificates(rt: HostRuntime) -> Result<(), Fail> {
     Ok(())
 }
 
-/// Two votes of each kind are too few, lent or owned.
+/// Whether nothing is made of two votes of four participants.
+fn are_too_few<T: Drop>(made: Result<T, AssemblyError>) -> bool {
+    matches!(made, Err(error) if error == AssemblyError::InsufficientAttestations(3, 2))
+}
+
+/// Votes of participants 1 and 2 for one proposal.
+const VOTES: [&[u8]; 2] = [&[0, 10, 5, 6, 1, 0xaa], &[0, 10, 5, 6, 2, 0xaa]];
+
 #[test]
-fn without_memory_builders(rt: HostRuntime) -> Result<(), Fail> {
+fn without_memory_assembly(rt: HostRuntime) -> Result<(), Fail> {
     let alloc = rt.alloc();
-    let votes: [&[u8]; 2] = [&[0, 10, 5, 6, 1, 0xaa], &[0, 10, 5, 6, 2, 0xaa]];
     let scheme = Marked::new(alloc, 4, None)?;
-    let notarizes = decoded::<Notarize<Marked, MarkedDigest>>(alloc, &(), &votes)?;
-    let nullifies = decoded::<Nullify<Marked>>(
-        alloc,
-        &(),
-        &[&[0, 10, 1, 0xaa], &[0, 10, 2, 0xaa]],
-    )?;
-    let finalizes = decoded::<Finalize<Marked, MarkedDigest>>(alloc, &(), &votes)?;
     let distinct = decoded::<Attestation<Marked>>(alloc, &(), &[&[1, 0xaa], &[2, 0xaa]])?;
     let repeated = decoded::<Attestation<Marked>>(alloc, &(), &[&[1, 0xaa], &[1, 0xaa]])?;
     let _ = is_out(alloc);
     assert!(rt; can_assemble(&scheme, distinct.as_slice()));
     assert!(rt; !can_assemble(&scheme, repeated.as_slice()));
-    let few = AssemblyError::InsufficientAttestations(3, 2);
-    assert!(rt; Notarization::can_assemble(&scheme, notarizes.as_slice()));
-    let made = Notarization::from_notarizes(alloc, &scheme, notarizes.as_slice());
-    assert!(rt; matches!(made, Err(error) if error == few));
-    let made = Notarization::from_owned_notarizes(alloc, &scheme, notarizes);
-    assert!(rt; matches!(made, Err(error) if error == few));
-    assert!(rt; Nullification::can_assemble::<MarkedDigest>(&scheme, nullifies.as_slice()));
-    let made = Nullification::from_nullifies::<MarkedDigest>(alloc, &scheme, nullifies.as_slice());
-    assert!(rt; matches!(made, Err(error) if error == few));
-    let made = Nullification::from_owned_nullifies::<MarkedDigest>(alloc, &scheme, nullifies);
-    assert!(rt; matches!(made, Err(error) if error == few));
-    assert!(rt; Finalization::can_assemble(&scheme, finalizes.as_slice()));
-    let made = Finalization::from_finalizes(alloc, &scheme, finalizes.as_slice());
-    assert!(rt; matches!(made, Err(error) if error == few));
-    let made = Finalization::from_owned_finalizes(alloc, &scheme, finalizes);
-    assert!(rt; matches!(made, Err(error) if error == few));
+    Ok(())
+}
+
+/// Two notarizes are too few, lent or owned.
+#[test]
+fn without_memory_notarization(rt: HostRuntime) -> Result<(), Fail> {
+    let alloc = rt.alloc();
+    let scheme = Marked::new(alloc, 4, None)?;
+    let votes = decoded::<Notarize<Marked, MarkedDigest>>(alloc, &(), &VOTES)?;
+    let _ = is_out(alloc);
+    let lent = votes.as_slice();
+    assert!(rt; Notarization::can_assemble(&scheme, lent));
+    assert!(rt; are_too_few(Notarization::from_notarizes(alloc, &scheme, lent)));
+    assert!(rt; are_too_few(Notarization::from_owned_notarizes(alloc, &scheme, votes)));
+    Ok(())
+}
+
+/// Two nullifies are too few, lent or owned.
+#[test]
+fn without_memory_nullification(rt: HostRuntime) -> Result<(), Fail> {
+    let alloc = rt.alloc();
+    let scheme = Marked::new(alloc, 4, None)?;
+    let votes: [&[u8]; 2] = [&[0, 10, 1, 0xaa], &[0, 10, 2, 0xaa]];
+    let votes = decoded::<Nullify<Marked>>(alloc, &(), &votes)?;
+    let _ = is_out(alloc);
+    let lent = votes.as_slice();
+    assert!(rt; Nullification::can_assemble::<MarkedDigest>(&scheme, lent));
+    let made = Nullification::from_nullifies::<MarkedDigest>(alloc, &scheme, lent);
+    assert!(rt; are_too_few(made));
+    let made = Nullification::from_owned_nullifies::<MarkedDigest>(alloc, &scheme, votes);
+    assert!(rt; are_too_few(made));
+    Ok(())
+}
+
+/// Two finalizes are too few, lent or owned.
+#[test]
+fn without_memory_finalization(rt: HostRuntime) -> Result<(), Fail> {
+    let alloc = rt.alloc();
+    let scheme = Marked::new(alloc, 4, None)?;
+    let votes = decoded::<Finalize<Marked, MarkedDigest>>(alloc, &(), &VOTES)?;
+    let _ = is_out(alloc);
+    let lent = votes.as_slice();
+    assert!(rt; Finalization::can_assemble(&scheme, lent));
+    assert!(rt; are_too_few(Finalization::from_finalizes(alloc, &scheme, lent)));
+    assert!(rt; are_too_few(Finalization::from_owned_finalizes(alloc, &scheme, votes)));
     Ok(())
 }
 

@@ -11,7 +11,7 @@ use Rattle.simplex_scheme.specs.Subject.{SubjectValue, Notarizes}
 use Rattle.simplex_votes.specs.Assembly.{StandInOrder}
 use Rattle.simplex_votes.specs.declared.types.notarize.Notarize.{Notarize}
 use Rattle.simplex_evidence.specs.VoteMap.{IsBySigner, AreParticipants}
-use Rattle.simplex_node.specs.Batch.{Stands, signer_of}
+use Rattle.simplex_node.specs.Batch.{AreForProposal, signer_of}
 
 -- two that all of some votes are for are one
 pub one_proposal : {S D P G : Type 0} (votes : List (Notarize S D P G)) (p q : Proposal D) → 1 ≤ length votes → All (λ v. v.proposal ≡ p) votes → All (λ v. v.proposal ≡ q) votes → p ≡ q
@@ -20,7 +20,7 @@ one_proposal (v ∷ vs) p q some one other = sym (All-head (λ w. w.proposal ≡
 
 module _ {S D P G : Type 0} (good : SubjectValue D → ℕ → G → Bool) (proposal : Proposal D) where
   -- votes that stand make a notarization, in the order of their signers
-  pub in_order : (n : ℕ) (votes : List (Notarize S D P G)) → 1 ≤ length votes → Stands good proposal votes → IsBySigner signer_of votes → AreParticipants signer_of n votes → StandInOrder (λ v. v.proposal) (λ v. v.attestation) n votes
+  pub in_order : (n : ℕ) (votes : List (Notarize S D P G)) → 1 ≤ length votes → AreForProposal good proposal votes → IsBySigner signer_of votes → AreParticipants signer_of n votes → StandInOrder (λ v. v.proposal) (λ v. v.attestation) n votes
   in_order n votes some stands ordered within = record {
     some = some;
     same = λ i j d before lt. stands.same i d (omega arith) ∙ sym (stands.same j d lt);
@@ -28,14 +28,14 @@ module _ {S D P G : Type 0} (good : SubjectValue D → ℕ → G → Bool) (prop
     members = within;
   }
 
-  -- after an insert of a good vote for the proposal the votes stand
-  pub stands_after : {E : Type 0} (old new : List (Notarize S D P G)) (vote : Notarize S D P G) (result : Result Bool E) (added : Bool) → result ≡ Ok added → Stands good proposal old → vote.proposal ≡ proposal → good (Notarizes vote.proposal) vote.attestation.signer vote.attestation.signature ≡ true →
-      (result ≡ Ok true → IsPermutation (vote ∷ old) new) → (result ≡ Ok false → new ≡ old) → Stands good proposal new
+  -- after an insert of a valid vote for the proposal the votes stand
+  pub stands_after : {E : Type 0} (old new : List (Notarize S D P G)) (vote : Notarize S D P G) (result : Result Bool E) (added : Bool) → result ≡ Ok added → AreForProposal good proposal old → vote.proposal ≡ proposal → good (Notarizes vote.proposal) vote.attestation.signer vote.attestation.signature ≡ true →
+      (result ≡ Ok true → IsPermutation (vote ∷ old) new) → (result ≡ Ok false → new ≡ old) → AreForProposal good proposal new
   stands_after old new vote result true is stands same is_good more kept = record {
     same = All-permutation (λ v. v.proposal ≡ proposal) (vote ∷ old) new (more is) (All-cons (λ v. v.proposal ≡ proposal) vote old same stands.same);
     each_good = All-permutation (λ v. good (Notarizes v.proposal) v.attestation.signer v.attestation.signature ≡ true) (vote ∷ old) new (more is) (All-cons (λ v. good (Notarizes v.proposal) v.attestation.signer v.attestation.signature ≡ true) vote old is_good stands.each_good);
   }
-  stands_after old new vote result false is stands same is_good more kept = subst (Stands good proposal) (sym (kept is)) stands
+  stands_after old new vote result false is stands same is_good more kept = subst (AreForProposal good proposal) (sym (kept is)) stands
 
 -- one more that passes a test
 pub one_more_passes : {X : Type 0} (p : X → Bool) (xs : List X) (x : X) → p x ≡ true → filter p (xs ++ x ∷ []) ≡ filter p xs ++ x ∷ []

@@ -18,14 +18,14 @@ pub record Batch (S D P G : Type 0) : Type 0 where
 abbrev pub signer_of : {S D P G : Type 0} → Notarize S D P G → ℕ
 signer_of v = v.attestation.signer
 
--- votes for one proposal, each good
-pub record Stands {S D P G : Type 0} (good : SubjectValue D → ℕ → G → Bool) (proposal : Proposal D) (votes : List (Notarize S D P G)) : Type 0 where
+-- votes for one proposal, each valid
+pub record AreForProposal {S D P G : Type 0} (good : SubjectValue D → ℕ → G → Bool) (proposal : Proposal D) (votes : List (Notarize S D P G)) : Type 0 where
   pub same : All (λ v. v.proposal ≡ proposal) votes
   pub each_good : All (λ v. good (Notarizes v.proposal) v.attestation.signer v.attestation.signature ≡ true) votes
 
--- `eq` compares payloads, `keys` gives a scheme's keys, and `good` tells whose signatures are good
+-- `eq` compares payloads, `keys` gives a scheme's keys, and `good` tells whose signatures are valid
 module _ {S D P G : Type 0} (eq : D → D → Bool) (keys : S → List P) (good : S → SubjectValue D → ℕ → G → Bool) where
-  -- whether a vote is for the proposal, and good
+  -- whether a vote is for the proposal, and valid
   abbrev pub is_wanted : Batch S D P G → Notarize S D P G → Bool
   is_wanted batch v =
       same_proposal eq v.proposal batch.proposal && good batch.scheme (Notarizes v.proposal) v.attestation.signer v.attestation.signature
@@ -39,5 +39,5 @@ module _ {S D P G : Type 0} (eq : D → D → Bool) (keys : S → List P) (good 
   signers_in batch came = signers_among signer_of (length (keys batch.scheme)) (filter (is_wanted batch) came)
 
   -- they are a quorum
-  abbrev pub IsQuorum : Batch S D P G → List (Notarize S D P G) → Type 0
-  IsQuorum batch came = quorum_of (length (keys batch.scheme)) ≤ signers_in batch came
+  abbrev pub HasQuorum : Batch S D P G → List (Notarize S D P G) → Type 0
+  HasQuorum batch came = quorum_of (length (keys batch.scheme)) ≤ signers_in batch came

@@ -2,7 +2,7 @@
 
 ghost use Rattle.std.specs.Prelude.{◌≡◌, ◌<◌, ◌≤◌, ◌↔◌, ◌++◌, ◌∷◌, ◌⊎◌, List, [], Ok, None, IfOk, IfSome, IsSome, IsTrue, MatchResult, length, true};
 ghost use Rattle.simplex_scheme.specs.Subject.{Notarizes};
-ghost use Rattle.simplex_node.specs.Batch.{HasTaken, IsQuorum, is_wanted, signers_in};
+ghost use Rattle.simplex_node.specs.Batch.{HasTaken, HasQuorum, is_wanted, signers_in};
 
 use simplex_evidence::types::AttributableMap;
 use simplex_scheme::faults::quorum;
@@ -12,7 +12,7 @@ use simplex_votes::types::{Notarization, Notarize};
 use std::alloc::{AllocError, Global};
 use std::marker::Model;
 
-/// Of each participant the first good notarize of one proposal. It keeps at most one vote of a participant, whatever
+/// Of each participant the first valid notarize of one proposal. It keeps at most one vote of a participant, whatever
 /// comes.
 #[derive(Drop)]
 pub struct Batcher<'a, S: Scheme<D>, D: Digest> {
@@ -23,14 +23,19 @@ pub struct Batcher<'a, S: Scheme<D>, D: Digest> {
 
 impl<'a, S: Scheme<D>, D: Digest> Model for Batcher<'a, S, D> {
     ghost use Rattle.std.specs.Prelude.{◌≡◌, length};
-    ghost use Rattle.simplex_node.specs.Batch.{Batch, Stands};
+    ghost use Rattle.simplex_node.specs.Batch.{Batch, AreForProposal};
 
     ghost Value = { Batch S D S.PublicKey S.Signature };
 
-    ghost view = { λ batcher. record { scheme = batcher.scheme.now; proposal = batcher.proposal; votes = batcher.votes.items } };
+    ghost view = { λ batcher. record {
+      scheme = batcher.scheme.now;
+      proposal = batcher.proposal;
+      votes = batcher.votes.items;
+    } };
 
-    ghost invariant = { λ batcher. (batcher.votes.participants ≡ length (S.keys batcher.scheme.now)) ×
-        Stands (S.good batcher.scheme.now) batcher.proposal batcher.votes.items };
+    ghost invariant = { λ batcher.
+        (batcher.votes.participants ≡ length (S.keys batcher.scheme.now)) ×
+        AreForProposal (S.good batcher.scheme.now) batcher.proposal batcher.votes.items };
 }
 
 impl<'a, S: Scheme<D>, D: Digest> Batcher<'a, S, D> {
@@ -47,23 +52,29 @@ impl<'a, S: Scheme<D>, D: Digest> Batcher<'a, S, D> {
         }
     }
 
-    /// Takes a vote of any signer for any proposal. It is kept if it is good, for the proposal, and its signer's first
-    /// such; so no bad vote is in a good one's place. From then on that a quorum of participants has signed such votes
+    /// Takes a vote of any signer for any proposal. It is kept if it is valid, for the proposal, and its signer's first
+    /// such; so no bad vote is in a valid one's place. From then on that a quorum of participants has signed such votes
     /// there is a notarization, and before there is none. Where memory was refused the vote may have been kept or not.
     pub fn take(
         &mut self,
         alloc: Global,
         vote: Notarize<S, D>,
     ) -> Result<Option<Notarization<S, D>>, AllocError>
-        ensures same { (self.new.scheme ≡ self.old.scheme) × (self.new.proposal ≡ self.old.proposal) }
-        ensures certifies { IfOk result (λ answer. IfSome answer (λ n. (n.proposal ≡ self.old.proposal) ×
+        ensures same { (self.new.scheme ≡ self.old.scheme) ×
+            (self.new.proposal ≡ self.old.proposal) }
+        ensures certifies { IfOk result (λ answer.
+            IfSome answer (λ n. (n.proposal ≡ self.old.proposal) ×
             (S.certified self.old.scheme (Notarizes n.proposal) n.certificate ≡ true))) }
-        ensures taken { (came : List (Notarize S D S.PublicKey S.Signature)) → HasTaken D.eq S.keys S.good self.old came →
+        ensures taken { (came : List (Notarize S D S.PublicKey S.Signature)) →
+            HasTaken D.eq S.keys S.good self.old came →
             MatchResult result
             (λ _. HasTaken D.eq S.keys S.good self.new (came ++ vote ∷ []))
-            (λ _. HasTaken D.eq S.keys S.good self.new came ⊎ HasTaken D.eq S.keys S.good self.new (came ++ vote ∷ [])) }
-        ensures answers { (came : List (Notarize S D S.PublicKey S.Signature)) → HasTaken D.eq S.keys S.good self.old came →
-            IfOk result (λ answer. IsSome answer ↔ IsQuorum D.eq S.keys S.good self.new (came ++ vote ∷ [])) }
+            (λ _. HasTaken D.eq S.keys S.good self.new came ⊎
+            HasTaken D.eq S.keys S.good self.new (came ++ vote ∷ [])) }
+        ensures answers { (came : List (Notarize S D S.PublicKey S.Signature)) →
+            HasTaken D.eq S.keys S.good self.old came →
+            IfOk result (λ answer. IsSome answer ↔
+            HasQuorum D.eq S.keys S.good self.new (came ++ vote ∷ [])) }
     {
         match self.keep(vote) {
             Ok(()) => self.notarization(alloc),
@@ -71,10 +82,12 @@ impl<'a, S: Scheme<D>, D: Digest> Batcher<'a, S, D> {
         }
     }
 
-    /// Keeps a vote if it is good, for the proposal, and its signer's first.
+    /// Keeps a vote if it is valid, for the proposal, and its signer's first.
     fn keep(&mut self, vote: Notarize<S, D>) -> Result<(), AllocError>
-        ensures same { (self.new.scheme ≡ self.old.scheme) × (self.new.proposal ≡ self.old.proposal) }
-        ensures taken { (came : List (Notarize S D S.PublicKey S.Signature)) → HasTaken D.eq S.keys S.good self.old came →
+        ensures same { (self.new.scheme ≡ self.old.scheme) ×
+            (self.new.proposal ≡ self.old.proposal) }
+        ensures taken { (came : List (Notarize S D S.PublicKey S.Signature)) →
+            HasTaken D.eq S.keys S.good self.old came →
             MatchResult result
             (λ _. HasTaken D.eq S.keys S.good self.new (came ++ vote ∷ []))
             (λ _. HasTaken D.eq S.keys S.good self.new came) }
@@ -85,19 +98,22 @@ impl<'a, S: Scheme<D>, D: Digest> Batcher<'a, S, D> {
         Ok(())
     }
 
-    /// Whether a vote is for the proposal and good.
+    /// Whether a vote is for the proposal and valid.
     fn is_wanted(&self, vote: &Notarize<S, D>) -> bool
         ensures value { result ≡ is_wanted D.eq S.keys S.good self.now vote.now }
         ensures proposal { IsTrue result → vote.now.proposal ≡ self.now.proposal }
-        ensures good { IsTrue result → S.good self.now.scheme (Notarizes vote.now.proposal) vote.now.attestation.signer vote.now.attestation.signature ≡ true }
+        ensures good { IsTrue result →
+            S.good self.now.scheme (Notarizes vote.now.proposal) vote.now.attestation.signer
+            vote.now.attestation.signature ≡ true }
     {
         vote.proposal.is_same(&self.proposal) && vote.verify(self.scheme)
     }
 
-    /// How many participants have signed good votes for the proposal.
+    /// How many participants have signed valid votes for the proposal.
     pub fn count(&self) -> usize
         ensures votes { result ≡ length self.now.votes }
-        ensures signers { (came : List (Notarize S D S.PublicKey S.Signature)) → HasTaken D.eq S.keys S.good self.now came →
+        ensures signers { (came : List (Notarize S D S.PublicKey S.Signature)) →
+            HasTaken D.eq S.keys S.good self.now came →
             result ≡ signers_in D.eq S.keys S.good self.now came }
     {
         self.votes.len()
@@ -105,10 +121,12 @@ impl<'a, S: Scheme<D>, D: Digest> Batcher<'a, S, D> {
 
     /// The notarization of the votes that are kept, if they are a quorum.
     pub fn notarization(&self, alloc: Global) -> Result<Option<Notarization<S, D>>, AllocError>
-        ensures certifies { IfOk result (λ answer. IfSome answer (λ n. (n.proposal ≡ self.now.proposal) ×
+        ensures certifies { IfOk result (λ answer.
+            IfSome answer (λ n. (n.proposal ≡ self.now.proposal) ×
             (S.certified self.now.scheme (Notarizes n.proposal) n.certificate ≡ true))) }
-        ensures answers { (came : List (Notarize S D S.PublicKey S.Signature)) → HasTaken D.eq S.keys S.good self.now came →
-            IfOk result (λ answer. IsSome answer ↔ IsQuorum D.eq S.keys S.good self.now came) }
+        ensures answers { (came : List (Notarize S D S.PublicKey S.Signature)) →
+            HasTaken D.eq S.keys S.good self.now came →
+            IfOk result (λ answer. IsSome answer ↔ HasQuorum D.eq S.keys S.good self.now came) }
     {
         let quorum = quorum(self.scheme.participants().len() as u32);
         let votes = self.votes.as_slice();

@@ -15,7 +15,9 @@ pub fn resolve<'a, 'b, S: CertificateVerifier<D>, D: Digest>(
     scheme: &S,
     items: &'b [(Subject<'a, D>, &'a S::Certificate)],
 ) -> Result<Vec<&'b (Subject<'a, D>, &'a S::Certificate)>, AllocError>
-    ensures { IfOk result (λ kept. map (λ item. item.now) kept.items ≡ filter (λ item. S.certified scheme.now (subject_value item.0) item.1.now) items.now) }
+    ensures { IfOk result (λ kept.
+        map (λ item. item.now) kept.items ≡
+        filter (λ item. S.certified scheme.now (subject_value item.0) item.1.now) items.now) }
 {
     let answers = verify_certificates(alloc, scheme, items)?;
     let mut kept = Vec::new(alloc);

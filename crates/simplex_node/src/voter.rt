@@ -17,12 +17,16 @@ use std::alloc::{AllocError, Global};
 /// Whether a node takes a vote of this view, which it then holds until it no longer retains the view.
 pub fn takes(viewport: &Viewport, view: View) -> bool
     requires { FitsWindow viewport.now.lookahead.term_length viewport.now.current }
-    ensures taken { IsTrue result ↔ (IsRetained viewport.now.finalized viewport.now.view_retention view ×
-        IsAdmitted viewport.now.lookahead.term_length viewport.now.lookahead.optimistic_views viewport.now.current view) }
+    ensures taken { IsTrue result ↔
+        (IsRetained viewport.now.finalized viewport.now.view_retention view ×
+        IsAdmitted viewport.now.lookahead.term_length viewport.now.lookahead.optimistic_views
+        viewport.now.current view) }
     // Of the views later than its own it takes votes of this many at most, whatever is sent.
     ensures held { NumberExactly
-        (λ q. (viewport.now.current < q) × IsAdmitted viewport.now.lookahead.term_length viewport.now.lookahead.optimistic_views viewport.now.current q)
-        (admitted_above viewport.now.lookahead.term_length viewport.now.lookahead.optimistic_views viewport.now.current) }
+        (λ q. (viewport.now.current < q) ×
+        IsAdmitted viewport.now.lookahead.term_length viewport.now.lookahead.optimistic_views viewport.now.current q)
+        (admitted_above viewport.now.lookahead.term_length viewport.now.lookahead.optimistic_views
+        viewport.now.current) }
 {
     viewport.lookahead.admits(viewport.current, view) && viewport.retains(view)
 }
@@ -31,7 +35,8 @@ pub fn takes(viewport: &Viewport, view: View) -> bool
 /// the view is in reach of it.
 pub fn casts(lookahead: &Lookahead, certified: View, view: View) -> bool
     requires { certified + 1 < 2 ^ 64 }
-    ensures { IsTrue result ↔ IsInReach lookahead.now.term_length lookahead.now.optimistic_views (certified + 1) view }
+    ensures { IsTrue result ↔
+        IsInReach lookahead.now.term_length lookahead.now.optimistic_views (certified + 1) view }
 {
     lookahead.reaches(certified.saturating_add(ViewDelta::new(1)), view)
 }
@@ -43,11 +48,15 @@ pub fn is_heard(viewport: &Viewport, certified: View, view: View) -> bool
     requires current { FitsWindow viewport.now.lookahead.term_length viewport.now.current }
     requires certified { certified + 1 < 2 ^ 64 }
     ensures heard { IsTrue result ↔
-        ((¬ IsInReach viewport.now.lookahead.term_length viewport.now.lookahead.optimistic_views (certified + 1) view) ⊎
+        ((¬ IsInReach viewport.now.lookahead.term_length viewport.now.lookahead.optimistic_views
+        (certified + 1) view) ⊎
         (IsRetained viewport.now.finalized viewport.now.view_retention view ×
-        IsAdmitted viewport.now.lookahead.term_length viewport.now.lookahead.optimistic_views viewport.now.current view)) }
-    ensures lead { IsInReach viewport.now.lookahead.term_length viewport.now.lookahead.optimistic_views viewport.now.current certified →
-        (certified ≤ term_end viewport.now.lookahead.term_length viewport.now.current) ⊎ (viewport.now.lookahead.term_length ≡ 1) →
+        IsAdmitted viewport.now.lookahead.term_length viewport.now.lookahead.optimistic_views
+        viewport.now.current view)) }
+    ensures lead { IsInReach viewport.now.lookahead.term_length
+        viewport.now.lookahead.optimistic_views viewport.now.current certified →
+        (certified ≤ term_end viewport.now.lookahead.term_length viewport.now.current) ⊎
+        (viewport.now.lookahead.term_length ≡ 1) →
         IsRetained viewport.now.finalized viewport.now.view_retention view → IsTrue result }
 {
     !casts(&viewport.lookahead, certified, view) || viewport.admits_vote(view)
@@ -66,13 +75,16 @@ pub fn leader<S: CertificateScheme, C: Config<S>>(
     ensures member { IfOk result (λ leader. leader < length participants.now) }
     // Every node with this configuration and these participants has the same leader,
     ensures alike { (other : C.Elector) → C.builds config participants.now other →
-        IfOk result (λ leader. leader ≡ C.Elector.leader_of other round (option_copied certificate.entry)) }
+        IfOk result (λ leader. leader ≡
+        C.Elector.leader_of other round (option_copied certificate.entry)) }
     // and it leads every round of the term.
-    ensures term { (other : C.Elector) (later : positions.Round) (term : ℕ) → C.builds config participants.now other →
+    ensures term { (other : C.Elector) (later : positions.Round) (term : ℕ) →
+        C.builds config participants.now other →
         round.epoch ≡ later.epoch →
         HoldsView (C.Elector.terms_of other).term_length term round.view →
         HoldsView (C.Elector.terms_of other).term_length term later.view →
-        IfOk result (λ leader. leader ≡ C.Elector.leader_of other later (option_copied certificate.entry)) }
+        IfOk result (λ leader. leader ≡
+        C.Elector.leader_of other later (option_copied certificate.entry)) }
 {
     let elector = config.build(alloc, participants)?;
     Ok(elector.elect(round, certificate))

@@ -25,7 +25,7 @@ module _ {S P G : Type 0} (xs : List (Attestation S P G)) where
   signer_at : (i d : ℕ) (a : Attestation S P G) → i < length xs → get_or (signers_of xs) i d ≡ (get_or xs i a).signer
   signer_at i d a within = get_or-map (λ b. b.signer) xs i a d within
 
-  -- distinct signers: the test of a quorum asks for enough attestations, and that each is good
+  -- distinct signers: the test of a quorum asks for enough attestations, and that each is valid
   pub quorum_of_distinct : (n : ℕ) (good : ℕ → G → Bool) → IsDistinct nat_eq (signers_of xs) → is_quorum n good xs ≡ (nat_le (quorum_of n) (length xs) && list_all (λ a. good a.signer a.signature) xs)
   quorum_of_distinct n good distinct =
       let whole = distinct_count-from_IsDistinct nat_eq_equiv (signers_of xs) distinct ∙ length-map xs (λ a. a.signer) in
@@ -73,14 +73,14 @@ module _ {S P G : Type 0} (given listed : List (Attestation S P G)) (order : IsI
         ascending = ascends_in_order;
       }
 
-  -- a quorum of good attestations, in order, is a quorum
+  -- a quorum of valid attestations, in order, is a quorum
   pub quorum_in_order : (n : ℕ) (good : ℕ → G → Bool) → quorum_of n ≤ length given → All (λ a. good a.signer a.signature ≡ true) given → is_quorum n good listed ≡ true
   quorum_in_order n good enough each =
       let counted = le-leb (quorum_of n) (length listed) (omega (arith, length_permutation given listed order.same)) in
       let all = list_all-from_AllPass (λ a. good a.signer a.signature) listed (All-permutation (λ a. good a.signer a.signature ≡ true) given listed order.same each) in
       quorum_of_distinct listed n good (distinct_signers listed ascends_in_order) ∙ (ap (λ b. b && list_all (λ a. good a.signer a.signature) listed) counted ∙ all)
 
--- the certificate lists a quorum where its attestations are enough, and all that were seen are good
+-- the certificate lists a quorum where its attestations are enough, and all that were seen are valid
 pub quorum_of_seen : {S P G : Type 0} (listed seen : List (Attestation S P G)) (n i : ℕ) (good : ℕ → G → Bool) → seen ≡ listed → SignersAscend listed → quorum_of n ≤ length seen → length seen ≤ i → list_all (λ a. good a.signer a.signature) (take i seen) ≡ true → is_quorum n good listed ≡ true
 quorum_of_seen listed seen n i good same ascend enough ended each =
     let counted = le-leb (quorum_of n) (length listed) (omega (arith, ap length same)) in

@@ -17,7 +17,7 @@ use Rattle.simplex_scheme.specs.declared.scheme.Attestation.{Attestation}
 abbrev pub behind : {X : Type 0} → List X → Reading (List X) → Reading (List X)
 behind front read = read >>= λ others. Ok (front ++ others.0, others.1)
 
--- the front was read of the bytes, and so many attestations are left in the rest
+-- the front was read of the bytes, and a number of attestations are left in the rest
 pub record SoFar {S P G : Type 0} (signature : Format G) (bound count : ℕ) (bytes : List ℕ) (front : List (Attestation S P G)) (least left : ℕ) (rest : List ℕ) : Type 0 where
   pub is : attestations_at signature bound 0 count bytes ≡ behind front (attestations_at signature bound least left rest)
 

@@ -6,22 +6,22 @@ use Rattle.simplex_base.specs.VarintLaws.{groups_some}
 use Rattle.simplex_base.specs.Varint.{number_32}
 use Rattle.simplex_scheme.specs.Attestation.{attestation_format}
 use Rattle.simplex_scheme.specs.declared.scheme.Attestation.{Attestation}
-use Rattle.simplex_plain.specs.Listed.{listed_spelling}
+use Rattle.simplex_plain.specs.Listed.{listed_encoding}
 
-each_has_room : {S P G : Type 0} (signature : Format G) (xs : List (Attestation S P G)) → length xs ≤ length (flat_map (attestation_format signature).spelling xs)
+each_has_room : {S P G : Type 0} (signature : Format G) (xs : List (Attestation S P G)) → length xs ≤ length (flat_map (attestation_format signature).encoding xs)
 each_has_room signature [] = omega arith
 each_has_room {S} {P} {G} signature (a ∷ xs) =
     let form = attestation_format {S = S} {P = P} signature in
     omega (
       arith,
-      length-append (form.spelling a) (flat_map form.spelling xs),
-      length-append (number_32.spelling a.signer) (signature.spelling a.signature),
+      length-append (form.encoding a) (flat_map form.encoding xs),
+      length-append (number_32.encoding a.signer) (signature.encoding a.signature),
       groups_some 4 a.signer,
       each_has_room signature xs,
     )
 
 -- each attestation takes a byte, at least
-pub listed_has_room : {S P G : Type 0} (signature : Format G) (xs : List (Attestation S P G)) → length xs ≤ length (listed_spelling signature xs)
+pub listed_has_room : {S P G : Type 0} (signature : Format G) (xs : List (Attestation S P G)) → length xs ≤ length (listed_encoding signature xs)
 listed_has_room {S} {P} signature xs =
     let form = attestation_format {S = S} {P = P} signature in
-    omega (arith, length-append (number_32.spelling (length xs)) (flat_map form.spelling xs), each_has_room signature xs)
+    omega (arith, length-append (number_32.encoding (length xs)) (flat_map form.encoding xs), each_has_room signature xs)

@@ -9,7 +9,7 @@ use Rattle.std.proofs.lemmas.List.Sums.{AllPass-from_list_all, list_all-from_All
 use Rattle.std.proofs.lemmas.Map.Made.{IsDistinct-from_count, distinct_count-from_IsDistinct}
 use Rattle.simplex_base.specs.Format.{fixed}
 use Rattle.simplex_scheme.specs.Committee.{IsQuorum, is_quorum, signers_of}
-use Rattle.simplex_plain.specs.Listed.{ListedFits, listed_spelling}
+use Rattle.simplex_plain.specs.Listed.{ListedFits, listed_encoding}
 use Rattle.simplex_plain.specs.ListedLaws.{listed_within}
 use Rattle.simplex_scheme.specs.declared.scheme.Attestation.{Attestation}
 
@@ -39,6 +39,6 @@ quorum_meaning n good attestations = (
 -- signatures of one size: a certificate under a bound has at most five bytes, and for each participant five and a signature
 pub fixed_within : {S P G : Type 0} (size : ℕ) (bytes_of : G → List ℕ) (of_bytes : List ℕ →
     G) (bound : ℕ) (attestations : List (Attestation S P G)) → ListedFits (fixed size bytes_of of_bytes) bound attestations →
-    length (listed_spelling (fixed size bytes_of of_bytes) attestations) ≤ 5 + bound * (5 + size)
+    length (listed_encoding (fixed size bytes_of of_bytes) attestations) ≤ 5 + bound * (5 + size)
 fixed_within size bytes_of of_bytes bound attestations fits =
     listed_within (fixed size bytes_of of_bytes) size bound (λ signature is. omega arith) attestations fits

@@ -3,3 +3,4 @@ pub mod ListedLaws
 pub mod CommitteeLaws
 pub mod Plain
 pub mod Marked
+pub mod Judged

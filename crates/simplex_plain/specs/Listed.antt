@@ -1,4 +1,4 @@
--- Certificates that list attestations: which they are, how they are spelled and how they are read.
+-- Certificates that list attestations: which they are, how they are encoded and how they are read.
 use Rattle.std.specs.Prelude.{ℕ, zero, suc, ◌+◌, ◌<◌, ◌≤◌, ◌^◌, List, [], ◌∷◌, ◌++◌, length, Ok, Err, nat_lt, nat_le, ◌==◌, ◌||◌, if◌then◌else◌, codes, All, AllPairs}
 use Rattle.std.specs.List.{flat_map}
 use Rattle.simplex_base.specs.Format.{Format}
@@ -25,8 +25,8 @@ pub record ListedFits {S P G : Type 0} (signature : Format G) (bound : ℕ) (att
   pub each : All (attestation_format signature).is_value attestations
 
 -- the count, and then the attestations
-abbrev pub listed_spelling : {S P G : Type 0} → Format G → List (Attestation S P G) → List ℕ
-listed_spelling signature attestations = number_32.spelling (length attestations) ++ flat_map (attestation_format signature).spelling attestations
+abbrev pub listed_encoding : {S P G : Type 0} → Format G → List (Attestation S P G) → List ℕ
+listed_encoding signature attestations = number_32.encoding (length attestations) ++ flat_map (attestation_format signature).encoding attestations
 
 abbrev pub bad_count : Refusal
 bad_count = invalid (codes "simplex_messages::Listed") (codes "count out of range")
@@ -39,18 +39,18 @@ abbrev pub attestation_at : {S P G : Type 0} → Format G → ℕ → ℕ → Li
 attestation_at signature bound least bytes = (attestation_format signature).reading bytes >>= λ read.
     if nat_lt read.0.signer least || nat_le bound read.0.signer then Err bad_signer else Ok read
 
--- so many attestations, the first signer from least on and each further one above the one before it
+-- a number of attestations, the first signer from least on and each further one above the one before it
 unfoldable pub attestations_at : {S P G : Type 0} → Format G → ℕ → ℕ → ℕ → List ℕ → Reading (List (Attestation S P G))
 attestations_at signature bound least zero bytes = Ok ([], bytes)
 attestations_at signature bound least (suc count) bytes =
     attestation_at signature bound least bytes >>= λ first.
     attestations_at signature bound (first.0.signer + 1) count first.1 >>= λ others. Ok (first.0 ∷ others.0, others.1)
 
--- the count, and then so many attestations
+-- the count, and then that many attestations
 abbrev pub listed_at : {S P G : Type 0} → Format G → ℕ → List ℕ → Reading (List (Attestation S P G))
 listed_at signature bound bytes = number_32.reading bytes >>= λ count.
     if count.0 == 0 || nat_lt bound count.0 then Err bad_count else attestations_at signature bound 0 count.0 count.1
 
 -- the format of the certificates that are read under a bound
 abbrev pub listed_format : {S P G : Type 0} → Format G → ℕ → Format (List (Attestation S P G))
-listed_format signature bound = record { is_value = ListedFits signature bound; spelling = listed_spelling signature; reading = listed_at signature bound }
+listed_format signature bound = record { is_value = ListedFits signature bound; encoding = listed_encoding signature; reading = listed_at signature bound }

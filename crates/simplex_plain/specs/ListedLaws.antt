@@ -1,4 +1,4 @@
--- Reading a listed certificate gives the one whose spelling begins the input, and how long a spelling is.
+-- Reading a listed certificate gives the one whose encoding begins the input, and how long an encoding is.
 -- They stand beside the definitions because ghost members of impls cite them, and those see no proofs.
 use Rattle.std.proofs.Common.{◌≡◌, ◌==◌, ◌⊎◌, inl, inr, ℕ, zero, suc, ◌+◌, ◌*◌, ◌<◌, ◌≤◌, List, [], ◌∷◌, ◌++◌, length, Ok, Err, Bool, true, false, cond, nat_lt, nat_le, ◌||◌, refl, ap, sym, subst, ◌∙◌, append_assoc, arith, length-append}
 use Rattle.std.specs.Prelude.{All, AllPairs, ◌≢◌}
@@ -8,13 +8,13 @@ use Rattle.std.proofs.lemmas.List.Elements.{All-cons, All-head, All-tail, All-ni
 use Rattle.std.proofs.lemmas.List.Kept.{AllPairs-cons}
 use Rattle.std.proofs.Math.Dec.{eqb-suc-zero}
 use Rattle.std.proofs.Math.Nat.{mul-le-mul_left}
-use Rattle.simplex_base.specs.Format.{Format, IsLawful, Lawful, Spelled}
+use Rattle.simplex_base.specs.Format.{Format, IsLawful, Lawful, Encoded}
 use Rattle.simplex_base.specs.FormatLaws.{bind_ok, IsBytes-after}
 use Rattle.simplex_base.specs.Reading.{◌>>=◌, IsBytes}
 use Rattle.simplex_base.specs.Varint.{number_32}
 use Rattle.simplex_base.specs.VarintLaws.{number_32_lawful, groups_len_32}
 use Rattle.simplex_scheme.specs.Attestation.{attestation_format, attestation_lawful}
-use Rattle.simplex_plain.specs.Listed.{SignersAscend, ListedFits, listed_spelling, bad_count, bad_signer, attestation_at, attestations_at, listed_at}
+use Rattle.simplex_plain.specs.Listed.{SignersAscend, ListedFits, listed_encoding, bad_count, bad_signer, attestation_at, attestations_at, listed_at}
 use Rattle.simplex_scheme.specs.declared.scheme.Attestation.{Attestation}
 
 -- which way a test went
@@ -35,7 +35,7 @@ joined bytes front mid back rest first second = first ∙ (ap (λ (t : List ℕ)
 pub record Taken {S P G : Type 0} (signature : Format G) (bound least : ℕ) (bytes : List ℕ) (a : Attestation S P G) (rest : List ℕ) : Type 0 where
   pub low : least ≤ a.signer
   pub high : a.signer < bound
-  pub spelled : Spelled (attestation_format signature).is_value (attestation_format signature).spelling bytes a rest
+  pub encoded : Encoded (attestation_format signature).is_value (attestation_format signature).encoding bytes a rest
 
 pub attestation_takes : {S P G : Type 0} (signature : Format G) → IsLawful signature →
     (bound least : ℕ) (bytes : List ℕ) (a : Attestation S P G) (rest : List ℕ) → IsBytes bytes →
@@ -52,7 +52,7 @@ attestation_takes {S} {P} {G} signature law bound least bytes a rest fit e =
           let s = (attestation_lawful signature law).takes bytes p.0.0 p.0.1 fit p.1 in
           let same : p.0 ≡ (a, rest) = let h = q.1 in cc in
           subst (λ (r : Attestation S P G × List ℕ). Taken signature bound least bytes r.0 r.1) same
-          (record { low = low; high = high; spelled = s })
+          (record { low = low; high = high; encoded = s })
     ]
 
 -- attestations that were read, their signers from least on and below the bound
@@ -63,7 +63,7 @@ pub record AllTaken {S P G : Type 0} (signature : Format G) (bound least count :
   pub below : All (λ a. a.signer < bound) xs
   pub ascending : SignersAscend xs
   pub each : All (attestation_format signature).is_value xs
-  pub parts : bytes ≡ flat_map (attestation_format signature).spelling xs ++ rest
+  pub parts : bytes ≡ flat_map (attestation_format signature).encoding xs ++ rest
 
 pub attestations_take : {S P G : Type 0} (signature : Format G) → IsLawful signature →
     (bound least count : ℕ) (bytes : List ℕ) (xs : List (Attestation S P G)) (rest : List ℕ) → IsBytes bytes →
@@ -81,7 +81,7 @@ attestations_take {S} {P} {G} signature law bound least (suc count) bytes xs res
     let a = p.0.0 in
     let first = attestation_takes signature law bound least bytes a p.0.1 fit p.1 in
     let r = bind_ok (attestations_at signature bound (a.signer + 1) count p.0.1) (λ others. Ok (a ∷ others.0, others.1)) (xs, rest) p.2 in
-    let fit' = IsBytes-after (form.spelling a) p.0.1 (subst IsBytes first.spelled.parts fit) in
+    let fit' = IsBytes-after (form.encoding a) p.0.1 (subst IsBytes first.encoded.parts fit) in
     let others = attestations_take signature law bound (a.signer + 1) count p.0.1 r.0.0 r.0.1 fit' r.1 in
     let low = first.low in
     let same : ◌≡◌ {A = List (Attestation S P G) × List ℕ} (a ∷ r.0.0, r.0.1) (xs, rest) = let h = r.2 in cc in
@@ -91,14 +91,14 @@ attestations_take {S} {P} {G} signature law bound least (suc count) bytes xs res
       low = All-cons (λ b. least ≤ b.signer) a r.0.0 first.low (λ k d lt. let h = others.low k d lt in omega arith);
       below = All-cons (λ b. b.signer < bound) a r.0.0 first.high others.below;
       ascending = AllPairs-cons (λ b c. b.signer < c.signer) a r.0.0 (λ k d lt. let h = others.low k d lt in omega arith) others.ascending;
-      each = All-cons form.is_value a r.0.0 first.spelled.value others.each;
-      parts = joined bytes (form.spelling a) p.0.1 (flat_map form.spelling r.0.0) r.0.1 first.spelled.parts others.parts;
+      each = All-cons form.is_value a r.0.0 first.encoded.value others.each;
+      parts = joined bytes (form.encoding a) p.0.1 (flat_map form.encoding r.0.0) r.0.1 first.encoded.parts others.parts;
     })
 
 pub attestations_again : {S P G : Type 0} (signature : Format G) → IsLawful signature →
     (bound least : ℕ) (xs : List (Attestation S P G)) (rest : List ℕ) → All (λ a. least ≤ a.signer) xs → All (λ a. a.signer < bound) xs →
     SignersAscend xs → All (attestation_format signature).is_value xs →
-    attestations_at signature bound least (length xs) (flat_map (attestation_format signature).spelling xs ++ rest) ≡ Ok (xs, rest)
+    attestations_at signature bound least (length xs) (flat_map (attestation_format signature).encoding xs ++ rest) ≡ Ok (xs, rest)
 unfolding attestations_at
 attestations_again signature law bound least [] rest low below ascending each = refl
 attestations_again {S} {P} {G} signature law bound least (a ∷ xs) rest low below ascending each =
@@ -109,9 +109,9 @@ attestations_again {S} {P} {G} signature law bound least (a ∷ xs) rest low bel
     let above : All (λ b. a.signer + 1 ≤ b.signer) xs = λ k d lt. let h = ascending 0 (suc k) d (omega arith) (omega arith) in omega arith in
     let after : SignersAscend xs = λ i j d lt within. ascending (suc i) (suc j) d (omega arith) (omega arith) in
     rw (
-      append_assoc (form.spelling a) (flat_map form.spelling xs) rest,
+      append_assoc (form.encoding a) (flat_map form.encoding xs) rest,
       (attestation_lawful signature law).again a
-          (flat_map form.spelling xs ++ rest) (All-head form.is_value a xs each),
+          (flat_map form.encoding xs ++ rest) (All-head form.is_value a xs each),
       first,
       last,
       attestations_again signature law bound
@@ -120,7 +120,7 @@ attestations_again {S} {P} {G} signature law bound least (a ∷ xs) rest low bel
 
 listed_take : {S P G : Type 0} (signature : Format G) (bound : ℕ) → IsLawful signature →
     (bytes : List ℕ) (xs : List (Attestation S P G)) (rest : List ℕ) → IsBytes bytes → listed_at signature bound bytes ≡ Ok (xs, rest) →
-    Spelled (ListedFits signature bound) (listed_spelling signature) bytes xs rest
+    Encoded (ListedFits signature bound) (listed_encoding signature) bytes xs rest
 listed_take {S} {P} {G} signature bound law bytes xs rest fit e =
     let form = attestation_format {S = S} {P = P} signature in
     let p = bind_ok (number_32.reading bytes) (λ count. cond (count.0 == 0 || nat_lt bound count.0) (Err bad_count)
@@ -134,7 +134,7 @@ listed_take {S} {P} {G} signature bound law bytes xs rest fit e =
           let within = ltb-false bound count.0 t.1 in
           let n = number_32_lawful.takes bytes count.0 count.1 fit p.1 in
           let value = n.value in
-          let fit' = IsBytes-after (number_32.spelling count.0) count.1 (subst IsBytes n.parts fit) in
+          let fit' = IsBytes-after (number_32.encoding count.0) count.1 (subst IsBytes n.parts fit) in
           let l = attestations_take signature law bound 0 count.0 count.1 xs rest fit' q.1 in
           let len = l.len in
           record {
@@ -146,7 +146,7 @@ listed_take {S} {P} {G} signature bound law bytes xs rest fit e =
               below = l.below;
               each = l.each;
             };
-            parts = rw len (joined bytes (number_32.spelling count.0) count.1 (flat_map form.spelling xs) rest n.parts l.parts);
+            parts = rw len (joined bytes (number_32.encoding count.0) count.1 (flat_map form.encoding xs) rest n.parts l.parts);
           }
     ]
 
@@ -155,32 +155,32 @@ positive_not_zero zero h = absurd (omega arith)
 positive_not_zero (suc n) h = eqb-suc-zero n
 
 listed_again : {S P G : Type 0} (signature : Format G) (bound : ℕ) → IsLawful signature → (xs : List (Attestation S P G)) (rest : List ℕ) →
-    ListedFits signature bound xs → listed_at signature bound (listed_spelling signature xs ++ rest) ≡ Ok (xs, rest)
+    ListedFits signature bound xs → listed_at signature bound (listed_encoding signature xs ++ rest) ≡ Ok (xs, rest)
 listed_again {S} {P} {G} signature bound law xs rest v =
     let form = attestation_format {S = S} {P = P} signature in
     let within = le-ltb bound (length xs) v.count in
     rw (
-      append_assoc (number_32.spelling (length xs)) (flat_map form.spelling xs) rest,
+      append_assoc (number_32.encoding (length xs)) (flat_map form.encoding xs) rest,
       number_32_lawful.again (length xs)
-          (flat_map form.spelling xs ++ rest) v.listed.few,
+          (flat_map form.encoding xs ++ rest) v.listed.few,
       positive_not_zero (length xs) v.listed.some,
       within,
     )
     (attestations_again signature law bound 0 xs rest (λ k d lt. omega arith) v.below v.listed.ascending v.each)
 
 pub listed_lawful : {S P G : Type 0} (signature : Format G) (bound : ℕ) → IsLawful signature →
-    Lawful (ListedFits {S = S} {P = P} signature bound) (listed_spelling signature) (listed_at signature bound)
+    Lawful (ListedFits {S = S} {P = P} signature bound) (listed_encoding signature) (listed_at signature bound)
 listed_lawful signature bound law = record { takes = listed_take signature bound law; again = listed_again signature bound law }
 
 -- no signer stands twice
 pub ascending_distinct : {S P G : Type 0} (xs : List (Attestation S P G)) → SignersAscend xs → AllPairs (λ a b. a.signer ≢ b.signer) xs
 ascending_distinct xs ascending i j d lt within e = let less = ascending i j d lt within in omega arith
 
--- ---- how long a spelling is
+-- ---- how long an encoding is
 
 attestations_within : {S P G : Type 0} (signature : Format G) (size : ℕ) →
-    ((g : G) → signature.is_value g → length (signature.spelling g) ≤ size) → (xs : List (Attestation S P G)) →
-    All (attestation_format signature).is_value xs → length (flat_map (attestation_format signature).spelling xs) ≤ length xs * (5 + size)
+    ((g : G) → signature.is_value g → length (signature.encoding g) ≤ size) → (xs : List (Attestation S P G)) →
+    All (attestation_format signature).is_value xs → length (flat_map (attestation_format signature).encoding xs) ≤ length xs * (5 + size)
 attestations_within signature size small [] each = omega arith
 attestations_within {S} {P} {G} signature size small (a ∷ xs) each =
     let form = attestation_format {S = S} {P = P} signature in
@@ -188,23 +188,23 @@ attestations_within {S} {P} {G} signature size small (a ∷ xs) each =
     let more = attestations_within signature size small xs (All-tail form.is_value a xs each) in
     omega (
       arith,
-      length-append (form.spelling a) (flat_map form.spelling xs),
-      length-append (number_32.spelling a.signer)
-          (signature.spelling a.signature),
+      length-append (form.encoding a) (flat_map form.encoding xs),
+      length-append (number_32.encoding a.signer)
+          (signature.encoding a.signature),
       groups_len_32 a.signer,
       small a.signature first,
       more,
     )
 
--- what fits a bound is no longer than so many attestations of the greatest size
+-- what fits a bound is no longer than that many attestations of the greatest size
 pub listed_within : {S P G : Type 0} (signature : Format G) (size bound : ℕ) →
-    ((g : G) → signature.is_value g → length (signature.spelling g) ≤ size) → (xs : List (Attestation S P G)) →
-    ListedFits signature bound xs → length (listed_spelling signature xs) ≤ 5 + bound * (5 + size)
+    ((g : G) → signature.is_value g → length (signature.encoding g) ≤ size) → (xs : List (Attestation S P G)) →
+    ListedFits signature bound xs → length (listed_encoding signature xs) ≤ 5 + bound * (5 + size)
 listed_within {S} {P} {G} signature size bound small xs v =
     let form = attestation_format {S = S} {P = P} signature in
     omega (
       arith,
-      length-append (number_32.spelling (length xs)) (flat_map form.spelling xs),
+      length-append (number_32.encoding (length xs)) (flat_map form.encoding xs),
       groups_len_32 (length xs),
       attestations_within
           signature size small xs v.each,

@@ -1,4 +1,4 @@
--- The marked scheme: a good signature is one fixed byte, whoever signs whatever.
+-- The marked scheme: a valid signature is one fixed byte, for every signer and message.
 use Rattle.std.specs.Prelude.{◌≡◌, ℕ, ◌<◌, Bool, true, List, [], ◌∷◌, ◌&&◌, Option, map, nat_lt}
 use Rattle.std.specs.Int.{w32, to_be_bytes}
 use Rattle.std.specs.List.{range_with_len}
@@ -20,7 +20,7 @@ numbered n = map (to_be_bytes w32) (range_with_len 0 n)
 abbrev pub marked_good : {D : Type 0} → ℕ → SubjectValue D → ℕ → List ℕ → Bool
 marked_good n subject signer signature = nat_lt signer n && bytes_eq signature (170 ∷ [])
 
--- whose signature is good is in the committee
+-- whose signature is valid is in the committee
 pub marked_members : {D : Type 0} (n : ℕ) (subject : SubjectValue D) (signer : ℕ) (signature : List ℕ) →
     marked_good n subject signer signature ≡ true → signer < n
 marked_members n subject signer signature h = grind (arith, nat_tests)

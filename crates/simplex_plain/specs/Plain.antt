@@ -17,7 +17,7 @@ pub record PlainScheme : Type 0 where
 
 -- the bytes that are hashed: the name's length, the name, the key, the message
 abbrev pub hashed : List ℕ → List ℕ → List ℕ → List ℕ
-hashed name key message = number_64.spelling (length name) ++ (name ++ (key ++ message))
+hashed name key message = number_64.encoding (length name) ++ (name ++ (key ++ message))
 
 -- the signature of the participant with this key
 abbrev pub plain_signature : {D : Type 0} → Format D → Names → List ℕ → SubjectValue D → List ℕ
@@ -28,7 +28,7 @@ abbrev pub plain_good : {D : Type 0} → Format D → PlainScheme → SubjectVal
 plain_good payload scheme subject signer signature =
     option_map_or (λ key. bytes_eq signature (plain_signature payload scheme.names key subject)) (slice_get scheme.keys signer) false
 
--- whose signature is good is in the committee
+-- whose signature is valid is in the committee
 pub good_members : {D : Type 0} (payload : Format D) (scheme : PlainScheme) (subject : SubjectValue D) (signer : ℕ) (signature : List ℕ) →
     plain_good payload scheme subject signer signature ≡ true → signer < length scheme.keys
 good_members payload scheme subject signer signature h = inside scheme.keys signer h

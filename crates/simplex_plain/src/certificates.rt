@@ -20,7 +20,8 @@ pub trait AttestationVerifier<D: Digest>: CertificateScheme {
     fn accepts(&self, subject: &Subject<'_, D>, attestation: &Attestation<Self>) -> bool
     where
         Self: Sized,
-        ensures { result ≡ accepted self.now (subject_value subject.now) attestation.now.signer attestation.now.signature };
+        ensures { result ≡ accepted self.now (subject_value subject.now) attestation.now.signer
+            attestation.now.signature };
 }
 
 /// Whether a certificate lists a quorum, each attestation of it for the subject.
@@ -29,7 +30,8 @@ pub fn is_certified<D: Digest, S: AttestationVerifier<D>>(
     subject: &Subject<'_, D>,
     certificate: &Listed<S>,
 ) -> bool
-    ensures { result ≡ is_quorum (length (S.keys scheme.now)) (S.accepted scheme.now (subject_value subject.now)) certificate.now }
+    ensures { result ≡ is_quorum (length (S.keys scheme.now))
+        (S.accepted scheme.now (subject_value subject.now)) certificate.now }
 {
     let attestations = certificate.attestations();
     if attestations.len() < quorum(scheme.participants().len() as u32) as usize {
@@ -48,7 +50,8 @@ pub fn are_certified<'a, D: Digest, S: AttestationVerifier<D>>(
     scheme: &S,
     items: &[(Subject<'a, D>, &'a Listed<S>)],
 ) -> bool
-    ensures { result ≡ list_all (λ item. is_quorum (length (S.keys scheme.now)) (S.accepted scheme.now (subject_value item.0)) item.1.now) items.now }
+    ensures { result ≡ list_all (λ item.
+        is_quorum (length (S.keys scheme.now)) (S.accepted scheme.now (subject_value item.0)) item.1.now) items.now }
 {
     for item in items {
         if !is_certified(scheme, &item.0, item.1) {
@@ -75,8 +78,10 @@ pub fn assembled<S: CertificateScheme>(
     requires distinct { IsDistinct nat_eq (signers_of attestations.items) }
     requires members { All (λ a. a.signer < length (S.keys scheme.now)) attestations.items }
     ensures below { length attestations.items < quorum_of (length (S.keys scheme.now)) →
-        result ≡ Err (AssemblyError.InsufficientAttestations (quorum_of (length (S.keys scheme.now))) (length attestations.items)) }
-    ensures ample { quorum_of (length (S.keys scheme.now)) ≤ length attestations.items → IsOk result }
+        result ≡ Err (AssemblyError.InsufficientAttestations
+        (quorum_of (length (S.keys scheme.now))) (length attestations.items)) }
+    ensures ample { quorum_of (length (S.keys scheme.now)) ≤ length attestations.items →
+        IsOk result }
     ensures made { IfOk result (λ certificate. IsInOrder attestations.items certificate) }
     ensures certified { IfOk result (λ certificate. (good : ℕ → S.Signature → Bool) →
         All (λ a. good a.signer a.signature ≡ true) attestations.items →

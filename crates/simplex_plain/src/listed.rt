@@ -10,21 +10,21 @@ ghost use Rattle.std.proofs.lemmas.Cmp.{lists_equiv};
 ghost use Rattle.simplex_base.specs.Readable.{format_of};
 ghost use Rattle.simplex_base.specs.Reading.{Gives};
 ghost use Rattle.simplex_scheme.specs.declared.scheme.Attestation.{Attestation};
-ghost use Rattle.simplex_plain.specs.Listed.{AreListed, ListedFits, listed_spelling, attestation_at, attestations_at, listed_at};
+ghost use Rattle.simplex_plain.specs.Listed.{AreListed, ListedFits, listed_encoding, attestation_at, attestations_at, listed_at};
 ghost use Rattle.simplex_plain.specs.ListedLaws.{listed_lawful};
 
 use simplex_base::codec::counted::{size_counted, write_counted};
 use simplex_base::codec::error::Error;
 use simplex_base::codec::parts::known_bytes;
 use simplex_base::codec::varint::read_u32;
-use simplex_base::codec::{EncodeSize, FixedSize, Read, Spell, Write};
+use simplex_base::codec::{EncodeSize, Encoding, FixedSize, Read, Write};
 use simplex_base::values::{EqByParts, ExactClone};
 use simplex_scheme::scheme::{Attestation, SchemeTypes};
 use std::alloc::{AllocError, Global};
 use std::hash::{Hash, Hasher};
 use std::marker::Model;
 
-/// From 1 to 2^32 - 1 attestations with strictly ascending signers, spelled as their count, 1 to 5 bytes, and the
+/// From 1 to 2^32 - 1 attestations with strictly ascending signers, encoded as their count, 1 to 5 bytes, and the
 /// attestations one after another.
 #[derive(Drop)]
 pub struct Listed<S: SchemeTypes> {
@@ -88,7 +88,8 @@ impl<S: SchemeTypes> Eq for Listed<S> {
 impl<S: SchemeTypes> Hash for Listed<S> {
     ghost hash_input = { fed.slice ⟦<Attestation<S> as Hash>⟧.hash_input };
 
-    ghost respects_eq = { (fed.items_Alike {E = ⟦<Attestation<S> as PartialEq>⟧.eq} {F = ⟦<Attestation<S> as Hash>⟧.hash_input} (Prim.search (hashing, rules))).fed };
+    ghost respects_eq = { (fed.items_Alike {E = ⟦<Attestation<S> as PartialEq>⟧.eq}
+        {F = ⟦<Attestation<S> as Hash>⟧.hash_input} (Prim.search (hashing, rules))).fed };
 
     fn hash<H: Hasher>(&self, state: &mut H) {
         self.attestations.hash(state);
@@ -105,10 +106,10 @@ impl<S: SchemeTypes> EqByParts for Listed<S> {
     ghost equal = { λ x y. refl };
 }
 
-impl<S: SchemeTypes> Spell for Listed<S> {
+impl<S: SchemeTypes> Encoding for Listed<S> {
     ghost is_value = { ListedFits (format_of ⟦<S::Signature as Read>⟧) (2 ^ 32) };
 
-    ghost spelling = { listed_spelling (format_of ⟦<S::Signature as Read>⟧) };
+    ghost encoding = { listed_encoding (format_of ⟦<S::Signature as Read>⟧) };
 }
 
 impl<S: SchemeTypes> Write for Listed<S> {
@@ -128,7 +129,7 @@ impl<S: SchemeTypes> EncodeSize for Listed<S> {
 /// A certificate lists no more attestations than its encoding has bytes.
 pub fn lists_within<S: SchemeTypes>()
     ensures { (certificate : List (Attestation S S.PublicKey S.Signature)) →
-        length certificate ≤ length (listed_spelling (format_of ⟦<S::Signature as Read>⟧) certificate) }
+        length certificate ≤ length (listed_encoding (format_of ⟦<S::Signature as Read>⟧) certificate) }
 {}
 
 /// A certificate is read under a bound, the number of participants. `Invalid` comes at once where the count is 0 or
@@ -160,7 +161,8 @@ impl<S: SchemeTypes> Read for Listed<S> {
         }
     }
 
-    ghost lawful = { λ bound. listed_lawful (format_of ⟦<S::Signature as Read>⟧) bound S.Signature.lawful };
+    ghost lawful = { λ bound.
+        listed_lawful (format_of ⟦<S::Signature as Read>⟧) bound S.Signature.lawful };
 }
 
 /// An empty list with room for as many attestations as the bytes can hold, and for no more than the count. Each
@@ -171,13 +173,14 @@ fn with_room_for<S: SchemeTypes>(
     count: u32,
 ) -> Result<Vec<Attestation<S>>, AllocError>
     ensures empty { IfOk result (λ listed. listed.items ≡ []) }
-    ensures room { IfOk result (λ listed. vec_capacity listed ≡ min (length bytes.now / (1 + S.Signature.SIZE)) count) }
+    ensures room { IfOk result (λ listed.
+        vec_capacity listed ≡ min (length bytes.now / (1 + S.Signature.SIZE)) count) }
 {
     let held = bytes.len() / (1 + S::Signature::SIZE);
     Vec::with_capacity(alloc, held.min(count as usize))
 }
 
-/// Reads so many attestations with ascending signers below the bound.
+/// Reads a number of attestations with ascending signers below the bound.
 fn read_attestations<S: SchemeTypes>(
     alloc: Global,
     input: &mut &[u8],
@@ -185,7 +188,8 @@ fn read_attestations<S: SchemeTypes>(
     count: u32,
 ) -> Result<Listed<S>, Error>
     requires { 0 < count }
-    ensures { Gives true result input.old.now input.new.now (attestations_at (format_of ⟦<S::Signature as Read>⟧) bound 0 count input.old.now) }
+    ensures { Gives true result input.old.now input.new.now
+        (attestations_at (format_of ⟦<S::Signature as Read>⟧) bound 0 count input.old.now) }
 {
     let mut rest: &[u8] = known_bytes(*input);
     let Ok(mut attestations) = with_room_for(alloc, rest, count) else {
@@ -214,7 +218,8 @@ fn read_attestation<S: SchemeTypes>(
     least: u32,
 ) -> Result<Attestation<S>, Error>
     ensures below { IfOk result (λ attestation. attestation.signer < bound) }
-    ensures gives { Gives false result input.old.now input.new.now (attestation_at (format_of ⟦<S::Signature as Read>⟧) bound least input.old.now) }
+    ensures gives { Gives false result input.old.now input.new.now
+        (attestation_at (format_of ⟦<S::Signature as Read>⟧) bound least input.old.now) }
 {
     let mut rest: &[u8] = *input;
     let attestation: Attestation<S> = match Read::read_cfg(alloc, &mut rest, &()) {

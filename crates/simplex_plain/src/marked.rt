@@ -1,4 +1,4 @@
-//! A scheme for tests: a signature is the byte `aa`, whoever signs whatever.
+//! A scheme for tests: the signature of every participant on every message is the byte `aa`.
 
 ghost use Rattle.std.specs.Prelude.{◌≡◌, ◌↔◌, ◌+◌, ◌*◌, ◌<◌, ◌≤◌, ◌^◌, [], ◌∷◌, Option, Some, None, Ok, Err, IsOk, IsTrue, IfOk, MatchOption, All, length, nat_eq, nat_lt, ◌&&◌, true};
 ghost use Rattle.std.specs.Option.{ForSome};
@@ -51,7 +51,7 @@ impl Role<1> for MarkedSignatureRole {
     ghost sized = { (lit< tt, lit≤ tt) };
 }
 
-/// A signature of the marked scheme: 1 byte, which is `aa` where it is good.
+/// A signature of the marked scheme: 1 byte, which is `aa` where it is valid.
 pub type MarkedSignature = FixedBytes<MarkedSignatureRole, 1>;
 
 /// A committee that signs by a mark. The signature of each participant over each subject is the byte `aa`,
@@ -71,7 +71,9 @@ impl Model for Marked {
 
     ghost view = { λ marked. record { keys = marked.participants; me = marked.me } };
 
-    ghost invariant = { λ marked. (1 ≤ length marked.participants) × (length marked.participants < 2 ^ 32) × ForSome marked.me (λ me. me < length marked.participants) };
+    ghost invariant = { λ marked. (1 ≤ length marked.participants) ×
+        (length marked.participants < 2 ^ 32) ×
+        ForSome marked.me (λ me. me < length marked.participants) };
 }
 
 impl Marked {
@@ -90,14 +92,15 @@ impl Marked {
 
     /// Whether the signer is in the committee and the signature is the mark.
     fn is_marked(&self, attestation: &Attestation<Self>) -> bool
-        ensures { result ≡ (nat_lt attestation.now.signer (length self.now.keys) && bytes_eq attestation.now.signature (170 ∷ [])) }
+        ensures { result ≡ (nat_lt attestation.now.signer (length self.now.keys) &&
+            bytes_eq attestation.now.signature (170 ∷ [])) }
     {
         (attestation.signer.get() as usize) < self.participants.len()
             && attestation.signature == mark()
     }
 }
 
-/// The keys of so many participants.
+/// The keys of this many participants.
 fn numbered_keys(alloc: Global, n: u32) -> Result<Set<MarkedKey>, AllocError>
     ensures { IfOk result (λ keys. keys ≡ numbered n) }
 {
@@ -156,7 +159,8 @@ impl CertificateScheme for Marked {
 
     ghost certificates_limited = { lit≤ tt };
 
-    ghost certificates_within = { λ participants certificate few fits. fixed_within 1 (λ signature. signature) (λ bytes. bytes) participants certificate fits };
+    ghost certificates_within = { λ participants certificate few fits.
+        fixed_within 1 (λ signature. signature) (λ bytes. bytes) participants certificate fits };
 }
 
 impl<D: Digest> AttestationVerifier<D> for Marked {
@@ -168,12 +172,17 @@ impl<D: Digest> AttestationVerifier<D> for Marked {
 }
 
 impl<D: Digest> CertificateVerifier<D> for Marked {
-    ghost certified = { λ scheme subject. is_quorum (length scheme.keys) (marked_good (length scheme.keys) subject) };
+    ghost certified = { λ scheme subject.
+        is_quorum (length scheme.keys) (marked_good (length scheme.keys) subject) };
 
     fn verify_certificate(&self, subject: Subject<'_, D>, certificate: &Listed<Marked>) -> bool
-        ensures certified { result ≡ is_quorum (length self.now.keys) (marked_good (length self.now.keys) (subject_value subject.entry)) certificate.now }
+        ensures certified { result ≡
+            is_quorum (length self.now.keys)
+            (marked_good (length self.now.keys) (subject_value subject.entry)) certificate.now }
         // The test says exactly this.
-        ensures exactly { IsTrue result ↔ IsQuorum (length self.now.keys) (marked_good (length self.now.keys) (subject_value subject.entry)) certificate.now }
+        ensures exactly { IsTrue result ↔
+            IsQuorum (length self.now.keys)
+            (marked_good (length self.now.keys) (subject_value subject.entry)) certificate.now }
     {
         // The prover knows a subject that came by value only by its kinds.
         let subject = match subject {
@@ -201,7 +210,8 @@ impl<D: Digest> Scheme<D> for Marked {
     ) -> Result<Option<Attestation<Self>>, AllocError>
         ensures none { self.now.me ≡ None → result ≡ Ok None }
         ensures signed { IfOk result (λ signed. MatchOption signed (self.now.me ≡ None) (λ a.
-            (self.now.me ≡ Some a.signer) × (marked_good (length self.now.keys) (subject_value _subject.entry) a.signer a.signature ≡ true))) }
+            (self.now.me ≡ Some a.signer) ×
+            (marked_good (length self.now.keys) (subject_value _subject.entry) a.signer a.signature ≡ true))) }
         // No memory is taken.
         ensures ample { IsOk result }
     {
@@ -215,7 +225,8 @@ impl<D: Digest> Scheme<D> for Marked {
     }
 
     fn verify_attestation(&self, _subject: Subject<'_, D>, attestation: &Attestation<Self>) -> bool
-        ensures { result ≡ marked_good (length self.now.keys) (subject_value _subject.entry) attestation.now.signer attestation.now.signature }
+        ensures { result ≡ marked_good (length self.now.keys) (subject_value _subject.entry)
+            attestation.now.signer attestation.now.signature }
     {
         self.is_marked(attestation)
     }
@@ -228,18 +239,21 @@ impl<D: Digest> Scheme<D> for Marked {
         requires distinct { IsDistinct nat_eq (signers_of attestations.items) }
         requires members { All (λ a. a.signer < length self.now.keys) attestations.items }
         ensures below { length attestations.items < quorum_of (length self.now.keys) →
-            result ≡ Err (AssemblyError.InsufficientAttestations (quorum_of (length self.now.keys)) (length attestations.items)) }
+            result ≡ Err (AssemblyError.InsufficientAttestations (quorum_of (length self.now.keys))
+            (length attestations.items)) }
         // No memory is taken.
         ensures ample { quorum_of (length self.now.keys) ≤ length attestations.items → IsOk result }
         ensures made { IfOk result (λ certificate. IsInOrder attestations.items certificate) }
         ensures certified { IfOk result (λ certificate. (subject : SubjectValue D) →
-            All (λ a. marked_good (length self.now.keys) subject a.signer a.signature ≡ true) attestations.items →
+            All (λ a. marked_good (length self.now.keys) subject a.signer a.signature ≡
+            true) attestations.items →
             is_quorum (length self.now.keys) (marked_good (length self.now.keys) subject) certificate ≡ true) }
     {
         assembled(self, attestations)
     }
 
-    ghost members = { λ marked subject signer signature h. marked_members (length marked.keys) subject signer signature h };
+    ghost members = { λ marked subject signer signature h.
+        marked_members (length marked.keys) subject signer signature h };
 }
 
 impl<D: Digest> Listing<D> for Marked {
@@ -249,7 +263,8 @@ impl<D: Digest> Listing<D> for Marked {
         certificate.attestations()
     }
 
-    ghost lists_quorums = { λ scheme subject certificate. (quorum_meaning (length scheme.keys) (marked_good (length scheme.keys) subject) certificate).0 };
+    ghost lists_quorums = { λ scheme subject certificate.
+        (quorum_meaning (length scheme.keys) (marked_good (length scheme.keys) subject) certificate).0 };
 
     ghost lists_given = { λ given certificate made. made };
 }

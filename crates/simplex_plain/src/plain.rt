@@ -70,9 +70,15 @@ impl Model for Plain {
 
     ghost Value = { PlainScheme };
 
-    ghost view = { λ plain. record { names = plain.namespace; keys = plain.participants; me = plain.me } };
+    ghost view = { λ plain. record {
+      names = plain.namespace;
+      keys = plain.participants;
+      me = plain.me;
+    } };
 
-    ghost invariant = { λ plain. (1 ≤ length plain.participants) × (length plain.participants < 2 ^ 32) × ForSome plain.me (λ me. me < length plain.participants) };
+    ghost invariant = { λ plain. (1 ≤ length plain.participants) ×
+        (length plain.participants < 2 ^ 32) ×
+        ForSome plain.me (λ me. me < length plain.participants) };
 }
 
 impl Plain {
@@ -84,7 +90,8 @@ impl Plain {
     ) -> Result<Plain, AllocError>
         requires some { 1 ≤ length participants }
         requires few { length participants < 2 ^ 32 }
-        ensures { IfOk result (λ plain. plain ≡ record { names = names_of namespace.now; keys = participants; me = None }) }
+        ensures { IfOk result (λ plain.
+            plain ≡ record { names = names_of namespace.now; keys = participants; me = None }) }
     {
         Ok(Plain {
             namespace: Namespace::new(alloc, namespace)?,
@@ -104,8 +111,14 @@ impl Plain {
         requires some { 1 ≤ length participants }
         requires few { length participants < 2 ^ 32 }
         ensures outside { All (λ one. one ≢ key.now) participants → result ≡ Ok None }
-        ensures inside { IfOk result (λ signer. MatchOption signer (All (λ one. one ≢ key.now) participants) (λ plain. (me : ℕ) ×
-            (slice_get participants me ≡ Some key.now) × (plain ≡ record { names = names_of namespace.now; keys = participants; me = Some me }))) }
+        ensures inside { IfOk result (λ signer.
+            MatchOption signer (All (λ one. one ≢ key.now) participants) (λ plain. (me : ℕ) ×
+            (slice_get participants me ≡ Some key.now) ×
+            (plain ≡ record {
+              names = names_of namespace.now;
+              keys = participants;
+              me = Some me;
+            }))) }
     {
         let Some(place) = participants.position(key) else {
             return Ok(None);
@@ -131,7 +144,9 @@ impl Plain {
         signer: Option<Participant>,
         round: Round,
     ) -> Option<PlainSignature>
-        ensures { result ≡ option_map (λ key. sha256 (hashed name.now key (round_format.spelling round))) (option_and_then (slice_get self.now.keys) signer) }
+        ensures { result ≡ option_map (λ key.
+            sha256 (hashed name.now key (round_format.encoding round)))
+            (option_and_then (slice_get self.now.keys) signer) }
     {
         let key = self.key_of(signer)?;
         Some(hash_of_round(name, key, round))
@@ -144,7 +159,10 @@ impl Plain {
         signer: Option<Participant>,
         proposal: &Proposal<D>,
     ) -> Option<PlainSignature>
-        ensures { result ≡ option_map (λ key. sha256 (hashed name.now key ((proposal_format (format_of ⟦<D as Read>⟧)).spelling proposal.now))) (option_and_then (slice_get self.now.keys) signer) }
+        ensures { result ≡ option_map (λ key.
+            sha256 (hashed name.now key
+            ((proposal_format (format_of ⟦<D as Read>⟧)).encoding proposal.now)))
+            (option_and_then (slice_get self.now.keys) signer) }
     {
         let key = self.key_of(signer)?;
         let payload = proposal.payload.as_bytes();
@@ -154,7 +172,7 @@ impl Plain {
 
 /// The hash under a name, with a key, of a round.
 fn hash_of_round(name: &[u8], key: &PlainKey, round: Round) -> PlainSignature
-    ensures { result ≡ sha256 (hashed name.now key.now (round_format.spelling round)) }
+    ensures { result ≡ sha256 (hashed name.now key.now (round_format.encoding round)) }
 {
     let digest = Sha256::hash(&[
         Varint::new(name.len() as u64).as_slice(),
@@ -174,7 +192,9 @@ fn hash_of_proposal<'a>(
     parent: View,
     payload: &'a [u8],
 ) -> PlainSignature
-    ensures { result ≡ sha256 (hashed name.now key.now (round_format.spelling round ++ (number_64.spelling parent ++ payload.now))) }
+    ensures { result ≡ sha256
+        (hashed name.now key.now (round_format.encoding round ++
+        (number_64.encoding parent ++ payload.now))) }
 {
     let digest = Sha256::hash(&[
         Varint::new(name.len() as u64).as_slice(),
@@ -229,7 +249,8 @@ impl CertificateScheme for Plain {
 
     ghost certificates_limited = { lit≤ tt };
 
-    ghost certificates_within = { λ participants certificate few fits. fixed_within 32 (λ signature. signature) (λ bytes. bytes) participants certificate fits };
+    ghost certificates_within = { λ participants certificate few fits.
+        fixed_within 32 (λ signature. signature) (λ bytes. bytes) participants certificate fits };
 }
 
 impl<D: Digest> AttestationVerifier<D> for Plain {
@@ -255,12 +276,17 @@ impl<D: Digest> AttestationVerifier<D> for Plain {
 }
 
 impl<D: Digest> CertificateVerifier<D> for Plain {
-    ghost certified = { λ scheme subject. is_quorum (length scheme.keys) (plain_good (format_of ⟦<D as Read>⟧) scheme subject) };
+    ghost certified = { λ scheme subject.
+        is_quorum (length scheme.keys) (plain_good (format_of ⟦<D as Read>⟧) scheme subject) };
 
     fn verify_certificate(&self, subject: Subject<'_, D>, certificate: &Listed<Plain>) -> bool
-        ensures certified { result ≡ is_quorum (length self.now.keys) (plain_good (format_of ⟦<D as Read>⟧) self.now (subject_value subject.entry)) certificate.now }
+        ensures certified { result ≡
+            is_quorum (length self.now.keys)
+            (plain_good (format_of ⟦<D as Read>⟧) self.now (subject_value subject.entry)) certificate.now }
         // The test says exactly this.
-        ensures exactly { IsTrue result ↔ IsQuorum (length self.now.keys) (plain_good (format_of ⟦<D as Read>⟧) self.now (subject_value subject.entry)) certificate.now }
+        ensures exactly { IsTrue result ↔
+            IsQuorum (length self.now.keys)
+            (plain_good (format_of ⟦<D as Read>⟧) self.now (subject_value subject.entry)) certificate.now }
     {
         // The prover knows a subject that came by value only by its kinds.
         let subject = match subject {
@@ -288,7 +314,9 @@ impl<D: Digest> Scheme<D> for Plain {
     ) -> Result<Option<Attestation<Self>>, AllocError>
         ensures none { self.now.me ≡ None → result ≡ Ok None }
         ensures signed { IfOk result (λ signed. MatchOption signed (self.now.me ≡ None) (λ a.
-            (self.now.me ≡ Some a.signer) × (plain_good (format_of ⟦<D as Read>⟧) self.now (subject_value subject.entry) a.signer a.signature ≡ true))) }
+            (self.now.me ≡ Some a.signer) ×
+            (plain_good (format_of ⟦<D as Read>⟧) self.now (subject_value subject.entry) a.signer
+            a.signature ≡ true))) }
         // No memory is taken.
         ensures ample { IsOk result }
     {
@@ -309,10 +337,13 @@ impl<D: Digest> Scheme<D> for Plain {
     }
 
     fn verify_attestation(&self, subject: Subject<'_, D>, attestation: &Attestation<Self>) -> bool
-        ensures good { result ≡ plain_good (format_of ⟦<D as Read>⟧) self.now (subject_value subject.entry) attestation.now.signer attestation.now.signature }
+        ensures good { result ≡ plain_good (format_of ⟦<D as Read>⟧) self.now
+            (subject_value subject.entry) attestation.now.signer attestation.now.signature }
         // The hashed bytes decide the name, the key and the message.
-        ensures decided { (name other_name key other_key message other_message : List ℕ) → length name < 2 ^ 64 → length other_name < 2 ^ 64 →
-            length key ≡ length other_key → hashed name key message ≡ hashed other_name other_key other_message →
+        ensures decided { (name other_name key other_key message other_message : List ℕ) →
+            length name < 2 ^ 64 → length other_name < 2 ^ 64 →
+            length key ≡ length other_key →
+            hashed name key message ≡ hashed other_name other_key other_message →
             (name ≡ other_name) × (key ≡ other_key) × (message ≡ other_message) }
     {
         // The prover knows a subject that came by value only by its kinds.
@@ -332,18 +363,22 @@ impl<D: Digest> Scheme<D> for Plain {
         requires distinct { IsDistinct nat_eq (signers_of attestations.items) }
         requires members { All (λ a. a.signer < length self.now.keys) attestations.items }
         ensures below { length attestations.items < quorum_of (length self.now.keys) →
-            result ≡ Err (AssemblyError.InsufficientAttestations (quorum_of (length self.now.keys)) (length attestations.items)) }
+            result ≡ Err (AssemblyError.InsufficientAttestations (quorum_of (length self.now.keys))
+            (length attestations.items)) }
         // No memory is taken.
         ensures ample { quorum_of (length self.now.keys) ≤ length attestations.items → IsOk result }
         ensures made { IfOk result (λ certificate. IsInOrder attestations.items certificate) }
         ensures certified { IfOk result (λ certificate. (subject : SubjectValue D) →
-            All (λ a. plain_good (format_of ⟦<D as Read>⟧) self.now subject a.signer a.signature ≡ true) attestations.items →
-            is_quorum (length self.now.keys) (plain_good (format_of ⟦<D as Read>⟧) self.now subject) certificate ≡ true) }
+            All (λ a. plain_good (format_of ⟦<D as Read>⟧) self.now subject a.signer a.signature ≡
+            true) attestations.items →
+            is_quorum (length self.now.keys) (plain_good (format_of ⟦<D as Read>⟧) self.now subject)
+            certificate ≡ true) }
     {
         assembled(self, attestations)
     }
 
-    ghost members = { λ scheme subject signer signature h. good_members (format_of ⟦<D as Read>⟧) scheme subject signer signature h };
+    ghost members = { λ scheme subject signer signature h.
+        good_members (format_of ⟦<D as Read>⟧) scheme subject signer signature h };
 }
 
 impl<D: Digest> Listing<D> for Plain {
@@ -353,7 +388,8 @@ impl<D: Digest> Listing<D> for Plain {
         certificate.attestations()
     }
 
-    ghost lists_quorums = { λ scheme subject certificate. (quorum_meaning (length scheme.keys) (plain_good (format_of ⟦<D as Read>⟧) scheme subject) certificate).0 };
+    ghost lists_quorums = { λ scheme subject certificate.
+        (quorum_meaning (length scheme.keys) (plain_good (format_of ⟦<D as Read>⟧) scheme subject) certificate).0 };
 
     ghost lists_given = { λ given certificate made. made };
 }

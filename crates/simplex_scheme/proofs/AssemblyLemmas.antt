@@ -1,4 +1,4 @@
--- Distinct signers, told from the first on.
+-- Distinct signers, from the first on.
 use Rattle.std.proofs.Common.{◌≡◌, Bool, true, false, List, [], ◌∷◌, ◌||◌, ◌↔◌, length, arith, refl, sym, subst}
 use Rattle.std.specs.Prelude.{ℕ, nat_eq}
 use Rattle.std.specs.List.{IsDistinct, AllByRecursion, list_any}

@@ -9,7 +9,7 @@ apart_from_end : (base other suffix ending : List ℕ) (place : ℕ) → get_or 
 apart_from_end base other suffix ending place differ same =
     differ (ap (λ bytes. get_or bytes place 0) (sym (reverse-append base suffix) ∙ ap reverse same ∙ reverse-append other ending))
 
--- names of two kinds differ, whatever their bases
+-- names of two kinds differ, for any two bases
 pub names_apart : (base other : List ℕ) → AreApart (names_of base) (names_of other)
 names_apart base other = record {
   notarize = (

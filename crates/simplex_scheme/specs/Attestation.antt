@@ -1,4 +1,4 @@
--- How attestations are spelled.
+-- How attestations are encoded.
 use Rattle.std.proofs.Common.{ℕ, ◌+◌, refl}
 use Rattle.simplex_base.specs.Format.{Format, IsLawful, both, made}
 use Rattle.simplex_base.specs.FormatLaws.{both_lawful, made_lawful}

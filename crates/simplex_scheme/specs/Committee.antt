@@ -18,7 +18,7 @@ quorum_of n = n - faults_of n
 abbrev pub signers_of : {S P G : Type 0} → List (Attestation S P G) → List ℕ
 signers_of attestations = map (λ a. a.signer) attestations
 
--- at least a quorum of n participants, each once, and each signature good
+-- at least a quorum of n participants, each once, and each signature valid
 pub record IsQuorum {S P G : Type 0} (n : ℕ) (good : ℕ → G → Bool) (attestations : List (Attestation S P G)) : Type 0 where
   pub distinct : IsDistinct nat_eq (signers_of attestations)
   pub enough : quorum_of n ≤ length attestations

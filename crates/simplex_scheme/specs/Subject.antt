@@ -8,7 +8,7 @@ use Rattle.simplex_scheme.specs.declared.subject.Subject.TheVariants as variants
 use Rattle.simplex_scheme.specs.Namespace.{Names}
 use Rattle.simplex_scheme.specs.Proposal.{proposal_format}
 
--- what a vote or a certificate says, whatever it borrows from
+-- what a vote or a certificate says, wherever it borrows it from
 pub data SubjectValue (D : Type 0) : Type 0 where
   Notarizes : Proposal D → SubjectValue D
   Nullifies : Round → SubjectValue D
@@ -37,8 +37,8 @@ name_of names (Notarizes p) = names.notarize
 name_of names (Nullifies r) = names.nullify
 name_of names (Finalizes p) = names.finalize
 
--- the message that is signed: the spelling of the proposal or the round
+-- the message that is signed: the encoding of the proposal or the round
 abbrev pub message_of : {D : Type 0} → Format D → SubjectValue D → List ℕ
-message_of payload (Notarizes p) = (proposal_format payload).spelling p
-message_of payload (Nullifies r) = round_format.spelling r
-message_of payload (Finalizes p) = (proposal_format payload).spelling p
+message_of payload (Notarizes p) = (proposal_format payload).encoding p
+message_of payload (Nullifies r) = round_format.encoding r
+message_of payload (Finalizes p) = (proposal_format payload).encoding p

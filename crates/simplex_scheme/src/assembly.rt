@@ -11,7 +11,8 @@ use simplex_base::positions::Participant;
 /// Each signer is compared to those after it.
 pub fn can_assemble<S: CertificateScheme>(scheme: &S, attestations: &[Attestation<S>]) -> bool
     ensures { IsTrue result ↔
-        (IsDistinct nat_eq (signers_of attestations.now) × All (λ a. a.signer < length (S.keys scheme.now)) attestations.now) }
+        (IsDistinct nat_eq (signers_of attestations.now) ×
+        All (λ a. a.signer < length (S.keys scheme.now)) attestations.now) }
 {
     let participants = scheme.participants().len();
     attestations

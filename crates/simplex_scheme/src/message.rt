@@ -1,4 +1,4 @@
-//! Whether bytes are the message that is signed, told part by part without memory.
+//! Whether bytes are the message that is signed, compared part by part without memory.
 
 ghost use Rattle.std.specs.Prelude.{◌≡◌, ◌≢◌, ◌↔◌, ◌++◌, ℕ, List, IsTrue, MatchOption};
 ghost use Rattle.simplex_base.specs.Readable.{format_of};
@@ -13,14 +13,17 @@ use simplex_base::positions::Round;
 
 /// The bytes after a part, if they begin with it.
 fn after<'a>(bytes: &'a [u8], part: &[u8]) -> Option<&'a [u8]>
-    ensures { MatchOption result ((rest : List ℕ) → bytes.now ≢ part.now ++ rest) (λ rest. bytes.now ≡ part.now ++ rest.now) }
+    ensures { MatchOption result ((rest : List ℕ) →
+        bytes.now ≢ part.now ++ rest) (λ rest. bytes.now ≡ part.now ++ rest.now) }
 {
     bytes.strip_prefix(part)
 }
 
-/// The bytes after the spelling of a round, if they begin with it.
+/// The bytes after the encoding of a round, if they begin with it.
 fn after_round(bytes: &[u8], round: Round) -> Option<&[u8]>
-    ensures { MatchOption result ((rest : List ℕ) → bytes.now ≢ round_format.spelling round ++ rest) (λ rest. bytes.now ≡ round_format.spelling round ++ rest.now) }
+    ensures { MatchOption result ((rest : List ℕ) →
+        bytes.now ≢ round_format.encoding round ++ rest) (λ rest.
+        bytes.now ≡ round_format.encoding round ++ rest.now) }
 {
     match after(bytes, Varint::new(round.epoch().get()).as_slice()) {
         Some(rest) => after(rest, Varint::new(round.view().get()).as_slice()),
@@ -28,9 +31,9 @@ fn after_round(bytes: &[u8], round: Round) -> Option<&[u8]>
     }
 }
 
-/// Whether the bytes spell the round.
+/// Whether the bytes encode the round.
 pub fn is_round(bytes: &[u8], round: Round) -> bool
-    ensures { IsTrue result ↔ (bytes.now ≡ round_format.spelling round) }
+    ensures { IsTrue result ↔ (bytes.now ≡ round_format.encoding round) }
 {
     match after_round(bytes, round) {
         Some(rest) => rest.is_empty(),
@@ -38,9 +41,10 @@ pub fn is_round(bytes: &[u8], round: Round) -> bool
     }
 }
 
-/// Whether the bytes spell the proposal.
+/// Whether the bytes encode the proposal.
 pub fn is_proposal<D: Digest>(bytes: &[u8], proposal: &Proposal<D>) -> bool
-    ensures { IsTrue result ↔ (bytes.now ≡ (proposal_format (format_of ⟦<D as Read>⟧)).spelling proposal.now) }
+    ensures { IsTrue result ↔
+        (bytes.now ≡ (proposal_format (format_of ⟦<D as Read>⟧)).encoding proposal.now) }
 {
     let Some(rest) = after_round(bytes, proposal.round) else {
         return false;

@@ -26,7 +26,12 @@ impl Model for Namespace {
 
     ghost Value = { Names };
 
-    ghost view = { λ n. record { notarize = n.notarize.items; nullify = n.nullify.items; finalize = n.finalize.items; seed = n.seed.items } };
+    ghost view = { λ n. record {
+      notarize = n.notarize.items;
+      nullify = n.nullify.items;
+      finalize = n.finalize.items;
+      seed = n.seed.items;
+    } };
 }
 
 impl Namespace {
@@ -34,7 +39,7 @@ impl Namespace {
     /// found no memory.
     pub fn new(alloc: Global, base: &[u8]) -> Result<Self, AllocError>
         ensures names { IfOk result (λ namespace. namespace ≡ names_of base.now) }
-        // Namespaces of two kinds differ, whatever their bases are.
+        // Namespaces of two kinds differ, for any two bases.
         ensures apart { (other : List ℕ) → AreApart (names_of base.now) (names_of other) }
         // Namespaces of one kind are equal exactly where their bases are.
         ensures one { (other : List ℕ) → TellBases base.now other }

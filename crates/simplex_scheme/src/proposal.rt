@@ -8,13 +8,13 @@ use crate::scheme::Digest;
 use simplex_base::codec::error::Error;
 use simplex_base::codec::parts::{size_both, write_both};
 use simplex_base::codec::{
-    EncodeSize, Fixed, FixedSize, MaxEncodeSize, Read, ReadExt, Spell, Write,
+    EncodeSize, Encoding, Fixed, FixedSize, MaxEncodeSize, Read, ReadExt, Write,
 };
 use simplex_base::positions::{Round, Roundable, View};
 use simplex_base::values::{EqByParts, ExactClone, OrdByParts};
 use std::alloc::{AllocError, Global};
 
-/// A payload that is proposed for a round, on top of the proposal of the parent's view. It is spelled as
+/// A payload that is proposed for a round, on top of the proposal of the parent's view. It is encoded as
 /// its round, its parent and its payload; proposals are ordered so too.
 #[derive(Debug, PartialEq, Eq, PartialOrd, Ord, Hash)]
 pub struct Proposal<D> {
@@ -66,13 +66,15 @@ impl<D: Copy> ExactClone for Proposal<D> {
 }
 
 impl<D: Eq> EqByParts for Proposal<D> {
-    ghost same = { λ x y. ⟦<Round as PartialEq>⟧.eq x.round y.round && (nat_eq x.parent y.parent && D.eq x.payload y.payload) };
+    ghost same = { λ x y. ⟦<Round as PartialEq>⟧.eq x.round y.round &&
+        (nat_eq x.parent y.parent && D.eq x.payload y.payload) };
 
     ghost equal = { λ x y. refl };
 }
 
 impl<D: Ord> OrdByParts for Proposal<D> {
-    ghost order = { λ x y. ordering_then (⟦<Round as Ord>⟧.cmp x.round y.round) (ordering_then (nat_cmp x.parent y.parent) (D.cmp x.payload y.payload)) };
+    ghost order = { λ x y. ordering_then (⟦<Round as Ord>⟧.cmp x.round y.round)
+        (ordering_then (nat_cmp x.parent y.parent) (D.cmp x.payload y.payload)) };
 
     ghost ordered = { λ x y. refl };
 }
@@ -85,12 +87,12 @@ impl<D> Roundable for Proposal<D> {
     }
 }
 
-impl<D: Digest> Spell for Proposal<D> {
+impl<D: Digest> Encoding for Proposal<D> {
     ghost use Rattle.simplex_scheme.specs.Proposal.{proposal_format};
 
     ghost is_value = { (proposal_format (format_of ⟦<D as Read>⟧)).is_value };
 
-    ghost spelling = { (proposal_format (format_of ⟦<D as Read>⟧)).spelling };
+    ghost encoding = { (proposal_format (format_of ⟦<D as Read>⟧)).encoding };
 }
 
 impl<D: Digest> Write for Proposal<D> {

@@ -16,7 +16,7 @@ use simplex_base::codec::error::Error;
 use simplex_base::codec::fixed_bytes::{FixedBytes, Role};
 use simplex_base::codec::parts::{size_both, write_both};
 use simplex_base::codec::{
-    EncodeSize, Fixed, FixedSize, MaxEncodeSize, Read, ReadExt, Spell, Write,
+    EncodeSize, Encoding, Fixed, FixedSize, MaxEncodeSize, Read, ReadExt, Write,
 };
 use simplex_base::positions::Participant;
 use simplex_base::values::{EqByParts, ExactClone};
@@ -45,7 +45,7 @@ pub trait SchemeTypes {
     type Signature: Signature;
 }
 
-/// A signature with the number of its signer, spelled in that order.
+/// A signature with the number of its signer, encoded in that order.
 #[derive(Drop)]
 #[derive_where(PartialEq, Eq, Hash)]
 pub struct Attestation<S: SchemeTypes> {
@@ -151,7 +151,8 @@ pub trait CertificateScheme: SchemeTypes {
 
     /// and none that is read under a bound is longer than the greatest.
     ghost certificates_within: { (bound : ℕ) (certificate : Self.Certificate) → bound < 2 ^ 32 →
-        Self.Certificate.fits bound certificate → length (Self.Certificate.spelling certificate) ≤ max_size bound };
+        Self.Certificate.fits bound certificate →
+        length (Self.Certificate.encoding certificate) ≤ max_size bound };
 }
 
 /// Who verifies certificates of subjects with this digest.
@@ -166,7 +167,8 @@ pub trait CertificateVerifier<D: Digest>: CertificateScheme {
 
     /// Whether each certificate certifies its subject; true for none at all.
     fn verify_all<'a>(&self, items: &[(Subject<'a, D>, &'a Self::Certificate)]) -> bool
-        ensures { result ≡ list_all (λ item. certified self.now (subject_value item.0) item.1.now) items.now };
+        ensures { result ≡ list_all (λ item.
+            certified self.now (subject_value item.0) item.1.now) items.now };
 }
 
 /// Who signs, and verifies signatures of, subjects with this digest.
@@ -178,7 +180,8 @@ pub trait Scheme<D: Digest>: CertificateVerifier<D> {
     ghost good: { Self → SubjectValue D → ℕ → Self.Signature → Bool };
 
     /// The certificate is made of these attestations.
-    ghost made_of: { List (Attestation Self Self.PublicKey Self.Signature) → Self.Certificate → Type 0 };
+    ghost made_of: { List (Attestation Self Self.PublicKey Self.Signature) → Self.Certificate →
+        Type 0 };
 
     /// Signs as this participant. `None` comes exactly where this is no participant, and then no memory is
     /// taken.
@@ -191,19 +194,21 @@ pub trait Scheme<D: Digest>: CertificateVerifier<D> {
         Self: Sized,
         ensures none { Self.own self.now ≡ None → result ≡ Ok None }
         ensures signed { IfOk result (λ signed. MatchOption signed (Self.own self.now ≡ None) (λ a.
-            (Self.own self.now ≡ Some a.signer) × (good self.now (subject_value subject.entry) a.signer a.signature ≡ true))) };
+            (Self.own self.now ≡ Some a.signer) ×
+            (good self.now (subject_value subject.entry) a.signer a.signature ≡ true))) };
 
     /// Whether a signature is one of its signer for the subject. It is not where the signer is outside the
     /// committee.
     fn verify_attestation(&self, subject: Subject<'_, D>, attestation: &Attestation<Self>) -> bool
     where
         Self: Sized,
-        ensures { result ≡ good self.now (subject_value subject.entry) attestation.now.signer attestation.now.signature };
+        ensures { result ≡ good self.now (subject_value subject.entry) attestation.now.signer
+            attestation.now.signature };
 
     /// Makes a certificate of attestations whose signers are distinct and in the committee, which
     /// [`can_assemble`](crate::assembly::can_assemble) tells. Fewer than a quorum are refused by
     /// `InsufficientAttestations`, the quorum and their number, and then no memory is taken. From a quorum on there
-    /// is a certificate, or memory was refused. It certifies whatever subject all the attestations are good for.
+    /// is a certificate, or memory was refused. It certifies whatever subject all the attestations are valid for.
     fn assemble(
         &self,
         alloc: Global,
@@ -214,7 +219,8 @@ pub trait Scheme<D: Digest>: CertificateVerifier<D> {
         requires distinct { IsDistinct nat_eq (signers_of attestations.items) }
         requires members { All (λ a. a.signer < length (Self.keys self.now)) attestations.items }
         ensures below { length attestations.items < quorum_of (length (Self.keys self.now)) →
-            result ≡ Err (AssemblyError.InsufficientAttestations (quorum_of (length (Self.keys self.now))) (length attestations.items)) }
+            result ≡ Err (AssemblyError.InsufficientAttestations
+            (quorum_of (length (Self.keys self.now))) (length attestations.items)) }
         ensures enough { quorum_of (length (Self.keys self.now)) ≤ length attestations.items →
             IfErr result (λ error. error ≡ AssemblyError.OutOfMemory) }
         ensures made { IfOk result (λ certificate. made_of attestations.items certificate) }
@@ -222,7 +228,7 @@ pub trait Scheme<D: Digest>: CertificateVerifier<D> {
             All (λ a. good self.now subject a.signer a.signature ≡ true) attestations.items →
             Self.certified self.now subject certificate ≡ true) };
 
-    /// Whose signature is good is in the committee.
+    /// Whose signature is valid is in the committee.
     ghost members: { (scheme : Self) (subject : SubjectValue D) (signer : ℕ) (signature : Self.Signature) →
         good scheme subject signer signature ≡ true → signer < length (Self.keys scheme) };
 }
@@ -240,21 +246,23 @@ pub trait Listing<D: Digest>: Scheme<D> {
         Self: Sized,
         ensures { result.now ≡ listed certificate.now };
 
-    /// A certificate that certifies a subject lists a quorum of distinct signers, each signature good for it.
+    /// A certificate that certifies a subject lists a quorum of distinct signers, each signature valid for it.
     ghost lists_quorums: { (scheme : Self) (subject : SubjectValue D) (certificate : Self.Certificate) →
-        Self.certified scheme subject certificate ≡ true → IsQuorum (length (Self.keys scheme)) (Self.good scheme subject) (listed certificate) };
+        Self.certified scheme subject certificate ≡ true →
+        IsQuorum (length (Self.keys scheme)) (Self.good scheme subject) (listed certificate) };
 
     /// An assembled certificate lists what was given, ascending by signer.
-    ghost lists_given: { (given : List (Attestation Self Self.PublicKey Self.Signature)) (certificate : Self.Certificate) →
+    ghost lists_given: { (given : List (Attestation Self Self.PublicKey Self.Signature))
+        (certificate : Self.Certificate) →
         Self.made_of given certificate → IsInOrder given (listed certificate) };
 }
 
-impl<S: SchemeTypes> Spell for Attestation<S> {
+impl<S: SchemeTypes> Encoding for Attestation<S> {
     ghost use Rattle.simplex_scheme.specs.Attestation.{attestation_format};
 
     ghost is_value = { (attestation_format (format_of ⟦<S::Signature as Read>⟧)).is_value };
 
-    ghost spelling = { (attestation_format (format_of ⟦<S::Signature as Read>⟧)).spelling };
+    ghost encoding = { (attestation_format (format_of ⟦<S::Signature as Read>⟧)).encoding };
 }
 
 impl<S: SchemeTypes> Write for Attestation<S> {

@@ -105,7 +105,8 @@ impl<K: Ord> Set<K> {
 
     /// The place of a key, if it is in the set.
     pub fn position(&self, key: &K) -> Option<usize>
-        ensures found { IfSome result (λ place. IsSomeAnd (slice_get self.now place) (λ one. K.eq one key.now ≡ true)) }
+        ensures found { IfSome result (λ place.
+            IsSomeAnd (slice_get self.now place) (λ one. K.eq one key.now ≡ true)) }
         ensures none { IfNone result (All (λ one. K.eq one key.now ≡ false) self.now) }
     {
         self.keys.binary_search(key).ok()

@@ -26,10 +26,37 @@ impl<D: Clone> ExactClone for Subject<'_, D> {
     ghost use Rattle.simplex_scheme.specs.declared.subject.Subject.TheVariants.{Notarize, Nullify, Finalize};
 
     ghost exact = { elim [
-      | Notarize p ↦ elim [ Notarize q ↦ λ same. Prim.search rules | Nullify r ↦ λ same. Prim.search rules | Finalize q ↦ λ same. Prim.search rules ]
-      | Nullify p ↦ elim [ Notarize q ↦ λ same. Prim.search rules | Nullify r ↦ λ same. Prim.search rules | Finalize q ↦ λ same. Prim.search rules ]
-      | Finalize p ↦ elim [ Notarize q ↦ λ same. Prim.search rules | Nullify r ↦ λ same. Prim.search rules | Finalize q ↦ λ same. Prim.search rules ]
+      | Notarize p ↦ elim [
+        | Notarize q ↦ λ same. Prim.search rules
+        | Nullify r ↦ λ same. Prim.search rules
+        | Finalize q ↦ λ same. Prim.search rules
+      ]
+      | Nullify p ↦ elim [
+        | Notarize q ↦ λ same. Prim.search rules
+        | Nullify r ↦ λ same. Prim.search rules
+        | Finalize q ↦ λ same. Prim.search rules
+      ]
+      | Finalize p ↦ elim [
+        | Notarize q ↦ λ same. Prim.search rules
+        | Nullify r ↦ λ same. Prim.search rules
+        | Finalize q ↦ λ same. Prim.search rules
+      ]
     ] };
+}
+
+impl<D> Subject<'_, D> {
+    ghost use Rattle.simplex_scheme.specs.Subject.{subject_value};
+
+    /// The same subject, for a call that takes it by value.
+    pub fn reborrow(&self) -> Subject<'_, D>
+        ensures { subject_value result ≡ subject_value self.now }
+    {
+        match self {
+            Subject::Notarize { proposal } => Subject::Notarize { proposal },
+            Subject::Nullify { round } => Subject::Nullify { round: *round },
+            Subject::Finalize { proposal } => Subject::Finalize { proposal },
+        }
+    }
 }
 
 impl<D: Digest> Subject<'_, D> {
@@ -38,7 +65,8 @@ impl<D: Digest> Subject<'_, D> {
     /// Whether the bytes are those that are signed, as [`message`](CertificateSubject::message) gives them. It takes
     /// no memory.
     pub fn is_message(&self, bytes: &[u8]) -> bool
-        ensures { IsTrue result ↔ (bytes.now ≡ message_of (format_of ⟦<D as Read>⟧) (subject_value self.now)) }
+        ensures { IsTrue result ↔
+            (bytes.now ≡ message_of (format_of ⟦<D as Read>⟧) (subject_value self.now)) }
     {
         match self {
             Subject::Notarize { proposal } | Subject::Finalize { proposal } => {
@@ -88,11 +116,14 @@ impl<D: Digest> CertificateSubject for Subject<'_, D> {
     }
 
     fn message(&self, alloc: Global) -> Result<Bytes, AllocError>
-        ensures message { IfOk result (λ bytes. bytes ≡ message_of (format_of ⟦<D as Read>⟧) (subject_value self.now)) }
+        ensures message { IfOk result (λ bytes.
+            bytes ≡ message_of (format_of ⟦<D as Read>⟧) (subject_value self.now)) }
         // A name under one base and a message are those of one subject alone.
-        ensures one { (base : List ℕ) (other : SubjectValue D) → IsSubject (format_of ⟦<D as Read>⟧) other →
+        ensures one { (base : List ℕ) (other : SubjectValue D) →
+            IsSubject (format_of ⟦<D as Read>⟧) other →
             name_of (names_of base) (subject_value self.now) ≡ name_of (names_of base) other →
-            message_of (format_of ⟦<D as Read>⟧) (subject_value self.now) ≡ message_of (format_of ⟦<D as Read>⟧) other →
+            message_of (format_of ⟦<D as Read>⟧) (subject_value self.now) ≡
+            message_of (format_of ⟦<D as Read>⟧) other →
             subject_value self.now ≡ other }
     {
         match self {

@@ -113,7 +113,7 @@ pub distinct_from_can : {V X S P G : Type 0} (subject : V → X) (attestation : 
 distinct_from_can subject attestation n votes can =
     (subst (IsDistinct nat_eq) (map-map (λ a. a.signer) attestation votes) can.distinct, of_votes (λ a. a.signer < n) attestation votes can.members)
 
--- votes for one subject, each good for its own, are good for that one
+-- votes for one subject, each valid for its own, are valid for that one
 pub good_for : {V X S D P G : Type 0} (good : SubjectValue D → ℕ → G → Bool) (says : X → SubjectValue D) (subject : V → X) (attestation : V → Attestation S P G) (votes : List V) (x : X) → All (λ v. subject v ≡ x) votes → All (λ v. good (says (subject v)) (attestation v).signer (attestation v).signature ≡ true) votes → All (λ v. good (says x) (attestation v).signer (attestation v).signature ≡ true) votes
 good_for good says subject attestation votes x same each k d lt =
     let vote = get_or votes k d in subst (λ y. good (says y) (attestation vote).signer (attestation vote).signature ≡ true) (same k d lt) (each k d lt)

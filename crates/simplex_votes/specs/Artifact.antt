@@ -6,7 +6,7 @@ use Rattle.simplex_base.specs.Format.{Format, IsLawful, both, truth}
 use Rattle.simplex_base.specs.FormatLaws.{both_lawful, truth_lawful}
 use Rattle.simplex_base.specs.Union.{union_at, branch_at, no_branch, branch_takes, no_branch_takes, union_lawful}
 use Rattle.simplex_base.specs.Positions.{Round, round_format, round_lawful}
-use Rattle.simplex_votes.specs.Spellings.{notarize_format, notarize_lawful, nullify_format, nullify_lawful, finalize_format, finalize_lawful, notarization_format, IsNotarization, notarization_spelling, notarization_lawful, nullification_format, IsNullification, nullification_spelling, nullification_lawful, finalization_format, IsFinalization, finalization_spelling, finalization_lawful}
+use Rattle.simplex_votes.specs.Encodings.{notarize_format, notarize_lawful, nullify_format, nullify_lawful, finalize_format, finalize_lawful, notarization_format, IsNotarization, notarization_encoding, notarization_lawful, nullification_format, IsNullification, nullification_encoding, nullification_lawful, finalization_format, IsFinalization, finalization_encoding, finalization_lawful}
 use Rattle.simplex_votes.specs.declared.types.notarize.Notarize.{Notarize}
 use Rattle.simplex_votes.specs.declared.types.nullify.Nullify.{Nullify}
 use Rattle.simplex_votes.specs.declared.types.finalize.Finalize.{Finalize}
@@ -103,19 +103,19 @@ artifact_tag (artifact.Nullification n) = 4
 artifact_tag (artifact.Finalize v) = 5
 artifact_tag (artifact.Finalization n) = 6
 
--- the spelling after the tag
+-- the encoding after the tag
 abbrev pub artifact_body : {S D C P G : Type 0} → Format D → (C → List ℕ) → Format G → Artifact S D C P G → List ℕ
-artifact_body payload spelling signature (artifact.Notarize v) = (notarize_format payload signature).spelling v
-artifact_body payload spelling signature (artifact.Notarization n) = notarization_spelling payload spelling n
-artifact_body payload spelling signature (artifact.Certification round certified) = (both round_format truth).spelling (round, certified)
-artifact_body payload spelling signature (artifact.Nullify v) = (nullify_format signature).spelling v
-artifact_body payload spelling signature (artifact.Nullification n) = nullification_spelling spelling n
-artifact_body payload spelling signature (artifact.Finalize v) = (finalize_format payload signature).spelling v
-artifact_body payload spelling signature (artifact.Finalization n) = finalization_spelling payload spelling n
+artifact_body payload encoding signature (artifact.Notarize v) = (notarize_format payload signature).encoding v
+artifact_body payload encoding signature (artifact.Notarization n) = notarization_encoding payload encoding n
+artifact_body payload encoding signature (artifact.Certification round certified) = (both round_format truth).encoding (round, certified)
+artifact_body payload encoding signature (artifact.Nullify v) = (nullify_format signature).encoding v
+artifact_body payload encoding signature (artifact.Nullification n) = nullification_encoding encoding n
+artifact_body payload encoding signature (artifact.Finalize v) = (finalize_format payload signature).encoding v
+artifact_body payload encoding signature (artifact.Finalization n) = finalization_encoding payload encoding n
 
--- the tag, and then the spelling after it
-abbrev pub artifact_spelling : {S D C P G : Type 0} → Format D → (C → List ℕ) → Format G → Artifact S D C P G → List ℕ
-artifact_spelling payload spelling signature a = artifact_tag a ∷ artifact_body payload spelling signature a
+-- the tag, and then the encoding after it
+abbrev pub artifact_encoding : {S D C P G : Type 0} → Format D → (C → List ℕ) → Format G → Artifact S D C P G → List ℕ
+artifact_encoding payload encoding signature a = artifact_tag a ∷ artifact_body payload encoding signature a
 
 abbrev pub artifact_branches : {S D C P G : Type 0} → Format D → Format C → Format G → ℕ → List ℕ → Reading (Artifact S D C P G)
 artifact_branches payload inner signature =
@@ -132,7 +132,7 @@ artifact_branches payload inner signature =
 abbrev pub artifact_format : {S D C P G : Type 0} → Format D → Format C → Format G → Format (Artifact S D C P G)
 artifact_format payload inner signature = record {
   is_value = IsArtifact payload inner.is_value signature;
-  spelling = artifact_spelling payload inner.spelling signature;
+  encoding = artifact_encoding payload inner.encoding signature;
   reading = union_at (artifact_branches payload inner signature);
 }
 
@@ -141,31 +141,31 @@ pub artifact_lawful : {S D C P G : Type 0} (payload : Format D) (inner : Format 
 artifact_lawful {S} {D} {C} {P} {G} payload inner signature payloads inners signatures =
     union_lawful
     (branch_takes (IsArtifact {S = S} {P = P} payload inner.is_value signature) artifact_tag
-    (artifact_body payload inner.spelling signature) 0 (λ v. artifact.Notarize v) _
+    (artifact_body payload inner.encoding signature) 0 (λ v. artifact.Notarize v) _
     (notarize_lawful payload signature payloads signatures) (λ v. refl) (λ v. refl) (λ v h. h)
     (branch_takes (IsArtifact {S = S} {P = P} payload inner.is_value signature) artifact_tag
-    (artifact_body payload inner.spelling signature) 1 (λ n. artifact.Notarization n) _
+    (artifact_body payload inner.encoding signature) 1 (λ n. artifact.Notarization n) _
     (notarization_lawful payload inner payloads inners) (λ n. refl) (λ n. refl) (λ n h. h)
     (branch_takes (IsArtifact {S = S} {P = P} payload inner.is_value signature) artifact_tag
-    (artifact_body payload inner.spelling signature) 2 (λ p. artifact.Certification p.0 p.1) _ (both_lawful round_lawful truth_lawful)
+    (artifact_body payload inner.encoding signature) 2 (λ p. artifact.Certification p.0 p.1) _ (both_lawful round_lawful truth_lawful)
     (λ p. refl) (λ p. refl) (λ p h. h)
     (branch_takes (IsArtifact {S = S} {P = P} payload inner.is_value signature) artifact_tag
-    (artifact_body payload inner.spelling signature) 3 (λ v. artifact.Nullify v) _ (nullify_lawful signature signatures) (λ v. refl)
+    (artifact_body payload inner.encoding signature) 3 (λ v. artifact.Nullify v) _ (nullify_lawful signature signatures) (λ v. refl)
     (λ v. refl) (λ v h. h)
     (branch_takes (IsArtifact {S = S} {P = P} payload inner.is_value signature) artifact_tag
-    (artifact_body payload inner.spelling signature) 4 (λ n. artifact.Nullification n) _ (nullification_lawful inner inners) (λ n. refl)
+    (artifact_body payload inner.encoding signature) 4 (λ n. artifact.Nullification n) _ (nullification_lawful inner inners) (λ n. refl)
     (λ n. refl) (λ n h. h)
     (branch_takes (IsArtifact {S = S} {P = P} payload inner.is_value signature) artifact_tag
-    (artifact_body payload inner.spelling signature) 5 (λ v. artifact.Finalize v) _
+    (artifact_body payload inner.encoding signature) 5 (λ v. artifact.Finalize v) _
     (finalize_lawful payload signature payloads signatures) (λ v. refl) (λ v. refl) (λ v h. h)
     (branch_takes (IsArtifact {S = S} {P = P} payload inner.is_value signature) artifact_tag
-    (artifact_body payload inner.spelling signature) 6 (λ n. artifact.Finalization n) _
+    (artifact_body payload inner.encoding signature) 6 (λ n. artifact.Finalization n) _
     (finalization_lawful payload inner payloads inners) (λ n. refl) (λ n. refl) (λ n h. h)
     (no_branch_takes unknown_artifact))))))))
     again
   where
     again : (a : Artifact S D C P G) (rest : List ℕ) → IsArtifact payload inner.is_value signature a →
-        artifact_branches payload inner signature (artifact_tag a) (artifact_body payload inner.spelling signature a ++ rest) ≡ Ok (a, rest)
+        artifact_branches payload inner signature (artifact_tag a) (artifact_body payload inner.encoding signature a ++ rest) ≡ Ok (a, rest)
     again (artifact.Notarize v) rest h = rw ((notarize_lawful payload signature payloads signatures).again v rest h) refl
     again (artifact.Notarization n) rest h = rw ((notarization_lawful {S = S} {P = P} {G = G} payload inner payloads inners).again n rest h) refl
     again (artifact.Certification round certified) rest h = rw ((both_lawful round_lawful truth_lawful).again (round, certified) rest h) refl

@@ -1,4 +1,4 @@
--- How contexts are spelled.
+-- How contexts are encoded.
 use Rattle.std.proofs.Common.{ℕ, ◌+◌, refl, arith}
 use Rattle.simplex_base.specs.Format.{Format, IsLawful, both, made}
 use Rattle.simplex_base.specs.FormatLaws.{both_lawful, made_lawful}

@@ -1,5 +1,5 @@
 pub mod Votes
-pub mod Spellings
+pub mod Encodings
 pub mod Assembly
 pub mod Unions
 pub mod Artifact

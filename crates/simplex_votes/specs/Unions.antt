@@ -1,4 +1,4 @@
--- The unions of votes and of certificate messages: what each member is about, and how it is spelled.
+-- The unions of votes and of certificate messages: what each member is about, and how it is encoded.
 use Rattle.std.proofs.Common.{◌≡◌, ℕ, Bool, true, false, List, ◌∷◌, ◌++◌, ◌+◌, refl, Ok, arith}
 use Rattle.std.specs.Prelude.{codes}
 use Rattle.simplex_base.specs.Reading.{Refusal, invalid, Reading}
@@ -8,7 +8,7 @@ use Rattle.simplex_base.specs.Union.{union_at, branch_at, no_branch, branch_take
 use Rattle.simplex_base.specs.Positions.{Round}
 use Rattle.simplex_scheme.specs.declared.scheme.Attestation.{Attestation}
 use Rattle.simplex_scheme.specs.Subject.{SubjectValue, Notarizes, Nullifies, Finalizes}
-use Rattle.simplex_votes.specs.Spellings.{notarize_format, notarize_lawful, notarize_within, notarize_longest, nullify_format, nullify_lawful, nullify_within, finalize_format, finalize_lawful, finalize_within, notarization_format, IsNotarization, notarization_spelling, notarization_lawful, nullification_format, IsNullification, nullification_spelling, nullification_lawful, finalization_format, IsFinalization, finalization_spelling, finalization_lawful}
+use Rattle.simplex_votes.specs.Encodings.{notarize_format, notarize_lawful, notarize_within, notarize_longest, nullify_format, nullify_lawful, nullify_within, finalize_format, finalize_lawful, finalize_within, notarization_format, IsNotarization, notarization_encoding, notarization_lawful, nullification_format, IsNullification, nullification_encoding, nullification_lawful, finalization_format, IsFinalization, finalization_encoding, finalization_lawful}
 use Rattle.simplex_votes.specs.declared.types.notarize.Notarize.{Notarize}
 use Rattle.simplex_votes.specs.declared.types.nullify.Nullify.{Nullify}
 use Rattle.simplex_votes.specs.declared.types.finalize.Finalize.{Finalize}
@@ -60,11 +60,11 @@ vote_tag (vote.Notarize v) = 0
 vote_tag (vote.Nullify v) = 1
 vote_tag (vote.Finalize v) = 2
 
--- the spelling after the tag
+-- the encoding after the tag
 abbrev pub vote_body : {S D P G : Type 0} → Format D → Format G → Vote S D P G → List ℕ
-vote_body payload signature (vote.Notarize v) = (notarize_format payload signature).spelling v
-vote_body payload signature (vote.Nullify v) = (nullify_format signature).spelling v
-vote_body payload signature (vote.Finalize v) = (finalize_format payload signature).spelling v
+vote_body payload signature (vote.Notarize v) = (notarize_format payload signature).encoding v
+vote_body payload signature (vote.Nullify v) = (nullify_format signature).encoding v
+vote_body payload signature (vote.Finalize v) = (finalize_format payload signature).encoding v
 
 abbrev pub vote_branches : {S D P G : Type 0} → Format D → Format G → ℕ → List ℕ → Reading (Vote S D P G)
 vote_branches payload signature =
@@ -77,7 +77,7 @@ vote_branches payload signature =
 abbrev pub vote_format : {S D P G : Type 0} → Format D → Format G → Format (Vote S D P G)
 vote_format payload signature = record {
   is_value = IsVote payload signature;
-  spelling = λ v. vote_tag v ∷ vote_body payload signature v;
+  encoding = λ v. vote_tag v ∷ vote_body payload signature v;
   reading = union_at (vote_branches payload signature);
 }
 
@@ -180,15 +180,15 @@ certificate_tag (certificate.Notarization n) = 0
 certificate_tag (certificate.Nullification n) = 1
 certificate_tag (certificate.Finalization n) = 2
 
--- the spelling after the tag
+-- the encoding after the tag
 abbrev pub certificate_body : {S D C P G : Type 0} → Format D → (C → List ℕ) → Certificate S D C P G → List ℕ
-certificate_body payload spelling (certificate.Notarization n) = notarization_spelling payload spelling n
-certificate_body payload spelling (certificate.Nullification n) = nullification_spelling spelling n
-certificate_body payload spelling (certificate.Finalization n) = finalization_spelling payload spelling n
+certificate_body payload encoding (certificate.Notarization n) = notarization_encoding payload encoding n
+certificate_body payload encoding (certificate.Nullification n) = nullification_encoding encoding n
+certificate_body payload encoding (certificate.Finalization n) = finalization_encoding payload encoding n
 
--- the tag, and then the spelling after it
-abbrev pub certificate_spelling : {S D C P G : Type 0} → Format D → (C → List ℕ) → Certificate S D C P G → List ℕ
-certificate_spelling payload spelling c = certificate_tag c ∷ certificate_body payload spelling c
+-- the tag, and then the encoding after it
+abbrev pub certificate_encoding : {S D C P G : Type 0} → Format D → (C → List ℕ) → Certificate S D C P G → List ℕ
+certificate_encoding payload encoding c = certificate_tag c ∷ certificate_body payload encoding c
 
 abbrev pub certificate_branches : {S D C P G : Type 0} → Format D → Format C → ℕ → List ℕ → Reading (Certificate S D C P G)
 certificate_branches payload inner =
@@ -201,7 +201,7 @@ certificate_branches payload inner =
 abbrev pub certificate_format : {S D C P G : Type 0} → Format D → Format C → Format (Certificate S D C P G)
 certificate_format payload inner = record {
   is_value = IsCertificate payload inner.is_value;
-  spelling = certificate_spelling payload inner.spelling;
+  encoding = certificate_encoding payload inner.encoding;
   reading = union_at (certificate_branches payload inner);
 }
 
@@ -209,17 +209,17 @@ pub certificate_lawful : {S D C P G : Type 0} (payload : Format D) (inner : Form
     IsLawful (certificate_format {S = S} {P = P} {G = G} payload inner)
 certificate_lawful {S} {D} {C} {P} {G} payload inner payloads inners =
     union_lawful
-    (branch_takes (IsCertificate {S = S} {P = P} {G = G} payload inner.is_value) certificate_tag (certificate_body payload inner.spelling) 0
+    (branch_takes (IsCertificate {S = S} {P = P} {G = G} payload inner.is_value) certificate_tag (certificate_body payload inner.encoding) 0
     (λ n. certificate.Notarization n) _ (notarization_lawful payload inner payloads inners) (λ n. refl) (λ n. refl) (λ n h. h)
-    (branch_takes (IsCertificate {S = S} {P = P} {G = G} payload inner.is_value) certificate_tag (certificate_body payload inner.spelling) 1
+    (branch_takes (IsCertificate {S = S} {P = P} {G = G} payload inner.is_value) certificate_tag (certificate_body payload inner.encoding) 1
     (λ n. certificate.Nullification n) _ (nullification_lawful inner inners) (λ n. refl) (λ n. refl) (λ n h. h)
-    (branch_takes (IsCertificate {S = S} {P = P} {G = G} payload inner.is_value) certificate_tag (certificate_body payload inner.spelling) 2
+    (branch_takes (IsCertificate {S = S} {P = P} {G = G} payload inner.is_value) certificate_tag (certificate_body payload inner.encoding) 2
     (λ n. certificate.Finalization n) _ (finalization_lawful payload inner payloads inners) (λ n. refl) (λ n. refl) (λ n h. h)
     (no_branch_takes unknown_certificate))))
     again
   where
     again : (c : Certificate S D C P G) (rest : List ℕ) → IsCertificate payload inner.is_value c →
-        certificate_branches payload inner (certificate_tag c) (certificate_body payload inner.spelling c ++ rest) ≡ Ok (c, rest)
+        certificate_branches payload inner (certificate_tag c) (certificate_body payload inner.encoding c ++ rest) ≡ Ok (c, rest)
     again (certificate.Notarization n) rest h = rw ((notarization_lawful {S = S} {P = P} {G = G} payload inner payloads inners).again n rest h) refl
     again (certificate.Nullification n) rest h = rw ((nullification_lawful {S = S} {P = P} {G = G} inner inners).again n rest h) refl
     again (certificate.Finalization n) rest h = rw ((finalization_lawful {S = S} {P = P} {G = G} payload inner payloads inners).again n rest h) refl

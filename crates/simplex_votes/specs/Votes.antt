@@ -1,6 +1,6 @@
 -- Votes as plain values, and their places: round, signer and sort.
 use Rattle.std.specs.Prelude.{ℕ, Bool, true, false, List, map, ◌==◌, ◌&&◌}
-use Rattle.simplex_base.specs.Positions.{Round}
+use Rattle.simplex_base.specs.Positions.{Round, same_round}
 use Rattle.simplex_scheme.specs.declared.proposal.Proposal.{Proposal}
 use Rattle.simplex_scheme.specs.Subject.{SubjectValue, Notarizes, Nullifies, Finalizes, round_of}
 use Rattle.simplex_scheme.specs.declared.scheme.Attestation.{Attestation}
@@ -12,41 +12,41 @@ use Rattle.simplex_votes.specs.declared.types.nullification.Nullification.{Nulli
 use Rattle.simplex_votes.specs.declared.types.finalization.Finalization.{Finalization}
 
 -- what a participant says, signed. D is the type of payloads, G that of signatures
-pub record Vote (D G : Type 0) : Type 0 where
+pub record SignedVote (D G : Type 0) : Type 0 where
   pub subject : SubjectValue D
   pub signer : ℕ
   pub signature : G
 
 -- an attestation to a proposal, as a notarize
-abbrev pub notarize_of : {S D P G : Type 0} → Proposal D → Attestation S P G → Vote D G
+abbrev pub notarize_of : {S D P G : Type 0} → Proposal D → Attestation S P G → SignedVote D G
 notarize_of p a = record { subject = Notarizes p; signer = a.signer; signature = a.signature }
 
 -- an attestation to a round, as a nullify
-abbrev pub nullify_of : {S D P G : Type 0} → Round → Attestation S P G → Vote D G
+abbrev pub nullify_of : {S D P G : Type 0} → Round → Attestation S P G → SignedVote D G
 nullify_of r a = record { subject = Nullifies r; signer = a.signer; signature = a.signature }
 
 -- an attestation to a proposal, as a finalize
-abbrev pub finalize_of : {S D P G : Type 0} → Proposal D → Attestation S P G → Vote D G
+abbrev pub finalize_of : {S D P G : Type 0} → Proposal D → Attestation S P G → SignedVote D G
 finalize_of p a = record { subject = Finalizes p; signer = a.signer; signature = a.signature }
 
 -- a notarize, a nullify and a finalize, as votes
-abbrev pub notarize_vote : {S D P G : Type 0} → Notarize S D P G → Vote D G
+abbrev pub notarize_vote : {S D P G : Type 0} → Notarize S D P G → SignedVote D G
 notarize_vote v = notarize_of v.proposal v.attestation
 
-abbrev pub nullify_vote : {S D P G : Type 0} → Nullify S P G → Vote D G
+abbrev pub nullify_vote : {S D P G : Type 0} → Nullify S P G → SignedVote D G
 nullify_vote v = nullify_of v.round v.attestation
 
-abbrev pub finalize_vote : {S D P G : Type 0} → Finalize S D P G → Vote D G
+abbrev pub finalize_vote : {S D P G : Type 0} → Finalize S D P G → SignedVote D G
 finalize_vote v = finalize_of v.proposal v.attestation
 
 -- the votes of a certificate message: the attestations that its certificate lists, each for its proposal or round
-abbrev pub notarization_votes : {S D C P G : Type 0} → (C → List (Attestation S P G)) → Notarization S D C P G → List (Vote D G)
+abbrev pub notarization_votes : {S D C P G : Type 0} → (C → List (Attestation S P G)) → Notarization S D C P G → List (SignedVote D G)
 notarization_votes listed n = map (notarize_of n.proposal) (listed n.certificate)
 
-abbrev pub nullification_votes : {S D C P G : Type 0} → (C → List (Attestation S P G)) → Nullification S C P G → List (Vote D G)
+abbrev pub nullification_votes : {S D C P G : Type 0} → (C → List (Attestation S P G)) → Nullification S C P G → List (SignedVote D G)
 nullification_votes listed n = map (nullify_of n.round) (listed n.certificate)
 
-abbrev pub finalization_votes : {S D C P G : Type 0} → (C → List (Attestation S P G)) → Finalization S D C P G → List (Vote D G)
+abbrev pub finalization_votes : {S D C P G : Type 0} → (C → List (Attestation S P G)) → Finalization S D C P G → List (SignedVote D G)
 finalization_votes listed n = map (finalize_of n.proposal) (listed n.certificate)
 
 -- the three sorts of votes
@@ -68,18 +68,14 @@ same_sort Nullifying Nullifying = true
 same_sort Finalizing Finalizing = true
 same_sort _ _ = false
 
--- whether two rounds are one: the same view of the same epoch
-abbrev pub same_round : Round → Round → Bool
-same_round a b = (a.epoch == b.epoch) && (a.view == b.view)
-
 -- whether two proposals are the same, by a test `eq` of their payloads
 abbrev pub same_proposal : {D : Type 0} → (D → D → Bool) → Proposal D → Proposal D → Bool
 same_proposal eq p q = same_round p.round q.round && ((p.parent == q.parent) && eq p.payload q.payload)
 
 -- whether a vote is of this round and signer
-abbrev pub is_of : {D G : Type 0} → Round → ℕ → Vote D G → Bool
+abbrev pub is_of : {D G : Type 0} → Round → ℕ → SignedVote D G → Bool
 is_of round signer v = same_round (round_of v.subject) round && (v.signer == signer)
 
 -- whether a vote is of this sort, round and signer
-abbrev pub is_at : {D G : Type 0} → Sort → Round → ℕ → Vote D G → Bool
+abbrev pub is_at : {D G : Type 0} → Sort → Round → ℕ → SignedVote D G → Bool
 is_at sort round signer v = same_sort (sort_of v.subject) sort && is_of round signer v

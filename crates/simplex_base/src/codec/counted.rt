@@ -1,4 +1,4 @@
-//! Values of one type, spelled one after another behind their number.
+//! Values of one type, encoded one after another behind their number.
 
 ghost use Rattle.std.specs.Prelude.{◌≡◌, ◌++◌, ◌+◌, ◌*◌, ◌<◌, ◌≤◌, ◌^◌, All, OnOk, OnErr, length};
 ghost use Rattle.std.specs.List.{flat_map};
@@ -11,7 +11,7 @@ use std::alloc::AllocError;
 
 /// Appends values one after another. After a refusal the buffer is as before.
 fn write_all<T: Write>(items: &[T], buf: &mut Vec<u8>) -> Result<(), AllocError>
-    ensures ok { OnOk result (buf.new.items ≡ buf.old.items ++ flat_map T.spelling items.now) }
+    ensures ok { OnOk result (buf.new.items ≡ buf.old.items ++ flat_map T.encoding items.now) }
     ensures err { OnErr result (buf.new.items ≡ buf.old.items) }
 {
     let start = buf.len();
@@ -26,7 +26,9 @@ fn write_all<T: Write>(items: &[T], buf: &mut Vec<u8>) -> Result<(), AllocError>
 /// refusal the buffer is as before.
 pub fn write_counted<T: Write>(items: &[T], buf: &mut Vec<u8>) -> Result<(), AllocError>
     requires { length items.now < 2 ^ 32 }
-    ensures ok { OnOk result (buf.new.items ≡ buf.old.items ++ (number_32.spelling (length items.now) ++ flat_map T.spelling items.now)) }
+    ensures ok { OnOk result
+        (buf.new.items ≡ buf.old.items ++
+        (number_32.encoding (length items.now) ++ flat_map T.encoding items.now)) }
     ensures err { OnErr result (buf.new.items ≡ buf.old.items) }
 {
     let start = buf.len();
@@ -40,7 +42,8 @@ pub fn write_counted<T: Write>(items: &[T], buf: &mut Vec<u8>) -> Result<(), All
 pub fn size_counted<T: EncodeSize>(items: &[T]) -> usize
     requires few { length items.now < 2 ^ 32 }
     requires room { 5 + length items.now * T.limit < 2 ^ 64 }
-    ensures size { result ≡ length (number_32.spelling (length items.now) ++ flat_map T.spelling items.now) }
+    ensures size { result ≡ length (number_32.encoding (length items.now) ++
+        flat_map T.encoding items.now) }
     ensures values { All T.is_value items.now }
     ensures limited { result ≤ 5 + length items.now * T.limit }
 {

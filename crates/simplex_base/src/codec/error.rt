@@ -21,7 +21,7 @@ pub enum Error {
     /// Bytes are left after the value, where all of them were to be read.
     #[error("bytes are left after the value")]
     ExtraData,
-    /// A growth was refused.
+    /// An allocation failed.
     #[error("out of memory")]
     OutOfMemory,
 }

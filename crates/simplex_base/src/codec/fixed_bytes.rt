@@ -1,4 +1,4 @@
-//! Values that are so many bytes and nothing else: digests, keys, signatures.
+//! Values of a fixed number of bytes: digests, keys, signatures.
 
 ghost use Rattle.std.specs.Prelude.{ℕ, ◌<◌, ◌≤◌, refl};
 ghost use Rattle.std.proofs.lemmas.Slice.Eq.{bytes_eq-Decides};

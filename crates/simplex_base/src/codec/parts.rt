@@ -1,12 +1,12 @@
-//! Values that are spelled part after part, and values of a fixed size.
+//! Values that are encoded part after part, and values of a fixed size.
 
 ghost use Rattle.std.specs.Prelude.{◌≡◌, ◌++◌, ◌+◌, ◌<◌, ◌≤◌, ◌^◌, ◌||◌, false, OnOk, OnErr, length, take};
 ghost use Rattle.simplex_base.specs.Reading.{IsBytes};
-ghost use Rattle.simplex_base.specs.Format.{both_spelled, both_at, BothAre, IsFixed, fixed_at};
+ghost use Rattle.simplex_base.specs.Format.{both_encoded, both_at, BothAre, IsFixed, fixed_at};
 ghost use Rattle.simplex_base.specs.FormatLaws.{both_lawful};
 
 use crate::codec::error::Error;
-use crate::codec::{EncodeSize, Fixed, Read, ReadExt, Spell, Write};
+use crate::codec::{EncodeSize, Encoding, Fixed, Read, ReadExt, Write};
 use std::alloc::{AllocError, Global};
 
 /// Takes back what a refused write left behind it.
@@ -32,7 +32,8 @@ pub fn write_both<A: Write, B: Write>(
     second: &B,
     buf: &mut Vec<u8>,
 ) -> Result<(), AllocError>
-    ensures ok { OnOk result (buf.new.items ≡ buf.old.items ++ (A.spelling first.now ++ B.spelling second.now)) }
+    ensures ok { OnOk result (buf.new.items ≡ buf.old.items ++
+        (A.encoding first.now ++ B.encoding second.now)) }
     ensures err { OnErr result (buf.new.items ≡ buf.old.items) }
 {
     let start = buf.len();
@@ -44,17 +45,17 @@ pub fn write_both<A: Write, B: Write>(
 /// The number of bytes that one value and then another take. The bounds of both sizes have to leave room for the sum.
 pub fn size_both<A: EncodeSize, B: EncodeSize>(first: &A, second: &B) -> usize
     requires room { A.limit + B.limit < 2 ^ 64 }
-    ensures size { result ≡ length (both_spelled A.spelling B.spelling (first.now, second.now)) }
+    ensures size { result ≡ length (both_encoded A.encoding B.encoding (first.now, second.now)) }
     ensures values { BothAre A.is_value B.is_value (first.now, second.now) }
     ensures limited { result ≤ A.limit + B.limit }
 {
     first.encode_size() + second.encode_size()
 }
 
-impl<A: Spell, B: Spell> Spell for (A, B) {
+impl<A: Encoding, B: Encoding> Encoding for (A, B) {
     ghost is_value = { BothAre A.is_value B.is_value };
 
-    ghost spelling = { both_spelled A.spelling B.spelling };
+    ghost encoding = { both_encoded A.encoding B.encoding };
 }
 
 impl<A: Write, B: Write> Write for (A, B) {
@@ -88,10 +89,10 @@ impl<A: ReadExt + Drop, B: ReadExt> ReadExt for (A, B) {
     ghost readable = { λ x both. (A.readable x.0 both.0, B.readable x.1 both.1) };
 }
 
-impl<T: Fixed> Spell for T {
+impl<T: Fixed> Encoding for T {
     ghost is_value = { λ x. IsFixed T.SIZE (T.bytes_of x) };
 
-    ghost spelling = { T.bytes_of };
+    ghost encoding = { T.bytes_of };
 }
 
 impl<T: Fixed> Write for T {

@@ -5,14 +5,14 @@ ghost use Rattle.simplex_base.specs.Format.{truth};
 ghost use Rattle.simplex_base.specs.FormatLaws.{truth_lawful};
 
 use crate::codec::error::Error;
-use crate::codec::{EncodeSize, Read, ReadExt, Spell, Write};
+use crate::codec::{EncodeSize, Encoding, Read, ReadExt, Write};
 use std::alloc::{AllocError, Global};
 
 /// One byte: `00` is false, `01` is true, and another is refused by `InvalidBool`.
-impl Spell for bool {
+impl Encoding for bool {
     ghost is_value = { truth.is_value };
 
-    ghost spelling = { truth.spelling };
+    ghost encoding = { truth.encoding };
 }
 
 impl Write for bool {

@@ -1,4 +1,4 @@
-//! Unions: values that are spelled as a tag of one byte, and then what the tag says comes after it.
+//! Unions: values that are encoded as a tag of one byte, and then what the tag says comes after it.
 
 ghost use Rattle.std.specs.Prelude.{◌≡◌, ◌++◌, ◌∷◌, ℕ, Bool, List, OnOk, OnErr};
 ghost use Rattle.simplex_base.specs.Reading.{Reading, Gives};
@@ -11,7 +11,7 @@ use std::alloc::{AllocError, Global};
 
 /// Appends a tag of one byte and then a value. After a refusal the buffer is as before.
 pub fn write_tagged<T: Write>(tag: u8, body: &T, buf: &mut Vec<u8>) -> Result<(), AllocError>
-    ensures ok { OnOk result (buf.new.items ≡ buf.old.items ++ (tag ∷ T.spelling body.now)) }
+    ensures ok { OnOk result (buf.new.items ≡ buf.old.items ++ (tag ∷ T.encoding body.now)) }
     ensures err { OnErr result (buf.new.items ≡ buf.old.items) }
 {
     let start = buf.len();

@@ -1,5 +1,5 @@
 //! Numbers in groups of seven bits, the lowest group first, as in LEB128. The top bit is set on each byte
-//! but the last, and the last is not zero unless it is the only one, so each number has one spelling.
+//! but the last, and the last is not zero unless it is the only one, so each number has one encoding.
 
 ghost use Rattle.std.specs.Prelude.{◌≡◌, ℕ, length, ◌++◌, OnOk, OnErr, IfOk, List, take, ◌≤◌, ◌<◌, ◌+◌, ◌*◌, ◌^◌, false};
 ghost use Rattle.simplex_base.specs.Reading.{Gives, GivesRest, IsBytes};
@@ -69,8 +69,8 @@ fn read_number(input: &mut &[u8], more: u8, top: u8) -> Result<u64, Error>
 }
 
 /// Reads a 64-bit number of 1 to 10 bytes and moves the slice past it. `EndOfBuffer` comes where the whole
-/// input is a proper beginning of the spelling of some 64-bit number (the empty input is one), and
-/// `InvalidVarint` where the input neither begins with such a spelling nor is a beginning of one.
+/// input is a proper beginning of the encoding of some 64-bit number (the empty input is one), and
+/// `InvalidVarint` where the input neither begins with such an encoding nor is a beginning of one.
 pub fn read_u64(input: &mut &[u8]) -> Result<u64, Error>
     ensures reads { ReadsNumber (2 ^ 64) result input.old.now input.new.now }
     ensures gives { Gives false result input.old.now input.new.now (number_64.reading input.old.now) }
@@ -89,7 +89,7 @@ pub fn read_u32(input: &mut &[u8]) -> Result<u32, Error>
     }
 }
 
-/// The spelling of a number, on the stack.
+/// The encoding of a number, on the stack.
 #[derive(Drop)]
 pub struct Varint {
     bytes: [u8; 10],
@@ -105,11 +105,11 @@ impl Model for Varint {
 }
 
 impl Varint {
-    /// The spelling of a 64-bit number, 1 to 10 bytes; of a 32-bit number 1 to 5.
+    /// The encoding of a 64-bit number, 1 to 10 bytes; of a 32-bit number 1 to 5.
     #[tactic(auto, unfolding(crate::specs::Varint::groups), using(crate::specs::VarintLaws::groups_32))]
     pub fn new(number: u64) -> Self
-        ensures wide { result ≡ number_64.spelling number }
-        ensures narrow { number < 2 ^ 32 → result ≡ number_32.spelling number }
+        ensures wide { result ≡ number_64.encoding number }
+        ensures narrow { number < 2 ^ 32 → result ≡ number_32.encoding number }
     {
         let mut bytes = [0; 10];
         let mut len = 0;
@@ -126,7 +126,7 @@ impl Varint {
         }
     }
 
-    /// The bytes of the spelling.
+    /// The bytes of the encoding.
     pub fn as_slice(&self) -> &[u8]
         ensures { result.now ≡ self.now }
     {
@@ -134,42 +134,42 @@ impl Varint {
     }
 }
 
-/// Appends the spelling of a 64-bit number, 1 to 10 bytes. After a refusal the buffer is as before.
-#[tactic(auto, using(crate::specs::VarintLaws::spells_64, crate::specs::VarintLaws::only_spelling_64))]
+/// Appends the encoding of a 64-bit number, 1 to 10 bytes. After a refusal the buffer is as before.
+#[tactic(auto, using(crate::specs::VarintLaws::encodes_64, crate::specs::VarintLaws::only_encoding_64))]
 pub fn write_u64(number: u64, buf: &mut Vec<u8>) -> Result<(), AllocError>
-    ensures ok { OnOk result (buf.new.items ≡ buf.old.items ++ number_64.spelling number) }
+    ensures ok { OnOk result (buf.new.items ≡ buf.old.items ++ number_64.encoding number) }
     ensures err { OnErr result (buf.new.items ≡ buf.old.items) }
-    // The spelling is one by the grammar, and the only one.
-    ensures number { IsNumber (number_64.spelling number) number }
-    ensures only { (bytes : List ℕ) → IsNumber bytes number → bytes ≡ number_64.spelling number }
+    // The encoding is one by the grammar, and the only one.
+    ensures number { IsNumber (number_64.encoding number) number }
+    ensures only { (bytes : List ℕ) → IsNumber bytes number → bytes ≡ number_64.encoding number }
 {
     buf.extend_from_slice(Varint::new(number).as_slice())
 }
 
-/// Appends the spelling of a 32-bit number, 1 to 5 bytes. After a refusal the buffer is as before.
-#[tactic(auto, using(crate::specs::VarintLaws::spells_32, crate::specs::VarintLaws::only_spelling_32))]
+/// Appends the encoding of a 32-bit number, 1 to 5 bytes. After a refusal the buffer is as before.
+#[tactic(auto, using(crate::specs::VarintLaws::encodes_32, crate::specs::VarintLaws::only_encoding_32))]
 pub fn write_u32(number: u32, buf: &mut Vec<u8>) -> Result<(), AllocError>
-    ensures ok { OnOk result (buf.new.items ≡ buf.old.items ++ number_32.spelling number) }
+    ensures ok { OnOk result (buf.new.items ≡ buf.old.items ++ number_32.encoding number) }
     ensures err { OnErr result (buf.new.items ≡ buf.old.items) }
-    ensures number { IsNumber (number_32.spelling number) number }
-    ensures only { (bytes : List ℕ) → IsNumber bytes number → bytes ≡ number_32.spelling number }
+    ensures number { IsNumber (number_32.encoding number) number }
+    ensures only { (bytes : List ℕ) → IsNumber bytes number → bytes ≡ number_32.encoding number }
 {
     buf.extend_from_slice(Varint::new(u64::from(number)).as_slice())
 }
 
-/// The number of bytes of a 64-bit number's spelling.
+/// The number of bytes of a 64-bit number's encoding.
 #[tactic(auto, using(crate::specs::VarintLaws::groups_len_64))]
 pub fn size_u64(number: u64) -> usize
-    ensures size { result ≡ length (number_64.spelling number) }
+    ensures size { result ≡ length (number_64.encoding number) }
     ensures small { result ≤ 10 }
 {
     Varint::new(number).as_slice().len()
 }
 
-/// The number of bytes of a 32-bit number's spelling.
+/// The number of bytes of a 32-bit number's encoding.
 #[tactic(auto, using(crate::specs::VarintLaws::groups_len_32))]
 pub fn size_u32(number: u32) -> usize
-    ensures size { result ≡ length (number_32.spelling number) }
+    ensures size { result ≡ length (number_32.encoding number) }
     ensures small { result ≤ 5 }
 {
     Varint::new(u64::from(number)).as_slice().len()

@@ -8,12 +8,12 @@ ghost use Rattle.simplex_base.specs.VarintLaws.{number_64_lawful, longest_64, gr
 
 use crate::codec::error::Error;
 use crate::codec::varint::{read_u64, size_u64, write_u64};
-use crate::codec::{EncodeSize, MaxEncodeSize, Read, ReadExt, Spell, Write};
+use crate::codec::{EncodeSize, Encoding, MaxEncodeSize, Read, ReadExt, Write};
 use crate::values::{EqByParts, ExactClone, OrdByParts};
 use std::alloc::{AllocError, Global};
 use std::marker::Model;
 
-/// A period with one committee: a number from 0 to 2^64 - 1, spelled in 1 to 10 bytes.
+/// A period with one committee: a number from 0 to 2^64 - 1, encoded in 1 to 10 bytes.
 #[derive(Clone, Copy, Debug, PartialEq, Eq, PartialOrd, Ord, Hash)]
 pub struct Epoch(u64);
 
@@ -67,10 +67,10 @@ pub trait Epochable {
         ensures { result ≡ epoch_of self.now };
 }
 
-impl Spell for Epoch {
+impl Encoding for Epoch {
     ghost is_value = { number_64.is_value };
 
-    ghost spelling = { number_64.spelling };
+    ghost encoding = { number_64.encoding };
 }
 
 impl Write for Epoch {

@@ -8,12 +8,12 @@ ghost use Rattle.simplex_base.specs.VarintLaws.{number_32_lawful, longest_32, gr
 
 use crate::codec::error::Error;
 use crate::codec::varint::{read_u32, size_u32, write_u32};
-use crate::codec::{EncodeSize, MaxEncodeSize, Read, ReadExt, Spell, Write};
+use crate::codec::{EncodeSize, Encoding, MaxEncodeSize, Read, ReadExt, Write};
 use crate::values::{EqByParts, ExactClone, OrdByParts};
 use std::alloc::{AllocError, Global};
 use std::marker::Model;
 
-/// The number of a member of the committee, from 0 to 2^32 - 1, spelled in 1 to 5 bytes.
+/// The number of a member of the committee, from 0 to 2^32 - 1, encoded in 1 to 5 bytes.
 #[derive(Clone, Copy, Debug, PartialEq, Eq, PartialOrd, Ord, Hash)]
 pub struct Participant(u32);
 
@@ -57,10 +57,10 @@ impl Participant {
     }
 }
 
-impl Spell for Participant {
+impl Encoding for Participant {
     ghost is_value = { number_32.is_value };
 
-    ghost spelling = { number_32.spelling };
+    ghost encoding = { number_32.encoding };
 }
 
 impl Write for Participant {

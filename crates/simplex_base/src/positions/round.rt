@@ -6,14 +6,14 @@ ghost use Rattle.simplex_base.specs.Positions.{round_format, round_lawful, round
 
 use crate::codec::error::Error;
 use crate::codec::parts::{size_both, write_both};
-use crate::codec::{EncodeSize, MaxEncodeSize, Read, ReadExt, Spell, Write};
+use crate::codec::{EncodeSize, Encoding, MaxEncodeSize, Read, ReadExt, Write};
 use crate::positions::epoch::{Epoch, Epochable};
 use crate::positions::view::{View, Viewable};
 use crate::values::{EqByParts, ExactClone, OrdByParts};
 use std::alloc::{AllocError, Global};
 use std::marker::Model;
 
-/// A view of an epoch, ordered by epoch and then by view, spelled in 2 to 20 bytes.
+/// A view of an epoch, ordered by epoch and then by view, encoded in 2 to 20 bytes.
 #[derive(Clone, Copy, Debug, PartialEq, Eq, PartialOrd, Ord, Hash)]
 pub struct Round {
     epoch: Epoch,
@@ -105,10 +105,10 @@ impl<T: Roundable> Viewable for T {
     }
 }
 
-impl Spell for Round {
+impl Encoding for Round {
     ghost is_value = { round_format.is_value };
 
-    ghost spelling = { round_format.spelling };
+    ghost encoding = { round_format.encoding };
 }
 
 impl Write for Round {

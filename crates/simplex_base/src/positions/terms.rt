@@ -47,7 +47,7 @@ impl TermLength {
     /// Terms of one view each: the length is 1.
     pub const ONE: TermLength = TermLength(1);
 
-    /// Terms of so many views each.
+    /// Terms of this many views each.
     pub fn new(views: u32) -> Self
         requires { 1 ≤ views }
         ensures { result ≡ views }
@@ -99,7 +99,8 @@ impl View {
     /// Whether the view is the first of its term, as view 0 is.
     pub fn is_term_start(self, length: TermLength) -> bool
         ensures value { IsTrue result ↔ (self ≡ term_start length self) }
-        ensures first { (term : ℕ) → HoldsView length term self → IsTrue result ↔ (self ≡ first_view length term) }
+        ensures first { (term : ℕ) → HoldsView length term self → IsTrue result ↔
+            (self ≡ first_view length term) }
         ensures some { 1 ≤ length }
     {
         self == self.term_start(length)
@@ -133,7 +134,8 @@ impl View {
     pub fn next_term_start(self, length: TermLength) -> Self
         requires { term_end length self + 1 < 2 ^ 64 }
         ensures value { result ≡ term_end length self + 1 }
-        ensures first { (term : ℕ) → HoldsView length term self → result ≡ first_view length (term + 1) }
+        ensures first { (term : ℕ) → HoldsView length term self →
+            result ≡ first_view length (term + 1) }
         ensures some { 1 ≤ length }
     {
         View::new(self.term_end(length).get() + 1)
@@ -143,7 +145,8 @@ impl View {
     /// up to this view, of the next view and of the next term's first view.
     pub fn admits(self, pending: View, length: TermLength) -> bool
         requires { term_end length self + 1 < 2 ^ 64 }
-        ensures value { IsTrue result ↔ ((pending ≤ self) ⊎ (pending ≡ self + 1) ⊎ (pending ≡ term_end length self + 1)) }
+        ensures value { IsTrue result ↔
+            ((pending ≤ self) ⊎ (pending ≡ self + 1) ⊎ (pending ≡ term_end length self + 1)) }
         ensures some { 1 ≤ length }
     {
         let _views = length.get();

@@ -8,13 +8,13 @@ ghost use Rattle.simplex_base.specs.VarintLaws.{number_64_lawful, longest_64, gr
 
 use crate::codec::error::Error;
 use crate::codec::varint::{read_u64, size_u64, write_u64};
-use crate::codec::{EncodeSize, MaxEncodeSize, Read, ReadExt, Spell, Write};
+use crate::codec::{EncodeSize, Encoding, MaxEncodeSize, Read, ReadExt, Write};
 use crate::positions::view_delta::ViewDelta;
 use crate::values::{EqByParts, ExactClone, OrdByParts};
 use std::alloc::{AllocError, Global};
 use std::marker::Model;
 
-/// A place in the order of an epoch's proposals: a number from 0 (genesis) to 2^64 - 1, spelled in 1 to 10
+/// A place in the order of an epoch's proposals: a number from 0 (genesis) to 2^64 - 1, encoded in 1 to 10
 /// bytes.
 #[derive(Clone, Copy, Debug, PartialEq, Eq, PartialOrd, Ord, Hash)]
 pub struct View(u64);
@@ -97,10 +97,10 @@ pub trait Viewable {
         ensures { result ≡ view_of self.now };
 }
 
-impl Spell for View {
+impl Encoding for View {
     ghost is_value = { number_64.is_value };
 
-    ghost spelling = { number_64.spelling };
+    ghost encoding = { number_64.encoding };
 }
 
 impl Write for View {

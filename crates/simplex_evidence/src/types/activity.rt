@@ -8,7 +8,7 @@ use crate::types::conflicting_notarize::ConflictingNotarize;
 use crate::types::nullify_finalize::NullifyFinalize;
 use simplex_base::codec::error::Error;
 use simplex_base::codec::unions::{Tagged, read_tagged, write_tagged};
-use simplex_base::codec::{EncodeSize, Fixed, Read, Spell, Write};
+use simplex_base::codec::{EncodeSize, Encoding, Fixed, Read, Write};
 use simplex_base::positions::{Round, Roundable};
 use simplex_base::values::EqByParts;
 use simplex_scheme::scheme::{CertificateScheme, Digest, Scheme};
@@ -17,7 +17,7 @@ use simplex_votes::types::{
 };
 use std::alloc::{AllocError, Global};
 
-/// A message: a vote, a certificate message, or evidence of two votes that contradict. It is spelled as one byte of
+/// A message: a vote, a certificate message, or evidence of two votes that contradict. It is encoded as one byte of
 /// tag, and then the parts of the member with that tag. It is read under the committee's bound.
 #[derive(Drop)]
 #[derive_where(PartialEq, Eq, Hash)]
@@ -65,7 +65,8 @@ impl<S: CertificateScheme, D: Digest> Activity<S, D> {
     pub fn clone(&self) -> Result<Self, AllocError>
         ensures parts { IfOk result (λ copy. IsActivityClone S.Certificate.is_clone self.now copy) }
         // Where a certificate's clone is the certificate, this one's is this message.
-        ensures same { ClonesCertificate S.Certificate.is_clone self.now → IfOk result (λ copy. copy ≡ self.now) }
+        ensures same { ClonesCertificate S.Certificate.is_clone self.now →
+            IfOk result (λ copy. copy ≡ self.now) }
         ensures refused { IfErr result (λ _. IsTrue (has_certificate self.now)) }
     {
         match self {
@@ -90,7 +91,7 @@ impl<S: CertificateScheme, D: Digest> Activity<S, D> {
 impl<S: Scheme<D>, D: Digest> Activity<S, D> {
     ghost use Rattle.simplex_evidence.specs.Activity.{activity_verifies};
 
-    /// Whether the message is good: a vote by its signature, a certificate message by its certificate, and evidence
+    /// Whether the message is valid: a vote by its signature, a certificate message by its certificate, and evidence
     /// by both of its signatures. It verifies whatever [`verified`](Activity::verified) answers.
     pub fn verify(&self, scheme: &S) -> bool
         ensures { result ≡ activity_verifies (S.good scheme.now) (S.certified scheme.now) self.now }
@@ -161,12 +162,14 @@ impl<S: CertificateScheme, D: Digest> Roundable for Activity<S, D> {
     }
 }
 
-impl<S: CertificateScheme, D: Digest> Spell for Activity<S, D> {
-    ghost use Rattle.simplex_evidence.specs.Activity.{IsActivity, activity_spelling};
+impl<S: CertificateScheme, D: Digest> Encoding for Activity<S, D> {
+    ghost use Rattle.simplex_evidence.specs.Activity.{IsActivity, activity_encoding};
 
-    ghost is_value = { IsActivity D.eq (format_of ⟦<D as Read>⟧) S.Certificate.is_value (format_of ⟦<S::Signature as Read>⟧) };
+    ghost is_value = { IsActivity D.eq (format_of ⟦<D as Read>⟧) S.Certificate.is_value
+        (format_of ⟦<S::Signature as Read>⟧) };
 
-    ghost spelling = { activity_spelling D.eq (format_of ⟦<D as Read>⟧) S.Certificate.spelling (format_of ⟦<S::Signature as Read>⟧) };
+    ghost encoding = { activity_encoding D.eq (format_of ⟦<D as Read>⟧) S.Certificate.encoding
+        (format_of ⟦<S::Signature as Read>⟧) };
 }
 
 impl<S: CertificateScheme, D: Digest> Write for Activity<S, D> {
@@ -210,9 +213,12 @@ impl<S: CertificateScheme, D: Digest> Read for Activity<S, D> {
 
     type Cfg = u32;
 
-    ghost fits = { λ bound. (activity_format D.eq (format_of ⟦<D as Read>⟧) (format_under ⟦<S::Certificate as Read>⟧ bound) (format_of ⟦<S::Signature as Read>⟧)).is_value };
+    ghost fits = { λ bound. (activity_format D.eq (format_of ⟦<D as Read>⟧)
+        (format_under ⟦<S::Certificate as Read>⟧ bound) (format_of ⟦<S::Signature as Read>⟧)).is_value };
 
-    ghost reading = { λ bound. (activity_format D.eq (format_of ⟦<D as Read>⟧) (format_under ⟦<S::Certificate as Read>⟧ bound) (format_of ⟦<S::Signature as Read>⟧)).reading };
+    ghost reading = { λ bound.
+        (activity_format D.eq (format_of ⟦<D as Read>⟧)
+        (format_under ⟦<S::Certificate as Read>⟧ bound) (format_of ⟦<S::Signature as Read>⟧)).reading };
 
     ghost takes_memory = { S.Certificate.takes_memory };
 
@@ -220,7 +226,8 @@ impl<S: CertificateScheme, D: Digest> Read for Activity<S, D> {
         read_tagged(alloc, input, bound)
     }
 
-    ghost lawful = { λ bound. activity_lawful D.eq _ _ _ D.lawful (S.Certificate.lawful bound) S.Signature.lawful };
+    ghost lawful = { λ bound.
+        activity_lawful D.eq _ _ _ D.lawful (S.Certificate.lawful bound) S.Signature.lawful };
 }
 
 impl<S: CertificateScheme, D: Digest> Tagged for Activity<S, D> {
@@ -228,7 +235,9 @@ impl<S: CertificateScheme, D: Digest> Tagged for Activity<S, D> {
 
     type Cfg = u32;
 
-    ghost branches = { λ bound. activity_branches D.eq (format_of ⟦<D as Read>⟧) (format_under ⟦<S::Certificate as Read>⟧ bound) (format_of ⟦<S::Signature as Read>⟧) };
+    ghost branches = { λ bound.
+        activity_branches D.eq (format_of ⟦<D as Read>⟧)
+        (format_under ⟦<S::Certificate as Read>⟧ bound) (format_of ⟦<S::Signature as Read>⟧) };
 
     ghost takes_memory = { S.Certificate.takes_memory };
 

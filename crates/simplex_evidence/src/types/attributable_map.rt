@@ -3,8 +3,7 @@
 ghost use Rattle.std.specs.Prelude.{◌≡◌, ◌==◌, ◌+◌, ◌^◌, ◌<◌, ◌≤◌, ◌⊎◌, List, [], ◌∷◌, ◌++◌, length, true, false, Ok, None, IsSome, IfOk, IfErr, OnErr, MatchResult, slice_index_or, IsPermutation};
 ghost use Rattle.std.specs.Iterator.{YieldsFirstRef, item_count};
 ghost use Rattle.std.specs.Option.{option_copied};
-ghost use Rattle.simplex_evidence.specs.VoteMap.{item_of, IsBySigner, AreParticipants, AddsOnly, IsFirsts, signers_among};
-ghost use Rattle.simplex_evidence.specs.Gap.{IsGap};
+ghost use Rattle.simplex_evidence.specs.VoteMap.{item_of, IsBySigner, AreParticipants, AddsOnly, IsFirsts, signers_among, IsGap};
 
 use simplex_base::positions::Participant;
 use simplex_votes::types::Attributable;
@@ -21,7 +20,7 @@ pub struct AttributableMap<T: Attributable> {
 }
 
 impl<T: Attributable> Model for AttributableMap<T> {
-    ghost use Rattle.std.specs.Prelude.{◌<◌, ◌≤◌, length};
+    ghost use Rattle.std.specs.Prelude.{◌<◌, ◌≤◌, length, List};
     ghost use Rattle.std.specs.Vec.{vec_capacity};
     ghost use Rattle.simplex_evidence.specs.VoteMap.{VoteMap, IsBySigner, AreParticipants};
 
@@ -29,7 +28,8 @@ impl<T: Attributable> Model for AttributableMap<T> {
 
     ghost view = { λ map. record { participants = map.participants; items = map.items.items } };
 
-    ghost invariant = { λ map. IsBySigner T.signer_of map.items.items × AreParticipants T.signer_of map.participants map.items.items ×
+    ghost invariant = { λ map. IsBySigner T.signer_of map.items.items ×
+        AreParticipants T.signer_of map.participants map.items.items ×
         (0 < length map.items.items → map.participants ≤ vec_capacity map.items) };
 }
 
@@ -46,11 +46,11 @@ impl<T: Attributable> AttributableMap<T> {
         }
     }
 
-    /// Keeps an item, if its signer is a participant and has none yet, and answers whether it did. An item that
-    /// is not kept is dropped.
+    /// Inserts an item, if its signer is a participant and has none yet, and returns whether it did. An item that
+    /// is not inserted is dropped.
     ///
     /// `AllocError` comes only where the room for the first item is refused; the map is then as it was. So once
-    /// an item is kept none is refused until `clear`.
+    /// an item is inserted none is refused until `clear`.
     pub fn insert(&mut self, item: T) -> Result<bool, AllocError>
     where
         T: Drop,
@@ -61,13 +61,18 @@ impl<T: Attributable> AttributableMap<T> {
         // in the order of their signers, who are participants.
         ensures ordered { IsBySigner T.signer_of self.new.items }
         ensures within { AreParticipants T.signer_of self.new.participants self.new.items }
-        ensures fresh { result ≡ Ok true → (T.signer_of item < self.old.participants) × (item_of T.signer_of self.old.items (T.signer_of item) ≡ None) }
+        ensures fresh { result ≡ Ok true → (T.signer_of item < self.old.participants) ×
+            (item_of T.signer_of self.old.items (T.signer_of item) ≡ None) }
         ensures kept { result ≡ Ok false → self.new.items ≡ self.old.items }
-        ensures taken { result ≡ Ok false → (self.old.participants ≤ T.signer_of item) ⊎ IsSome (item_of T.signer_of self.old.items (T.signer_of item)) }
-        ensures refused { OnErr result ((self.new.items ≡ self.old.items) × (self.old.items ≡ []) × (T.signer_of item < self.old.participants)) }
+        ensures taken { result ≡ Ok false → (self.old.participants ≤ T.signer_of item) ⊎
+            IsSome (item_of T.signer_of self.old.items (T.signer_of item)) }
+        ensures refused { OnErr result ((self.new.items ≡ self.old.items) × (self.old.items ≡ []) ×
+            (T.signer_of item < self.old.participants)) }
         // After any list of calls the map holds the first items of those that were not refused.
-        ensures firsts { (inserted : List T) → IsFirsts T.signer_of self.old.participants inserted self.old.items →
-            MatchResult result (λ _. IsFirsts T.signer_of self.new.participants (inserted ++ item ∷ []) self.new.items)
+        ensures firsts { (inserted : List T) →
+            IsFirsts T.signer_of self.old.participants inserted self.old.items →
+            MatchResult result (λ _.
+            IsFirsts T.signer_of self.new.participants (inserted ++ item ∷ []) self.new.items)
             (λ _. IsFirsts T.signer_of self.new.participants inserted self.new.items) }
     {
         let signer = item.signer();
@@ -99,7 +104,8 @@ impl<T: Attributable> AttributableMap<T> {
         ensures items { result ≡ length self.now.items }
         ensures most { result ≤ self.now.participants }
         // So many participants are signers of what was inserted.
-        ensures signers { (inserted : List T) → IsFirsts T.signer_of self.now.participants inserted self.now.items →
+        ensures signers { (inserted : List T) →
+            IsFirsts T.signer_of self.now.participants inserted self.now.items →
             result ≡ signers_among T.signer_of self.now.participants inserted }
     {
         self.items.len()
@@ -139,7 +145,8 @@ impl<T: Attributable> AttributableMap<T> {
         ensures within { AreParticipants T.signer_of self.now.participants self.now.items }
         ensures small { length self.now.items < 2 ^ 64 }
         // What was inserted decides the items and their order.
-        ensures single { (inserted others : List T) → IsFirsts T.signer_of self.now.participants inserted self.now.items →
+        ensures single { (inserted others : List T) →
+            IsFirsts T.signer_of self.now.participants inserted self.now.items →
             IsFirsts T.signer_of self.now.participants inserted others → others ≡ self.now.items }
     {
         AttributableIter { rest: &self.items }
@@ -153,8 +160,6 @@ pub struct AttributableIter<'a, T> {
 }
 
 impl<'a, T> Model for AttributableIter<'a, T> {
-    ghost use Rattle.std.specs.Prelude.{List};
-
     ghost Value = { List T };
 
     ghost view = { λ iter. iter.rest.now };
@@ -177,7 +182,8 @@ impl<'a, T> Iterator for AttributableIter<'a, T> {
 /// The place of a signer's item, or else the place where it would go.
 fn place_of<T: Attributable>(items: &[T], signer: Participant) -> Result<usize, usize>
     requires { IsBySigner T.signer_of items.now }
-    ensures found { IfOk result (λ place. (place < length items.now) × ((d : T) → T.signer_of (slice_index_or items.now place d) ≡ signer)) }
+    ensures found { IfOk result (λ place. (place < length items.now) ×
+        ((d : T) → T.signer_of (slice_index_or items.now place d) ≡ signer)) }
     ensures gap { IfErr result (IsGap T.signer_of items.now signer) }
 {
     items.binary_search_by_key(&signer.get(), |item| item.signer().get())

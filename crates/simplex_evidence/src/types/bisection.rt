@@ -11,7 +11,7 @@ use std::alloc::{AllocError, Global};
 /// Whether each certificate certifies its subject: item by item what `verify_certificate` answers.
 ///
 /// The scheme is asked about all items together. A part of them that it refuses is cut in the middle, and it is
-/// asked about both halves, down to single items. So it is asked once where every certificate is good, and never
+/// asked about both halves, down to single items. So it is asked once where every certificate is valid, and never
 /// about an empty list. For n items the recursion is at most log2 n deep, rounded up.
 ///
 /// The answers take their memory before anything is verified; `AllocError` comes only where that is refused.
@@ -20,7 +20,9 @@ pub fn verify_certificates<'a, S: CertificateVerifier<D>, D: Digest>(
     scheme: &S,
     items: &[(Subject<'a, D>, &'a S::Certificate)],
 ) -> Result<Vec<bool>, AllocError>
-    ensures { IfOk result (λ answers. answers.items ≡ map (λ item. S.certified scheme.now (subject_value item.0) item.1.now) items.now) }
+    ensures { IfOk result (λ answers.
+        answers.items ≡ map (λ item.
+        S.certified scheme.now (subject_value item.0) item.1.now) items.now) }
 {
     let mut answers = vec![in alloc; false; items.len()]?;
     if !items.is_empty() {
@@ -36,7 +38,9 @@ pub fn verify_notarizations<S: CertificateVerifier<D>, D: Digest>(
     scheme: &S,
     messages: &[Notarization<S, D>],
 ) -> Result<Vec<bool>, AllocError>
-    ensures { IfOk result (λ answers. answers.items ≡ map (λ n. S.certified scheme.now (Notarizes n.proposal) n.certificate) messages.now) }
+    ensures { IfOk result (λ answers.
+        answers.items ≡ map (λ n.
+        S.certified scheme.now (Notarizes n.proposal) n.certificate) messages.now) }
 {
     messages
         .iter()
@@ -50,7 +54,9 @@ pub fn verify_nullifications<S: CertificateVerifier<D>, D: Digest>(
     scheme: &S,
     messages: &[Nullification<S>],
 ) -> Result<Vec<bool>, AllocError>
-    ensures { IfOk result (λ answers. answers.items ≡ map (λ n. S.certified scheme.now (Nullifies n.round) n.certificate) messages.now) }
+    ensures { IfOk result (λ answers.
+        answers.items ≡ map (λ n.
+        S.certified scheme.now (Nullifies n.round) n.certificate) messages.now) }
 {
     messages
         .iter()
@@ -64,7 +70,9 @@ pub fn verify_finalizations<S: CertificateVerifier<D>, D: Digest>(
     scheme: &S,
     messages: &[Finalization<S, D>],
 ) -> Result<Vec<bool>, AllocError>
-    ensures { IfOk result (λ answers. answers.items ≡ map (λ n. S.certified scheme.now (Finalizes n.proposal) n.certificate) messages.now) }
+    ensures { IfOk result (λ answers.
+        answers.items ≡ map (λ n.
+        S.certified scheme.now (Finalizes n.proposal) n.certificate) messages.now) }
 {
     messages
         .iter()
@@ -81,7 +89,8 @@ fn bisect<'a, S: CertificateVerifier<D>, D: Digest>(
 )
     requires some { 0 < length items.now }
     requires places { length answers.old ≡ length items.now }
-    ensures { answers.new ≡ map (λ item. S.certified scheme.now (subject_value item.0) item.1.now) items.now }
+    ensures { answers.new ≡ map (λ item.
+        S.certified scheme.now (subject_value item.0) item.1.now) items.now }
 {
     let accepted = scheme.verify_all(items);
     if accepted || items.len() == 1 {

@@ -41,8 +41,10 @@ pub trait Conflict: Sized {
 
 /// Reads two votes, and moves the slice past both if they contradict. After an error the slice is as before.
 pub fn read_conflict<T: Conflict>(alloc: Global, input: &mut &[u8]) -> Result<T, Error>
-    ensures { Gives (T.First.takes_memory || T.Second.takes_memory) result input.old.now input.new.now
-        (tested_at T.holds T.refusal (made_at T.made (both_at (T.First.reading tt) (T.Second.reading tt))) input.old.now) }
+    ensures { Gives (T.First.takes_memory ||
+        T.Second.takes_memory) result input.old.now input.new.now
+        (tested_at T.holds T.refusal
+        (made_at T.made (both_at (T.First.reading tt) (T.Second.reading tt))) input.old.now) }
 {
     let mut rest: &[u8] = *input;
     let (first, second) = match <(T::First, T::Second)>::read_cfg(alloc, &mut rest, &()) {

@@ -9,7 +9,7 @@ ghost use Rattle.simplex_evidence.specs.Contradiction.{contradicts, Conflicting_
 use crate::types::conflict::{Conflict, read_conflict};
 use simplex_base::codec::error::Error;
 use simplex_base::codec::parts::{size_both, write_both};
-use simplex_base::codec::{EncodeSize, Fixed, Read, ReadExt, Spell, Write};
+use simplex_base::codec::{EncodeSize, Encoding, Fixed, Read, ReadExt, Write};
 use simplex_base::positions::{Participant, Round, Roundable};
 use simplex_base::values::{EqByParts, ExactClone};
 use simplex_scheme::scheme::{Digest, Scheme, SchemeTypes};
@@ -32,19 +32,25 @@ impl<S: SchemeTypes, D: Digest> Model for ConflictingFinalize<S, D> {
     ghost use Rattle.simplex_evidence.specs.Contradiction.{contradicts, Conflicting_finalize};
     ghost use Rattle.simplex_evidence.specs.Conflict.{Conflict};
 
-    ghost Value = { Conflict (declared.Finalize S D S.PublicKey S.Signature) (declared.Finalize S D S.PublicKey S.Signature) };
+    ghost Value = { Conflict (declared.Finalize S D S.PublicKey S.Signature)
+        (declared.Finalize S D S.PublicKey S.Signature) };
 
-    ghost view = { λ conflict. record { first = conflict.finalize_1; second = conflict.finalize_2 } };
+    ghost view = { λ conflict.
+        record { first = conflict.finalize_1; second = conflict.finalize_2 } };
 
-    ghost invariant = { λ conflict. IsTrue (contradicts D.eq Conflicting_finalize (finalize_vote conflict.finalize_1) (finalize_vote conflict.finalize_2)) };
+    ghost invariant = { λ conflict.
+        IsTrue (contradicts D.eq Conflicting_finalize (finalize_vote conflict.finalize_1)
+        (finalize_vote conflict.finalize_2)) };
 
-    ghost inverse = { λ conflict. record { finalize_1 = conflict.first; finalize_2 = conflict.second } };
+    ghost inverse = { λ conflict.
+        record { finalize_1 = conflict.first; finalize_2 = conflict.second } };
 }
 
 impl<S: SchemeTypes, D: Digest> ConflictingFinalize<S, D> {
     /// Whether two finalizes contradict: they have one round and one signer, and their proposals differ.
     pub fn conflicts(first: &Finalize<S, D>, second: &Finalize<S, D>) -> bool
-        ensures { result ≡ contradicts D.eq Conflicting_finalize (finalize_vote first.now) (finalize_vote second.now) }
+        ensures { result ≡ contradicts D.eq Conflicting_finalize (finalize_vote first.now)
+            (finalize_vote second.now) }
     {
         second.proposal.round == first.proposal.round
             && second.attestation.signer == first.attestation.signer
@@ -53,10 +59,12 @@ impl<S: SchemeTypes, D: Digest> ConflictingFinalize<S, D> {
 
     /// The evidence of two finalizes that contradict, as [`conflicts`](ConflictingFinalize::conflicts) tells.
     pub fn new(finalize_1: Finalize<S, D>, finalize_2: Finalize<S, D>) -> Self
-        requires { IsTrue (contradicts D.eq Conflicting_finalize (finalize_vote finalize_1) (finalize_vote finalize_2)) }
+        requires { IsTrue (contradicts D.eq Conflicting_finalize (finalize_vote finalize_1)
+            (finalize_vote finalize_2)) }
         ensures value { result ≡ record { first = finalize_1; second = finalize_2 } }
         // With its votes swapped it is another value.
-        ensures swapped { ⟦<ConflictingFinalize<S, D> as PartialEq>⟧.eq result (record { first = finalize_2; second = finalize_1 }) ≡ false }
+        ensures swapped { ⟦<ConflictingFinalize<S, D> as PartialEq>⟧.eq result
+            (record { first = finalize_2; second = finalize_1 }) ≡ false }
     {
         ConflictingFinalize {
             finalize_1,
@@ -67,7 +75,8 @@ impl<S: SchemeTypes, D: Digest> ConflictingFinalize<S, D> {
     /// The first finalize.
     pub fn finalize_1(&self) -> &Finalize<S, D>
         ensures finalize { result.now ≡ self.now.first }
-        ensures contradicts { IsTrue (contradicts D.eq Conflicting_finalize (finalize_vote self.now.first) (finalize_vote self.now.second)) }
+        ensures contradicts { IsTrue
+            (contradicts D.eq Conflicting_finalize (finalize_vote self.now.first) (finalize_vote self.now.second)) }
     {
         &self.finalize_1
     }
@@ -75,17 +84,20 @@ impl<S: SchemeTypes, D: Digest> ConflictingFinalize<S, D> {
     /// The second finalize.
     pub fn finalize_2(&self) -> &Finalize<S, D>
         ensures finalize { result.now ≡ self.now.second }
-        ensures contradicts { IsTrue (contradicts D.eq Conflicting_finalize (finalize_vote self.now.first) (finalize_vote self.now.second)) }
+        ensures contradicts { IsTrue
+            (contradicts D.eq Conflicting_finalize (finalize_vote self.now.first) (finalize_vote self.now.second)) }
     {
         &self.finalize_2
     }
 }
 
 impl<S: Scheme<D>, D: Digest> ConflictingFinalize<S, D> {
-    /// Whether both signatures are good, and nothing else.
+    /// Whether both signatures are valid, and nothing else.
     pub fn verify(&self, scheme: &S) -> bool
-        ensures { result ≡ (S.good scheme.now (Finalizes self.now.first.proposal) self.now.first.attestation.signer self.now.first.attestation.signature &&
-            S.good scheme.now (Finalizes self.now.second.proposal) self.now.second.attestation.signer self.now.second.attestation.signature) }
+        ensures { result ≡ (S.good scheme.now (Finalizes self.now.first.proposal)
+            self.now.first.attestation.signer self.now.first.attestation.signature &&
+            S.good scheme.now (Finalizes self.now.second.proposal)
+            self.now.second.attestation.signer self.now.second.attestation.signature) }
     {
         self.finalize_1.verify(scheme) && self.finalize_2.verify(scheme)
     }
@@ -109,7 +121,8 @@ impl<S: SchemeTypes, D: Digest> ExactClone for ConflictingFinalize<S, D> {
 }
 
 impl<S: SchemeTypes, D: Digest> EqByParts for ConflictingFinalize<S, D> {
-    ghost same = { λ x y. ⟦<Finalize<S, D> as PartialEq>⟧.eq x.first y.first && ⟦<Finalize<S, D> as PartialEq>⟧.eq x.second y.second };
+    ghost same = { λ x y. ⟦<Finalize<S, D> as PartialEq>⟧.eq x.first y.first &&
+        ⟦<Finalize<S, D> as PartialEq>⟧.eq x.second y.second };
 
     ghost equal = { λ x y. refl };
 }
@@ -130,12 +143,14 @@ impl<S: SchemeTypes, D: Digest> Roundable for ConflictingFinalize<S, D> {
     }
 }
 
-impl<S: SchemeTypes, D: Digest> Spell for ConflictingFinalize<S, D> {
+impl<S: SchemeTypes, D: Digest> Encoding for ConflictingFinalize<S, D> {
     ghost use Rattle.simplex_evidence.specs.Conflict.{conflicting_finalize_format};
 
-    ghost is_value = { (conflicting_finalize_format D.eq (format_of ⟦<D as Read>⟧) (format_of ⟦<S::Signature as Read>⟧)).is_value };
+    ghost is_value = { (conflicting_finalize_format D.eq (format_of ⟦<D as Read>⟧)
+        (format_of ⟦<S::Signature as Read>⟧)).is_value };
 
-    ghost spelling = { (conflicting_finalize_format D.eq (format_of ⟦<D as Read>⟧) (format_of ⟦<S::Signature as Read>⟧)).spelling };
+    ghost encoding = { (conflicting_finalize_format D.eq (format_of ⟦<D as Read>⟧)
+        (format_of ⟦<S::Signature as Read>⟧)).encoding };
 }
 
 impl<S: SchemeTypes, D: Digest> Write for ConflictingFinalize<S, D> {
@@ -164,9 +179,11 @@ impl<S: SchemeTypes, D: Digest> Conflict for ConflictingFinalize<S, D> {
 
     ghost made = { λ votes. record { first = votes.0; second = votes.1 } };
 
-    ghost holds = { λ conflict. contradicts D.eq Conflicting_finalize (finalize_vote conflict.first) (finalize_vote conflict.second) };
+    ghost holds = { λ conflict.
+        contradicts D.eq Conflicting_finalize (finalize_vote conflict.first) (finalize_vote conflict.second) };
 
-    ghost refusal = { invalid (codes "consensus::simplex::ConflictingFinalize") (codes "invalid conflicting finalize") };
+    ghost refusal = { invalid (codes "consensus::simplex::ConflictingFinalize")
+        (codes "invalid conflicting finalize") };
 
     fn are_in_conflict(first: &Finalize<S, D>, second: &Finalize<S, D>) -> bool {
         Self::conflicts(first, second)
@@ -189,9 +206,11 @@ impl<S: SchemeTypes, D: Digest> Read for ConflictingFinalize<S, D> {
 
     type Cfg = ();
 
-    ghost fits = { λ _. (conflicting_finalize_format D.eq (format_of ⟦<D as Read>⟧) (format_of ⟦<S::Signature as Read>⟧)).is_value };
+    ghost fits = { λ _. (conflicting_finalize_format D.eq (format_of ⟦<D as Read>⟧)
+        (format_of ⟦<S::Signature as Read>⟧)).is_value };
 
-    ghost reading = { λ _. (conflicting_finalize_format D.eq (format_of ⟦<D as Read>⟧) (format_of ⟦<S::Signature as Read>⟧)).reading };
+    ghost reading = { λ _. (conflicting_finalize_format D.eq (format_of ⟦<D as Read>⟧)
+        (format_of ⟦<S::Signature as Read>⟧)).reading };
 
     ghost takes_memory = { false };
 

@@ -9,7 +9,7 @@ ghost use Rattle.simplex_evidence.specs.Contradiction.{contradicts, Conflicting_
 use crate::types::conflict::{Conflict, read_conflict};
 use simplex_base::codec::error::Error;
 use simplex_base::codec::parts::{size_both, write_both};
-use simplex_base::codec::{EncodeSize, Fixed, Read, ReadExt, Spell, Write};
+use simplex_base::codec::{EncodeSize, Encoding, Fixed, Read, ReadExt, Write};
 use simplex_base::positions::{Participant, Round, Roundable};
 use simplex_base::values::{EqByParts, ExactClone};
 use simplex_scheme::scheme::{Digest, Scheme, SchemeTypes};
@@ -32,19 +32,25 @@ impl<S: SchemeTypes, D: Digest> Model for ConflictingNotarize<S, D> {
     ghost use Rattle.simplex_evidence.specs.Contradiction.{contradicts, Conflicting_notarize};
     ghost use Rattle.simplex_evidence.specs.Conflict.{Conflict};
 
-    ghost Value = { Conflict (declared.Notarize S D S.PublicKey S.Signature) (declared.Notarize S D S.PublicKey S.Signature) };
+    ghost Value = { Conflict (declared.Notarize S D S.PublicKey S.Signature)
+        (declared.Notarize S D S.PublicKey S.Signature) };
 
-    ghost view = { λ conflict. record { first = conflict.notarize_1; second = conflict.notarize_2 } };
+    ghost view = { λ conflict.
+        record { first = conflict.notarize_1; second = conflict.notarize_2 } };
 
-    ghost invariant = { λ conflict. IsTrue (contradicts D.eq Conflicting_notarize (notarize_vote conflict.notarize_1) (notarize_vote conflict.notarize_2)) };
+    ghost invariant = { λ conflict.
+        IsTrue (contradicts D.eq Conflicting_notarize (notarize_vote conflict.notarize_1)
+        (notarize_vote conflict.notarize_2)) };
 
-    ghost inverse = { λ conflict. record { notarize_1 = conflict.first; notarize_2 = conflict.second } };
+    ghost inverse = { λ conflict.
+        record { notarize_1 = conflict.first; notarize_2 = conflict.second } };
 }
 
 impl<S: SchemeTypes, D: Digest> ConflictingNotarize<S, D> {
     /// Whether two notarizes contradict: they have one round and one signer, and their proposals differ.
     pub fn conflicts(first: &Notarize<S, D>, second: &Notarize<S, D>) -> bool
-        ensures { result ≡ contradicts D.eq Conflicting_notarize (notarize_vote first.now) (notarize_vote second.now) }
+        ensures { result ≡ contradicts D.eq Conflicting_notarize (notarize_vote first.now)
+            (notarize_vote second.now) }
     {
         second.proposal.round == first.proposal.round
             && second.attestation.signer == first.attestation.signer
@@ -53,10 +59,12 @@ impl<S: SchemeTypes, D: Digest> ConflictingNotarize<S, D> {
 
     /// The evidence of two notarizes that contradict, as [`conflicts`](ConflictingNotarize::conflicts) tells.
     pub fn new(notarize_1: Notarize<S, D>, notarize_2: Notarize<S, D>) -> Self
-        requires { IsTrue (contradicts D.eq Conflicting_notarize (notarize_vote notarize_1) (notarize_vote notarize_2)) }
+        requires { IsTrue (contradicts D.eq Conflicting_notarize (notarize_vote notarize_1)
+            (notarize_vote notarize_2)) }
         ensures value { result ≡ record { first = notarize_1; second = notarize_2 } }
         // With its votes swapped it is another value.
-        ensures swapped { ⟦<ConflictingNotarize<S, D> as PartialEq>⟧.eq result (record { first = notarize_2; second = notarize_1 }) ≡ false }
+        ensures swapped { ⟦<ConflictingNotarize<S, D> as PartialEq>⟧.eq result
+            (record { first = notarize_2; second = notarize_1 }) ≡ false }
     {
         ConflictingNotarize {
             notarize_1,
@@ -67,7 +75,8 @@ impl<S: SchemeTypes, D: Digest> ConflictingNotarize<S, D> {
     /// The first notarize.
     pub fn notarize_1(&self) -> &Notarize<S, D>
         ensures notarize { result.now ≡ self.now.first }
-        ensures contradicts { IsTrue (contradicts D.eq Conflicting_notarize (notarize_vote self.now.first) (notarize_vote self.now.second)) }
+        ensures contradicts { IsTrue
+            (contradicts D.eq Conflicting_notarize (notarize_vote self.now.first) (notarize_vote self.now.second)) }
     {
         &self.notarize_1
     }
@@ -75,17 +84,20 @@ impl<S: SchemeTypes, D: Digest> ConflictingNotarize<S, D> {
     /// The second notarize.
     pub fn notarize_2(&self) -> &Notarize<S, D>
         ensures notarize { result.now ≡ self.now.second }
-        ensures contradicts { IsTrue (contradicts D.eq Conflicting_notarize (notarize_vote self.now.first) (notarize_vote self.now.second)) }
+        ensures contradicts { IsTrue
+            (contradicts D.eq Conflicting_notarize (notarize_vote self.now.first) (notarize_vote self.now.second)) }
     {
         &self.notarize_2
     }
 }
 
 impl<S: Scheme<D>, D: Digest> ConflictingNotarize<S, D> {
-    /// Whether both signatures are good, and nothing else.
+    /// Whether both signatures are valid, and nothing else.
     pub fn verify(&self, scheme: &S) -> bool
-        ensures { result ≡ (S.good scheme.now (Notarizes self.now.first.proposal) self.now.first.attestation.signer self.now.first.attestation.signature &&
-            S.good scheme.now (Notarizes self.now.second.proposal) self.now.second.attestation.signer self.now.second.attestation.signature) }
+        ensures { result ≡ (S.good scheme.now (Notarizes self.now.first.proposal)
+            self.now.first.attestation.signer self.now.first.attestation.signature &&
+            S.good scheme.now (Notarizes self.now.second.proposal)
+            self.now.second.attestation.signer self.now.second.attestation.signature) }
     {
         self.notarize_1.verify(scheme) && self.notarize_2.verify(scheme)
     }
@@ -109,7 +121,8 @@ impl<S: SchemeTypes, D: Digest> ExactClone for ConflictingNotarize<S, D> {
 }
 
 impl<S: SchemeTypes, D: Digest> EqByParts for ConflictingNotarize<S, D> {
-    ghost same = { λ x y. ⟦<Notarize<S, D> as PartialEq>⟧.eq x.first y.first && ⟦<Notarize<S, D> as PartialEq>⟧.eq x.second y.second };
+    ghost same = { λ x y. ⟦<Notarize<S, D> as PartialEq>⟧.eq x.first y.first &&
+        ⟦<Notarize<S, D> as PartialEq>⟧.eq x.second y.second };
 
     ghost equal = { λ x y. refl };
 }
@@ -130,12 +143,14 @@ impl<S: SchemeTypes, D: Digest> Roundable for ConflictingNotarize<S, D> {
     }
 }
 
-impl<S: SchemeTypes, D: Digest> Spell for ConflictingNotarize<S, D> {
+impl<S: SchemeTypes, D: Digest> Encoding for ConflictingNotarize<S, D> {
     ghost use Rattle.simplex_evidence.specs.Conflict.{conflicting_notarize_format};
 
-    ghost is_value = { (conflicting_notarize_format D.eq (format_of ⟦<D as Read>⟧) (format_of ⟦<S::Signature as Read>⟧)).is_value };
+    ghost is_value = { (conflicting_notarize_format D.eq (format_of ⟦<D as Read>⟧)
+        (format_of ⟦<S::Signature as Read>⟧)).is_value };
 
-    ghost spelling = { (conflicting_notarize_format D.eq (format_of ⟦<D as Read>⟧) (format_of ⟦<S::Signature as Read>⟧)).spelling };
+    ghost encoding = { (conflicting_notarize_format D.eq (format_of ⟦<D as Read>⟧)
+        (format_of ⟦<S::Signature as Read>⟧)).encoding };
 }
 
 impl<S: SchemeTypes, D: Digest> Write for ConflictingNotarize<S, D> {
@@ -164,9 +179,11 @@ impl<S: SchemeTypes, D: Digest> Conflict for ConflictingNotarize<S, D> {
 
     ghost made = { λ votes. record { first = votes.0; second = votes.1 } };
 
-    ghost holds = { λ conflict. contradicts D.eq Conflicting_notarize (notarize_vote conflict.first) (notarize_vote conflict.second) };
+    ghost holds = { λ conflict.
+        contradicts D.eq Conflicting_notarize (notarize_vote conflict.first) (notarize_vote conflict.second) };
 
-    ghost refusal = { invalid (codes "consensus::simplex::ConflictingNotarize") (codes "invalid conflicting notarize") };
+    ghost refusal = { invalid (codes "consensus::simplex::ConflictingNotarize")
+        (codes "invalid conflicting notarize") };
 
     fn are_in_conflict(first: &Notarize<S, D>, second: &Notarize<S, D>) -> bool {
         Self::conflicts(first, second)
@@ -189,9 +206,11 @@ impl<S: SchemeTypes, D: Digest> Read for ConflictingNotarize<S, D> {
 
     type Cfg = ();
 
-    ghost fits = { λ _. (conflicting_notarize_format D.eq (format_of ⟦<D as Read>⟧) (format_of ⟦<S::Signature as Read>⟧)).is_value };
+    ghost fits = { λ _. (conflicting_notarize_format D.eq (format_of ⟦<D as Read>⟧)
+        (format_of ⟦<S::Signature as Read>⟧)).is_value };
 
-    ghost reading = { λ _. (conflicting_notarize_format D.eq (format_of ⟦<D as Read>⟧) (format_of ⟦<S::Signature as Read>⟧)).reading };
+    ghost reading = { λ _. (conflicting_notarize_format D.eq (format_of ⟦<D as Read>⟧)
+        (format_of ⟦<S::Signature as Read>⟧)).reading };
 
     ghost takes_memory = { false };
 

@@ -9,7 +9,7 @@ ghost use Rattle.simplex_evidence.specs.Contradiction.{contradicts, Nullify_fina
 use crate::types::conflict::{Conflict, read_conflict};
 use simplex_base::codec::error::Error;
 use simplex_base::codec::parts::{size_both, write_both};
-use simplex_base::codec::{EncodeSize, Fixed, Read, ReadExt, Spell, Write};
+use simplex_base::codec::{EncodeSize, Encoding, Fixed, Read, ReadExt, Write};
 use simplex_base::positions::{Participant, Round, Roundable};
 use simplex_base::values::{EqByParts, ExactClone};
 use simplex_scheme::scheme::{Digest, Scheme, SchemeTypes};
@@ -17,7 +17,7 @@ use simplex_votes::types::{Attributable, Finalize, Nullify};
 use std::alloc::{AllocError, Global};
 use std::marker::Model;
 
-/// A nullify of a round and a finalize of a proposal of that round, both of one signer, spelled in that order.
+/// A nullify of a round and a finalize of a proposal of that round, both of one signer, encoded in that order.
 #[derive(Drop)]
 #[derive_where(PartialEq, Eq, Hash)]
 pub struct NullifyFinalize<S: SchemeTypes, D: Digest> {
@@ -33,11 +33,14 @@ impl<S: SchemeTypes, D: Digest> Model for NullifyFinalize<S, D> {
     ghost use Rattle.simplex_evidence.specs.Contradiction.{contradicts, Nullify_finalize};
     ghost use Rattle.simplex_evidence.specs.Conflict.{Conflict};
 
-    ghost Value = { Conflict (nullifies.Nullify S S.PublicKey S.Signature) (finalizes.Finalize S D S.PublicKey S.Signature) };
+    ghost Value = { Conflict (nullifies.Nullify S S.PublicKey S.Signature)
+        (finalizes.Finalize S D S.PublicKey S.Signature) };
 
     ghost view = { λ conflict. record { first = conflict.nullify; second = conflict.finalize } };
 
-    ghost invariant = { λ conflict. IsTrue (contradicts D.eq Nullify_finalize (nullify_vote conflict.nullify) (finalize_vote conflict.finalize)) };
+    ghost invariant = { λ conflict.
+        IsTrue (contradicts D.eq Nullify_finalize (nullify_vote conflict.nullify)
+        (finalize_vote conflict.finalize)) };
 
     ghost inverse = { λ conflict. record { nullify = conflict.first; finalize = conflict.second } };
 }
@@ -62,7 +65,8 @@ impl<S: SchemeTypes, D: Digest> NullifyFinalize<S, D> {
     /// The nullify.
     pub fn nullify(&self) -> &Nullify<S>
         ensures vote { result.now ≡ self.now.first }
-        ensures contradicts { IsTrue (contradicts D.eq Nullify_finalize (nullify_vote self.now.first) (finalize_vote self.now.second)) }
+        ensures contradicts { IsTrue
+            (contradicts D.eq Nullify_finalize (nullify_vote self.now.first) (finalize_vote self.now.second)) }
     {
         &self.nullify
     }
@@ -70,17 +74,20 @@ impl<S: SchemeTypes, D: Digest> NullifyFinalize<S, D> {
     /// The finalize.
     pub fn finalize(&self) -> &Finalize<S, D>
         ensures vote { result.now ≡ self.now.second }
-        ensures contradicts { IsTrue (contradicts D.eq Nullify_finalize (nullify_vote self.now.first) (finalize_vote self.now.second)) }
+        ensures contradicts { IsTrue
+            (contradicts D.eq Nullify_finalize (nullify_vote self.now.first) (finalize_vote self.now.second)) }
     {
         &self.finalize
     }
 }
 
 impl<S: Scheme<D>, D: Digest> NullifyFinalize<S, D> {
-    /// Whether both signatures are good, and nothing else.
+    /// Whether both signatures are valid, and nothing else.
     pub fn verify(&self, scheme: &S) -> bool
-        ensures { result ≡ (S.good scheme.now (Nullifies self.now.first.round) self.now.first.attestation.signer self.now.first.attestation.signature &&
-            S.good scheme.now (Finalizes self.now.second.proposal) self.now.second.attestation.signer self.now.second.attestation.signature) }
+        ensures { result ≡ (S.good scheme.now (Nullifies self.now.first.round)
+            self.now.first.attestation.signer self.now.first.attestation.signature &&
+            S.good scheme.now (Finalizes self.now.second.proposal)
+            self.now.second.attestation.signer self.now.second.attestation.signature) }
     {
         self.nullify.verify::<D>(scheme) && self.finalize.verify(scheme)
     }
@@ -104,7 +111,8 @@ impl<S: SchemeTypes, D: Digest> ExactClone for NullifyFinalize<S, D> {
 }
 
 impl<S: SchemeTypes, D: Digest> EqByParts for NullifyFinalize<S, D> {
-    ghost same = { λ x y. ⟦<Nullify<S> as PartialEq>⟧.eq x.first y.first && ⟦<Finalize<S, D> as PartialEq>⟧.eq x.second y.second };
+    ghost same = { λ x y. ⟦<Nullify<S> as PartialEq>⟧.eq x.first y.first &&
+        ⟦<Finalize<S, D> as PartialEq>⟧.eq x.second y.second };
 
     ghost equal = { λ x y. refl };
 }
@@ -125,12 +133,14 @@ impl<S: SchemeTypes, D: Digest> Roundable for NullifyFinalize<S, D> {
     }
 }
 
-impl<S: SchemeTypes, D: Digest> Spell for NullifyFinalize<S, D> {
+impl<S: SchemeTypes, D: Digest> Encoding for NullifyFinalize<S, D> {
     ghost use Rattle.simplex_evidence.specs.Conflict.{nullify_finalize_format};
 
-    ghost is_value = { (nullify_finalize_format D.eq (format_of ⟦<D as Read>⟧) (format_of ⟦<S::Signature as Read>⟧)).is_value };
+    ghost is_value = { (nullify_finalize_format D.eq (format_of ⟦<D as Read>⟧)
+        (format_of ⟦<S::Signature as Read>⟧)).is_value };
 
-    ghost spelling = { (nullify_finalize_format D.eq (format_of ⟦<D as Read>⟧) (format_of ⟦<S::Signature as Read>⟧)).spelling };
+    ghost encoding = { (nullify_finalize_format D.eq (format_of ⟦<D as Read>⟧)
+        (format_of ⟦<S::Signature as Read>⟧)).encoding };
 }
 
 impl<S: SchemeTypes, D: Digest> Write for NullifyFinalize<S, D> {
@@ -159,7 +169,8 @@ impl<S: SchemeTypes, D: Digest> Conflict for NullifyFinalize<S, D> {
 
     ghost made = { λ votes. record { first = votes.0; second = votes.1 } };
 
-    ghost holds = { λ conflict. contradicts D.eq Nullify_finalize (nullify_vote conflict.first) (finalize_vote conflict.second) };
+    ghost holds = { λ conflict.
+        contradicts D.eq Nullify_finalize (nullify_vote conflict.first) (finalize_vote conflict.second) };
 
     ghost refusal = { invalid (codes "consensus::simplex::NullifyFinalize") (codes "mismatched signatures") };
 
@@ -184,9 +195,11 @@ impl<S: SchemeTypes, D: Digest> Read for NullifyFinalize<S, D> {
 
     type Cfg = ();
 
-    ghost fits = { λ _. (nullify_finalize_format D.eq (format_of ⟦<D as Read>⟧) (format_of ⟦<S::Signature as Read>⟧)).is_value };
+    ghost fits = { λ _. (nullify_finalize_format D.eq (format_of ⟦<D as Read>⟧)
+        (format_of ⟦<S::Signature as Read>⟧)).is_value };
 
-    ghost reading = { λ _. (nullify_finalize_format D.eq (format_of ⟦<D as Read>⟧) (format_of ⟦<S::Signature as Read>⟧)).reading };
+    ghost reading = { λ _. (nullify_finalize_format D.eq (format_of ⟦<D as Read>⟧)
+        (format_of ⟦<S::Signature as Read>⟧)).reading };
 
     ghost takes_memory = { false };
 

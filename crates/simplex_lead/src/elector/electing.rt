@@ -5,7 +5,7 @@ ghost use Rattle.std.specs.Option.{option_copied};
 ghost use Rattle.simplex_base.specs.Positions as positions;
 ghost use Rattle.simplex_base.specs.Terms.{HoldsView};
 ghost use Rattle.simplex_lead.specs.Election.{ElectAlike};
-ghost use Rattle.simplex_lead.specs.Structure as structure;
+ghost use Rattle.simplex_lead.specs.Terms as structure;
 ghost use Rattle.simplex_lead.specs.declared.elector.mode.Mode as modes;
 ghost use Rattle.simplex_lead.specs.declared.elector.mode.Mode.TheVariants.{Scheduled};
 
@@ -35,12 +35,14 @@ pub trait Config<S: CertificateScheme>: Clone {
         requires some { 1 ≤ length participants.now }
         requires few { length participants.now < 2 ^ 32 }
         ensures built { IfOk result (λ elector. builds self participants.now elector) }
-        ensures participants { IfOk result (λ elector. Self.Elector.participants_of elector ≡ length participants.now) };
+        ensures participants { IfOk result (λ elector.
+            Self.Elector.participants_of elector ≡ length participants.now) };
 
     /// Electors of one configuration and the same keys elect alike.
     ghost agree: { (config : Self) (keys : List S.PublicKey) (one other : Self.Elector) →
         builds config keys one → builds config keys other →
-        ElectAlike Self.Elector.mode_of Self.Elector.terms_of Self.Elector.participants_of Self.Elector.leader_of one other };
+        ElectAlike Self.Elector.mode_of Self.Elector.terms_of Self.Elector.participants_of
+        Self.Elector.leader_of one other };
 
     /// A clone makes the same electors.
     ghost clones: { (config copy : Self) (keys : List S.PublicKey) (elector : Self.Elector) →
@@ -79,7 +81,8 @@ pub trait Elector<S: CertificateScheme>: Clone {
         mode_of elector ≡ Scheduled → leader_of elector round one ≡ leader_of elector round other };
 
     /// A term of an epoch has one leader, with the same certificate.
-    ghost one_a_term: { (elector : Self) (one other : positions.Round) (term : ℕ) (certificate : Option S.Certificate) →
+    ghost one_a_term: { (elector : Self) (one other : positions.Round) (term : ℕ)
+        (certificate : Option S.Certificate) →
         one.epoch ≡ other.epoch →
         HoldsView (terms_of elector).term_length term one.view →
         HoldsView (terms_of elector).term_length term other.view →
@@ -87,5 +90,6 @@ pub trait Elector<S: CertificateScheme>: Clone {
 
     /// A clone elects alike.
     ghost clones: { (elector copy : Self) →
-        Self.is_clone elector copy → ElectAlike mode_of terms_of participants_of leader_of elector copy };
+        Self.is_clone elector copy →
+        ElectAlike mode_of terms_of participants_of leader_of elector copy };
 }

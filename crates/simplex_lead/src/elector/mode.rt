@@ -8,7 +8,7 @@ use simplex_base::values::{EqByParts, ExactClone};
 /// How an elector uses the certificate that leads to a view.
 #[derive(Clone, Copy, Debug, PartialEq, Eq)]
 pub enum Mode {
-    /// Leaders are fixed when the elector is built, whatever the certificate.
+    /// Leaders are fixed when the elector is built, the same for every certificate.
     Scheduled,
     /// Leaders may depend on the certificate.
     Dynamic,

@@ -7,7 +7,7 @@ ghost use Rattle.std.specs.Int.{to_be_bytes, w32};
 ghost use Rattle.std.specs.Option.{option_copied};
 ghost use Rattle.simplex_base.specs.Positions as positions;
 ghost use Rattle.simplex_base.specs.Terms.{HoldsView};
-ghost use Rattle.simplex_lead.specs.Structure.{CanBeStable, rotating};
+ghost use Rattle.simplex_lead.specs.Terms.{CanBeStable, rotating};
 ghost use Rattle.simplex_lead.specs.Rotation.{IsOrder, IsRotation, leader_of_round, EachLeadsOnce};
 
 use crate::elector::electing::{Config, Elector};
@@ -61,7 +61,8 @@ impl<H: Hasher> Default for RoundRobin<H> {
 impl<H: Hasher> RoundRobin<H> {
     /// In an order by this seed, in terms of one view. `AllocError` comes where the seed found no memory.
     pub fn shuffled(alloc: Global, seed: &[u8]) -> Result<Self, AllocError>
-        ensures { IfOk result (λ settings. settings ≡ record { seed = Some seed.now; terms = rotating }) }
+        ensures { IfOk result (λ settings.
+            settings ≡ record { seed = Some seed.now; terms = rotating }) }
     {
         Ok(RoundRobin {
             seed: Some(seed.to_vec(alloc)?),
@@ -118,7 +119,7 @@ fn ticket<H: Hasher>(seed: &[u8], participant: Participant) -> H::Digest
     H::hash(&[seed, &participant.get().to_be_bytes()])
 }
 
-/// The first so many participants.
+/// The participants below a number.
 fn numbered(alloc: Global, n: u32) -> Result<Vec<Participant>, AllocError>
     ensures { IfOk result (λ order. order.items ≡ range_with_len 0 n) }
 {
@@ -148,7 +149,8 @@ fn order_of<H: Hasher>(
     seed: Option<&[u8]>,
     n: u32,
 ) -> Result<Vec<Participant>, AllocError>
-    ensures { IfOk result (λ order. IsOrder H.Digest.cmp H.digest_of (option_copied seed.entry) n order.items) }
+    ensures { IfOk result (λ order.
+        IsOrder H.Digest.cmp H.digest_of (option_copied seed.entry) n order.items) }
 {
     let mut order = numbered(alloc, n)?;
     let Some(seed) = seed else {
@@ -164,7 +166,8 @@ impl<S: CertificateScheme, H: Hasher> Config<S> for RoundRobin<H> {
 
     type Elector = RoundRobinElector<S>;
 
-    ghost builds = { λ settings keys elector. IsRotation H.Digest.cmp H.digest_of settings (length keys) elector };
+    ghost builds = { λ settings keys elector.
+        IsRotation H.Digest.cmp H.digest_of settings (length keys) elector };
 
     fn build(
         self,
@@ -173,8 +176,10 @@ impl<S: CertificateScheme, H: Hasher> Config<S> for RoundRobin<H> {
     ) -> Result<RoundRobinElector<S>, AllocError>
         requires some { 1 ≤ length participants.now }
         requires few { length participants.now < 2 ^ 32 }
-        ensures participants { IfOk result (λ elector. length elector.order ≡ length participants.now) }
-        ensures order { IfOk result (λ elector. IsOrder H.Digest.cmp H.digest_of self.seed (length participants.now) elector.order) }
+        ensures participants { IfOk result (λ elector.
+            length elector.order ≡ length participants.now) }
+        ensures order { IfOk result (λ elector.
+            IsOrder H.Digest.cmp H.digest_of self.seed (length participants.now) elector.order) }
         // There is no other such order.
         ensures single { (other : List ℕ) →
             IsOrder H.Digest.cmp H.digest_of self.seed (length participants.now) other →
@@ -182,7 +187,8 @@ impl<S: CertificateScheme, H: Hasher> Config<S> for RoundRobin<H> {
         ensures terms { IfOk result (λ elector. elector.terms ≡ self.terms) }
         // Each leads once in as many terms as there are participants, where no sum of epoch and term wraps.
         ensures once { IfOk result (λ elector. (epoch first : ℕ) →
-            epoch + first + length participants.now ≤ 2 ^ 64 → EachLeadsOnce elector.order epoch first) }
+            epoch + first + length participants.now ≤ 2 ^ 64 →
+            EachLeadsOnce elector.order epoch first) }
     {
         let order = order_of::<H>(alloc, self.seed.as_deref(), participants.len() as u32)?;
         Ok(RoundRobinElector {
@@ -216,7 +222,8 @@ impl<S> Model for RoundRobinElector<S> {
     ghost view = { λ elector. record { order = elector.order.items; terms = elector.terms } };
 
     ghost invariant = { λ elector.
-        IsArrangement (length elector.order.items) elector.order.items × (0 < length elector.order.items) };
+        IsArrangement (length elector.order.items) elector.order.items ×
+        (0 < length elector.order.items) };
 }
 
 impl<S> Clone for RoundRobinElector<S> {
@@ -275,7 +282,8 @@ impl<S: CertificateScheme> Elector<S> for RoundRobinElector<S> {
         // Each round of the same term of the epoch has the same leader.
         ensures same { (term : ℕ) → HoldsView self.now.terms.term_length term round.view →
             (other : positions.Round) → other.epoch ≡ round.epoch →
-            HoldsView self.now.terms.term_length term other.view → result ≡ leader_of_round self.now other }
+            HoldsView self.now.terms.term_length term other.view →
+            result ≡ leader_of_round self.now other }
     {
         self.leader(round)
     }

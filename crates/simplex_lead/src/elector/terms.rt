@@ -2,7 +2,7 @@
 
 ghost use Rattle.std.specs.Prelude.{◌≡◌, ◌<◌, ◌↔◌, ◌&&◌, IsTrue, IsSome, nat_eq, refl};
 ghost use Rattle.std.specs.Option.{option_eq};
-ghost use Rattle.simplex_lead.specs.Structure.{CanBeStable, rotating};
+ghost use Rattle.simplex_lead.specs.Terms.{CanBeStable, rotating};
 
 use simplex_base::positions::{TermLength, ViewDelta};
 use simplex_base::values::{EqByParts, ExactClone};
@@ -19,7 +19,7 @@ pub struct Terms {
 }
 
 impl Model for Terms {
-    ghost use Rattle.simplex_lead.specs.Structure as structure;
+    ghost use Rattle.simplex_lead.specs.Terms as structure;
 
     ghost Value = { structure.Terms };
 
@@ -54,7 +54,7 @@ impl EqByParts for Terms {
     ghost equal = { λ x y. refl };
 }
 
-/// Whether terms of so many views can have this timeout: they have more than one view, and it is not zero.
+/// Whether terms of this many views can have this timeout: they have more than one view, and it is not zero.
 pub fn can_be_stable(term_length: TermLength, stall_timeout: Duration) -> bool
     ensures { IsTrue result ↔ CanBeStable term_length stall_timeout }
 {
@@ -74,7 +74,7 @@ impl Terms {
     }
 
     /// Terms of several views with one leader each. A node gives a term up once a view of it has stalled for
-    /// this time, and runs at most so many views ahead within it. [`can_be_stable`] tells whether there are
+    /// this time, and runs at most this many views ahead within it. [`can_be_stable`] returns whether there are
     /// such terms.
     pub fn stable(
         term_length: TermLength,

@@ -13,7 +13,7 @@ use crate::types::nullify::Nullify;
 use crate::types::vote::Vote;
 use simplex_base::codec::error::Error;
 use simplex_base::codec::unions::{Tagged, read_tagged, write_tagged};
-use simplex_base::codec::{EncodeSize, Fixed, Read, Spell, Write};
+use simplex_base::codec::{EncodeSize, Encoding, Fixed, Read, Write};
 use simplex_base::positions::{Round, Roundable};
 use simplex_base::values::EqByParts;
 use simplex_scheme::scheme::{CertificateScheme, Digest};
@@ -47,7 +47,8 @@ impl<S: CertificateScheme, D: Digest> Artifact<S, D> {
     pub fn clone(&self) -> Result<Self, AllocError>
         ensures parts { IfOk result (λ copy. IsArtifactClone S.Certificate.is_clone self.now copy) }
         // Where a certificate's clone is the certificate, this one's is this artifact.
-        ensures same { ClonesCertificate S.Certificate.is_clone self.now → IfOk result (λ copy. copy ≡ self.now) }
+        ensures same { ClonesCertificate S.Certificate.is_clone self.now →
+            IfOk result (λ copy. copy ≡ self.now) }
         ensures refused { IfErr result (λ _. IsTrue (has_certificate self.now)) }
     {
         match self {
@@ -136,12 +137,14 @@ impl<S: CertificateScheme, D: Digest> Roundable for Artifact<S, D> {
     }
 }
 
-impl<S: CertificateScheme, D: Digest> Spell for Artifact<S, D> {
-    ghost use Rattle.simplex_votes.specs.Artifact.{IsArtifact, artifact_spelling};
+impl<S: CertificateScheme, D: Digest> Encoding for Artifact<S, D> {
+    ghost use Rattle.simplex_votes.specs.Artifact.{IsArtifact, artifact_encoding};
 
-    ghost is_value = { IsArtifact (format_of ⟦<D as Read>⟧) S.Certificate.is_value (format_of ⟦<S::Signature as Read>⟧) };
+    ghost is_value = { IsArtifact (format_of ⟦<D as Read>⟧) S.Certificate.is_value
+        (format_of ⟦<S::Signature as Read>⟧) };
 
-    ghost spelling = { artifact_spelling (format_of ⟦<D as Read>⟧) S.Certificate.spelling (format_of ⟦<S::Signature as Read>⟧) };
+    ghost encoding = { artifact_encoding (format_of ⟦<D as Read>⟧) S.Certificate.encoding
+        (format_of ⟦<S::Signature as Read>⟧) };
 }
 
 impl<S: CertificateScheme, D: Digest> Write for Artifact<S, D> {
@@ -183,9 +186,12 @@ impl<S: CertificateScheme, D: Digest> Read for Artifact<S, D> {
 
     type Cfg = u32;
 
-    ghost fits = { λ bound. (artifact_format (format_of ⟦<D as Read>⟧) (format_under ⟦<S::Certificate as Read>⟧ bound) (format_of ⟦<S::Signature as Read>⟧)).is_value };
+    ghost fits = { λ bound. (artifact_format (format_of ⟦<D as Read>⟧)
+        (format_under ⟦<S::Certificate as Read>⟧ bound) (format_of ⟦<S::Signature as Read>⟧)).is_value };
 
-    ghost reading = { λ bound. (artifact_format (format_of ⟦<D as Read>⟧) (format_under ⟦<S::Certificate as Read>⟧ bound) (format_of ⟦<S::Signature as Read>⟧)).reading };
+    ghost reading = { λ bound.
+        (artifact_format (format_of ⟦<D as Read>⟧) (format_under ⟦<S::Certificate as Read>⟧ bound)
+        (format_of ⟦<S::Signature as Read>⟧)).reading };
 
     ghost takes_memory = { S.Certificate.takes_memory };
 
@@ -193,7 +199,8 @@ impl<S: CertificateScheme, D: Digest> Read for Artifact<S, D> {
         read_tagged(alloc, input, bound)
     }
 
-    ghost lawful = { λ bound. artifact_lawful _ _ _ D.lawful (S.Certificate.lawful bound) S.Signature.lawful };
+    ghost lawful = { λ bound.
+        artifact_lawful _ _ _ D.lawful (S.Certificate.lawful bound) S.Signature.lawful };
 }
 
 impl<S: CertificateScheme, D: Digest> Tagged for Artifact<S, D> {
@@ -201,7 +208,9 @@ impl<S: CertificateScheme, D: Digest> Tagged for Artifact<S, D> {
 
     type Cfg = u32;
 
-    ghost branches = { λ bound. artifact_branches (format_of ⟦<D as Read>⟧) (format_under ⟦<S::Certificate as Read>⟧ bound) (format_of ⟦<S::Signature as Read>⟧) };
+    ghost branches = { λ bound.
+        artifact_branches (format_of ⟦<D as Read>⟧) (format_under ⟦<S::Certificate as Read>⟧ bound)
+        (format_of ⟦<S::Signature as Read>⟧) };
 
     ghost takes_memory = { S.Certificate.takes_memory };
 

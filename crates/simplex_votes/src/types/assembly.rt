@@ -117,7 +117,9 @@ fn has_signer<T: Attributable>(signed: &[T], signer: Participant) -> bool
 /// Whether the signers are distinct participants out of this many. No memory is taken for it: where signers
 /// ascend each is looked at once, and one that is below an earlier one is compared to all before it.
 fn are_distinct<T: Attributable>(signed: &[T], participants: usize) -> bool
-    ensures { IsTrue result ↔ (IsDistinct nat_eq (map T.signer_of signed.now) × All (λ one. T.signer_of one < participants) signed.now) }
+    ensures { IsTrue result ↔
+        (IsDistinct nat_eq (map T.signer_of signed.now) ×
+        All (λ one. T.signer_of one < participants) signed.now) }
 {
     let mut above = 0;
     'signed: for place in 0..signed.len() {
@@ -166,21 +168,25 @@ fn attestations<S: SchemeTypes, V: Attested<S>>(
 
 /// The certificate of votes whose signers are distinct and in the committee. Fewer than a quorum are refused by
 /// `InsufficientAttestations`, the quorum and their number, and then no memory is taken. From a quorum on there is
-/// a certificate, or memory was refused. It certifies whatever subject all the votes are good for.
+/// a certificate, or memory was refused. It certifies whatever subject all the votes are valid for.
 pub fn assemble<S: Scheme<D>, D: Digest, V: Attested<S>>(
     alloc: Global,
     scheme: &S,
     votes: &[V],
 ) -> Result<S::Certificate, AssemblyError>
     requires distinct { IsDistinct nat_eq (signers_of (map V.attestation_of votes.now)) }
-    requires members { All (λ a. a.signer < length (S.keys scheme.now)) (map V.attestation_of votes.now) }
+    requires members { All (λ a.
+        a.signer < length (S.keys scheme.now)) (map V.attestation_of votes.now) }
     ensures below { length votes.now < quorum_of (length (S.keys scheme.now)) →
-        result ≡ Err (AssemblyError.InsufficientAttestations (quorum_of (length (S.keys scheme.now))) (length votes.now)) }
+        result ≡ Err (AssemblyError.InsufficientAttestations
+        (quorum_of (length (S.keys scheme.now))) (length votes.now)) }
     ensures enough { quorum_of (length (S.keys scheme.now)) ≤ length votes.now →
         IfErr result (λ error. error ≡ AssemblyError.OutOfMemory) }
-    ensures made { IfOk result (λ certificate. S.made_of (map V.attestation_of votes.now) certificate) }
+    ensures made { IfOk result (λ certificate.
+        S.made_of (map V.attestation_of votes.now) certificate) }
     ensures certified { IfOk result (λ certificate. (subject : SubjectValue D) →
-        All (λ v. S.good scheme.now subject (V.attestation_of v).signer (V.attestation_of v).signature ≡ true) votes.now →
+        All (λ v. S.good scheme.now subject (V.attestation_of v).signer
+        (V.attestation_of v).signature ≡ true) votes.now →
         S.certified scheme.now subject certificate ≡ true) }
 {
     let quorum = quorum(scheme.participants().len() as u32);

@@ -8,7 +8,7 @@ use crate::types::notarization::Notarization;
 use crate::types::nullification::Nullification;
 use simplex_base::codec::error::Error;
 use simplex_base::codec::unions::{Tagged, read_tagged, write_tagged};
-use simplex_base::codec::{EncodeSize, Fixed, FixedSize, MaxEncodeSize, Read, Spell, Write};
+use simplex_base::codec::{EncodeSize, Encoding, Fixed, FixedSize, MaxEncodeSize, Read, Write};
 use simplex_base::positions::{Round, Roundable};
 use simplex_base::values::{EqByParts, ExactClone};
 use simplex_scheme::proposal::Proposal;
@@ -81,7 +81,7 @@ pub enum Certificate<S: CertificateScheme, D: Digest> {
 }
 
 impl<S: CertificateScheme, D: Digest> Certificate<S, D> {
-    ghost use Rattle.simplex_votes.specs.Unions.{certificate_kind, certificate_subject, certificate_in, IsCertificate, certificate_spelling};
+    ghost use Rattle.simplex_votes.specs.Unions.{certificate_kind, certificate_subject, certificate_in, IsCertificate, certificate_encoding};
 
     /// The kind of the message.
     pub fn kind(&self) -> Kind
@@ -96,10 +96,13 @@ impl<S: CertificateScheme, D: Digest> Certificate<S, D> {
 
     /// The same message with a clone of the certificate.
     pub fn clone(&self) -> Result<Self, AllocError>
-        ensures parts { IfOk result (λ copy. (certificate_subject copy ≡ certificate_subject self.now) ×
+        ensures parts { IfOk result (λ copy.
+            (certificate_subject copy ≡ certificate_subject self.now) ×
             S.Certificate.is_clone (certificate_in self.now) (certificate_in copy)) }
         // Where a certificate's clone is the certificate, this one's is this message.
-        ensures same { ((copy : S.Certificate) → S.Certificate.is_clone (certificate_in self.now) copy → copy ≡ certificate_in self.now) →
+        ensures same { ((copy : S.Certificate) →
+            S.Certificate.is_clone (certificate_in self.now) copy →
+            copy ≡ certificate_in self.now) →
             IfOk result (λ copy. copy ≡ self.now) }
     {
         match self {
@@ -115,7 +118,8 @@ impl<S: CertificateScheme, D: Digest> Certificate<S, D> {
         ensures size { result ≡ 31 + D.SIZE + S.max_size participants }
         ensures within { (c : Certificate S D S.Certificate S.PublicKey S.Signature) →
             IsCertificate (format_of ⟦<D as Read>⟧) (S.Certificate.fits participants) c →
-            length (certificate_spelling (format_of ⟦<D as Read>⟧) S.Certificate.spelling c) ≤ result }
+            length (certificate_encoding (format_of ⟦<D as Read>⟧) S.Certificate.encoding c) ≤
+            result }
     {
         let proposal = Proposal::<D>::max_encode_size();
         1 + proposal + S::max_certificate_size(participants)
@@ -142,7 +146,8 @@ impl<S: CertificateScheme, D: Digest> EqByParts for Certificate<S, D> {
     ghost use Rattle.simplex_votes.specs.Unions.{same_certificate};
     ghost use Rattle.simplex_votes.specs.declared.types.certificate.Certificate.TheVariants.{Notarization, Nullification, Finalization};
 
-    ghost same = { same_certificate ⟦<Notarization<S, D> as PartialEq>⟧.eq ⟦<Nullification<S> as PartialEq>⟧.eq ⟦<Finalization<S, D> as PartialEq>⟧.eq };
+    ghost same = { same_certificate ⟦<Notarization<S, D> as PartialEq>⟧.eq
+        ⟦<Nullification<S> as PartialEq>⟧.eq ⟦<Finalization<S, D> as PartialEq>⟧.eq };
 
     ghost equal = { elim [
       | Notarization _ ↦ elim [ Notarization _ ↦ refl | _ ↦ refl ]
@@ -165,12 +170,12 @@ impl<S: CertificateScheme, D: Digest> Roundable for Certificate<S, D> {
     }
 }
 
-impl<S: CertificateScheme, D: Digest> Spell for Certificate<S, D> {
-    ghost use Rattle.simplex_votes.specs.Unions.{IsCertificate, certificate_spelling};
+impl<S: CertificateScheme, D: Digest> Encoding for Certificate<S, D> {
+    ghost use Rattle.simplex_votes.specs.Unions.{IsCertificate, certificate_encoding};
 
     ghost is_value = { IsCertificate (format_of ⟦<D as Read>⟧) S.Certificate.is_value };
 
-    ghost spelling = { certificate_spelling (format_of ⟦<D as Read>⟧) S.Certificate.spelling };
+    ghost encoding = { certificate_encoding (format_of ⟦<D as Read>⟧) S.Certificate.encoding };
 }
 
 impl<S: CertificateScheme, D: Digest> Write for Certificate<S, D> {
@@ -200,9 +205,11 @@ impl<S: CertificateScheme, D: Digest> Read for Certificate<S, D> {
 
     type Cfg = u32;
 
-    ghost fits = { λ bound. (certificate_format (format_of ⟦<D as Read>⟧) (format_under ⟦<S::Certificate as Read>⟧ bound)).is_value };
+    ghost fits = { λ bound. (certificate_format (format_of ⟦<D as Read>⟧)
+        (format_under ⟦<S::Certificate as Read>⟧ bound)).is_value };
 
-    ghost reading = { λ bound. (certificate_format (format_of ⟦<D as Read>⟧) (format_under ⟦<S::Certificate as Read>⟧ bound)).reading };
+    ghost reading = { λ bound.
+        (certificate_format (format_of ⟦<D as Read>⟧) (format_under ⟦<S::Certificate as Read>⟧ bound)).reading };
 
     ghost takes_memory = { S.Certificate.takes_memory };
 
@@ -218,7 +225,8 @@ impl<S: CertificateScheme, D: Digest> Tagged for Certificate<S, D> {
 
     type Cfg = u32;
 
-    ghost branches = { λ bound. certificate_branches (format_of ⟦<D as Read>⟧) (format_under ⟦<S::Certificate as Read>⟧ bound) };
+    ghost branches = { λ bound.
+        certificate_branches (format_of ⟦<D as Read>⟧) (format_under ⟦<S::Certificate as Read>⟧ bound) };
 
     ghost takes_memory = { S.Certificate.takes_memory };
 

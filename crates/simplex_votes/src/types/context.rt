@@ -6,7 +6,7 @@ ghost use Rattle.simplex_base.specs.Readable.{format_of};
 use simplex_base::codec::error::Error;
 use simplex_base::codec::parts::{size_both, write_both};
 use simplex_base::codec::{
-    EncodeSize, Fixed, FixedSize, MaxEncodeSize, Read, ReadExt, Spell, Write,
+    EncodeSize, Encoding, Fixed, FixedSize, MaxEncodeSize, Read, ReadExt, Write,
 };
 use simplex_base::positions::{Round, Roundable, View};
 use simplex_base::values::{EqByParts, ExactClone};
@@ -14,7 +14,7 @@ use simplex_scheme::scheme::{Digest, PublicKey};
 use std::alloc::{AllocError, Global};
 
 /// The round of a payload, the key of the round's leader, and the view and the payload of the parent that it is
-/// built on, spelled in that order.
+/// built on, encoded in that order.
 #[derive(Debug, Drop, PartialEq, Eq)]
 pub struct Context<D, P> {
     pub round: Round,
@@ -55,12 +55,12 @@ impl<D, P> Roundable for Context<D, P> {
     }
 }
 
-impl<D: Digest, P: PublicKey> Spell for Context<D, P> {
+impl<D: Digest, P: PublicKey> Encoding for Context<D, P> {
     ghost use Rattle.simplex_votes.specs.Context.{context_format};
 
     ghost is_value = { (context_format (format_of ⟦<D as Read>⟧) (format_of ⟦<P as Read>⟧)).is_value };
 
-    ghost spelling = { (context_format (format_of ⟦<D as Read>⟧) (format_of ⟦<P as Read>⟧)).spelling };
+    ghost encoding = { (context_format (format_of ⟦<D as Read>⟧) (format_of ⟦<P as Read>⟧)).encoding };
 }
 
 impl<D: Digest, P: PublicKey> Write for Context<D, P> {
@@ -87,9 +87,11 @@ impl<D: Digest, P: PublicKey> MaxEncodeSize for Context<D, P> {
         Round::max_encode_size() + P::SIZE + View::max_encode_size() + D::SIZE
     }
 
-    ghost within = { context_within (format_of ⟦<D as Read>⟧) (format_of ⟦<P as Read>⟧) D.SIZE P.SIZE D.within P.within };
+    ghost within = { context_within (format_of ⟦<D as Read>⟧) (format_of ⟦<P as Read>⟧) D.SIZE
+        P.SIZE D.within P.within };
 
-    ghost reached = { context_longest (format_of ⟦<D as Read>⟧) (format_of ⟦<P as Read>⟧) D.SIZE P.SIZE D.longest P.longest };
+    ghost reached = { context_longest (format_of ⟦<D as Read>⟧) (format_of ⟦<P as Read>⟧) D.SIZE
+        P.SIZE D.longest P.longest };
 }
 
 impl<D: Digest, P: PublicKey> Read for Context<D, P> {

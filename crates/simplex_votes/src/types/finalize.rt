@@ -8,7 +8,7 @@ use crate::types::attributable::Attributable;
 use simplex_base::codec::error::Error;
 use simplex_base::codec::parts::{size_both, write_both};
 use simplex_base::codec::{
-    EncodeSize, Fixed, FixedSize, MaxEncodeSize, Read, ReadExt, Spell, Write,
+    EncodeSize, Encoding, Fixed, FixedSize, MaxEncodeSize, Read, ReadExt, Write,
 };
 use simplex_base::positions::{Participant, Round, Roundable};
 use simplex_base::values::{EqByParts, ExactClone};
@@ -17,7 +17,7 @@ use simplex_scheme::scheme::{Attestation, Digest, Scheme, SchemeTypes};
 use simplex_scheme::subject::Subject;
 use std::alloc::{AllocError, Global};
 
-/// A vote to finalize a proposal, spelled as the proposal and the attestation.
+/// A vote to finalize a proposal, encoded as the proposal and the attestation.
 #[derive(Drop)]
 #[derive_where(PartialEq, Eq, Hash)]
 pub struct Finalize<S: SchemeTypes, D: Digest> {
@@ -58,7 +58,8 @@ impl<S: Scheme<D>, D: Digest> Finalize<S, D> {
         proposal: Proposal<D>,
     ) -> Result<Option<Self>, AllocError>
         ensures none { S.own scheme.now ≡ None → result ≡ Ok None }
-        ensures signed { IfOk result (λ signed. MatchOption signed (S.own scheme.now ≡ None) (λ vote.
+        ensures signed { IfOk result (λ signed.
+            MatchOption signed (S.own scheme.now ≡ None) (λ vote.
             (vote.proposal ≡ proposal) × (S.own scheme.now ≡ Some vote.attestation.signer) ×
             (S.good scheme.now (Finalizes proposal) vote.attestation.signer vote.attestation.signature ≡ true))) }
     {
@@ -76,7 +77,8 @@ impl<S: Scheme<D>, D: Digest> Finalize<S, D> {
 
     /// Whether the signature is one of the signer for the proposal.
     pub fn verify(&self, scheme: &S) -> bool
-        ensures { result ≡ S.good scheme.now (Finalizes self.now.proposal) self.now.attestation.signer self.now.attestation.signature }
+        ensures { result ≡ S.good scheme.now (Finalizes self.now.proposal)
+            self.now.attestation.signer self.now.attestation.signature }
     {
         let subject = Subject::Finalize {
             proposal: &self.proposal,
@@ -90,7 +92,8 @@ impl<S: SchemeTypes, D: Digest> ExactClone for Finalize<S, D> {
 }
 
 impl<S: SchemeTypes, D: Digest> EqByParts for Finalize<S, D> {
-    ghost same = { λ x y. ⟦<Proposal<D> as PartialEq>⟧.eq x.proposal y.proposal && ⟦<Attestation<S> as PartialEq>⟧.eq x.attestation y.attestation };
+    ghost same = { λ x y. ⟦<Proposal<D> as PartialEq>⟧.eq x.proposal y.proposal &&
+        ⟦<Attestation<S> as PartialEq>⟧.eq x.attestation y.attestation };
 
     ghost equal = { λ x y. refl };
 }
@@ -111,12 +114,12 @@ impl<S: SchemeTypes, D: Digest> Roundable for Finalize<S, D> {
     }
 }
 
-impl<S: SchemeTypes, D: Digest> Spell for Finalize<S, D> {
-    ghost use Rattle.simplex_votes.specs.Spellings.{finalize_format};
+impl<S: SchemeTypes, D: Digest> Encoding for Finalize<S, D> {
+    ghost use Rattle.simplex_votes.specs.Encodings.{finalize_format};
 
     ghost is_value = { (finalize_format (format_of ⟦<D as Read>⟧) (format_of ⟦<S::Signature as Read>⟧)).is_value };
 
-    ghost spelling = { (finalize_format (format_of ⟦<D as Read>⟧) (format_of ⟦<S::Signature as Read>⟧)).spelling };
+    ghost encoding = { (finalize_format (format_of ⟦<D as Read>⟧) (format_of ⟦<S::Signature as Read>⟧)).encoding };
 }
 
 impl<S: SchemeTypes, D: Digest> Write for Finalize<S, D> {
@@ -134,7 +137,7 @@ impl<S: SchemeTypes, D: Digest> EncodeSize for Finalize<S, D> {
 }
 
 impl<S: SchemeTypes, D: Digest> MaxEncodeSize for Finalize<S, D> {
-    ghost use Rattle.simplex_votes.specs.Spellings.{finalize_within, finalize_longest};
+    ghost use Rattle.simplex_votes.specs.Encodings.{finalize_within, finalize_longest};
 
     ghost max_size = { 35 + D.SIZE + S.Signature.SIZE };
 
@@ -142,13 +145,15 @@ impl<S: SchemeTypes, D: Digest> MaxEncodeSize for Finalize<S, D> {
         Proposal::<D>::max_encode_size() + Attestation::<S>::max_encode_size()
     }
 
-    ghost within = { finalize_within (format_of ⟦<D as Read>⟧) (format_of ⟦<S::Signature as Read>⟧) D.SIZE S.Signature.SIZE D.within S.Signature.within };
+    ghost within = { finalize_within (format_of ⟦<D as Read>⟧) (format_of ⟦<S::Signature as Read>⟧)
+        D.SIZE S.Signature.SIZE D.within S.Signature.within };
 
-    ghost reached = { finalize_longest (format_of ⟦<D as Read>⟧) (format_of ⟦<S::Signature as Read>⟧) D.SIZE S.Signature.SIZE D.longest S.Signature.longest };
+    ghost reached = { finalize_longest (format_of ⟦<D as Read>⟧)
+        (format_of ⟦<S::Signature as Read>⟧) D.SIZE S.Signature.SIZE D.longest S.Signature.longest };
 }
 
 impl<S: SchemeTypes, D: Digest> Read for Finalize<S, D> {
-    ghost use Rattle.simplex_votes.specs.Spellings.{finalize_format, finalize_lawful};
+    ghost use Rattle.simplex_votes.specs.Encodings.{finalize_format, finalize_lawful};
 
     type Cfg = ();
 

@@ -9,7 +9,7 @@ use crate::types::assembly::{assemble, stand_together};
 use crate::types::notarize::Notarize;
 use simplex_base::codec::error::Error;
 use simplex_base::codec::parts::{size_both, write_both};
-use simplex_base::codec::{EncodeSize, Fixed, FixedSize, MaxEncodeSize, Read, Spell, Write};
+use simplex_base::codec::{EncodeSize, Encoding, Fixed, FixedSize, MaxEncodeSize, Read, Write};
 use simplex_base::positions::{Round, Roundable, View};
 use simplex_base::values::EqByParts;
 use simplex_scheme::proposal::Proposal;
@@ -19,7 +19,7 @@ use simplex_scheme::scheme::{
 use simplex_scheme::subject::Subject;
 use std::alloc::{AllocError, Global};
 
-/// A proposal with a certificate of votes to notarize it, spelled in that order. It is read under the
+/// A proposal with a certificate of votes to notarize it, encoded in that order. It is read under the
 /// committee's bound.
 #[derive(Drop)]
 #[derive_where(PartialEq, Eq, Hash)]
@@ -29,13 +29,15 @@ pub struct Notarization<S: CertificateScheme, D: Digest> {
 }
 
 impl<S: CertificateScheme, D: Digest> Notarization<S, D> {
-    ghost use Rattle.simplex_votes.specs.Spellings.{IsNotarization, notarization_spelling};
+    ghost use Rattle.simplex_votes.specs.Encodings.{IsNotarization, notarization_encoding};
 
     /// The same proposal with a clone of the certificate.
     pub fn clone(&self) -> Result<Self, AllocError>
-        ensures parts { IfOk result (λ copy. (copy.proposal ≡ self.now.proposal) × S.Certificate.is_clone self.now.certificate copy.certificate) }
+        ensures parts { IfOk result (λ copy. (copy.proposal ≡ self.now.proposal) ×
+            S.Certificate.is_clone self.now.certificate copy.certificate) }
         // Where a certificate's clone is the certificate, this one's is this notarization.
-        ensures same { ((copy : S.Certificate) → S.Certificate.is_clone self.now.certificate copy → copy ≡ self.now.certificate) →
+        ensures same { ((copy : S.Certificate) → S.Certificate.is_clone self.now.certificate copy →
+            copy ≡ self.now.certificate) →
             IfOk result (λ copy. copy ≡ self.now) }
     {
         let certificate = self.certificate.clone()?;
@@ -51,7 +53,8 @@ impl<S: CertificateScheme, D: Digest> Notarization<S, D> {
         ensures size { result ≡ 30 + D.SIZE + S.max_size participants }
         ensures within { (n : Notarization S D S.Certificate S.PublicKey S.Signature) →
             IsNotarization (format_of ⟦<D as Read>⟧) (S.Certificate.fits participants) n →
-            length (notarization_spelling (format_of ⟦<D as Read>⟧) S.Certificate.spelling n) ≤ result }
+            length (notarization_encoding (format_of ⟦<D as Read>⟧) S.Certificate.encoding n) ≤
+            result }
     {
         let proposal = Round::max_encode_size() + View::max_encode_size() + D::SIZE;
         proposal + S::max_certificate_size(participants)
@@ -79,14 +82,15 @@ impl<S: Scheme<D>, D: Digest> Notarization<S, D> {
     pub fn can_assemble(scheme: &S, votes: &[Notarize<S, D>]) -> bool
         ensures can { IsTrue result ↔ CanNotarize (length (S.keys scheme.now)) votes.now }
         // So are votes for one proposal in the order of their signers.
-        ensures ordered { StandInOrder (λ v. v.proposal) (λ v. v.attestation) (length (S.keys scheme.now)) votes.now → IsTrue result }
+        ensures ordered { StandInOrder (λ v. v.proposal) (λ v. v.attestation)
+            (length (S.keys scheme.now)) votes.now → IsTrue result }
     {
         stand_together(votes, scheme.participants().len())
     }
 
     /// Makes a notarization of votes, which [`can_assemble`](Notarization::can_assemble) has to allow. Fewer than a
     /// quorum are refused by `InsufficientAttestations`, the quorum and their number, and then no memory is taken.
-    /// From a quorum on there is a notarization, or memory was refused. Good votes make a certified one.
+    /// From a quorum on there is a notarization, or memory was refused. Valid votes make a certified one.
     pub fn from_notarizes(
         alloc: Global,
         scheme: &S,
@@ -94,14 +98,19 @@ impl<S: Scheme<D>, D: Digest> Notarization<S, D> {
     ) -> Result<Self, AssemblyError>
         requires { CanNotarize (length (S.keys scheme.now)) votes.now }
         ensures below { length votes.now < quorum_of (length (S.keys scheme.now)) →
-            result ≡ Err (AssemblyError.InsufficientAttestations (quorum_of (length (S.keys scheme.now))) (length votes.now)) }
+            result ≡ Err (AssemblyError.InsufficientAttestations
+            (quorum_of (length (S.keys scheme.now))) (length votes.now)) }
         ensures enough { quorum_of (length (S.keys scheme.now)) ≤ length votes.now →
             IfErr result (λ error. error ≡ AssemblyError.OutOfMemory) }
-        ensures proposal { IfOk result (λ notarization. All (λ vote. vote.proposal ≡ notarization.proposal) votes.now) }
-        ensures made { IfOk result (λ notarization. S.made_of (map (λ vote. vote.attestation) votes.now) notarization.certificate) }
+        ensures proposal { IfOk result (λ notarization.
+            All (λ vote. vote.proposal ≡ notarization.proposal) votes.now) }
+        ensures made { IfOk result (λ notarization.
+            S.made_of (map (λ vote. vote.attestation) votes.now) notarization.certificate) }
         ensures certified { IfOk result (λ notarization.
-            All (λ vote. S.good scheme.now (Notarizes vote.proposal) vote.attestation.signer vote.attestation.signature ≡ true) votes.now →
-            S.certified scheme.now (Notarizes notarization.proposal) notarization.certificate ≡ true) }
+            All (λ vote. S.good scheme.now (Notarizes vote.proposal) vote.attestation.signer
+            vote.attestation.signature ≡ true) votes.now →
+            S.certified scheme.now (Notarizes notarization.proposal) notarization.certificate ≡
+            true) }
     {
         match assemble(alloc, scheme, votes) {
             Ok(certificate) => Ok(Notarization {
@@ -120,21 +129,27 @@ impl<S: Scheme<D>, D: Digest> Notarization<S, D> {
     ) -> Result<Self, AssemblyError>
         requires { CanNotarize (length (S.keys scheme.now)) votes.items }
         ensures below { length votes.items < quorum_of (length (S.keys scheme.now)) →
-            result ≡ Err (AssemblyError.InsufficientAttestations (quorum_of (length (S.keys scheme.now))) (length votes.items)) }
+            result ≡ Err (AssemblyError.InsufficientAttestations
+            (quorum_of (length (S.keys scheme.now))) (length votes.items)) }
         ensures enough { quorum_of (length (S.keys scheme.now)) ≤ length votes.items →
             IfErr result (λ error. error ≡ AssemblyError.OutOfMemory) }
-        ensures proposal { IfOk result (λ notarization. All (λ vote. vote.proposal ≡ notarization.proposal) votes.items) }
-        ensures made { IfOk result (λ notarization. S.made_of (map (λ vote. vote.attestation) votes.items) notarization.certificate) }
+        ensures proposal { IfOk result (λ notarization.
+            All (λ vote. vote.proposal ≡ notarization.proposal) votes.items) }
+        ensures made { IfOk result (λ notarization.
+            S.made_of (map (λ vote. vote.attestation) votes.items) notarization.certificate) }
         ensures certified { IfOk result (λ notarization.
-            All (λ vote. S.good scheme.now (Notarizes vote.proposal) vote.attestation.signer vote.attestation.signature ≡ true) votes.items →
-            S.certified scheme.now (Notarizes notarization.proposal) notarization.certificate ≡ true) }
+            All (λ vote. S.good scheme.now (Notarizes vote.proposal) vote.attestation.signer
+            vote.attestation.signature ≡ true) votes.items →
+            S.certified scheme.now (Notarizes notarization.proposal) notarization.certificate ≡
+            true) }
     {
         Notarization::from_notarizes(alloc, scheme, votes.as_slice())
     }
 }
 
 impl<S: CertificateScheme, D: Digest> EqByParts for Notarization<S, D> {
-    ghost same = { λ x y. ⟦<Proposal<D> as PartialEq>⟧.eq x.proposal y.proposal && S.Certificate.eq x.certificate y.certificate };
+    ghost same = { λ x y. ⟦<Proposal<D> as PartialEq>⟧.eq x.proposal y.proposal &&
+        S.Certificate.eq x.certificate y.certificate };
 
     ghost equal = { λ x y. refl };
 }
@@ -147,12 +162,12 @@ impl<S: CertificateScheme, D: Digest> Roundable for Notarization<S, D> {
     }
 }
 
-impl<S: CertificateScheme, D: Digest> Spell for Notarization<S, D> {
-    ghost use Rattle.simplex_votes.specs.Spellings.{IsNotarization, notarization_spelling};
+impl<S: CertificateScheme, D: Digest> Encoding for Notarization<S, D> {
+    ghost use Rattle.simplex_votes.specs.Encodings.{IsNotarization, notarization_encoding};
 
     ghost is_value = { IsNotarization (format_of ⟦<D as Read>⟧) S.Certificate.is_value };
 
-    ghost spelling = { notarization_spelling (format_of ⟦<D as Read>⟧) S.Certificate.spelling };
+    ghost encoding = { notarization_encoding (format_of ⟦<D as Read>⟧) S.Certificate.encoding };
 }
 
 impl<S: CertificateScheme, D: Digest> Write for Notarization<S, D> {
@@ -170,13 +185,15 @@ impl<S: CertificateScheme, D: Digest> EncodeSize for Notarization<S, D> {
 }
 
 impl<S: CertificateScheme, D: Digest> Read for Notarization<S, D> {
-    ghost use Rattle.simplex_votes.specs.Spellings.{notarization_format, notarization_lawful};
+    ghost use Rattle.simplex_votes.specs.Encodings.{notarization_format, notarization_lawful};
 
     type Cfg = u32;
 
-    ghost fits = { λ bound. (notarization_format (format_of ⟦<D as Read>⟧) (format_under ⟦<S::Certificate as Read>⟧ bound)).is_value };
+    ghost fits = { λ bound. (notarization_format (format_of ⟦<D as Read>⟧)
+        (format_under ⟦<S::Certificate as Read>⟧ bound)).is_value };
 
-    ghost reading = { λ bound. (notarization_format (format_of ⟦<D as Read>⟧) (format_under ⟦<S::Certificate as Read>⟧ bound)).reading };
+    ghost reading = { λ bound.
+        (notarization_format (format_of ⟦<D as Read>⟧) (format_under ⟦<S::Certificate as Read>⟧ bound)).reading };
 
     ghost takes_memory = { S.Certificate.takes_memory };
 

@@ -8,7 +8,7 @@ use crate::types::attributable::Attributable;
 use simplex_base::codec::error::Error;
 use simplex_base::codec::parts::{size_both, write_both};
 use simplex_base::codec::{
-    EncodeSize, Fixed, FixedSize, MaxEncodeSize, Read, ReadExt, Spell, Write,
+    EncodeSize, Encoding, Fixed, FixedSize, MaxEncodeSize, Read, ReadExt, Write,
 };
 use simplex_base::positions::{Participant, Round, Roundable};
 use simplex_base::values::{EqByParts, ExactClone};
@@ -17,7 +17,7 @@ use simplex_scheme::scheme::{Attestation, Digest, Scheme, SchemeTypes};
 use simplex_scheme::subject::Subject;
 use std::alloc::{AllocError, Global};
 
-/// A vote to notarize a proposal, spelled as the proposal and the attestation.
+/// A vote to notarize a proposal, encoded as the proposal and the attestation.
 #[derive(Drop)]
 #[derive_where(PartialEq, Eq, Hash)]
 pub struct Notarize<S: SchemeTypes, D: Digest> {
@@ -58,7 +58,8 @@ impl<S: Scheme<D>, D: Digest> Notarize<S, D> {
         proposal: Proposal<D>,
     ) -> Result<Option<Self>, AllocError>
         ensures none { S.own scheme.now ≡ None → result ≡ Ok None }
-        ensures signed { IfOk result (λ signed. MatchOption signed (S.own scheme.now ≡ None) (λ vote.
+        ensures signed { IfOk result (λ signed.
+            MatchOption signed (S.own scheme.now ≡ None) (λ vote.
             (vote.proposal ≡ proposal) × (S.own scheme.now ≡ Some vote.attestation.signer) ×
             (S.good scheme.now (Notarizes proposal) vote.attestation.signer vote.attestation.signature ≡ true))) }
     {
@@ -76,7 +77,8 @@ impl<S: Scheme<D>, D: Digest> Notarize<S, D> {
 
     /// Whether the signature is one of the signer for the proposal.
     pub fn verify(&self, scheme: &S) -> bool
-        ensures { result ≡ S.good scheme.now (Notarizes self.now.proposal) self.now.attestation.signer self.now.attestation.signature }
+        ensures { result ≡ S.good scheme.now (Notarizes self.now.proposal)
+            self.now.attestation.signer self.now.attestation.signature }
     {
         let subject = Subject::Notarize {
             proposal: &self.proposal,
@@ -90,7 +92,8 @@ impl<S: SchemeTypes, D: Digest> ExactClone for Notarize<S, D> {
 }
 
 impl<S: SchemeTypes, D: Digest> EqByParts for Notarize<S, D> {
-    ghost same = { λ x y. ⟦<Proposal<D> as PartialEq>⟧.eq x.proposal y.proposal && ⟦<Attestation<S> as PartialEq>⟧.eq x.attestation y.attestation };
+    ghost same = { λ x y. ⟦<Proposal<D> as PartialEq>⟧.eq x.proposal y.proposal &&
+        ⟦<Attestation<S> as PartialEq>⟧.eq x.attestation y.attestation };
 
     ghost equal = { λ x y. refl };
 }
@@ -111,12 +114,12 @@ impl<S: SchemeTypes, D: Digest> Roundable for Notarize<S, D> {
     }
 }
 
-impl<S: SchemeTypes, D: Digest> Spell for Notarize<S, D> {
-    ghost use Rattle.simplex_votes.specs.Spellings.{notarize_format};
+impl<S: SchemeTypes, D: Digest> Encoding for Notarize<S, D> {
+    ghost use Rattle.simplex_votes.specs.Encodings.{notarize_format};
 
     ghost is_value = { (notarize_format (format_of ⟦<D as Read>⟧) (format_of ⟦<S::Signature as Read>⟧)).is_value };
 
-    ghost spelling = { (notarize_format (format_of ⟦<D as Read>⟧) (format_of ⟦<S::Signature as Read>⟧)).spelling };
+    ghost encoding = { (notarize_format (format_of ⟦<D as Read>⟧) (format_of ⟦<S::Signature as Read>⟧)).encoding };
 }
 
 impl<S: SchemeTypes, D: Digest> Write for Notarize<S, D> {
@@ -134,7 +137,7 @@ impl<S: SchemeTypes, D: Digest> EncodeSize for Notarize<S, D> {
 }
 
 impl<S: SchemeTypes, D: Digest> MaxEncodeSize for Notarize<S, D> {
-    ghost use Rattle.simplex_votes.specs.Spellings.{notarize_within, notarize_longest};
+    ghost use Rattle.simplex_votes.specs.Encodings.{notarize_within, notarize_longest};
 
     ghost max_size = { 35 + D.SIZE + S.Signature.SIZE };
 
@@ -142,13 +145,15 @@ impl<S: SchemeTypes, D: Digest> MaxEncodeSize for Notarize<S, D> {
         Proposal::<D>::max_encode_size() + Attestation::<S>::max_encode_size()
     }
 
-    ghost within = { notarize_within (format_of ⟦<D as Read>⟧) (format_of ⟦<S::Signature as Read>⟧) D.SIZE S.Signature.SIZE D.within S.Signature.within };
+    ghost within = { notarize_within (format_of ⟦<D as Read>⟧) (format_of ⟦<S::Signature as Read>⟧)
+        D.SIZE S.Signature.SIZE D.within S.Signature.within };
 
-    ghost reached = { notarize_longest (format_of ⟦<D as Read>⟧) (format_of ⟦<S::Signature as Read>⟧) D.SIZE S.Signature.SIZE D.longest S.Signature.longest };
+    ghost reached = { notarize_longest (format_of ⟦<D as Read>⟧)
+        (format_of ⟦<S::Signature as Read>⟧) D.SIZE S.Signature.SIZE D.longest S.Signature.longest };
 }
 
 impl<S: SchemeTypes, D: Digest> Read for Notarize<S, D> {
-    ghost use Rattle.simplex_votes.specs.Spellings.{notarize_format, notarize_lawful};
+    ghost use Rattle.simplex_votes.specs.Encodings.{notarize_format, notarize_lawful};
 
     type Cfg = ();
 

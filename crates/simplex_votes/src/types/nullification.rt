@@ -9,7 +9,7 @@ use crate::types::assembly::{assemble, stand_together};
 use crate::types::nullify::Nullify;
 use simplex_base::codec::error::Error;
 use simplex_base::codec::parts::{size_both, write_both};
-use simplex_base::codec::{EncodeSize, MaxEncodeSize, Read, Spell, Write};
+use simplex_base::codec::{EncodeSize, Encoding, MaxEncodeSize, Read, Write};
 use simplex_base::positions::{Round, Roundable};
 use simplex_base::values::EqByParts;
 use simplex_scheme::scheme::{
@@ -18,7 +18,7 @@ use simplex_scheme::scheme::{
 use simplex_scheme::subject::Subject;
 use std::alloc::{AllocError, Global};
 
-/// A round with a certificate of votes to nullify it, spelled in that order. It is read under the committee's
+/// A round with a certificate of votes to nullify it, encoded in that order. It is read under the committee's
 /// bound.
 #[derive(Drop)]
 #[derive_where(PartialEq, Eq, Hash)]
@@ -28,14 +28,16 @@ pub struct Nullification<S: CertificateScheme> {
 }
 
 impl<S: CertificateScheme> Nullification<S> {
-    ghost use Rattle.simplex_votes.specs.Spellings.{IsNullification, nullification_spelling};
+    ghost use Rattle.simplex_votes.specs.Encodings.{IsNullification, nullification_encoding};
     ghost use Rattle.simplex_votes.specs.Assembly.{CanNullify, StandInOrder};
 
     /// The same round with a clone of the certificate.
     pub fn clone(&self) -> Result<Self, AllocError>
-        ensures parts { IfOk result (λ copy. (copy.round ≡ self.now.round) × S.Certificate.is_clone self.now.certificate copy.certificate) }
+        ensures parts { IfOk result (λ copy. (copy.round ≡ self.now.round) ×
+            S.Certificate.is_clone self.now.certificate copy.certificate) }
         // Where a certificate's clone is the certificate, this one's is this nullification.
-        ensures same { ((copy : S.Certificate) → S.Certificate.is_clone self.now.certificate copy → copy ≡ self.now.certificate) →
+        ensures same { ((copy : S.Certificate) → S.Certificate.is_clone self.now.certificate copy →
+            copy ≡ self.now.certificate) →
             IfOk result (λ copy. copy ≡ self.now) }
     {
         let certificate = self.certificate.clone()?;
@@ -51,7 +53,7 @@ impl<S: CertificateScheme> Nullification<S> {
         ensures size { result ≡ 20 + S.max_size participants }
         ensures within { (n : Nullification S S.Certificate S.PublicKey S.Signature) →
             IsNullification (S.Certificate.fits participants) n →
-            length (nullification_spelling S.Certificate.spelling n) ≤ result }
+            length (nullification_encoding S.Certificate.encoding n) ≤ result }
     {
         Round::max_encode_size() + S::max_certificate_size(participants)
     }
@@ -74,14 +76,15 @@ impl<S: CertificateScheme> Nullification<S> {
         S: Scheme<D>,
         ensures can { IsTrue result ↔ CanNullify (length (S.keys scheme.now)) votes.now }
         // So are votes for one round in the order of their signers.
-        ensures ordered { StandInOrder (λ v. v.round) (λ v. v.attestation) (length (S.keys scheme.now)) votes.now → IsTrue result }
+        ensures ordered { StandInOrder (λ v. v.round) (λ v. v.attestation)
+            (length (S.keys scheme.now)) votes.now → IsTrue result }
     {
         stand_together(votes, scheme.participants().len())
     }
 
     /// Makes a nullification of votes, which [`can_assemble`](Nullification::can_assemble) has to allow. Fewer than
     /// a quorum are refused by `InsufficientAttestations`, the quorum and their number, and then no memory is taken.
-    /// From a quorum on there is a nullification, or memory was refused. Good votes make a certified one.
+    /// From a quorum on there is a nullification, or memory was refused. Valid votes make a certified one.
     pub fn from_nullifies<'a, D: Digest + 'a>(
         alloc: Global,
         scheme: &'a S,
@@ -91,14 +94,19 @@ impl<S: CertificateScheme> Nullification<S> {
         S: Scheme<D>,
         requires { CanNullify (length (S.keys scheme.now)) votes.now }
         ensures below { length votes.now < quorum_of (length (S.keys scheme.now)) →
-            result ≡ Err (AssemblyError.InsufficientAttestations (quorum_of (length (S.keys scheme.now))) (length votes.now)) }
+            result ≡ Err (AssemblyError.InsufficientAttestations
+            (quorum_of (length (S.keys scheme.now))) (length votes.now)) }
         ensures enough { quorum_of (length (S.keys scheme.now)) ≤ length votes.now →
             IfErr result (λ error. error ≡ AssemblyError.OutOfMemory) }
-        ensures round { IfOk result (λ nullification. All (λ vote. vote.round ≡ nullification.round) votes.now) }
-        ensures made { IfOk result (λ nullification. S.made_of (map (λ vote. vote.attestation) votes.now) nullification.certificate) }
+        ensures round { IfOk result (λ nullification.
+            All (λ vote. vote.round ≡ nullification.round) votes.now) }
+        ensures made { IfOk result (λ nullification.
+            S.made_of (map (λ vote. vote.attestation) votes.now) nullification.certificate) }
         ensures certified { IfOk result (λ nullification.
-            All (λ vote. S.good scheme.now (Nullifies vote.round) vote.attestation.signer vote.attestation.signature ≡ true) votes.now →
-            S.certified scheme.now (Nullifies nullification.round) nullification.certificate ≡ true) }
+            All (λ vote. S.good scheme.now (Nullifies vote.round) vote.attestation.signer
+            vote.attestation.signature ≡ true) votes.now →
+            S.certified scheme.now (Nullifies nullification.round) nullification.certificate ≡
+            true) }
     {
         match assemble(alloc, scheme, votes) {
             Ok(certificate) => Ok(Nullification {
@@ -119,21 +127,27 @@ impl<S: CertificateScheme> Nullification<S> {
         S: Scheme<D>,
         requires { CanNullify (length (S.keys scheme.now)) votes.items }
         ensures below { length votes.items < quorum_of (length (S.keys scheme.now)) →
-            result ≡ Err (AssemblyError.InsufficientAttestations (quorum_of (length (S.keys scheme.now))) (length votes.items)) }
+            result ≡ Err (AssemblyError.InsufficientAttestations
+            (quorum_of (length (S.keys scheme.now))) (length votes.items)) }
         ensures enough { quorum_of (length (S.keys scheme.now)) ≤ length votes.items →
             IfErr result (λ error. error ≡ AssemblyError.OutOfMemory) }
-        ensures round { IfOk result (λ nullification. All (λ vote. vote.round ≡ nullification.round) votes.items) }
-        ensures made { IfOk result (λ nullification. S.made_of (map (λ vote. vote.attestation) votes.items) nullification.certificate) }
+        ensures round { IfOk result (λ nullification.
+            All (λ vote. vote.round ≡ nullification.round) votes.items) }
+        ensures made { IfOk result (λ nullification.
+            S.made_of (map (λ vote. vote.attestation) votes.items) nullification.certificate) }
         ensures certified { IfOk result (λ nullification.
-            All (λ vote. S.good scheme.now (Nullifies vote.round) vote.attestation.signer vote.attestation.signature ≡ true) votes.items →
-            S.certified scheme.now (Nullifies nullification.round) nullification.certificate ≡ true) }
+            All (λ vote. S.good scheme.now (Nullifies vote.round) vote.attestation.signer
+            vote.attestation.signature ≡ true) votes.items →
+            S.certified scheme.now (Nullifies nullification.round) nullification.certificate ≡
+            true) }
     {
         Nullification::from_nullifies(alloc, scheme, votes.as_slice())
     }
 }
 
 impl<S: CertificateScheme> EqByParts for Nullification<S> {
-    ghost same = { λ x y. ⟦<Round as PartialEq>⟧.eq x.round y.round && S.Certificate.eq x.certificate y.certificate };
+    ghost same = { λ x y. ⟦<Round as PartialEq>⟧.eq x.round y.round &&
+        S.Certificate.eq x.certificate y.certificate };
 
     ghost equal = { λ x y. refl };
 }
@@ -146,12 +160,12 @@ impl<S: CertificateScheme> Roundable for Nullification<S> {
     }
 }
 
-impl<S: CertificateScheme> Spell for Nullification<S> {
-    ghost use Rattle.simplex_votes.specs.Spellings.{IsNullification, nullification_spelling};
+impl<S: CertificateScheme> Encoding for Nullification<S> {
+    ghost use Rattle.simplex_votes.specs.Encodings.{IsNullification, nullification_encoding};
 
     ghost is_value = { IsNullification S.Certificate.is_value };
 
-    ghost spelling = { nullification_spelling S.Certificate.spelling };
+    ghost encoding = { nullification_encoding S.Certificate.encoding };
 }
 
 impl<S: CertificateScheme> Write for Nullification<S> {
@@ -169,13 +183,14 @@ impl<S: CertificateScheme> EncodeSize for Nullification<S> {
 }
 
 impl<S: CertificateScheme> Read for Nullification<S> {
-    ghost use Rattle.simplex_votes.specs.Spellings.{nullification_format, nullification_lawful};
+    ghost use Rattle.simplex_votes.specs.Encodings.{nullification_format, nullification_lawful};
 
     type Cfg = u32;
 
     ghost fits = { λ bound. (nullification_format (format_under ⟦<S::Certificate as Read>⟧ bound)).is_value };
 
-    ghost reading = { λ bound. (nullification_format (format_under ⟦<S::Certificate as Read>⟧ bound)).reading };
+    ghost reading = { λ bound.
+        (nullification_format (format_under ⟦<S::Certificate as Read>⟧ bound)).reading };
 
     ghost takes_memory = { S.Certificate.takes_memory };
 

@@ -8,7 +8,7 @@ use crate::types::attributable::Attributable;
 use simplex_base::codec::error::Error;
 use simplex_base::codec::parts::{size_both, write_both};
 use simplex_base::codec::{
-    EncodeSize, Fixed, FixedSize, MaxEncodeSize, Read, ReadExt, Spell, Write,
+    EncodeSize, Encoding, Fixed, FixedSize, MaxEncodeSize, Read, ReadExt, Write,
 };
 use simplex_base::positions::{Participant, Round, Roundable};
 use simplex_base::values::{EqByParts, ExactClone};
@@ -16,7 +16,7 @@ use simplex_scheme::scheme::{Attestation, Digest, Scheme, SchemeTypes};
 use simplex_scheme::subject::Subject;
 use std::alloc::{AllocError, Global};
 
-/// A vote to nullify a round, spelled as the round and the attestation.
+/// A vote to nullify a round, encoded as the round and the attestation.
 #[derive(Drop)]
 #[derive_where(PartialEq, Eq, Hash)]
 pub struct Nullify<S: SchemeTypes> {
@@ -47,7 +47,8 @@ impl<S: SchemeTypes> Nullify<S> {
     where
         S: Scheme<D>,
         ensures none { S.own scheme.now ≡ None → result ≡ Ok None }
-        ensures signed { IfOk result (λ signed. MatchOption signed (S.own scheme.now ≡ None) (λ vote.
+        ensures signed { IfOk result (λ signed.
+            MatchOption signed (S.own scheme.now ≡ None) (λ vote.
             (vote.round ≡ round) × (S.own scheme.now ≡ Some vote.attestation.signer) ×
             (S.good scheme.now (Nullifies round) vote.attestation.signer vote.attestation.signature ≡ true))) }
     {
@@ -62,7 +63,8 @@ impl<S: SchemeTypes> Nullify<S> {
     pub fn verify<'a, D: Digest + 'a>(&self, scheme: &'a S) -> bool
     where
         S: Scheme<D>,
-        ensures { result ≡ S.good scheme.now (Nullifies self.now.round) self.now.attestation.signer self.now.attestation.signature }
+        ensures { result ≡ S.good scheme.now (Nullifies self.now.round) self.now.attestation.signer
+            self.now.attestation.signature }
     {
         let subject: Subject<'a, D> = Subject::Nullify { round: self.round };
         scheme.verify_attestation(subject, &self.attestation)
@@ -84,7 +86,8 @@ impl<S: SchemeTypes> ExactClone for Nullify<S> {
 }
 
 impl<S: SchemeTypes> EqByParts for Nullify<S> {
-    ghost same = { λ x y. ⟦<Round as PartialEq>⟧.eq x.round y.round && ⟦<Attestation<S> as PartialEq>⟧.eq x.attestation y.attestation };
+    ghost same = { λ x y. ⟦<Round as PartialEq>⟧.eq x.round y.round &&
+        ⟦<Attestation<S> as PartialEq>⟧.eq x.attestation y.attestation };
 
     ghost equal = { λ x y. refl };
 }
@@ -105,12 +108,12 @@ impl<S: SchemeTypes> Roundable for Nullify<S> {
     }
 }
 
-impl<S: SchemeTypes> Spell for Nullify<S> {
-    ghost use Rattle.simplex_votes.specs.Spellings.{nullify_format};
+impl<S: SchemeTypes> Encoding for Nullify<S> {
+    ghost use Rattle.simplex_votes.specs.Encodings.{nullify_format};
 
     ghost is_value = { (nullify_format (format_of ⟦<S::Signature as Read>⟧)).is_value };
 
-    ghost spelling = { (nullify_format (format_of ⟦<S::Signature as Read>⟧)).spelling };
+    ghost encoding = { (nullify_format (format_of ⟦<S::Signature as Read>⟧)).encoding };
 }
 
 impl<S: SchemeTypes> Write for Nullify<S> {
@@ -128,7 +131,7 @@ impl<S: SchemeTypes> EncodeSize for Nullify<S> {
 }
 
 impl<S: SchemeTypes> MaxEncodeSize for Nullify<S> {
-    ghost use Rattle.simplex_votes.specs.Spellings.{nullify_within, nullify_longest};
+    ghost use Rattle.simplex_votes.specs.Encodings.{nullify_within, nullify_longest};
 
     ghost max_size = { 25 + S.Signature.SIZE };
 
@@ -142,7 +145,7 @@ impl<S: SchemeTypes> MaxEncodeSize for Nullify<S> {
 }
 
 impl<S: SchemeTypes> Read for Nullify<S> {
-    ghost use Rattle.simplex_votes.specs.Spellings.{nullify_format, nullify_lawful};
+    ghost use Rattle.simplex_votes.specs.Encodings.{nullify_format, nullify_lawful};
 
     type Cfg = ();
 

@@ -10,7 +10,7 @@ use crate::types::nullify::Nullify;
 use simplex_base::codec::error::Error;
 use simplex_base::codec::unions::{Tagged, read_tagged, write_tagged};
 use simplex_base::codec::{
-    EncodeSize, Fixed, FixedSize, MaxEncodeSize, Read, ReadExt, Spell, Write,
+    EncodeSize, Encoding, Fixed, FixedSize, MaxEncodeSize, Read, ReadExt, Write,
 };
 use simplex_base::positions::{Participant, Round, Roundable};
 use simplex_base::values::{EqByParts, ExactClone};
@@ -52,7 +52,8 @@ impl<S: SchemeTypes, D: Digest> EqByParts for Vote<S, D> {
     ghost use Rattle.simplex_votes.specs.Unions.{same_vote};
     ghost use Rattle.simplex_votes.specs.declared.types.vote.Vote.TheVariants.{Notarize, Nullify, Finalize};
 
-    ghost same = { same_vote ⟦<Notarize<S, D> as PartialEq>⟧.eq ⟦<Nullify<S> as PartialEq>⟧.eq ⟦<Finalize<S, D> as PartialEq>⟧.eq };
+    ghost same = { same_vote ⟦<Notarize<S, D> as PartialEq>⟧.eq ⟦<Nullify<S> as PartialEq>⟧.eq
+        ⟦<Finalize<S, D> as PartialEq>⟧.eq };
 
     ghost equal = { elim [
       | Notarize _ ↦ elim [ Notarize _ ↦ refl | _ ↦ refl ]
@@ -89,12 +90,12 @@ impl<S: SchemeTypes, D: Digest> Roundable for Vote<S, D> {
     }
 }
 
-impl<S: SchemeTypes, D: Digest> Spell for Vote<S, D> {
+impl<S: SchemeTypes, D: Digest> Encoding for Vote<S, D> {
     ghost use Rattle.simplex_votes.specs.Unions.{vote_format};
 
     ghost is_value = { (vote_format (format_of ⟦<D as Read>⟧) (format_of ⟦<S::Signature as Read>⟧)).is_value };
 
-    ghost spelling = { (vote_format (format_of ⟦<D as Read>⟧) (format_of ⟦<S::Signature as Read>⟧)).spelling };
+    ghost encoding = { (vote_format (format_of ⟦<D as Read>⟧) (format_of ⟦<S::Signature as Read>⟧)).encoding };
 }
 
 impl<S: SchemeTypes, D: Digest> Write for Vote<S, D> {
@@ -128,9 +129,11 @@ impl<S: SchemeTypes, D: Digest> MaxEncodeSize for Vote<S, D> {
         1 + Notarize::<S, D>::max_encode_size()
     }
 
-    ghost within = { vote_within (format_of ⟦<D as Read>⟧) (format_of ⟦<S::Signature as Read>⟧) D.SIZE S.Signature.SIZE D.within S.Signature.within };
+    ghost within = { vote_within (format_of ⟦<D as Read>⟧) (format_of ⟦<S::Signature as Read>⟧)
+        D.SIZE S.Signature.SIZE D.within S.Signature.within };
 
-    ghost reached = { vote_longest (format_of ⟦<D as Read>⟧) (format_of ⟦<S::Signature as Read>⟧) D.SIZE S.Signature.SIZE D.longest S.Signature.longest };
+    ghost reached = { vote_longest (format_of ⟦<D as Read>⟧) (format_of ⟦<S::Signature as Read>⟧)
+        D.SIZE S.Signature.SIZE D.longest S.Signature.longest };
 }
 
 impl<S: SchemeTypes, D: Digest> Read for Vote<S, D> {

@@ -1,7 +1,7 @@
 use Rattle.std.proofs.Common.{◌≡◌, [], ap, map, string_bytes, sym, subst, List, ℕ, ◌∙◌, Err}
 use Rattle.std.proofs.lemmas.Result.{err_from_is_err_and}
 use Rattle.simplex_plain.specs.Plain.{PlainScheme}
-use Rattle.audit_cli.specs.Arguments.{IsCommittee, NameCommittees, AreGroups}
+use Rattle.audit_cli.specs.Arguments.{IsNamedCommittee, NameCommittees, AreGroups}
 use Rattle.audit_cli.specs.declared.status.Failure.TheVariants as failures
 use Rattle.audit_cli.proofs.ArgumentLemmas.{no_keys, no_rising, no_texts_named, no_arguments, refused_empty}
 use Rattle.audit_cli.proofs.arguments.parse.Goals as goal
@@ -14,7 +14,7 @@ returns-then-count_keys-gt0-clause-committees c =
       texts,
       ap (map string_bytes) c.in-Some.ensures.cases.0,
       subst (NameCommittees namespace texts) (sym c.every.ensures)
-          (subst (λ (name : List ℕ). IsCommittee name texts c.in_ok-committee.committee) c.as_str.ensures.value c.in_ok-committee.ensures.committee),
+          (subst (λ (name : List ℕ). IsNamedCommittee name texts c.in_ok-committee.committee) c.as_str.ensures.value c.in_ok-committee.ensures.committee),
     )
 
 pub returns-in_err-committee-clause-usage : goal.returns-in_err-committee-clause-usage

@@ -25,5 +25,5 @@ returns-then-ne-clause-usage c = λ same epoch small e.
     let parsed = parse-decimal 64 epoch c.in-Some.digits.now c.parse.result small small (digits ∙ rest) c.parse.ensures.value.0 in
     let both : Ok epoch ≡ Ok c.in-Ok.epoch = sym parsed ∙ c.in-Ok.is in
     let is : epoch ≡ c.in-Ok.epoch = cc in
-    let equal : c.as_str.result.now ≡ c.args.text.now = c.as_str.ensures.value ∙ (c.in_ok-spelled.ensures.ok ∙ (ap epoch_text (sym is) ∙ sym e)) in
+    let equal : c.as_str.result.now ≡ c.args.text.now = c.as_str.ensures.value ∙ (c.in_ok-encoded.ensures.ok ∙ (ap epoch_text (sym is) ∙ sym e)) in
     false≢true (sym (c.ne.ensures ∙ ap not ((bytes_eq-Decides c.as_str.result.now c.args.text.now).1 equal)) ∙ c.if-ne.true)

@@ -4,7 +4,7 @@ use Rattle.std.proofs.lemmas.Bool.{false≢true}
 use Rattle.std.proofs.lemmas.List.{take-map, drop-map}
 use Rattle.std.proofs.lemmas.Result.{err_from_is_err_and}
 use Rattle.simplex_plain.specs.Plain.{PlainScheme}
-use Rattle.simplex_kept.specs.Committees.{AreRising}
+use Rattle.simplex_detector.specs.Committees.{AreRising}
 use Rattle.audit_cli.specs.Arguments.{AreGroups, AreNoKeys}
 use Rattle.audit_cli.specs.declared.status.Failure.TheVariants as failures
 use Rattle.audit_cli.proofs.GroupLemmas.{next_group, no_texts, rising_push}

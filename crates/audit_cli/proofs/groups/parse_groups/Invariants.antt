@@ -1,6 +1,6 @@
 use Rattle.std.proofs.Common.{List, ℕ, ◌++◌, map, length, string_bytes}
 use Rattle.simplex_plain.specs.Plain.{PlainScheme}
-use Rattle.simplex_kept.specs.Committees.{AreRising}
+use Rattle.simplex_detector.specs.Committees.{AreRising}
 use Rattle.audit_cli.specs.Arguments.{AreGroups}
 use Rattle.audit_cli.proofs.NoGroups.{Continues}
 use Rattle.audit_cli.proofs.groups.parse_groups.Given as goal

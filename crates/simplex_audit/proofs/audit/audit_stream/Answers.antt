@@ -8,5 +8,5 @@ returns-clause-report g c =
     let p = c.in_ok-progress.progress in
     let room = c.in_ok-progress.ensures.room in
     if_ok _ _ (λ report is. is c.args.stream.now p.rest.now c.reading_bound-bound.ensures.lawful (omega arith)
-    (read_at_once _ _ c.args.stream.now p.rest.now p.read p.stop c.new-seen.result c.read_messages.new.seen (c.new-seen.ensures c.args.committees.now) (c.in_ok-progress.ensures.progress c.reading_bound-bound.ensures.value)))
+    (read_at_once _ _ c.args.stream.now p.rest.now p.read p.stop c.new-detector.result c.read_messages.new.detector (c.new-detector.ensures c.args.committees.now) (c.in_ok-progress.ensures.progress c.reading_bound-bound.ensures.value)))
     c.make_report.result c.make_report.ensures.report

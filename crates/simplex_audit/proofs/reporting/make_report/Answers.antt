@@ -1,5 +1,5 @@
 use Rattle.simplex_base.specs.Format.{fixed}
-use Rattle.simplex_kept.specs.Committees.{bound_of}
+use Rattle.simplex_detector.specs.Committees.{bound_of}
 use Rattle.simplex_audit.proofs.ReportLemmas.{fault_is, are_messages}
 use Rattle.simplex_audit.proofs.reporting.make_report.Goals as goal
 
@@ -10,11 +10,11 @@ returns-clause-report g c = λ stream rest lawful at read. record {
   are_messages = read.are_messages;
   read_is = read.read_is;
   fault_is = fault_is _ stream rest read.messages c.args.place c.args.stop _ read.are_messages at read.stop_is c.fault_at-fault.ensures;
-  evidence_is = c.in_ok-evidence.ensures.evidence c.args.committees.now read.messages read.kept;
-  splits_are = c.in_ok-splits.ensures read.messages lawful read.kept;
+  evidence_is = c.in_ok-evidence.ensures.evidence c.args.committees.now read.messages read.recorded;
+  splits_are = c.in_ok-splits.ensures read.messages lawful read.recorded;
 }
 
-pub returns-clause-spelled : goal.returns-clause-spelled
-returns-clause-spelled g c =
+pub returns-clause-encoded : goal.returns-clause-encoded
+returns-clause-encoded g c =
     are_messages g.D.PartialEq.eq (fixed g.D.FixedSize.SIZE g.D.Fixed.bytes_of g.D.Fixed.of_bytes) (g.S.Certificate.Read.fits (bound_of g.S.CertificateScheme.keys c.args.committees.now)) (fixed g.S.Signature.FixedSize.SIZE g.S.Signature.Fixed.bytes_of g.S.Signature.Fixed.of_bytes)
-    c.in_ok-evidence.evidence.items c.in_ok-evidence.ensures.spelled
+    c.in_ok-evidence.evidence.items c.in_ok-evidence.ensures.encoded

@@ -1,5 +1,5 @@
 use Rattle.std.proofs.Common.{arith}
-use Rattle.simplex_base.specs.FormatLaws.{all_of_again, gave_all, one_spelling}
+use Rattle.simplex_base.specs.FormatLaws.{all_of_again, gave_all, one_encoding}
 use Rattle.simplex_base.proofs.codec.decode_cfg.Goals as goal
 
 pub returns-clause-taken : goal.returns-clause-taken
@@ -9,4 +9,4 @@ pub returns-clause-again : goal.returns-clause-again
 returns-clause-again g c x v e = rw (all_of_again (g.met.T.Read.lawful c.args.cfg.now) c.args.bytes.now x v e) at c.read_all.ensures
 
 pub returns-clause-one : goal.returns-clause-one
-returns-clause-one g c x y rest more fx fy e = one_spelling (g.met.T.Read.lawful c.args.cfg.now) x y rest more fx fy e
+returns-clause-one g c x y rest more fx fy e = one_encoding (g.met.T.Read.lawful c.args.cfg.now) x y rest more fx fy e

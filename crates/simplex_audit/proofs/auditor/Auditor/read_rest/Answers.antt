@@ -1,5 +1,5 @@
 use Rattle.std.proofs.Common.{◌≡◌, ℕ, ◌+◌, [], length, refl, sym, ap, ◌∙◌, arith, append-nil}
-use Rattle.simplex_kept.specs.Committees.{bound_of}
+use Rattle.simplex_detector.specs.Committees.{bound_of}
 use Rattle.simplex_audit.proofs.AuditorLemmas.{stands_after, stands_now, front_dropped}
 use Rattle.simplex_audit.proofs.auditor.Auditor.read_rest.Goals as goal
 

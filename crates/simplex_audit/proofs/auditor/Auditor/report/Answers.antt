@@ -1,6 +1,6 @@
 use Rattle.std.proofs.Common.{◌-◌, length, ap, arith}
-use Rattle.simplex_kept.specs.Committees.{Schedule, rules_of}
-use Rattle.simplex_kept.specs.Rules.{Rules}
+use Rattle.simplex_detector.specs.Committees.{Schedule, rules_of}
+use Rattle.simplex_detector.specs.Rules.{Rules}
 use Rattle.simplex_audit.proofs.AuditorLemmas.{stands_reported, stands_audited}
 use Rattle.simplex_audit.proofs.NamesLemmas.{if_both}
 use Rattle.simplex_audit.proofs.StreamLemmas.{messages_once}
@@ -31,7 +31,7 @@ returns-clause-audit g c =
       split_names = c.splits_are_determined.ensures.names (rules g committees);
     })
     (stands_reported _ auditor (auditor.taken.fed - length c.as_slice-rest.result.now) report (omega arith) is) each)
-    c.make_report.result c.make_report.ensures.report c.make_report.ensures.spelled
+    c.make_report.result c.make_report.ensures.report c.make_report.ensures.encoded
 
 pub returns-clause-single : goal.returns-clause-single
 returns-clause-single g c committees stream other stands = λ messages others rest left are are'. messages_once _ stands.fed.readable other rest left messages others are are'

@@ -6,7 +6,7 @@ use Rattle.std.proofs.lemmas.List.Elements.{All-push}
 use Rattle.simplex_base.specs.Varint.{number_32}
 use Rattle.simplex_base.proofs.codec.counted.size_counted.Goals as goal
 
--- one value more is spelled behind the others
+-- one value more is encoded behind the others
 length_more : {X : Type 0} (f : X → List ℕ) (front : List ℕ) (xs : List X) (i : ℕ) (x : X) → i < length xs → x ≡ get_or xs i x → length (front ++ flat_map f (take (i + 1) xs)) ≡ length (front ++ flat_map f (take i xs)) + length (f x)
 length_more f front xs i x lt is =
     rw (take_more xs i x lt, sym is, flat_map-append f (take i xs) (x ∷ []))
@@ -17,9 +17,9 @@ loop-item-preserved g c =
     let xs = c.args.items.now in
     let i = c.loop-item.item-index in
     let x = c.item-item.result in
-    let more = length_more g.T.Spell.spelling (number_32.spelling (length xs)) xs i x c.loop-item-test.true c.item-item.is in
+    let more = length_more g.T.Encoding.encoding (number_32.encoding (length xs)) xs i x c.loop-item-test.true c.item-item.is in
     record {
       size = omega (arith, c.loop-item.invariant.size, c.encode_size-size.ensures.size, more);
-      values = rw (take_more xs i x c.loop-item-test.true, sym c.item-item.is) (All-push g.T.Spell.is_value (take i xs) x c.loop-item.invariant.values c.encode_size-size.ensures.value);
+      values = rw (take_more xs i x c.loop-item-test.true, sym c.item-item.is) (All-push g.T.Encoding.is_value (take i xs) x c.loop-item.invariant.values c.encode_size-size.ensures.value);
       limited = omega (arith, c.loop-item.invariant.limited, c.encode_size-size.ensures.limited);
     }

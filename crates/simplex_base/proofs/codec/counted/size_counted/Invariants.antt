@@ -5,7 +5,7 @@ use Rattle.simplex_base.proofs.codec.counted.size_counted.Given as goal
 
 abbrev pub invariant-loop-item : goal.invariant-loop-item
 invariant-loop-item g l = record {
-  size : l.size ≡ length (number_32.spelling (length l.items) ++ flat_map g.T.Spell.spelling (take l.item-index l.items));
-  values : All g.T.Spell.is_value (take l.item-index l.items);
+  size : l.size ≡ length (number_32.encoding (length l.items) ++ flat_map g.T.Encoding.encoding (take l.item-index l.items));
+  values : All g.T.Encoding.is_value (take l.item-index l.items);
   limited : l.size ≤ 5 + l.item-index * g.T.EncodeSize.limit;
 }

@@ -1,6 +1,6 @@
 use Rattle.std.proofs.Common.{ap, ◌∙◌, subst}
 use Rattle.simplex_base.specs.Format.{fixed}
-use Rattle.simplex_kept.specs.Committees.{rules_of}
+use Rattle.simplex_detector.specs.Committees.{rules_of}
 use Rattle.simplex_clients.specs.Following.{Follows}
 use Rattle.simplex_clients.proofs.ForkLemmas.{taken_now, not_taken_now, value_outside}
 use Rattle.simplex_clients.proofs.light_client.LightClient.follow.Goals as goal
@@ -13,7 +13,7 @@ returns-clause-follows g c =
     let followed = c.in_ok-followed.followed in
     let rules = rules_of g.D.PartialEq.eq g.S.CertificateScheme.keys g.S.Scheme.good g.S.CertificateVerifier.certified g.S.Listing.listed in (
       f,
-      c.in_ok-finalization.ensures.spelled,
+      c.in_ok-finalization.ensures.encoded,
       value_outside (fixed g.D.FixedSize.SIZE g.D.Fixed.bytes_of g.D.Fixed.of_bytes) g.S.Certificate.Read.fits g.S.CertificateScheme.keys _ _ f c.self.view_is c.in_ok-finalization.ensures.value,
       subst (λ b. Follows (rules b.committees) b.latest f followed) c.self.view_is
           (subst (λ l. Follows (rules inside.committees.now) l f followed) c.as_ref.ensures.value c.in_ok-followed.ensures.follows),

@@ -5,7 +5,7 @@ use Rattle.simplex_scheme.specs.Committee.{quorum_of}
 use Rattle.simplex_scheme.specs.Subject.{Notarizes}
 use Rattle.simplex_votes.specs.Assembly.{StandInOrder}
 use Rattle.simplex_evidence.specs.VoteMap.{AreParticipants}
-use Rattle.simplex_node.specs.Batch.{IsQuorum, signer_of, signers_in}
+use Rattle.simplex_node.specs.Batch.{HasQuorum, signer_of, signers_in}
 use Rattle.simplex_node.proofs.BatchLemmas.{in_order, one_proposal}
 use Rattle.simplex_node.proofs.batcher.Batcher.notarization.Goals as goal
 use Rattle.simplex_node.proofs.batcher.Batcher.notarization.Goals.{then-count-quorum-via-then-count-quorum, then-count-quorum-via-else-count-quorum+then-not-can_assemble}
@@ -17,7 +17,7 @@ returns-then-count-quorum-clause-answers g c came taken =
     let votes = inside.votes.items in
     let counted : c.count.result ≡ length votes = c.count.ensures.votes ∙ sym (ap (λ b. length b.votes) c.self.view_is) in
     let quorum_is : c.quorum-quorum.result ≡ quorum_of (length (keys inside.scheme.now)) = c.quorum-quorum.ensures.value ∙ ap quorum_of (c.len.ensures ∙ ap length c.participants.ensures.keys) in
-    let few : IsQuorum g.D.PartialEq.eq keys g.S.Scheme.good c.args.self.now came → ⊥ = elim c.then-count-quorum.branch [
+    let few : HasQuorum g.D.PartialEq.eq keys g.S.Scheme.good c.args.self.now came → ⊥ = elim c.then-count-quorum.branch [
       | then-count-quorum-via-then-count-quorum w ↦
           let too_few : signers_in g.D.PartialEq.eq keys g.S.Scheme.good c.args.self.now came < quorum_of (length (keys inside.scheme.now)) = omega (arith, quorum_is, w.if-count-quorum.true, c.count.ensures.signers came taken) in
           subst (λ b. quorum_of (length (keys b.scheme)) ≤ signers_in g.D.PartialEq.eq keys g.S.Scheme.good c.args.self.now came → ⊥) c.self.view_is (λ many. absurd (omega arith))

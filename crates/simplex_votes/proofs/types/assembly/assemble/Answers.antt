@@ -5,7 +5,7 @@ use Rattle.std.proofs.lemmas.List.Elements.{All-map}
 use Rattle.simplex_scheme.specs.Subject.{SubjectValue}
 use Rattle.simplex_votes.proofs.types.assembly.assemble.Goals as goal
 
--- good votes have good attestations
+-- valid votes have valid attestations
 pub returns-in-Ok-clause-certified : goal.returns-in-Ok-clause-certified
 returns-in-Ok-clause-certified g c =
     let good = g.S.Scheme.good c.args.scheme.now in

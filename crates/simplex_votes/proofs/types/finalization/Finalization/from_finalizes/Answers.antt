@@ -7,7 +7,7 @@ use Rattle.simplex_votes.proofs.types.finalization.Finalization.from_finalizes.G
 pub returns-in-Ok-clause-proposal : goal.returns-in-Ok-clause-proposal
 returns-in-Ok-clause-proposal g c = all_for_first (λ v. v.proposal) c.args.votes.now c.index-votes-0.result c.requires.same
 
--- good votes are good for it
+-- valid votes are valid for it
 pub returns-in-Ok-clause-certified : goal.returns-in-Ok-clause-certified
 returns-in-Ok-clause-certified g c each =
     let votes = c.args.votes.now in

@@ -7,7 +7,7 @@ use Rattle.simplex_votes.proofs.types.nullification.Nullification.from_nullifies
 pub returns-in-Ok-clause-round : goal.returns-in-Ok-clause-round
 returns-in-Ok-clause-round g c = all_for_first (λ v. v.round) c.args.votes.now c.index-votes-0.result c.requires.same
 
--- good votes are good for it
+-- valid votes are valid for it
 pub returns-in-Ok-clause-certified : goal.returns-in-Ok-clause-certified
 returns-in-Ok-clause-certified g c each =
     let votes = c.args.votes.now in

@@ -1,0 +1,57 @@
+//! The bytes that are signed, and the names under which they are.
+
+use crate::refusals::name;
+use crate::vectors::{Unanswered, bytes};
+use simplex_base::codec::decode;
+use simplex_plain::marked::MarkedDigest;
+use simplex_scheme::namespace::Namespace;
+use simplex_scheme::scheme::CertificateSubject;
+use simplex_scheme::subject::Subject;
+use std::alloc::Global;
+
+/// The names under a base, of a clone of them.
+pub(crate) fn derive(alloc: Global, base: &[u8]) -> Result<String, Unanswered> {
+    let names = Namespace::new(alloc, base)?.clone()?;
+    let notarize = hex::encode(alloc, names.notarize.as_slice())?;
+    let nullify = hex::encode(alloc, names.nullify.as_slice())?;
+    let finalize = hex::encode(alloc, names.finalize.as_slice())?;
+    let seed = hex::encode(alloc, names.seed.as_slice())?;
+    Ok(format!(in alloc; "{notarize} {nullify} {finalize} {seed}")?)
+}
+
+/// The name under a base and the message of the subject of a kind that the words encode.
+pub(crate) fn subject(
+    alloc: Global,
+    kind: &str,
+    base: &str,
+    encoding: &[&str],
+) -> Result<String, Unanswered> {
+    let names = Namespace::new(alloc, bytes(alloc, &[base])?.as_slice())?;
+    let encoding = bytes(alloc, encoding)?;
+    let encoding = encoding.as_slice();
+    match kind {
+        "nullify" => match decode(alloc, encoding) {
+            Ok(round) => told(alloc, &names, &Subject::Nullify { round }),
+            Err(error) => Ok(name(alloc, error)?),
+        },
+        "notarize" | "finalize" => match &decode(alloc, encoding) {
+            Ok(proposal) if kind == "notarize" => {
+                told(alloc, &names, &Subject::Notarize { proposal })
+            }
+            Ok(proposal) => told(alloc, &names, &Subject::Finalize { proposal }),
+            Err(error) => Ok(name(alloc, *error)?),
+        },
+        _ => Err(Unanswered::NoVector),
+    }
+}
+
+/// The name of a subject and its message.
+fn told(
+    alloc: Global,
+    names: &Namespace,
+    subject: &Subject<'_, MarkedDigest>,
+) -> Result<String, Unanswered> {
+    let name = hex::encode(alloc, subject.namespace(names))?;
+    let message = hex::encode(alloc, subject.message(alloc)?.as_slice())?;
+    Ok(format!(in alloc; "{name} {message}")?)
+}

@@ -1,0 +1,114 @@
+//! What those answer who are part of a node: a batcher, a resolver and a voter.
+
+use crate::refusals::name;
+use crate::vectors::{Unanswered, bytes};
+use crate::votes::{encoded, values};
+use crate::windows::PAST;
+use simplex_base::codec::decode;
+use simplex_base::positions::View;
+use simplex_lead::Viewport;
+use simplex_node::batcher::Batcher;
+use simplex_node::resolver::resolve;
+use simplex_node::voter::{casts, is_heard, takes};
+use simplex_plain::listed::Listed;
+use simplex_plain::marked::{Marked, MarkedDigest};
+use simplex_scheme::proposal::Proposal;
+use simplex_scheme::scheme::{CertificateScheme, CertificateSubject, Digest, Scheme};
+use simplex_scheme::subject::Subject;
+use simplex_votes::types::{Notarization, Notarize};
+use std::alloc::{AllocError, Global};
+
+/// What a batcher answers to each vote that comes: the notarization, or how many it keeps.
+pub(crate) fn batch<S: Scheme<D>, D: Digest>(
+    alloc: Global,
+    scheme: &S,
+    proposal: &str,
+    votes: &[&str],
+) -> Result<String, Unanswered> {
+    let proposal: Proposal<D> = match decode(alloc, bytes(alloc, &[proposal])?.as_slice()) {
+        Ok(proposal) => proposal,
+        Err(error) => return Ok(name(alloc, error)?),
+    };
+    let mut batcher = Batcher::new(alloc, scheme, proposal);
+    let mut text = String::new(alloc);
+    for word in votes {
+        let said = taken(alloc, &mut batcher, bytes(alloc, &[*word])?.as_slice())?;
+        push_part(&mut text, said.as_str())?;
+    }
+    Ok(text)
+}
+
+/// What a batcher answers to the vote that the bytes are.
+fn taken<S: Scheme<D>, D: Digest>(
+    alloc: Global,
+    batcher: &mut Batcher<'_, S, D>,
+    bytes: &[u8],
+) -> Result<String, AllocError> {
+    let vote: Notarize<S, D> = match decode(alloc, bytes) {
+        Ok(vote) => vote,
+        Err(error) => return name(alloc, error),
+    };
+    match batcher.take(alloc, vote)? {
+        Some(notarization) => encoded(alloc, &notarization),
+        None => format!(in alloc; "{} kept", batcher.count()),
+    }
+}
+
+/// What a resolver keeps of the notarizations that the bytes are: the proposals that are certified.
+pub(crate) fn resolved(alloc: Global, scheme: &Marked, bytes: &[u8]) -> Result<String, Unanswered> {
+    let bound = scheme.certificate_codec_config();
+    let messages: Vec<Notarization<Marked, MarkedDigest>> = match values(alloc, &bound, bytes) {
+        Ok(messages) => messages,
+        Err(error) => return Ok(name(alloc, error)?),
+    };
+    let items: Vec<(Subject<'_, MarkedDigest>, &Listed<Marked>)> = messages
+        .iter()
+        .map(item_of)
+        .collect(alloc)?;
+    let kept = resolve(alloc, scheme, items.as_slice())?;
+    let mut text = "kept".to_string(alloc)?;
+    for place in 0..kept.len() {
+        text.push_str(" ")?;
+        text.push_str(told(alloc, &kept[place].0)?.as_str())?;
+    }
+    Ok(text)
+}
+
+/// A notarization as what a resolver is given.
+fn item_of<'a>(
+    message: &'a Notarization<Marked, MarkedDigest>,
+) -> (Subject<'a, MarkedDigest>, &'a Listed<Marked>) {
+    let proposal = &message.proposal;
+    (Subject::Notarize { proposal }, &message.certificate)
+}
+
+/// A subject, as its message encodes it.
+fn told(alloc: Global, subject: &Subject<'_, MarkedDigest>) -> Result<String, AllocError> {
+    let message = subject.message(alloc)?;
+    hex::encode(alloc, message.as_slice())
+}
+
+/// What a voter answers of a view: whether it takes votes of it, whether one that has certified a view casts them, and
+/// whether it hears what that one casts. Where all that is counted is no view there is no answer.
+pub(crate) fn hear(
+    alloc: Global,
+    viewport: &Viewport,
+    certified: View,
+    view: View,
+) -> Result<String, AllocError> {
+    if !viewport.lookahead.fits(viewport.current) || certified == View::new(u64::MAX) {
+        return PAST.to_string(alloc);
+    }
+    let takes = takes(viewport, view);
+    let casts = casts(&viewport.lookahead, certified, view);
+    let heard = is_heard(viewport, certified, view);
+    format!(in alloc; "takes {takes}, casts {casts}, heard {heard}")
+}
+
+/// Appends an answer.
+fn push_part(text: &mut String, part: &str) -> Result<(), AllocError> {
+    if !text.is_empty() {
+        text.push_str(" | ")?;
+    }
+    text.push_str(part)
+}

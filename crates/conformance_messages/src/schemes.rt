@@ -1,0 +1,77 @@
+//! Schemes of test vectors: a committee of either scheme, and who of it one is.
+
+ghost use Rattle.std.specs.Prelude.{◌≤◌, ◌<◌, ◌^◌, length, IfOk};
+
+use crate::vectors::{Unanswered, bytes, committee_size, participant, small};
+use simplex_base::codec::Fixed;
+use simplex_base::positions::Participant;
+use simplex_plain::marked::Marked;
+use simplex_plain::plain::{Plain, PlainKey};
+use simplex_scheme::set::Set;
+use std::alloc::{AllocError, Global};
+
+/// The marked scheme of a committee of so many, `N`, or of this participant of it, `N/SIGNER`.
+pub(crate) fn marked(alloc: Global, word: &str) -> Result<Marked, Unanswered> {
+    match word.split_once('/') {
+        None => Ok(Marked::new(alloc, committee_size(word)?, None)?),
+        Some((size, signer)) => {
+            let (size, signer) = (committee_size(size)?, participant(signer)?);
+            if signer.get() >= size {
+                return Err(Unanswered::NoVector);
+            }
+            Ok(Marked::new(alloc, size, Some(signer))?)
+        }
+    }
+}
+
+/// The plain scheme under a base of a committee of so many, `N`, whose keys have the numbers from 0 on, or `FIRST+N`, from
+/// FIRST on; or of a participant of it, as [`marked`] has it.
+pub(crate) fn plain(alloc: Global, base: &str, word: &str) -> Result<Plain, Unanswered> {
+    let base = bytes(alloc, &[base])?;
+    match word.split_once('/') {
+        None => {
+            let keys = numbered_keys(alloc, word)?;
+            Ok(Plain::verifier(alloc, base.as_slice(), keys)?)
+        }
+        Some((committee, signer)) => {
+            let keys = numbered_keys(alloc, committee)?;
+            let Some(own) = keys.get(participant(signer)?.get() as usize) else {
+                return Err(Unanswered::NoVector);
+            };
+            let own = *own;
+            Plain::signer(alloc, base.as_slice(), keys, &own)?.ok_or(Unanswered::NoVector)
+        }
+    }
+}
+
+/// The plain keys of a committee, `N` of them or `FIRST+N`.
+fn numbered_keys(alloc: Global, word: &str) -> Result<Set<PlainKey>, Unanswered>
+    ensures { IfOk result (λ keys. (1 ≤ length keys) × (length keys < 2 ^ 32)) }
+{
+    let (first, size) = match word.split_once('+') {
+        None => (0, committee_size(word)?),
+        Some((first, size)) => (small(first)?, committee_size(size)?),
+    };
+    let Some(end) = first.checked_add(size) else {
+        return Err(Unanswered::NoVector);
+    };
+    let mut keys = Vec::new(alloc);
+    for number in first..end {
+        keys.push(numbered_key(Participant::new(number)))
+            .map_err(AllocError::from)?;
+    }
+    let Ok(keys) = Set::try_from_vec(keys) else {
+        return Err(Unanswered::NoVector);
+    };
+    if keys.is_empty() || keys.len() > 4_294_967_295 {
+        return Err(Unanswered::NoVector);
+    }
+    Ok(keys)
+}
+
+/// The key whose 32 bytes are the number of the participant, the most significant first.
+fn numbered_key(participant: Participant) -> PlainKey {
+    let mut key = [0; 32];
+    key[28..].copy_from_slice(&participant.get().to_be_bytes());
+    PlainKey::from_bytes(&key)
+}

@@ -1,0 +1,84 @@
+-- What holds of every stream, and of every report of it.
+use Rattle.std.specs.Prelude.{◌≡◌, ℕ, List, [], ◌++◌, All, IsTrue}
+use Rattle.std.specs.List.{flat_map}
+use Rattle.simplex_evidence.specs.declared.types.activity.Activity.{Activity}
+use Rattle.simplex_detector.specs.Evidence.{IsEvidence, IsEquivocation}
+use Rattle.simplex_detector.specs.Laws.{EvidenceIsUnique, NamesExactly, NamedInAnyOrder}
+use Rattle.simplex_detector.specs.Named.{Named, is_named}
+use Rattle.simplex_detector.specs.Rules.{valid_votes}
+use Rattle.simplex_detector.specs.Splits.{AreSplits}
+use Rattle.simplex_detector.specs.SplitLaws.{EnoughAreNamed, SignersAreAccountable, SplitsAreUnique, SplitsHaveNames}
+use Rattle.simplex_audit.specs.Basis.{Basis}
+use Rattle.simplex_audit.specs.Messages.{AreMessages}
+use Rattle.simplex_audit.specs.Report.{IsReport, evidence_in, as_messages}
+use Rattle.simplex_audit.specs.declared.audit.Report.{Report}
+
+-- something holds of the messages of the stream
+abbrev pub OfMessages : {S D C P G : Type 0} → Basis S D C P G → List ℕ → (List (Activity S D C P G) → Type 0) → Type 0
+OfMessages {S} {D} {C} {P} {G} basis stream Holds =
+    (messages : List (Activity S D C P G)) (rest : List ℕ) → AreMessages basis.format stream messages rest → Holds messages
+
+-- the stream has one list of messages, and one rest
+abbrev pub HasOneReading : {S D C P G : Type 0} → Basis S D C P G → List ℕ → Type 0
+HasOneReading {S} {D} {C} {P} {G} basis stream =
+    (messages others : List (Activity S D C P G)) (rest left : List ℕ) →
+    AreMessages basis.format stream messages rest → AreMessages basis.format stream others left → (messages ≡ others) × (rest ≡ left)
+
+-- the evidence names exactly the signers, rounds and kinds with two valid votes that contradict
+abbrev pub NamesExactlyThem : {S D C P G : Type 0} → Basis S D C P G → List ℕ → Report S D P G → Type 0
+NamesExactlyThem basis stream report = OfMessages basis stream (λ messages. NamesExactly basis.rules.eq (valid_votes basis.rules messages) (evidence_in report))
+
+-- each evidence is two of the valid votes, which contradict
+abbrev pub ShowsTwoVotes : {S D C P G : Type 0} → Basis S D C P G → List ℕ → Report S D P G → Type 0
+ShowsTwoVotes basis stream report = OfMessages basis stream (λ messages. All (IsEquivocation basis.rules.eq (valid_votes basis.rules messages)) (evidence_in report))
+
+-- no other list is the evidence of the valid votes
+abbrev pub HasNoOtherEvidence : {S D C P G : Type 0} → Basis S D C P G → List ℕ → Report S D P G → Type 0
+HasNoOtherEvidence basis stream report = OfMessages basis stream (λ messages. EvidenceIsUnique basis.rules.eq (valid_votes basis.rules messages) (evidence_in report))
+
+-- who is named by messages does not depend on their order
+abbrev pub NamesInAnyOrder : {S D C P G : Type 0} → Basis S D C P G → Type 0
+NamesInAnyOrder {S} {D} {C} {P} {G} basis = (messages : List (Activity S D C P G)) → NamedInAnyOrder basis.rules messages
+
+-- who is named by the stream's messages stays named, with any bytes behind
+abbrev pub NamesStayWithMore : {S D C P G : Type 0} → Basis S D C P G → List ℕ → Type 0
+NamesStayWithMore basis stream = (more : List ℕ) (n : Named) → OfMessages basis stream (λ messages. OfMessages basis (stream ++ more) (λ later.
+    IsTrue (is_named basis.rules.eq (valid_votes basis.rules messages) n) → IsTrue (is_named basis.rules.eq (valid_votes basis.rules later) n)))
+
+-- two certified messages of a round that contradict name at least f + 1 signers there, of whom f may lie in the
+-- committee of the round's epoch
+abbrev pub ForksNameEnough : {S D C P G : Type 0} → Basis S D C P G → List ℕ → Type 0
+ForksNameEnough basis stream = OfMessages basis stream (EnoughAreNamed basis.rules)
+
+-- who signed in the certificates of both is named there
+abbrev pub SignersOfBothAreNamed : {S D C P G : Type 0} → Basis S D C P G → List ℕ → Type 0
+SignersOfBothAreNamed basis stream = OfMessages basis stream (SignersAreAccountable basis.rules)
+
+-- the splits are the rounds with two certified messages that contradict, in order, each once with the number of signers
+-- named there and that f + 1, and no other list is
+pub record ShowsForks {S D C P G : Type 0} (basis : Basis S D C P G) (stream : List ℕ) (report : Report S D P G) : Type 0 where
+  pub are_splits : OfMessages basis stream (λ messages. AreSplits basis.rules messages report.splits.items)
+  pub only : OfMessages basis stream (λ messages. SplitsAreUnique basis.rules messages report.splits.items)
+  pub enough : SplitsHaveNames report.splits.items
+
+-- the evidence, written as messages one after the other, is a stream of these messages, and the evidence of that stream is
+-- the same in the same order
+pub record ReadsAgain {S D C P G : Type 0} (basis : Basis S D C P G) (report : Report S D P G) : Type 0 where
+  pub stream : AreMessages basis.format (flat_map basis.format.encoding (as_messages report)) (as_messages report) []
+  pub evidence : IsEvidence basis.rules.eq (valid_votes basis.rules (as_messages report)) (evidence_in report)
+
+-- The report is that of an audit of the stream: all that an audit says of a stream, and of its report. The evidence names
+-- exactly who cast two valid votes that contradict, each by two such votes, and the splits are the rounds with certified messages
+-- that contradict.
+pub record IsAudit {S D C P G : Type 0} (basis : Basis S D C P G) (stream : List ℕ) (report : Report S D P G) : Type 0 where
+  pub report_is : IsReport basis stream report
+  pub single : HasOneReading basis stream
+  pub names : NamesExactlyThem basis stream report
+  pub sound : ShowsTwoVotes basis stream report
+  pub only : HasNoOtherEvidence basis stream report
+  pub any_order : NamesInAnyOrder basis
+  pub stays : NamesStayWithMore basis stream
+  pub enough : ForksNameEnough basis stream
+  pub splits : ShowsForks basis stream report
+  pub accountable : SignersOfBothAreNamed basis stream
+  pub again : ReadsAgain basis report

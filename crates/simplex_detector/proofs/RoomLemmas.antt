@@ -1,0 +1,81 @@
+-- Of messages no more votes are recorded than their encodings have bytes.
+use Rattle.std.proofs.Common.{ℕ, suc, ◌+◌, ◌≤◌, Bool, true, false, cond, List, [], ◌∷◌, ◌++◌, length, arith, length-append}
+use Rattle.std.specs.Prelude.{map}
+use Rattle.std.specs.List.{flat_map}
+use Rattle.std.proofs.lemmas.List.{length-map}
+use Rattle.std.proofs.lemmas.List.Sums.{length-filter, count_by-le-length}
+use Rattle.simplex_base.specs.Format.{Format}
+use Rattle.simplex_base.specs.Positions.{Round, round_format}
+use Rattle.simplex_base.specs.VarintLaws.{groups_some}
+use Rattle.simplex_scheme.specs.declared.proposal.Proposal.{Proposal}
+use Rattle.simplex_scheme.specs.Proposal.{proposal_format}
+use Rattle.simplex_scheme.specs.declared.scheme.Attestation.{Attestation}
+use Rattle.simplex_votes.specs.Votes.{SignedVote, notarize_of, nullify_of, finalize_of}
+use Rattle.simplex_evidence.specs.Activity.{activity_encoding, votes_in}
+use Rattle.simplex_evidence.specs.declared.types.activity.Activity.{Activity}
+use Rattle.simplex_evidence.specs.declared.types.activity.Activity.TheVariants as activity
+use Rattle.simplex_detector.specs.Recorded.{is_news, news_after, votes_recorded}
+use Rattle.simplex_detector.specs.Rules.{Rules, is_valid, valid_votes}
+
+-- ---- no more than the votes
+
+one_at_most : {X : Type 0} (b : Bool) (x : X) (xs : List X) → length (cond b (x ∷ []) [] ++ xs) ≤ length xs + 1
+one_at_most true x xs = omega arith
+one_at_most false x xs = omega arith
+
+news_among : {D G : Type 0} (eq : D → D → Bool) (before vs : List (SignedVote D G)) → length (news_after eq before vs) ≤ length vs
+news_among eq before [] = omega arith
+news_among eq before (v ∷ vs) =
+    let first = one_at_most (is_news eq before v) v (news_after eq (before ++ v ∷ []) vs) in
+    let others = news_among eq (before ++ v ∷ []) vs in
+    omega arith
+
+-- ---- no more than the bytes of a message
+
+front_some : (front rest : List ℕ) → 1 ≤ length front → 1 ≤ length (front ++ rest)
+front_some front rest some = omega (arith, length-append front rest)
+
+round_some : (r : Round) → 1 ≤ length (round_format.encoding r)
+round_some r = front_some _ _ (groups_some 9 r.epoch)
+
+proposal_some : {D : Type 0} (payload : Format D) (p : Proposal D) → 1 ≤ length ((proposal_format payload).encoding p)
+proposal_some payload p = front_some _ _ (round_some p.round)
+
+-- behind a front, the votes of a list of attestations that the bytes have room for
+votes_behind : {X Y : Type 0} (vote : X → Y) (xs : List X) (front bytes : List ℕ) → length xs ≤ length bytes → length (map vote xs) ≤ suc (length (front ++ bytes))
+votes_behind vote xs front bytes room = omega (arith, length-map xs vote, length-append front bytes)
+
+-- two votes whose encodings begin with a front that is not empty
+two_behind : (front mid rest : List ℕ) → 1 ≤ length front → 2 ≤ suc (length ((front ++ mid) ++ rest))
+two_behind front mid rest some = omega (arith, length-append (front ++ mid) rest, length-append front mid)
+
+module _ {S D C P G : Type 0} (eq : D → D → Bool) (payload : Format D) (certificate : C → List ℕ) (signature : Format G) (listed : C → List (Attestation S P G)) (room : (c : C) → length (listed c) ≤ length (certificate c)) where
+  message_has_room : (m : Activity S D C P G) → length (votes_in listed m) ≤ length (activity_encoding eq payload certificate signature m)
+  message_has_room (activity.Notarize v) = omega arith
+  message_has_room (activity.Notarization n) = votes_behind (notarize_of n.proposal) (listed n.certificate) _ _ (room n.certificate)
+  message_has_room (activity.Certification n) = votes_behind (notarize_of n.proposal) (listed n.certificate) _ _ (room n.certificate)
+  message_has_room (activity.Nullify v) = omega arith
+  message_has_room (activity.Nullification n) = votes_behind (nullify_of n.round) (listed n.certificate) _ _ (room n.certificate)
+  message_has_room (activity.Finalize v) = omega arith
+  message_has_room (activity.Finalization n) = votes_behind (finalize_of n.proposal) (listed n.certificate) _ _ (room n.certificate)
+  message_has_room (activity.ConflictingNotarize c) = two_behind _ _ _ (proposal_some payload c.first.proposal)
+  message_has_room (activity.ConflictingFinalize c) = two_behind _ _ _ (proposal_some payload c.first.proposal)
+  message_has_room (activity.NullifyFinalize c) = two_behind _ _ _ (round_some c.first.round)
+
+  messages_have_room : (messages : List (Activity S D C P G)) → length (flat_map (votes_in listed) messages) ≤ length (flat_map (activity_encoding eq payload certificate signature) messages)
+  messages_have_room [] = omega arith
+  messages_have_room (m ∷ messages) =
+      let first = message_has_room m in
+      let others = messages_have_room messages in
+      omega (arith, length-append (votes_in listed m) (flat_map (votes_in listed) messages), length-append (activity_encoding eq payload certificate signature m) (flat_map (activity_encoding eq payload certificate signature) messages))
+
+-- no more than the bytes of all messages
+pub recorded_have_room : {S D C P G : Type 0} (rules : Rules S D C P G) (eq : D → D → Bool) (payload : Format D) (certificate : C → List ℕ) (signature : Format G) → ((c : C) → length (rules.listed c) ≤ length (certificate c)) → (messages : List (Activity S D C P G)) →
+    votes_recorded eq (valid_votes rules messages) ≤ length (flat_map (activity_encoding eq payload certificate signature) messages)
+recorded_have_room rules eq payload certificate signature room messages =
+    let votes = flat_map (votes_in rules.listed) messages in
+    let recorded = news_among eq [] (valid_votes rules messages) in
+    let good = length-filter (is_valid rules) votes in
+    let few = count_by-le-length (is_valid rules) votes in
+    let all = messages_have_room eq payload certificate signature rules.listed room messages in
+    omega arith

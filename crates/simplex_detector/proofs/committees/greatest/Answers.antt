@@ -1,0 +1,18 @@
+use Rattle.std.proofs.Common.{◌≤◌, length, ap, ◌∙◌, subst}
+use Rattle.std.specs.Prelude.{All}
+use Rattle.std.proofs.lemmas.List.{take_all}
+use Rattle.simplex_detector.proofs.CommitteeLemmas.{greatest_next, greatest_all, manned_next}
+use Rattle.simplex_detector.proofs.committees.greatest.Goals as goal
+
+-- one committee more
+pub pairs-preserved : goal.pairs-preserved
+pairs-preserved g c = record {
+  most = greatest_next g.S.CertificateScheme.keys c.args.pairs.now c.pairs.pair-index c.pairs.most c.len.result c.max-most.result c.pair-item.result c.pairs-test.true c.pair-item.is (c.len.ensures ∙ ap length c.participants.ensures.keys) c.max-most.ensures ∙ c.pairs.invariant.most;
+  manned = manned_next g.S.CertificateScheme.keys c.args.pairs.now c.pairs.pair-index c.pair-item.result c.pairs-test.true c.pair-item.is c.participants.ensures.some c.pairs.invariant.manned;
+}
+
+pub returns-clause-value : goal.returns-clause-value
+returns-clause-value g c = greatest_all g.S.CertificateScheme.keys c.args.pairs.now c.pairs.pair-index c.pairs.most c.pairs-test.false ∙ c.pairs.invariant.most
+
+pub returns-clause-manned : goal.returns-clause-manned
+returns-clause-manned g c = subst (All (λ p. 1 ≤ length (g.S.CertificateScheme.keys p.1))) (take_all c.pairs.pair-index c.args.pairs.now c.pairs-test.false) c.pairs.invariant.manned

@@ -1,0 +1,16 @@
+use Rattle.std.proofs.Common.{Ok, Err, sym, ap, rules}
+use Rattle.std.specs.Prelude.{option_map}
+use Rattle.std.proofs.lemmas.List.Sorted.{answers_always}
+use Rattle.simplex_detector.proofs.CommitteeLemmas.{searched, entry_read}
+use Rattle.simplex_detector.proofs.committees.listed_committee.Goals as goal
+
+pub returns-in-Ok : goal.returns-in-Ok
+returns-in-Ok g c =
+    let by_key = c.in-Ok.ensures.position (λ p. p.0) (answers_always _ _ _ (λ f a r h called. search rules)) in
+    let at = (searched c.args.pairs.now c.requires c.args.epoch (Ok c.in-Ok.place) c.in-Ok.ensures.bound by_key).found in
+    sym (entry_read c.args.pairs.now c.requires c.in-Ok.place c.args.epoch c.index-pairs-place.result at.0 (at.1 c.index-pairs-place.result))
+
+pub returns-in-Err : goal.returns-in-Err
+returns-in-Err g c =
+    let by_key = c.in-Err.ensures.position (λ p. p.0) (answers_always _ _ _ (λ f a r h called. search rules)) in
+    sym (ap (option_map (λ p. p.1)) (searched c.args.pairs.now c.requires c.args.epoch (Err c.in-Err.field-0) c.in-Err.ensures.bound by_key).none)

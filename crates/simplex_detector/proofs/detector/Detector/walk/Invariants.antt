@@ -1,0 +1,7 @@
+use Rattle.std.proofs.Common.{map}
+use Rattle.simplex_detector.specs.Values.{evidence_value}
+use Rattle.simplex_detector.proofs.WalkLemmas.{Walked}
+use Rattle.simplex_detector.proofs.detector.Detector.walk.Given as goal
+
+abbrev pub invariant-rounds : goal.invariant-rounds
+invariant-rounds g l = Walked g.D.PartialEq.eq l.self.rounds.entries l.round_state-iterator (map evidence_value l.found.items)

@@ -1,0 +1,15 @@
+use Rattle.std.proofs.Common.{All, sym, subst}
+use Rattle.std.proofs.lemmas.List.{take_more, take_all}
+use Rattle.std.proofs.lemmas.List.Elements.{All-push}
+use Rattle.simplex_base.specs.Format.{fixed}
+use Rattle.simplex_detector.specs.EncodedEvidence.{IsEncoded}
+use Rattle.simplex_detector.proofs.evidence.are_encoded.Goals as goal
+
+pub items-preserved : goal.items-preserved
+items-preserved g c =
+    rw (take_more c.args.evidence.now c.items.item-index c.item-item.result c.items-test.true, sym c.item-item.is)
+    (All-push (IsEncoded g.D.PartialEq.eq (fixed g.D.FixedSize.SIZE g.D.Fixed.bytes_of g.D.Fixed.of_bytes) (fixed g.S.Signature.FixedSize.SIZE g.S.Signature.Fixed.bytes_of g.S.Signature.Fixed.of_bytes)) _ c.item-item.result c.items.invariant c.encode_size.ensures.encoded)
+
+pub returns : goal.returns
+returns g c =
+    subst (All (IsEncoded g.D.PartialEq.eq (fixed g.D.FixedSize.SIZE g.D.Fixed.bytes_of g.D.Fixed.of_bytes) (fixed g.S.Signature.FixedSize.SIZE g.S.Signature.Fixed.bytes_of g.S.Signature.Fixed.of_bytes))) (take_all c.items.item-index c.args.evidence.now c.items-test.false) c.items.invariant

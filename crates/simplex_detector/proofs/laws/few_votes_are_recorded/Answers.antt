@@ -1,0 +1,8 @@
+use Rattle.simplex_detector.proofs.RecordedVoteLemmas.{recorded_are_slots, few_are_recorded}
+use Rattle.simplex_detector.proofs.laws.few_votes_are_recorded.Goals as goal
+
+pub returns-clause-slots : goal.returns-clause-slots
+returns-clause-slots g c vs = recorded_are_slots g.D.PartialEq.eq g.met.D.Eq.laws vs
+
+pub returns-clause-few : goal.returns-clause-few
+returns-clause-few g c vs = few_are_recorded g.D.PartialEq.eq g.met.D.Eq.laws vs

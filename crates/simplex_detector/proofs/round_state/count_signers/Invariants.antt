@@ -1,0 +1,12 @@
+use Rattle.std.proofs.Common.{◌≡◌, ◌+◌, ◌-◌, ◌^◌, ◌≤◌, map, min, drop}
+use Rattle.std.specs.Prelude.{None}
+use Rattle.simplex_detector.specs.Values.{evidence_value}
+use Rattle.simplex_detector.proofs.SignerCounts.{changes}
+use Rattle.simplex_detector.proofs.round_state.count_signers.Given as goal
+
+-- what is counted so far, and what is left to count
+abbrev pub invariant-evidence : goal.invariant-evidence
+invariant-evidence g l = record {
+  counted : min (l.count + changes l.last (map (λ e. (evidence_value e).first.signer) (drop l.item-index l.evidence))) (2 ^ 32 - 1) ≡ min (changes None (map (λ e. (evidence_value e).first.signer) l.evidence)) (2 ^ 32 - 1);
+  small : l.count ≤ 2 ^ 32 - 1;
+}

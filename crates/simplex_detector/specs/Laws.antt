@@ -1,0 +1,32 @@
+-- What holds of the evidence in votes, and of who is named by messages.
+use Rattle.std.specs.Prelude.{◌≡◌, ◌↔◌, Bool, List, ◌++◌, map, Contains, IsPermutation, IsTrue}
+use Rattle.simplex_votes.specs.Votes.{SignedVote}
+use Rattle.simplex_evidence.specs.Contradiction.{Evidence}
+use Rattle.simplex_evidence.specs.declared.types.activity.Activity.{Activity}
+use Rattle.simplex_detector.specs.Rules.{Rules, valid_votes}
+use Rattle.simplex_detector.specs.Named.{Named, is_named, named_by}
+use Rattle.simplex_detector.specs.Evidence.{IsEvidence}
+use Rattle.simplex_detector.specs.Values.{evidence_value, message_of}
+use Rattle.simplex_detector.specs.declared.evidence.Evidence as declared
+
+-- no other list is the evidence of the votes
+abbrev pub EvidenceIsUnique : {D G : Type 0} → (D → D → Bool) → List (SignedVote D G) → List (Evidence D G) → Type 0
+EvidenceIsUnique {D} {G} eq vs es = (fs : List (Evidence D G)) → IsEvidence eq vs fs → es ≡ fs
+
+-- the evidence names exactly who is named
+abbrev pub NamesExactly : {D G : Type 0} → (D → D → Bool) → List (SignedVote D G) → List (Evidence D G) → Type 0
+NamesExactly eq vs es = (n : Named) → Contains (map named_by es) n ↔ IsTrue (is_named eq vs n)
+
+-- the same messages in another order name the same
+abbrev pub NamedInAnyOrder : {S D C P G : Type 0} → Rules S D C P G → List (Activity S D C P G) → Type 0
+NamedInAnyOrder {S} {D} {C} {P} {G} rules ms =
+    (ks : List (Activity S D C P G)) → IsPermutation ms ks → (n : Named) → is_named rules.eq (valid_votes rules ms) n ≡ is_named rules.eq (valid_votes rules ks) n
+
+-- who is named stays named, with any messages behind
+abbrev pub NamesStay : {S D C P G : Type 0} → Rules S D C P G → List (Activity S D C P G) → Type 0
+NamesStay {S} {D} {C} {P} {G} rules ms =
+    (more : List (Activity S D C P G)) (n : Named) → IsTrue (is_named rules.eq (valid_votes rules ms) n) → IsTrue (is_named rules.eq (valid_votes rules (ms ++ more)) n)
+
+-- the evidence of messages, as messages of its own, has the same evidence in the same order
+abbrev pub IsEvidenceAgain : {S D C P G : Type 0} → Rules S D C P G → List (declared.Evidence S D P G) → Type 0
+IsEvidenceAgain {S} {D} {C} {P} {G} rules es = IsEvidence rules.eq (valid_votes rules (map message_of es)) (map evidence_value es)

@@ -1,0 +1,16 @@
+pub mod Rules
+pub mod Committees
+pub mod Named
+pub mod Evidence
+pub mod Recorded
+pub mod Values
+pub mod EncodedEvidence
+pub mod VotePairs
+pub mod Rounds
+pub mod Laws
+pub mod Line
+pub mod Certificates
+pub mod Splits
+pub mod FirstCertified
+pub mod Detector
+pub mod SplitLaws

@@ -1,0 +1,93 @@
+-- Which votes are recorded: at most two of each round, signer and sort.
+use Rattle.std.specs.Prelude.{ℕ, Bool, true, false, not, ◌&&◌, List, Option, Some, None, if◌then◌else◌, ◌≡◌, ◌≤◌, [], ◌∷◌, ◌++◌, length, filter}
+use Rattle.std.specs.Option.{option_or, is_none, option_to_list}
+use Rattle.std.specs.List.{find}
+use Rattle.simplex_base.specs.Positions.{Round, same_round}
+use Rattle.simplex_scheme.specs.Subject.{SubjectValue, Notarizes, Finalizes, round_of}
+use Rattle.simplex_votes.specs.Votes.{SignedVote, Sort, Notarizing, Nullifying, Finalizing, sort_of, is_at, same_proposal, is_of}
+use Rattle.simplex_evidence.specs.Contradiction.{Kind, Conflicting_notarize, Conflicting_finalize, Nullify_finalize, Evidence}
+use Rattle.simplex_detector.specs.Evidence.{with_second}
+
+-- whether two subjects of one sort have different proposals
+abbrev pub differs : {D : Type 0} → (D → D → Bool) → SubjectValue D → SubjectValue D → Bool
+differs eq (Notarizes p) (Notarizes q) = not (same_proposal eq p q)
+differs eq (Finalizes p) (Finalizes q) = not (same_proposal eq p q)
+differs _ _ _ = false
+
+-- of one round, signer and sort: the earliest vote, and the earliest with another proposal
+pub record Slot (D G : Type 0) : Type 0 where
+  pub earliest : Option (SignedVote D G)
+  pub other : Option (SignedVote D G)
+
+-- the earliest vote with another proposal than the first, if there is a first
+abbrev pub other_than : {D G : Type 0} → (D → D → Bool) → List (SignedVote D G) → Sort → Round → ℕ → Option (SignedVote D G) → Option (SignedVote D G)
+other_than eq vs sort round signer None = None
+other_than eq vs sort round signer (Some v) = find (λ w. is_at sort round signer w && differs eq v.subject w.subject) vs
+
+-- the slot of a round, signer and sort in a list of votes
+abbrev pub slot_of : {D G : Type 0} → (D → D → Bool) → List (SignedVote D G) → Sort → Round → ℕ → Slot D G
+slot_of eq vs sort round signer =
+    let first = find (is_at sort round signer) vs in
+    record { earliest = first; other = other_than eq vs sort round signer first }
+
+-- a vote, if it has another proposal than the first
+abbrev pub if_differs : {D G : Type 0} → (D → D → Bool) → Option (SignedVote D G) → SignedVote D G → Option (SignedVote D G)
+if_differs eq None v = None
+if_differs eq (Some first) v = if differs eq first.subject v.subject then Some v else None
+
+-- the slot of a vote's own round, signer and sort, after it
+abbrev pub slot_with : {D G : Type 0} → (D → D → Bool) → SignedVote D G → Slot D G → Slot D G
+slot_with eq v slot = record { earliest = option_or slot.earliest (Some v); other = option_or slot.other (if_differs eq slot.earliest v) }
+
+-- whether a vote on a subject changes its slot: the slot is empty, or holds one vote, which has another proposal
+abbrev pub changes : {D G : Type 0} → (D → D → Bool) → Option (SignedVote D G) → Option (SignedVote D G) → SubjectValue D → Bool
+changes eq None other subject = true
+changes eq (Some first) other subject = differs eq first.subject subject && is_none other
+
+-- whether a vote is news to the votes before it
+abbrev pub is_news : {D G : Type 0} → (D → D → Bool) → List (SignedVote D G) → SignedVote D G → Bool
+is_news eq vs v =
+    let slot = slot_of eq vs (sort_of v.subject) (round_of v.subject) v.signer in
+    changes eq slot.earliest slot.other v.subject
+
+-- the evidence of two votes, if there are two
+abbrev pub both : {D G : Type 0} → Kind → Option (SignedVote D G) → Option (SignedVote D G) → Option (Evidence D G)
+both kind None w = None
+both kind (Some v) w = with_second kind v w
+
+-- the evidence of one round and signer, from its slots
+abbrev pub evidence_from : {D G : Type 0} → (Sort → Slot D G) → Kind → Option (Evidence D G)
+evidence_from slot Conflicting_notarize = both Conflicting_notarize (slot Notarizing).earliest (slot Notarizing).other
+evidence_from slot Conflicting_finalize = both Conflicting_finalize (slot Finalizing).earliest (slot Finalizing).other
+evidence_from slot Nullify_finalize = both Nullify_finalize (slot Nullifying).earliest (slot Finalizing).earliest
+
+-- the votes that are news, each to all votes before it
+abbrev pub news_after : {D G : Type 0} → (D → D → Bool) → List (SignedVote D G) → List (SignedVote D G) → List (SignedVote D G)
+news_after eq before [] = []
+news_after eq before (v ∷ vs) = (if is_news eq before v then v ∷ [] else []) ++ news_after eq (before ++ v ∷ []) vs
+
+-- the recorded votes: those that were news when they came
+abbrev pub recorded_of : {D G : Type 0} → (D → D → Bool) → List (SignedVote D G) → List (SignedVote D G)
+recorded_of eq vs = news_after eq [] vs
+
+-- how many votes are recorded
+abbrev pub votes_recorded : {D G : Type 0} → (D → D → Bool) → List (SignedVote D G) → ℕ
+votes_recorded eq vs = length (recorded_of eq vs)
+
+-- how many votes of a round are recorded
+abbrev pub recorded_in : {D G : Type 0} → (D → D → Bool) → List (SignedVote D G) → Round → ℕ
+recorded_in eq vs round = length (filter (λ v. same_round (round_of v.subject) round) (recorded_of eq vs))
+
+-- ---- what holds of them
+
+-- the votes in a slot
+abbrev pub votes_in_slot : {D G : Type 0} → Slot D G → List (SignedVote D G)
+votes_in_slot slot = option_to_list slot.earliest ++ option_to_list slot.other
+
+-- those of a round, signer and sort are the earliest and the earliest with another proposal
+abbrev pub RecordedAreSlots : {D G : Type 0} → (D → D → Bool) → List (SignedVote D G) → Type 0
+RecordedAreSlots eq vs = (sort : Sort) (round : Round) (signer : ℕ) → filter (is_at sort round signer) (recorded_of eq vs) ≡ votes_in_slot (slot_of eq vs sort round signer)
+
+-- of one signer in a round they are at most five
+abbrev pub FewAreRecorded : {D G : Type 0} → (D → D → Bool) → List (SignedVote D G) → Type 0
+FewAreRecorded eq vs = (round : Round) (signer : ℕ) → length (filter (is_of round signer) (recorded_of eq vs)) ≤ 5

@@ -1,0 +1,85 @@
+-- The recorded votes of one round, by the votes so far.
+use Rattle.std.specs.Prelude.{◌≡◌, ℕ, ◌+◌, ◌<◌, ◌==◌, ◌&&◌, Bool, IsTrue, List, length, ◌++◌, Contains, Option, option_map, Some, None, if◌then◌else◌}
+use Rattle.std.specs.Option.{option_to_list}
+use Rattle.std.specs.List.Sorted.{IsStrictlySortedBy}
+use Rattle.std.specs.Ordering.{nat_cmp}
+use Rattle.simplex_base.specs.Positions.{Round}
+use Rattle.simplex_votes.specs.Votes.{SignedVote, Sort, Notarizing, Nullifying, Finalizing, sort_of, same_sort, notarize_vote, nullify_vote, finalize_vote}
+use Rattle.simplex_evidence.specs.Contradiction.{Kind, Conflicting_notarize, Conflicting_finalize, Nullify_finalize, Evidence, contradicts}
+use Rattle.simplex_evidence.specs.VoteMap.{item_of}
+use Rattle.simplex_detector.specs.VotePairs.{pairs_count}
+use Rattle.simplex_detector.specs.Recorded.{Slot, slot_of, slot_with, changes, evidence_from, recorded_in}
+use Rattle.simplex_detector.specs.declared.vote_pairs.VotePairs.{VotePairs}
+use Rattle.simplex_detector.specs.declared.round_votes.RoundVotes.{RoundVotes}
+
+-- an empty slot
+abbrev pub no_slot : {D G : Type 0} → Slot D G
+no_slot = record { earliest = None; other = None }
+
+-- the slot that two votes of a signer are
+abbrev pub slot_in : {V D G : Type 0} → (V → ℕ) → (V → SignedVote D G) → VotePairs V → ℕ → Slot D G
+slot_in signer_of vote_of pairs signer = record {
+  earliest = option_map vote_of (item_of signer_of pairs.firsts.items signer);
+  other = option_map vote_of (item_of signer_of pairs.others.items signer);
+}
+
+-- the slots of a signer
+abbrev pub slots : {S D P G : Type 0} → RoundVotes S D P G → ℕ → Sort → Slot D G
+slots recorded signer Notarizing = slot_in (λ v. v.attestation.signer) notarize_vote recorded.notarizes signer
+slots recorded signer Nullifying = record { earliest = option_map nullify_vote (item_of (λ v. v.attestation.signer) recorded.nullifies.items signer); other = None }
+slots recorded signer Finalizing = slot_in (λ v. v.attestation.signer) finalize_vote recorded.finalizes signer
+
+-- how many votes there are
+abbrev pub round_count : {S D P G : Type 0} → RoundVotes S D P G → ℕ
+round_count recorded = pairs_count recorded.notarizes + (length recorded.nullifies.items + pairs_count recorded.finalizes)
+
+-- all maps are for n participants
+pub record IsSized {S D P G : Type 0} (n : ℕ) (recorded : RoundVotes S D P G) : Type 0 where
+  pub notarizes : recorded.notarizes.firsts.participants ≡ n
+  pub other_notarizes : recorded.notarizes.others.participants ≡ n
+  pub nullifies : recorded.nullifies.participants ≡ n
+  pub finalizes : recorded.finalizes.firsts.participants ≡ n
+  pub other_finalizes : recorded.finalizes.others.participants ≡ n
+
+-- whether a vote is of a sort and a signer
+abbrev pub is_for : {D G : Type 0} → SignedVote D G → ℕ → Sort → Bool
+is_for v signer sort = same_sort (sort_of v.subject) sort && (v.signer == signer)
+
+-- a participant's vote that is news changes its slot, and is one vote more
+pub record TakesVote {S D P G : Type 0} (eq : D → D → Bool) (v : SignedVote D G) (before after : RoundVotes S D P G) : Type 0 where
+  pub sized : (n : ℕ) → IsSized n before → IsSized n after
+  pub taken : (n : ℕ) → IsSized n before → v.signer < n → IsTrue (changes eq (slots before v.signer (sort_of v.subject)).earliest (slots before v.signer (sort_of v.subject)).other v.subject) →
+      (signer : ℕ) (sort : Sort) → slots after signer sort ≡ (if is_for v signer sort then slot_with eq v (slots before signer sort) else slots before signer sort)
+  pub more : (n : ℕ) → IsSized n before → v.signer < n → IsTrue (changes eq (slots before v.signer (sort_of v.subject)).earliest (slots before v.signer (sort_of v.subject)).other v.subject) →
+      round_count after ≡ round_count before + 1
+
+-- the recorded votes are those that are to be recorded of a round, whose committee has n participants
+pub record HoldsRound {S D P G : Type 0} (eq : D → D → Bool) (n : ℕ) (vs : List (SignedVote D G)) (round : Round) (recorded : RoundVotes S D P G) : Type 0 where
+  pub sized : IsSized n recorded
+  pub held : (signer : ℕ) (sort : Sort) → slots recorded signer sort ≡ slot_of eq vs sort round signer
+  pub counted : round_count recorded ≡ recorded_in eq vs round
+
+-- ---- the evidence in what is recorded
+
+-- an evidence, if its votes contradict
+abbrev pub if_contradicts : {D G : Type 0} → (D → D → Bool) → Option (Evidence D G) → Option (Evidence D G)
+if_contradicts eq None = None
+if_contradicts eq (Some e) = if contradicts eq e.kind e.first e.second then Some e else None
+
+-- the evidence of one kind in the slots of a signer
+abbrev pub found_of_kind : {D G : Type 0} → (D → D → Bool) → (Sort → Slot D G) → Kind → Option (Evidence D G)
+found_of_kind eq slot kind = if_contradicts eq (evidence_from slot kind)
+
+-- the evidence in the slots of a signer, by kind
+abbrev pub found_at : {D G : Type 0} → (D → D → Bool) → (Sort → Slot D G) → List (Evidence D G)
+found_at eq slot =
+    option_to_list (found_of_kind eq slot Conflicting_notarize) ++
+    (option_to_list (found_of_kind eq slot Conflicting_finalize) ++
+    option_to_list (found_of_kind eq slot Nullify_finalize))
+
+-- the signers ascend, and every signer that has another notarize, a nullify or another finalize is among them
+pub record ListsSigners {S D P G : Type 0} (recorded : RoundVotes S D P G) (signers : List ℕ) : Type 0 where
+  pub ascending : IsStrictlySortedBy nat_cmp signers
+  pub notarizers : (v : _) → Contains recorded.notarizes.others.items v → Contains signers v.attestation.signer
+  pub nullifiers : (v : _) → Contains recorded.nullifies.items v → Contains signers v.attestation.signer
+  pub finalizers : (v : _) → Contains recorded.finalizes.others.items v → Contains signers v.attestation.signer

@@ -1,0 +1,70 @@
+-- Rounds whose certificates contradict, and how many participants are named there.
+use Rattle.std.specs.Prelude.{◌≡◌, ℕ, ◌+◌, Bool, ◌&&◌, ◌||◌, List, [], ◌∷◌, map, filter, nat_eq, Option, Some, None, All, Contains, IsTrue, if◌then◌else◌, codes, decimal}
+use Rattle.std.specs.List.{list_any}
+use Rattle.std.specs.Option.{is_some}
+use Rattle.std.specs.List.Sorted.{IsStrictlySortedBy}
+use Rattle.std.specs.Set.{distinct_count}
+use Rattle.simplex_base.specs.Positions.{Round, same_round}
+use Rattle.simplex_scheme.specs.Committee.{faults_of}
+use Rattle.simplex_scheme.specs.Subject.{SubjectValue}
+use Rattle.simplex_votes.specs.Votes.{SignedVote}
+use Rattle.simplex_evidence.specs.Contradiction.{Conflicting_notarize, Conflicting_finalize, Nullify_finalize}
+use Rattle.simplex_evidence.specs.Activity.{activity_round}
+use Rattle.simplex_evidence.specs.declared.types.activity.Activity.{Activity}
+use Rattle.simplex_detector.specs.Named.{is_named, round_cmp}
+use Rattle.simplex_detector.specs.Rules.{Rules, valid_votes}
+use Rattle.simplex_detector.specs.Certificates.{certificate_in, messages_contradict}
+use Rattle.simplex_detector.specs.Line.{parted}
+use Rattle.simplex_detector.specs.declared.split.Split.{Split}
+
+-- ---- what messages certify
+
+-- the subject of a certificate, if the certificate certifies it
+abbrev pub if_certified : {S D C P G : Type 0} → Rules S D C P G → Option (SubjectValue D × C) → Option (SubjectValue D)
+if_certified rules None = None
+if_certified rules (Some s) = if rules.certified s.0 s.1 then Some s.0 else None
+
+-- what a message certifies, if it has a certificate and that certifies its subject
+abbrev pub certified_in : {S D C P G : Type 0} → Rules S D C P G → Activity S D C P G → Option (SubjectValue D)
+certified_in rules message = if_certified rules (certificate_in message)
+
+-- whether a message has a certificate that certifies its subject
+abbrev pub is_certified : {S D C P G : Type 0} → Rules S D C P G → Activity S D C P G → Bool
+is_certified rules message = is_some (certified_in rules message)
+
+-- ---- splits
+
+-- whether a round is split: two of the messages, of that round, contradict, and both are certified
+abbrev pub is_split : {S D C P G : Type 0} → Rules S D C P G → List (Activity S D C P G) → Round → Bool
+is_split rules messages round =
+    list_any (λ m. (same_round (activity_round m) round && is_certified rules m) && list_any (λ k. is_certified rules k && messages_contradict rules.eq m k) messages) messages
+
+-- whether a signer is named in a round, for any kind of contradiction
+abbrev pub is_named_in : {D G : Type 0} → (D → D → Bool) → List (SignedVote D G) → Round → ℕ → Bool
+is_named_in eq vs round signer =
+    is_named eq vs (record { round = round; signer = signer; kind = Conflicting_notarize }) ||
+    (is_named eq vs (record { round = round; signer = signer; kind = Conflicting_finalize }) ||
+    is_named eq vs (record { round = round; signer = signer; kind = Nullify_finalize }))
+
+-- how many distinct signers are named in a round
+abbrev pub named_count : {D G : Type 0} → (D → D → Bool) → List (SignedVote D G) → Round → ℕ
+named_count eq vs round = distinct_count nat_eq (filter (is_named_in eq vs round) (map (λ v. v.signer) vs))
+
+-- the split of a round, if it is split: how many are named in it, and one more than may lie in its committee
+abbrev pub split_of : {S D C P G : Type 0} → Rules S D C P G → List (Activity S D C P G) → Round → Option Split
+split_of rules messages round =
+    if is_split rules messages round
+    then Some (record { round = round; named = named_count rules.eq (valid_votes rules messages) round; least = faults_of (rules.size round.epoch) + 1 })
+    else None
+
+-- the splits of the messages: in the order of rounds, each that of its round, and no split round left out
+pub record AreSplits {S D C P G : Type 0} (rules : Rules S D C P G) (messages : List (Activity S D C P G)) (splits : List Split) : Type 0 where
+  pub ordered : IsStrictlySortedBy round_cmp (map (λ s. s.round) splits)
+  pub sound : All (λ s. split_of rules messages s.round ≡ Some s) splits
+  pub complete : (round : Round) → IsTrue (is_split rules messages round) → Contains (map (λ s. s.round) splits) round
+
+-- ---- the line of a split
+
+-- epoch, view, the word `split`, how many are named, and how many must be
+abbrev pub split_line : Split → List ℕ
+split_line s = parted (decimal s.round.epoch ∷ decimal s.round.view ∷ codes "split" ∷ decimal s.named ∷ decimal s.least ∷ [])

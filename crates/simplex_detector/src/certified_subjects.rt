@@ -1,0 +1,140 @@
+//! The recorded certified subjects of a round: enough to tell whether two of its certificates contradict, and no more.
+
+ghost use Rattle.std.specs.Prelude.{◌≡◌, ◌↔◌, ◌&&◌, ◌||◌, ◌++◌, List, [], ◌∷◌, IsTrue, if◌then◌else◌};
+ghost use Rattle.std.specs.Option.{is_some};
+ghost use Rattle.simplex_scheme.specs.Subject.{SubjectValue, subject_value, round_of};
+ghost use Rattle.simplex_votes.specs.Votes.{Sort, sort_of};
+ghost use Rattle.simplex_detector.specs.FirstCertified.{nothing_certified, RecordsFirsts, firsts_of, first_with, changes_firsts, excludes_some, differs_from_first};
+
+use simplex_base::positions::Round;
+use simplex_scheme::proposal::Proposal;
+use simplex_scheme::scheme::{CertificateVerifier, Digest};
+use simplex_scheme::subject::Subject;
+
+/// Whether two certified subjects of a round contradict, and the first certified subject of each sort before they do.
+#[derive(Drop)]
+pub struct CertifiedSubjects<D> {
+    notarized: Option<Proposal<D>>,
+    nullified: Option<Round>,
+    finalized: Option<Proposal<D>>,
+    split: bool,
+}
+
+impl<D: Digest> CertifiedSubjects<D> {
+    /// Nothing is certified yet.
+    pub fn new() -> Self
+        ensures { result ≡ nothing_certified }
+    {
+        CertifiedSubjects {
+            notarized: None,
+            nullified: None,
+            finalized: None,
+            split: false,
+        }
+    }
+
+    /// Whether nothing is certified.
+    pub fn is_empty(&self) -> bool
+        ensures { IsTrue result ↔ (self.now ≡ nothing_certified) }
+    {
+        let none = self.notarized.is_none() && self.nullified.is_none();
+        none && self.finalized.is_none() && !self.split
+    }
+
+    /// Takes in a certificate of a subject of the round, and answers whether it was found to certify the subject. It is
+    /// verified only where that can change what is recorded: in a round that is not known to be split, and there not where a
+    /// subject of its sort is recorded already, unless the two contradict.
+    pub fn observe<S: CertificateVerifier<D>>(
+        &mut self,
+        scheme: &S,
+        subject: &Subject<'_, D>,
+        certificate: &S::Certificate,
+    ) -> bool
+        ensures records { (subjects : List (SubjectValue D)) →
+            RecordsFirsts D.eq subjects (round_of (subject_value subject.now)) self.old →
+            RecordsFirsts D.eq (subjects ++
+            (if S.certified scheme.now (subject_value subject.now) certificate.now
+            then subject_value subject.now ∷ [] else [])) (round_of (subject_value subject.now)) self.new }
+        // It was found to certify exactly where it was asked, which is where it can change what is recorded, and certifies.
+        ensures verified { result ≡
+            (changes_firsts D.eq (firsts_of self.old) self.old.split (subject_value subject.now) &&
+            S.certified scheme.now (subject_value subject.now) certificate.now) }
+    {
+        if !self.is_news(subject) {
+            return false;
+        }
+        if !scheme.verify_certificate(subject.reborrow(), certificate) {
+            return false;
+        }
+        self.set_first(subject);
+        true
+    }
+
+    /// Whether a certified subject of the round would change what is recorded.
+    fn is_news(&self, subject: &Subject<'_, D>) -> bool
+        ensures { result ≡ changes_firsts D.eq (firsts_of self.now) self.now.split (subject_value subject.now) }
+    {
+        !self.split && (!self.has_first(subject) || self.excludes(subject))
+    }
+
+    /// Whether a subject of the same sort is recorded.
+    fn has_first(&self, subject: &Subject<'_, D>) -> bool
+        ensures { result ≡ is_some (firsts_of self.now (sort_of (subject_value subject.now))) }
+    {
+        match subject {
+            Subject::Notarize { .. } => self.notarized.is_some(),
+            Subject::Nullify { .. } => self.nullified.is_some(),
+            Subject::Finalize { .. } => self.finalized.is_some(),
+        }
+    }
+
+    /// Whether a subject that is recorded and this one exclude each other.
+    fn excludes(&self, subject: &Subject<'_, D>) -> bool
+        ensures { result ≡ excludes_some D.eq (firsts_of self.now) (subject_value subject.now) }
+    {
+        match subject {
+            Subject::Notarize { proposal } => differs(&self.notarized, proposal),
+            Subject::Nullify { .. } => self.finalized.is_some(),
+            Subject::Finalize { proposal } => {
+                self.nullified.is_some() || differs(&self.finalized, proposal)
+            }
+        }
+    }
+
+    /// Records a certified subject of the round if it is the first of its sort, and that the round is split if it is
+    /// now.
+    fn set_first(&mut self, subject: &Subject<'_, D>)
+        ensures firsts { (sort : Sort) →
+            firsts_of self.new sort ≡
+            first_with (subject_value subject.now) sort (firsts_of self.old sort) }
+        ensures split { self.new.split ≡
+            (self.old.split || excludes_some D.eq (firsts_of self.old) (subject_value subject.now)) }
+    {
+        self.split = self.split || self.excludes(subject);
+        if self.has_first(subject) {
+            return;
+        }
+        match subject {
+            Subject::Notarize { proposal } => self.notarized = Some(**proposal),
+            Subject::Nullify { round } => self.nullified = Some(*round),
+            Subject::Finalize { proposal } => self.finalized = Some(**proposal),
+        }
+    }
+
+    /// Whether two certified subjects of the round contradict.
+    pub fn is_split(&self) -> bool
+        ensures { result ≡ self.now.split }
+    {
+        self.split
+    }
+}
+
+/// Whether a proposal is another than the first, if there is one.
+fn differs<D: Digest>(first: &Option<Proposal<D>>, proposal: &Proposal<D>) -> bool
+    ensures { result ≡ differs_from_first D.eq first.now proposal.now }
+{
+    match first {
+        None => false,
+        Some(first) => *first != *proposal,
+    }
+}

@@ -1,0 +1,159 @@
+//! Which committee judges the messages of an epoch.
+
+ghost use Rattle.std.specs.Prelude.{◌≡◌, ◌≢◌, ◌<◌, ◌≤◌, ◌↔◌, ℕ, [], Some, Ok, Err, length, IfOk, IfErr, IsTrue, All, max, take};
+ghost use Rattle.std.specs.Option.{option_copied};
+ghost use Rattle.simplex_detector.specs.Committees.{Schedule, Every, Listed, committee_of, bound_of, greatest, AreRising};
+
+use simplex_base::positions::Epoch;
+use simplex_base::values::{EqByParts, ExactClone};
+use simplex_scheme::scheme::CertificateScheme;
+use std::marker::Model;
+
+/// Why a list of committees is none.
+#[derive(Clone, Copy, Debug, PartialEq, Eq, thiserror::Error)]
+pub enum CommitteesError {
+    /// No epoch is listed.
+    #[error("no epoch has a committee")]
+    Empty,
+    /// The epochs do not rise strictly.
+    #[error("the epochs do not rise strictly")]
+    Unordered,
+}
+
+impl ExactClone for CommitteesError {
+    ghost exact = { λ x y same. same };
+}
+
+impl EqByParts for CommitteesError {
+    ghost use Rattle.std.specs.Prelude.{refl};
+    ghost use Rattle.simplex_detector.specs.Committees.{same_refusal, Schedule, IsSchedule, schedule_of};
+    ghost use Rattle.simplex_detector.specs.declared.committees.CommitteesError.TheVariants.{Empty, Unordered};
+
+    ghost same = { same_refusal };
+
+    ghost equal = { elim [
+      | Empty ↦ elim [ Empty ↦ refl | Unordered ↦ refl ]
+      | Unordered ↦ elim [ Empty ↦ refl | Unordered ↦ refl ]
+    ] };
+}
+
+/// One committee for every epoch, or for each of some epochs its own.
+#[derive(Drop)]
+enum Entries<S> {
+    Every(S),
+    Listed(Vec<(Epoch, S)>),
+}
+
+/// Which committee judges the messages of an epoch, if one does: one for every epoch, or each its own for
+/// the listed ones. No call takes memory.
+#[derive(Drop)]
+pub struct Committees<S> {
+    entries: Entries<S>,
+}
+
+impl<S> Model for Committees<S> {
+    ghost Value = { Schedule S };
+
+    ghost view = { λ committees. schedule_of committees.entries };
+
+    ghost invariant = { λ committees. IsSchedule (schedule_of committees.entries) };
+}
+
+impl<S> Committees<S> {
+    /// One committee for every epoch.
+    pub fn every(committee: S) -> Self
+        ensures { result ≡ Every committee }
+    {
+        Committees {
+            entries: Entries::Every(committee),
+        }
+    }
+
+    /// For each listed epoch its own committee, and none for any other epoch. The epochs have to rise strictly. A
+    /// refused list is dropped.
+    pub fn try_from_vec(pairs: Vec<(Epoch, S)>) -> Result<Self, CommitteesError>
+    where
+        S: Drop,
+        ensures listed { IfOk result (λ committees. (committees ≡ Listed pairs.items) ×
+            (pairs.items ≢ []) × AreRising pairs.items) }
+        ensures empty { result ≡ Err CommitteesError.Empty ↔ (pairs.items ≡ []) }
+        ensures unordered { result ≡ Err CommitteesError.Unordered ↔ (AreRising pairs.items → ⊥) }
+    {
+        if pairs.is_empty() {
+            return Err(CommitteesError::Empty);
+        }
+        if !are_rising(&pairs) {
+            return Err(CommitteesError::Unordered);
+        }
+        Ok(Committees {
+            entries: Entries::Listed(pairs),
+        })
+    }
+
+    /// The committee of an epoch, if it has one. It is found by halving.
+    pub fn get(&self, epoch: Epoch) -> Option<&S>
+        ensures { option_copied result ≡ committee_of self.now epoch }
+    {
+        match &self.entries {
+            Entries::Every(committee) => Some(committee),
+            Entries::Listed(pairs) => listed_committee(pairs, epoch),
+        }
+    }
+}
+
+impl<S: CertificateScheme> Committees<S> {
+    /// The bound under which certificates are read: the number of participants of the greatest committee. Each
+    /// committee is asked once.
+    pub fn bound(&self) -> u32
+        ensures value { result ≡ bound_of S.keys self.now }
+        // No committee is greater, and one is as great.
+        ensures most { (epoch : ℕ) (committee : S) → committee_of self.now epoch ≡ Some committee →
+            length (S.keys committee) ≤ result }
+        // Each has a participant.
+        ensures manned { (epoch : ℕ) (committee : S) →
+            committee_of self.now epoch ≡ Some committee → 1 ≤ length (S.keys committee) }
+        ensures reached { (epoch : ℕ) × (committee : S) ×
+            (committee_of self.now epoch ≡ Some committee) × (length (S.keys committee) ≡ result) }
+    {
+        match &self.entries {
+            Entries::Every(committee) => committee.participants().len() as u32,
+            Entries::Listed(pairs) => greatest(pairs),
+        }
+    }
+}
+
+/// Whether the epochs rise strictly.
+fn are_rising<S>(pairs: &[(Epoch, S)]) -> bool
+    ensures { IsTrue result ↔ AreRising pairs.now }
+{
+    'pairs: for i in 1..pairs.len() {
+        if pairs[i].0 <= pairs[i - 1].0 {
+            return false;
+        }
+    }
+    true
+}
+
+/// The number of participants of the greatest committee.
+fn greatest<S: CertificateScheme>(pairs: &[(Epoch, S)]) -> u32
+    ensures value { result ≡ greatest S.keys pairs.now }
+    // Each committee has a participant.
+    ensures manned { All (λ p. 1 ≤ length (S.keys p.1)) pairs.now }
+{
+    let mut most = 0;
+    'pairs: for pair in pairs {
+        most = most.max(pair.1.participants().len() as u32);
+    }
+    most
+}
+
+/// The committee that is listed for an epoch.
+fn listed_committee<S>(pairs: &[(Epoch, S)], epoch: Epoch) -> Option<&S>
+    requires { AreRising pairs.now }
+    ensures { option_copied result ≡ committee_of (Listed pairs.now) epoch }
+{
+    match pairs.binary_search_by_key(&epoch, |pair| pair.0) {
+        Ok(place) => Some(&pairs[place].1),
+        Err(_) => None,
+    }
+}

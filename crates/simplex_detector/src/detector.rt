@@ -1,0 +1,159 @@
+//! The state of every round so far.
+
+ghost use Rattle.std.specs.Prelude.{◌≡◌, ◌-◌, ◌^◌, List, [], ◌∷◌, ◌++◌, ℕ, All, map, min, IfOk, OnOk};
+ghost use Rattle.std.specs.Option.{option_to_list};
+ghost use Rattle.simplex_base.specs.Readable.{format_of};
+ghost use Rattle.simplex_scheme.specs.Subject.{round_of};
+ghost use Rattle.simplex_evidence.specs.Activity.{activity_round, votes_in};
+ghost use Rattle.simplex_evidence.specs.declared.types.activity.Activity.{Activity};
+ghost use Rattle.simplex_detector.specs.Committees.{Schedule, rules_of};
+ghost use Rattle.simplex_detector.specs.Evidence.{IsEvidence};
+ghost use Rattle.simplex_detector.specs.Recorded.{votes_recorded};
+ghost use Rattle.simplex_detector.specs.Rules.{AreLawful, valid_votes};
+ghost use Rattle.simplex_detector.specs.Detector.{Recalls, RecallsMore};
+ghost use Rattle.simplex_detector.specs.Splits.{AreSplits};
+ghost use Rattle.simplex_detector.specs.EncodedEvidence.{IsEncoded};
+ghost use Rattle.simplex_detector.specs.Values.{evidence_value};
+
+use crate::committees::Committees;
+use crate::evidence::{Evidence, are_encoded};
+use crate::round_state::RoundState;
+use crate::split::Split;
+use simplex_base::codec::Read;
+use simplex_base::positions::{Round, Roundable};
+use simplex_evidence::types::Activity;
+use simplex_scheme::scheme::{Digest, Listing, SchemeTypes};
+use std::alloc::{AllocError, Global};
+use std::collections::BTreeMap;
+
+/// The state of every round so far. A round has one as soon as something of it is recorded.
+#[derive(Drop)]
+pub struct Detector<S: SchemeTypes, D: Digest> {
+    rounds: BTreeMap<Round, RoundState<S, D>>,
+}
+
+impl<S: Listing<D>, D: Digest> Detector<S, D> {
+    /// No message was seen yet.
+    pub fn new(alloc: Global) -> Self
+        ensures { (schedule : Schedule S) →
+            Recalls (rules_of D.eq S.keys S.good S.certified S.listed schedule) [] result }
+    {
+        Detector {
+            rounds: BTreeMap::new(alloc),
+        }
+    }
+
+    /// Records one message. Its round is looked up once, and again where it is new.
+    pub fn observe(
+        &mut self,
+        alloc: Global,
+        committees: &Committees<S>,
+        message: Activity<S, D>,
+    ) -> Result<(), AllocError>
+        ensures { OnOk result (RecallsMore
+            (rules_of D.eq S.keys S.good S.certified S.listed committees.now) (message ∷ []) self.old self.new) }
+    {
+        let round = message_round(&message);
+        let Some(committee) = committees.get(round.epoch()) else {
+            return Ok(());
+        };
+        if let Some(round_state) = self.rounds.get_mut(&round) {
+            return round_state.observe(committee, message);
+        }
+        let mut round_state = RoundState::new(alloc, committee.participants().len());
+        round_state.observe(committee, message)?;
+        if !round_state.is_empty() {
+            self.rounds.insert(round, round_state)?;
+        }
+        Ok(())
+    }
+
+    /// The evidence in the votes so far: one for each round, signer and kind, in that order.
+    pub fn evidence(&self, alloc: Global) -> Result<Vec<Evidence<S, D>>, AllocError>
+        ensures evidence { IfOk result (λ found.
+            (schedule : Schedule S) (messages : List (Activity S D S.Certificate S.PublicKey S.Signature)) →
+            Recalls (rules_of D.eq S.keys S.good S.certified S.listed schedule) messages self.now →
+            IsEvidence D.eq (valid_votes (rules_of D.eq S.keys S.good S.certified S.listed schedule)
+            messages) (map evidence_value found.items)) }
+        // Each can be encoded as a message.
+        ensures encoded { IfOk result (λ found.
+            All (IsEncoded D.eq (format_of ⟦<D as Read>⟧) (format_of ⟦<S::Signature as Read>⟧)) found.items) }
+    {
+        let found = self.walk(alloc)?;
+        are_encoded(&found);
+        Ok(found)
+    }
+
+    /// The evidence in the state of each round.
+    fn walk(&self, alloc: Global) -> Result<Vec<Evidence<S, D>>, AllocError>
+        ensures { IfOk result (λ found.
+            (schedule : Schedule S) (messages : List (Activity S D S.Certificate S.PublicKey S.Signature)) →
+            Recalls (rules_of D.eq S.keys S.good S.certified S.listed schedule) messages self.now →
+            IsEvidence D.eq (valid_votes (rules_of D.eq S.keys S.good S.certified S.listed schedule)
+            messages) (map evidence_value found.items)) }
+    {
+        let mut found = Vec::new(alloc);
+        'rounds: for (_, round_state) in &self.rounds {
+            round_state.votes.report_to(alloc, &mut found)?;
+        }
+        Ok(found)
+    }
+
+    /// The splits of the messages so far, in the order of rounds.
+    pub fn splits(
+        &self,
+        alloc: Global,
+        committees: &Committees<S>,
+    ) -> Result<Vec<Split>, AllocError>
+        ensures { IfOk result (λ splits.
+            (messages : List (Activity S D S.Certificate S.PublicKey S.Signature)) →
+            AreLawful (rules_of D.eq S.keys S.good S.certified S.listed committees.now) →
+            Recalls (rules_of D.eq S.keys S.good S.certified S.listed committees.now) messages self.now →
+            AreSplits (rules_of D.eq S.keys S.good S.certified S.listed committees.now) messages splits.items) }
+    {
+        let mut splits = Vec::new(alloc);
+        'rounds: for (round, round_state) in &self.rounds {
+            push_split(&mut splits, round_state.split(alloc, committees, *round)?)?;
+        }
+        Ok(splits)
+    }
+
+    /// How many votes are recorded, of the valid ones of the messages so far: of each signer in a round the earliest of each
+    /// sort, and of notarizes and finalizes also the earliest with another proposal. The number stops at 2^64 - 1.
+    pub fn votes(&self) -> usize
+        ensures { (schedule : Schedule S) (messages : List (Activity S D S.Certificate S.PublicKey S.Signature)) →
+            Recalls (rules_of D.eq S.keys S.good S.certified S.listed schedule) messages self.now →
+            result ≡ min (votes_recorded D.eq
+            (valid_votes (rules_of D.eq S.keys S.good S.certified S.listed schedule) messages)) (2 ^ 64 - 1) }
+    {
+        let mut count: usize = 0;
+        'rounds: for (_, round_state) in &self.rounds {
+            count = count.saturating_add(round_state.votes.votes());
+        }
+        count
+    }
+}
+
+/// The round of a message, which is that of each of its votes.
+fn message_round<S: Listing<D>, D: Digest>(message: &Activity<S, D>) -> Round
+    ensures message { result ≡ activity_round message.now }
+    ensures votes { All (λ v.
+        round_of v.subject ≡ activity_round message.now) (votes_in S.listed message.now) }
+{
+    match message {
+        Activity::ConflictingNotarize(conflict) => conflict.notarize_2().round(),
+        Activity::ConflictingFinalize(conflict) => conflict.finalize_2().round(),
+        Activity::NullifyFinalize(conflict) => conflict.finalize().round(),
+        _ => message.round(),
+    }
+}
+
+/// Appends a split, if there is one.
+fn push_split(splits: &mut Vec<Split>, split: Option<Split>) -> Result<(), AllocError>
+    ensures { OnOk result (splits.new.items ≡ splits.old.items ++ option_to_list split) }
+{
+    if let Some(split) = split {
+        splits.push(split)?;
+    }
+    Ok(())
+}

@@ -1,0 +1,214 @@
+//! The evidence of a report, and the line that it prints.
+
+ghost use Rattle.std.specs.Prelude.{◌≡◌, ⊤, ◌∷◌, [], All, IfOk, length, string_bytes, decimal};
+ghost use Rattle.simplex_base.specs.Readable.{format_of};
+ghost use Rattle.simplex_scheme.specs.Subject.{round_of};
+ghost use Rattle.simplex_detector.specs.Line.{line_of, parted, with_proposal};
+ghost use Rattle.simplex_evidence.specs.Activity.{activity_encoding};
+ghost use Rattle.simplex_evidence.specs.Conflict.{notarize_evidence, finalize_evidence, nullify_evidence};
+ghost use Rattle.simplex_detector.specs.EncodedEvidence.{IsEncoded};
+ghost use Rattle.simplex_detector.specs.Values.{message_of};
+
+use simplex_base::codec::{EncodeSize, Fixed, Read};
+use simplex_base::positions::{Participant, Round, Roundable};
+use simplex_base::values::EqByParts;
+use simplex_evidence::types::{ConflictingFinalize, ConflictingNotarize, NullifyFinalize};
+use simplex_scheme::proposal::Proposal;
+use simplex_scheme::scheme::{Digest, SchemeTypes};
+use simplex_votes::types::Attributable;
+use std::alloc::{AllocError, Global};
+
+/// Two votes of one signer in one round that contradict.
+#[derive(Drop)]
+#[derive_where(PartialEq, Eq, Hash)]
+pub enum Evidence<S: SchemeTypes, D: Digest> {
+    /// Two notarizes of different proposals.
+    ConflictingNotarize(ConflictingNotarize<S, D>),
+    /// Two finalizes of different proposals.
+    ConflictingFinalize(ConflictingFinalize<S, D>),
+    /// A nullify and a finalize.
+    NullifyFinalize(NullifyFinalize<S, D>),
+}
+
+impl<S: SchemeTypes, D: Digest> Evidence<S, D> {
+    ghost use Rattle.simplex_detector.specs.Values.{evidence_value};
+
+    /// The round of the first vote; votes that contradict are of one round.
+    pub fn round(&self) -> Round
+        ensures { result ≡ round_of (evidence_value self.now).first.subject }
+    {
+        match self {
+            Evidence::ConflictingNotarize(conflict) => conflict.round(),
+            Evidence::ConflictingFinalize(conflict) => conflict.round(),
+            Evidence::NullifyFinalize(conflict) => conflict.round(),
+        }
+    }
+
+    /// The participant that signed the first vote; votes that contradict are of one signer.
+    pub fn signer(&self) -> Participant
+        ensures { result ≡ (evidence_value self.now).first.signer }
+    {
+        match self {
+            Evidence::ConflictingNotarize(conflict) => conflict.signer(),
+            Evidence::ConflictingFinalize(conflict) => conflict.signer(),
+            Evidence::NullifyFinalize(conflict) => conflict.signer(),
+        }
+    }
+
+    /// The number of bytes that it takes as a message of a stream.
+    pub fn encode_size(&self) -> usize
+        ensures size { result ≡ length
+            (activity_encoding {C = ⊤} D.eq (format_of ⟦<D as Read>⟧) (λ _. [])
+            (format_of ⟦<S::Signature as Read>⟧) (message_of self.now)) }
+        ensures encoded { IsEncoded D.eq (format_of ⟦<D as Read>⟧) (format_of ⟦<S::Signature as Read>⟧) self.now }
+    {
+        match self {
+            Evidence::ConflictingNotarize(conflict) => 1 + conflict.encode_size(),
+            Evidence::ConflictingFinalize(conflict) => 1 + conflict.encode_size(),
+            Evidence::NullifyFinalize(conflict) => 1 + conflict.encode_size(),
+        }
+    }
+
+    /// The line that reports it, without its end: epoch, view, signer, kind, and the parent and payload of
+    /// each proposal, parted by single blanks. Numbers are decimal, payloads in lower-case hexadecimal.
+    pub fn line(&self, alloc: Global) -> Result<String, AllocError>
+        ensures { IfOk result (λ line.
+            string_bytes line ≡ line_of D.bytes_of (evidence_value self.now)) }
+    {
+        match self {
+            Evidence::ConflictingNotarize(conflict) => conflicting_notarize_line(alloc, conflict),
+            Evidence::ConflictingFinalize(conflict) => conflicting_finalize_line(alloc, conflict),
+            Evidence::NullifyFinalize(conflict) => nullify_finalize_line(alloc, conflict),
+        }
+    }
+}
+
+impl<S: SchemeTypes, D: Digest> EqByParts for Evidence<S, D> {
+    ghost use Rattle.std.specs.Prelude.{refl};
+    ghost use Rattle.simplex_detector.specs.EncodedEvidence.{same_evidence};
+    ghost use Rattle.simplex_detector.specs.declared.evidence.Evidence.TheVariants.{ConflictingNotarize, ConflictingFinalize, NullifyFinalize};
+
+    ghost same = { same_evidence
+        ⟦<ConflictingNotarize<S, D> as PartialEq>⟧.eq
+        ⟦<ConflictingFinalize<S, D> as PartialEq>⟧.eq
+        ⟦<NullifyFinalize<S, D> as PartialEq>⟧.eq };
+
+    ghost equal = { elim [
+      | ConflictingNotarize _ ↦ elim [ ConflictingNotarize _ ↦ refl | _ ↦ refl ]
+      | ConflictingFinalize _ ↦ elim [ ConflictingFinalize _ ↦ refl | _ ↦ refl ]
+      | NullifyFinalize _ ↦ elim [ NullifyFinalize _ ↦ refl | _ ↦ refl ]
+    ] };
+}
+
+/// Each of these can be encoded as a message: the walk gives callers that fact, and its size is what shows it.
+pub(crate) fn are_encoded<S: SchemeTypes, D: Digest>(evidence: &[Evidence<S, D>])
+    ensures { All (IsEncoded D.eq (format_of ⟦<D as Read>⟧) (format_of ⟦<S::Signature as Read>⟧)) evidence.now }
+{
+    'items: for item in evidence {
+        item.encode_size();
+    }
+}
+
+/// The epoch and the view of a round, and a signer.
+fn place(round: Round, signer: Participant) -> (u64, u64, u32)
+    ensures { result ≡ (round.epoch, round.view, signer) }
+{
+    (round.epoch().get(), round.view().get(), signer.get())
+}
+
+/// The line of two notarizes.
+fn conflicting_notarize_line<S: SchemeTypes, D: Digest>(
+    alloc: Global,
+    conflict: &ConflictingNotarize<S, D>,
+) -> Result<String, AllocError>
+    ensures { IfOk result (λ line.
+        string_bytes line ≡ line_of D.bytes_of (notarize_evidence conflict.now)) }
+{
+    let (first, second) = (conflict.notarize_1(), conflict.notarize_2());
+    line_of_two(
+        alloc,
+        place(first.round(), first.signer()),
+        "conflicting-notarize",
+        &first.proposal,
+        &second.proposal,
+    )
+}
+
+/// The line of two finalizes.
+fn conflicting_finalize_line<S: SchemeTypes, D: Digest>(
+    alloc: Global,
+    conflict: &ConflictingFinalize<S, D>,
+) -> Result<String, AllocError>
+    ensures { IfOk result (λ line.
+        string_bytes line ≡ line_of D.bytes_of (finalize_evidence conflict.now)) }
+{
+    let (first, second) = (conflict.finalize_1(), conflict.finalize_2());
+    line_of_two(
+        alloc,
+        place(first.round(), first.signer()),
+        "conflicting-finalize",
+        &first.proposal,
+        &second.proposal,
+    )
+}
+
+/// The line of a nullify and a finalize.
+fn nullify_finalize_line<S: SchemeTypes, D: Digest>(
+    alloc: Global,
+    conflict: &NullifyFinalize<S, D>,
+) -> Result<String, AllocError>
+    ensures { IfOk result (λ line.
+        string_bytes line ≡ line_of D.bytes_of (nullify_evidence conflict.now)) }
+{
+    let (nullify, finalize) = (conflict.nullify(), conflict.finalize());
+    line_of_one(
+        alloc,
+        place(nullify.round(), nullify.signer()),
+        "nullify-finalize",
+        &finalize.proposal,
+    )
+}
+
+/// The two words of a proposal.
+fn proposal_words<D: Digest>(alloc: Global, proposal: &Proposal<D>) -> Result<String, AllocError>
+    ensures { IfOk result (λ words.
+        string_bytes words ≡ parted (with_proposal D.bytes_of proposal.now [])) }
+{
+    let parent = proposal.parent.get();
+    let payload = hex::encode(alloc, proposal.payload.as_bytes())?;
+    format!(in alloc; "{parent} {payload}")
+}
+
+/// The line of two votes for proposals, at an epoch, a view and a signer.
+fn line_of_two<D: Digest>(
+    alloc: Global,
+    place: (u64, u64, u32),
+    kind: &str,
+    first: &Proposal<D>,
+    second: &Proposal<D>,
+) -> Result<String, AllocError>
+    ensures { IfOk result (λ line.
+        string_bytes line ≡ parted (decimal place.0 ∷ decimal place.1 ∷ decimal place.2 ∷
+        kind.now ∷ with_proposal D.bytes_of first.now (with_proposal D.bytes_of second.now []))) }
+{
+    let (epoch, view, signer) = place;
+    let first = proposal_words(alloc, first)?;
+    let second = proposal_words(alloc, second)?;
+    format!(in alloc; "{epoch} {view} {signer} {kind} {first} {second}")
+}
+
+/// The line of two votes of which one is for a proposal, at an epoch, a view and a signer.
+fn line_of_one<D: Digest>(
+    alloc: Global,
+    place: (u64, u64, u32),
+    kind: &str,
+    proposal: &Proposal<D>,
+) -> Result<String, AllocError>
+    ensures { IfOk result (λ line.
+        string_bytes line ≡ parted (decimal place.0 ∷ decimal place.1 ∷ decimal place.2 ∷
+        kind.now ∷ with_proposal D.bytes_of proposal.now [])) }
+{
+    let (epoch, view, signer) = place;
+    let proposal = proposal_words(alloc, proposal)?;
+    format!(in alloc; "{epoch} {view} {signer} {kind} {proposal}")
+}

@@ -1,0 +1,233 @@
+//! The state of one round: its votes and its certified subjects.
+
+ghost use Rattle.std.specs.Prelude.{◌≡◌, ◌↔◌, ◌+◌, ◌-◌, ◌^◌, List, [], ◌∷◌, None, Some, ℕ, length, map, min, nat_eq, IfOk, OnOk, IsTrue, if◌then◌else◌};
+ghost use Rattle.std.specs.Option.{option_eq};
+ghost use Rattle.std.specs.List.Sorted.{IsNonDecreasing};
+ghost use Rattle.std.specs.Set.{distinct_count};
+ghost use Rattle.simplex_scheme.specs.Subject.{subject_value, round_of};
+ghost use Rattle.simplex_votes.specs.Votes.{Sort, notarize_vote, nullify_vote, finalize_vote};
+ghost use Rattle.simplex_evidence.specs.declared.types.activity.Activity.{Activity};
+ghost use Rattle.simplex_detector.specs.Rules.{vote_on, AreLawful};
+ghost use Rattle.simplex_detector.specs.Committees.{rules_of};
+ghost use Rattle.simplex_detector.specs.Rounds.{round_count, IsSized, slots, no_slot};
+ghost use Rattle.simplex_detector.specs.FirstCertified.{nothing_certified, firsts_of};
+ghost use Rattle.simplex_detector.specs.Detector.{TakesIn, TakesMessage, RecallsRound};
+ghost use Rattle.simplex_detector.specs.Splits.{split_of};
+ghost use Rattle.simplex_detector.specs.Values.{evidence_value};
+
+use crate::certified_subjects::CertifiedSubjects;
+use crate::committees::Committees;
+use crate::evidence::Evidence;
+use crate::round_votes::RoundVotes;
+use crate::split::Split;
+use simplex_base::positions::{Participant, Round};
+use simplex_evidence::types::Activity;
+use simplex_scheme::faults::max_faults;
+use simplex_scheme::scheme::{Attestation, Digest, Listing, SchemeTypes};
+use simplex_scheme::subject::Subject;
+use simplex_votes::types::{Finalize, Notarize, Nullify};
+use std::alloc::{AllocError, Global};
+
+/// The state of one round.
+#[derive(Drop)]
+pub struct RoundState<S: SchemeTypes, D: Digest> {
+    /// Of their valid votes.
+    pub votes: RoundVotes<S, D>,
+    /// Of what they certify.
+    certified: CertifiedSubjects<D>,
+}
+
+impl<S: SchemeTypes, D: Digest> RoundState<S, D> {
+    /// The empty state of a round whose committee has this many participants.
+    pub fn new(alloc: Global, participants: usize) -> Self
+        ensures sized { IsSized participants result.votes }
+        ensures empty { (signer : ℕ) (sort : Sort) → slots result.votes signer sort ≡ no_slot }
+        ensures none { round_count result.votes ≡ 0 }
+        ensures certified { result.certified ≡ nothing_certified }
+    {
+        RoundState {
+            votes: RoundVotes::new(alloc, participants),
+            certified: CertifiedSubjects::new(),
+        }
+    }
+
+    /// Whether nothing is recorded.
+    pub fn is_empty(&self) -> bool
+        ensures votes { IsTrue result → (signer : ℕ) (sort : Sort) →
+            slots self.now.votes signer sort ≡ no_slot }
+        ensures certified { IsTrue result → self.now.certified ≡ nothing_certified }
+        ensures exactly { IsTrue result ↔ (round_count self.now.votes ≡ 0) ×
+            (self.now.certified ≡ nothing_certified) }
+    {
+        self.votes.is_empty() && self.certified.is_empty()
+    }
+}
+
+impl<S: Listing<D>, D: Digest> RoundState<S, D> {
+    /// Takes in a message of the round, judged by the committee of its epoch.
+    pub fn observe(&mut self, committee: &S, message: Activity<S, D>) -> Result<(), AllocError>
+        ensures { OnOk result (TakesMessage (rules_of D.eq S.keys S.good S.certified S.listed)
+            committee.now S.listed message self.old self.new) }
+    {
+        match message {
+            Activity::Notarize(vote) => self.observe_notarize(committee, &vote),
+            Activity::Notarization(message) | Activity::Certification(message) => {
+                let proposal = &message.proposal;
+                let subject = Subject::Notarize { proposal };
+                self.observe_certificate(committee, &subject, &message.certificate)
+            }
+            Activity::Nullify(vote) => self.observe_nullify(committee, &vote),
+            Activity::Nullification(message) => {
+                let round = message.round;
+                self.observe_certificate(
+                    committee,
+                    &Subject::Nullify { round },
+                    &message.certificate,
+                )
+            }
+            Activity::Finalize(vote) => self.observe_finalize(committee, &vote),
+            Activity::Finalization(message) => {
+                let proposal = &message.proposal;
+                let subject = Subject::Finalize { proposal };
+                self.observe_certificate(committee, &subject, &message.certificate)
+            }
+            Activity::ConflictingNotarize(message) => {
+                self.observe_notarize(committee, message.notarize_1())?;
+                self.observe_notarize(committee, message.notarize_2())
+            }
+            Activity::ConflictingFinalize(message) => {
+                self.observe_finalize(committee, message.finalize_1())?;
+                self.observe_finalize(committee, message.finalize_2())
+            }
+            Activity::NullifyFinalize(message) => {
+                self.observe_nullify(committee, message.nullify())?;
+                self.observe_finalize(committee, message.finalize())
+            }
+        }
+    }
+
+    /// Takes in a notarize of the round.
+    fn observe_notarize(&mut self, committee: &S, vote: &Notarize<S, D>) -> Result<(), AllocError>
+        ensures { OnOk result (TakesIn (rules_of D.eq S.keys S.good S.certified S.listed)
+            committee.now vote.now.proposal.round (notarize_vote vote.now ∷ []) None self.old self.new) }
+    {
+        let proposal = &vote.proposal;
+        self.observe_vote(
+            committee,
+            &Subject::Notarize { proposal },
+            &vote.attestation,
+        )
+    }
+
+    /// Takes in a nullify of the round.
+    fn observe_nullify(&mut self, committee: &S, vote: &Nullify<S>) -> Result<(), AllocError>
+        ensures { OnOk result (TakesIn (rules_of D.eq S.keys S.good S.certified S.listed)
+            committee.now vote.now.round (nullify_vote vote.now ∷ []) None self.old self.new) }
+    {
+        let round = vote.round;
+        self.observe_vote(committee, &Subject::Nullify { round }, &vote.attestation)
+    }
+
+    /// Takes in a finalize of the round.
+    fn observe_finalize(&mut self, committee: &S, vote: &Finalize<S, D>) -> Result<(), AllocError>
+        ensures { OnOk result (TakesIn (rules_of D.eq S.keys S.good S.certified S.listed)
+            committee.now vote.now.proposal.round (finalize_vote vote.now ∷ []) None self.old self.new) }
+    {
+        let proposal = &vote.proposal;
+        self.observe_vote(
+            committee,
+            &Subject::Finalize { proposal },
+            &vote.attestation,
+        )
+    }
+
+    /// Takes in a vote of the round, an attestation of a subject.
+    fn observe_vote(
+        &mut self,
+        committee: &S,
+        subject: &Subject<'_, D>,
+        attestation: &Attestation<S>,
+    ) -> Result<(), AllocError>
+        ensures { OnOk result (TakesIn (rules_of D.eq S.keys S.good S.certified S.listed)
+            committee.now (round_of (subject_value subject.now))
+            (vote_on (subject_value subject.now) attestation.now ∷ []) None self.old self.new) }
+    {
+        self.votes.observe(committee, subject, attestation, false)
+    }
+
+    /// Takes in a certificate of the round and the votes that it lists. Where it is found to certify the subject all of
+    /// them are valid; else each is judged by itself.
+    fn observe_certificate(
+        &mut self,
+        committee: &S,
+        subject: &Subject<'_, D>,
+        certificate: &S::Certificate,
+    ) -> Result<(), AllocError>
+        ensures { OnOk result (TakesIn (rules_of D.eq S.keys S.good S.certified S.listed)
+            committee.now (round_of (subject_value subject.now))
+            (map (vote_on (subject_value subject.now)) (S.listed certificate.now))
+            (Some (subject_value subject.now, certificate.now)) self.old self.new) }
+    {
+        let certifies = self.certified.observe(committee, subject, certificate);
+        let attestations = S::attestations(certificate);
+        self.votes
+            .observe_all(committee, subject, attestations, certifies)
+    }
+
+    /// The split of the round, if it is split.
+    pub fn split(
+        &self,
+        alloc: Global,
+        committees: &Committees<S>,
+        round: Round,
+    ) -> Result<Option<Split>, AllocError>
+        ensures { IfOk result (λ split.
+            (messages : List (Activity S D S.Certificate S.PublicKey S.Signature)) →
+            AreLawful (rules_of D.eq S.keys S.good S.certified S.listed committees.now) →
+            RecallsRound (rules_of D.eq S.keys S.good S.certified S.listed committees.now) messages round self.now →
+            split ≡ split_of (rules_of D.eq S.keys S.good S.certified S.listed committees.now) messages round) }
+    {
+        if !self.certified.is_split() {
+            return Ok(None);
+        }
+        let Some(committee) = committees.get(round.epoch()) else {
+            return Ok(None);
+        };
+        let participants = committee.participants().len() as u32;
+        let mut evidence = Vec::new(alloc);
+        self.votes.report_to(alloc, &mut evidence)?;
+        Ok(Some(Split {
+            round,
+            named: count_signers(&evidence),
+            least: max_faults(participants) + 1,
+        }))
+    }
+}
+
+/// How many participants some evidence names, each counted once. The evidence is in the order of signers, so that
+/// one pass over it counts them.
+fn count_signers<S: SchemeTypes, D: Digest>(evidence: &[Evidence<S, D>]) -> u32
+    ensures { IsNonDecreasing (map (λ e. (evidence_value e).first.signer) evidence.now) →
+        result ≡ min (distinct_count nat_eq (map (λ e.
+        (evidence_value e).first.signer) evidence.now)) (2 ^ 32 - 1) }
+{
+    let mut count = 0;
+    let mut last = None;
+    'evidence: for item in evidence {
+        let signer = item.signer();
+        count = count_one(count, last, signer);
+        last = Some(signer);
+    }
+    count
+}
+
+/// One more than the count, unless the signer is the last one.
+fn count_one(count: u32, last: Option<Participant>, signer: Participant) -> u32
+    ensures { result ≡ (if option_eq nat_eq last (Some signer) then count else min (count +
+        1) (2 ^ 32 - 1)) }
+{
+    if last == Some(signer) {
+        return count;
+    }
+    count.saturating_add(1)
+}

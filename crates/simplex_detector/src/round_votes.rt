@@ -1,0 +1,281 @@
+//! The recorded votes of one round: enough to report every signer that contradicts, and no more.
+
+ghost use Rattle.std.specs.Prelude.{◌≡◌, ◌↔◌, ◌-◌, ◌^◌, min, List, [], ◌∷◌, ◌++◌, ℕ, true, map, filter, length, option_map, All, IfOk, OnOk, IsTrue};
+ghost use Rattle.std.specs.List.{flat_map};
+ghost use Rattle.std.specs.Option.{option_to_list};
+ghost use Rattle.simplex_scheme.specs.Subject.{subject_value, round_of};
+ghost use Rattle.simplex_votes.specs.Votes.{SignedVote, Sort, sort_of};
+ghost use Rattle.simplex_evidence.specs.Contradiction.{Conflicting_notarize, Conflicting_finalize, Nullify_finalize};
+ghost use Rattle.simplex_detector.specs.Recorded.{changes};
+ghost use Rattle.simplex_detector.specs.Rounds.{round_count, slots, no_slot, IsSized, TakesVote, HoldsRound, found_of_kind, found_at, ListsSigners};
+ghost use Rattle.simplex_detector.specs.Rules.{vote_on};
+ghost use Rattle.simplex_detector.specs.Values.{evidence_value};
+
+use crate::boxed_map::BoxedMap;
+use crate::evidence::Evidence;
+use crate::vote_pairs::{VotePairs, add_signers};
+use simplex_base::positions::Participant;
+use simplex_evidence::types::{ConflictingFinalize, ConflictingNotarize, NullifyFinalize};
+use simplex_scheme::scheme::{Attestation, Digest, Scheme, SchemeTypes};
+use simplex_scheme::subject::Subject;
+use simplex_votes::types::{Finalize, Notarize, Nullify};
+use std::alloc::{AllocError, Global};
+
+/// The recorded votes of one round: of each signer the earliest notarize and the earliest with another
+/// proposal, the earliest nullify, and the earliest finalize and the earliest with another proposal.
+#[derive(Drop)]
+pub struct RoundVotes<S: SchemeTypes, D: Digest> {
+    notarizes: VotePairs<Notarize<S, D>>,
+    nullifies: BoxedMap<Nullify<S>>,
+    finalizes: VotePairs<Finalize<S, D>>,
+}
+
+impl<S: SchemeTypes, D: Digest> RoundVotes<S, D> {
+    /// The empty state of a round whose committee has this many participants.
+    pub fn new(alloc: Global, participants: usize) -> Self
+        ensures sized { IsSized participants result }
+        ensures empty { (signer : ℕ) (sort : Sort) → slots result signer sort ≡ no_slot }
+        ensures none { round_count result ≡ 0 }
+    {
+        RoundVotes {
+            notarizes: VotePairs::new(alloc, participants),
+            nullifies: BoxedMap::new(alloc, participants),
+            finalizes: VotePairs::new(alloc, participants),
+        }
+    }
+
+    /// Whether nothing is recorded.
+    pub fn is_empty(&self) -> bool
+        ensures slots { IsTrue result → (signer : ℕ) (sort : Sort) →
+            slots self.now signer sort ≡ no_slot }
+        ensures count { IsTrue result ↔ (round_count self.now ≡ 0) }
+    {
+        self.notarizes.is_empty() && self.nullifies.is_empty() && self.finalizes.is_empty()
+    }
+
+    /// How many votes are recorded. The number stops at 2^64 - 1.
+    pub fn votes(&self) -> usize
+        ensures { result ≡ min (round_count self.now) (2 ^ 64 - 1) }
+    {
+        let others = self.nullifies.len().saturating_add(self.finalizes.votes());
+        self.notarizes.votes().saturating_add(others)
+    }
+
+    /// Whether a vote is news: it is the signer's first of its sort, or the first with another proposal.
+    fn is_news(&self, subject: &Subject<'_, D>, signer: Participant) -> bool
+        ensures { result ≡ changes D.eq
+            (slots self.now signer (sort_of (subject_value subject.now))).earliest
+            (slots self.now signer (sort_of (subject_value subject.now))).other (subject_value subject.now) }
+    {
+        match subject {
+            Subject::Notarize { proposal } => match self.notarizes.first(signer) {
+                None => true,
+                Some(first) => {
+                    first.proposal != **proposal && self.notarizes.other(signer).is_none()
+                }
+            },
+            Subject::Nullify { .. } => self.nullifies.get(signer).is_none(),
+            Subject::Finalize { proposal } => match self.finalizes.first(signer) {
+                None => true,
+                Some(first) => {
+                    first.proposal != **proposal && self.finalizes.other(signer).is_none()
+                }
+            },
+        }
+    }
+
+    /// Records a vote that is news.
+    fn add(
+        &mut self,
+        subject: &Subject<'_, D>,
+        attestation: Attestation<S>,
+    ) -> Result<(), AllocError>
+        ensures { OnOk result (TakesVote D.eq (vote_on (subject_value subject.now) attestation) self.old self.new) }
+    {
+        match subject {
+            Subject::Notarize { proposal } => self.notarizes.insert(Notarize {
+                proposal: **proposal,
+                attestation,
+            }),
+            Subject::Nullify { round } => {
+                let round = *round;
+                self.nullifies.insert(Nullify { round, attestation })?;
+                Ok(())
+            }
+            Subject::Finalize { proposal } => self.finalizes.insert(Finalize {
+                proposal: **proposal,
+                attestation,
+            }),
+        }
+    }
+
+    /// Records a vote if it is valid and news. One that would change nothing is not verified, nor one that is
+    /// known to be valid, and only what is recorded is copied.
+    pub fn observe(
+        &mut self,
+        scheme: &S,
+        subject: &Subject<'_, D>,
+        attestation: &Attestation<S>,
+        known: bool,
+    ) -> Result<(), AllocError>
+    where
+        S: Scheme<D>,
+        requires { IsTrue known →
+            S.good scheme.now (subject_value subject.now) attestation.now.signer attestation.now.signature ≡ true }
+        ensures { OnOk result ((vs : List (SignedVote D S.Signature)) →
+            HoldsRound D.eq (length (S.keys scheme.now)) vs (round_of (subject_value subject.now)) self.old →
+            HoldsRound D.eq (length (S.keys scheme.now))
+            (vs ++ filter (λ v. S.good scheme.now v.subject v.signer v.signature)
+            (vote_on (subject_value subject.now) attestation.now ∷ []))
+            (round_of (subject_value subject.now)) self.new) }
+    {
+        if !self.is_news(subject, attestation.signer) {
+            return Ok(());
+        }
+        if !is_valid(scheme, subject, attestation, known) {
+            return Ok(());
+        }
+        let (signer, signature) = (attestation.signer, attestation.signature);
+        self.add(subject, Attestation { signer, signature })
+    }
+
+    /// Records those that are valid and news among votes on one subject. Each is judged by itself, unless all are
+    /// known to be valid.
+    pub fn observe_all(
+        &mut self,
+        scheme: &S,
+        subject: &Subject<'_, D>,
+        attestations: &[Attestation<S>],
+        known: bool,
+    ) -> Result<(), AllocError>
+    where
+        S: Scheme<D>,
+        requires { IsTrue known →
+            All (λ a. S.good scheme.now (subject_value subject.now) a.signer a.signature ≡
+            true) attestations.now }
+        ensures { OnOk result ((vs : List (SignedVote D S.Signature)) →
+            HoldsRound D.eq (length (S.keys scheme.now)) vs (round_of (subject_value subject.now)) self.old →
+            HoldsRound D.eq (length (S.keys scheme.now))
+            (vs ++ filter (λ v. S.good scheme.now v.subject v.signer v.signature)
+            (map (vote_on (subject_value subject.now)) attestations.now))
+            (round_of (subject_value subject.now)) self.new) }
+    {
+        'listed: for attestation in attestations {
+            self.observe(scheme, subject, attestation, known)?;
+        }
+        Ok(())
+    }
+
+    /// Appends the evidence in what is recorded, by signer and kind.
+    pub fn report_to(
+        &self,
+        alloc: Global,
+        found: &mut Vec<Evidence<S, D>>,
+    ) -> Result<(), AllocError>
+        ensures { OnOk result ((signers : List ℕ) × ListsSigners self.now signers ×
+            (map evidence_value found.new.items ≡ map evidence_value found.old.items ++
+            flat_map (λ signer. found_at D.eq (slots self.now signer)) signers)) }
+    {
+        let signers = self.signers(alloc)?;
+        'signers: for signer in &signers {
+            self.report_signer(Participant::new(*signer), found)?;
+        }
+        Ok(())
+    }
+
+    /// The signers with another notarize, a nullify or another finalize, ascending: every signer that contradicts is among them.
+    fn signers(&self, alloc: Global) -> Result<Vec<u32>, AllocError>
+        ensures { IfOk result (λ signers. ListsSigners self.now signers.items) }
+    {
+        let mut signers = Vec::new(alloc);
+        self.notarizes.add_others(&mut signers)?;
+        add_signers(&self.nullifies, &mut signers)?;
+        self.finalizes.add_others(&mut signers)?;
+        signers.sort()?;
+        signers.dedup();
+        Ok(signers)
+    }
+
+    /// Appends the evidence of a signer, by kind.
+    fn report_signer(
+        &self,
+        signer: Participant,
+        found: &mut Vec<Evidence<S, D>>,
+    ) -> Result<(), AllocError>
+        ensures { OnOk result (map evidence_value found.new.items ≡
+            map evidence_value found.old.items ++ found_at D.eq (slots self.now signer)) }
+    {
+        push_found(found, self.conflicting_notarize(signer))?;
+        push_found(found, self.conflicting_finalize(signer))?;
+        push_found(found, self.nullify_finalize(signer))
+    }
+
+    /// The two notarizes of a signer that contradict, if two are recorded.
+    fn conflicting_notarize(&self, signer: Participant) -> Option<Evidence<S, D>>
+        ensures { option_map evidence_value result ≡
+            found_of_kind D.eq (slots self.now signer) Conflicting_notarize }
+    {
+        let first = self.notarizes.first(signer)?;
+        let other = self.notarizes.other(signer)?;
+        // Two that are recorded always conflict: this is what `new` asks for.
+        if !ConflictingNotarize::conflicts(first, other) {
+            return None;
+        }
+        Some(Evidence::ConflictingNotarize(ConflictingNotarize::new(first.copy(), other.copy())))
+    }
+
+    /// The two finalizes of a signer that contradict, if two are recorded.
+    fn conflicting_finalize(&self, signer: Participant) -> Option<Evidence<S, D>>
+        ensures { option_map evidence_value result ≡
+            found_of_kind D.eq (slots self.now signer) Conflicting_finalize }
+    {
+        let first = self.finalizes.first(signer)?;
+        let other = self.finalizes.other(signer)?;
+        if !ConflictingFinalize::conflicts(first, other) {
+            return None;
+        }
+        Some(Evidence::ConflictingFinalize(ConflictingFinalize::new(first.copy(), other.copy())))
+    }
+
+    /// The nullify and the finalize of a signer, if both are recorded.
+    fn nullify_finalize(&self, signer: Participant) -> Option<Evidence<S, D>>
+        ensures { option_map evidence_value result ≡
+            found_of_kind D.eq (slots self.now signer) Nullify_finalize }
+    {
+        let nullify = self.nullifies.get(signer)?;
+        let finalize = self.finalizes.first(signer)?;
+        if !NullifyFinalize::conflicts(nullify, finalize) {
+            return None;
+        }
+        Some(Evidence::NullifyFinalize(NullifyFinalize::new(nullify.copy(), finalize.copy())))
+    }
+}
+
+/// Whether an attestation is valid. One that is known to be is not verified.
+fn is_valid<S: Scheme<D>, D: Digest>(
+    scheme: &S,
+    subject: &Subject<'_, D>,
+    attestation: &Attestation<S>,
+    known: bool,
+) -> bool
+    requires { IsTrue known →
+        S.good scheme.now (subject_value subject.now) attestation.now.signer attestation.now.signature ≡ true }
+    ensures { result ≡ S.good scheme.now (subject_value subject.now) attestation.now.signer
+        attestation.now.signature }
+{
+    known || scheme.verify_attestation(subject.reborrow(), attestation)
+}
+
+/// Appends an evidence, if there is one.
+fn push_found<S: SchemeTypes, D: Digest>(
+    found: &mut Vec<Evidence<S, D>>,
+    evidence: Option<Evidence<S, D>>,
+) -> Result<(), AllocError>
+    ensures { OnOk result (map evidence_value found.new.items ≡
+        map evidence_value found.old.items ++ option_to_list (option_map evidence_value evidence)) }
+{
+    if let Some(evidence) = evidence {
+        found.push(evidence)?;
+    }
+    Ok(())
+}

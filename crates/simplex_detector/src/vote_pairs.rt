@@ -1,0 +1,99 @@
+//! Of each signer two votes at most.
+
+ghost use Rattle.std.specs.Prelude.{◌≡◌, ◌↔◌, ◌-◌, ◌^◌, min, ◌++◌, [], OnOk, IsTrue, map};
+ghost use Rattle.std.specs.Option.{option_copied};
+ghost use Rattle.simplex_evidence.specs.VoteMap.{item_of};
+ghost use Rattle.simplex_detector.specs.VotePairs.{pairs_count, PutsVote};
+
+use crate::boxed_map::BoxedMap;
+use simplex_base::positions::Participant;
+use simplex_votes::types::Attributable;
+use std::alloc::{AllocError, Global};
+
+/// Of each signer the first vote, and another.
+#[derive(Drop)]
+pub struct VotePairs<V: Attributable> {
+    firsts: BoxedMap<V>,
+    others: BoxedMap<V>,
+}
+
+impl<V: Attributable> VotePairs<V> {
+    /// No vote, for this many participants.
+    pub fn new(alloc: Global, participants: usize) -> Self
+        ensures { result ≡ record {
+          firsts = record { participants = participants; items = [] };
+          others = record { participants = participants; items = [] };
+        } }
+    {
+        VotePairs {
+            firsts: BoxedMap::new(alloc, participants),
+            others: BoxedMap::new(alloc, participants),
+        }
+    }
+
+    /// Whether there is no vote.
+    pub fn is_empty(&self) -> bool
+        ensures items { IsTrue result → (self.now.firsts.items ≡ []) ×
+            (self.now.others.items ≡ []) }
+        ensures count { IsTrue result ↔ (pairs_count self.now ≡ 0) }
+    {
+        self.firsts.is_empty() && self.others.is_empty()
+    }
+
+    /// How many votes there are. The number stops at 2^64 - 1.
+    pub fn votes(&self) -> usize
+        ensures { result ≡ min (pairs_count self.now) (2 ^ 64 - 1) }
+    {
+        self.firsts.len().saturating_add(self.others.len())
+    }
+
+    /// The first vote of a signer.
+    pub fn first(&self, signer: Participant) -> Option<&V>
+        ensures { option_copied result ≡ item_of V.signer_of self.now.firsts.items signer }
+    {
+        self.firsts.get(signer)
+    }
+
+    /// The other vote of a signer.
+    pub fn other(&self, signer: Participant) -> Option<&V>
+        ensures { option_copied result ≡ item_of V.signer_of self.now.others.items signer }
+    {
+        self.others.get(signer)
+    }
+
+    /// Inserts a vote of a participant: as its first, or else as its other, where it has none yet.
+    pub fn insert(&mut self, vote: V) -> Result<(), AllocError>
+    where
+        V: Drop,
+        ensures { OnOk result (PutsVote V.signer_of vote self.old self.new) }
+    {
+        if self.firsts.get(vote.signer()).is_none() {
+            self.firsts.insert(vote)?;
+            return Ok(());
+        }
+        self.others.insert(vote)?;
+        Ok(())
+    }
+
+    /// Appends the signers with another vote, in their order.
+    pub fn add_others(&self, signers: &mut Vec<u32>) -> Result<(), AllocError>
+        ensures { OnOk result (signers.new.items ≡ signers.old.items ++
+            map V.signer_of self.now.others.items) }
+    {
+        add_signers(&self.others, signers)
+    }
+}
+
+/// Appends the signers of the items, in their order.
+pub fn add_signers<V: Attributable>(
+    items: &BoxedMap<V>,
+    signers: &mut Vec<u32>,
+) -> Result<(), AllocError>
+    ensures { OnOk result (signers.new.items ≡ signers.old.items ++
+        map V.signer_of items.now.items) }
+{
+    for item in items.iter() {
+        signers.push(item.signer().get())?;
+    }
+    Ok(())
+}

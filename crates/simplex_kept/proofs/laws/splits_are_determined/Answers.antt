@@ -1,8 +1,0 @@
-use Rattle.simplex_kept.proofs.SplitLemmas.{unique, have_names}
-use Rattle.simplex_kept.proofs.laws.splits_are_determined.Goals as goal
-
-pub returns-clause-only : goal.returns-clause-only
-returns-clause-only g c rules messages splits are = unique rules messages splits are
-
-pub returns-clause-names : goal.returns-clause-names
-returns-clause-names g c rules messages splits l are = have_names rules l messages splits are
