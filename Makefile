@@ -6,11 +6,11 @@ run:
 	cd crates/audit && rt run -- $$(cat args) < stdin
 
 # The gate: proves everything from nothing, tries the mutants, runs the tests and the programs, and then tries what was
-# built as its users would, and with each growth refused in turn.
+# built as its users would, and with each allocation refused in turn.
 test:
 	.ci/gate
 
-# Answers the stored rows, without proving anything.
+# Answers the stored test vectors, without proving anything.
 quick:
 	.ci/quick
 

@@ -17,7 +17,7 @@ extern void *__libc_malloc(size_t size);
 extern void *__libc_calloc(size_t count, size_t size);
 extern void *__libc_realloc(void *old, size_t size);
 
-static unsigned long growths;
+static unsigned long allocations;
 static unsigned long refused;
 static size_t least;
 static size_t from;
@@ -27,7 +27,7 @@ __attribute__((constructor)) static void begin(void) {
     const char *number = getenv("REFUSED");
     const char *bytes = getenv("LEAST");
     const char *end = getenv("FROM");
-    growths = 0;
+    allocations = 0;
     refused = number ? strtoul(number, NULL, 10) : 0;
     least = bytes ? strtoul(bytes, NULL, 10) : 0;
     from = end ? strtoul(end, NULL, 10) : 0;
@@ -36,8 +36,8 @@ __attribute__((constructor)) static void begin(void) {
 
 static int is_numbered(size_t size) {
     if (size < least) return 0;
-    growths++;
-    return refused != 0 && growths == refused;
+    allocations++;
+    return refused != 0 && allocations == refused;
 }
 
 static int is_refused(size_t size) {

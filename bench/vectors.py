@@ -1,7 +1,7 @@
 #!/usr/bin/env python3
-"""vectors.py ROWS ANSWERS [WORKED]: writes rows of `sign`, `assemble`, `many`, `subject`, `derive`, `decode`, `cut`, plain `verify`,
+"""vectors.py VECTORS ANSWERS [WORKED]: writes vectors of `sign`, `assemble`, `many`, `subject`, `derive`, `decode`, `cut`, plain `verify`,
 `batch`, `resolve`, `hear`, `follow`, `store` and `audit`, and their answers, as docs/CONFORMANCE.md has them. With WORKED, a file of
-rows, there are also rows of `cut` of the messages in those, and of `feed` of their streams in pieces. It is a model of its own: it
+vectors, there are also vectors of `cut` of the messages in those, and of `feed` of their streams in pieces. It is a model of its own: it
 reads and signs by what docs/FORMAT.md says.
 """
 import hashlib
@@ -490,7 +490,7 @@ def sign(base, me, kind, data):
     return "nobody signs" if me is None else vote(base, me, kind, data).hex()
 
 
-def rows_of_names():
+def vectors_of_names():
     for base in (b"test", b"", b"\x00\xff"):
         names = " ".join((base + b"_" + word).hex() for word in (b"NOTARIZE", b"NULLIFY", b"FINALIZE", b"SEED"))
         yield f"derive {base.hex()}".strip(), names
@@ -511,7 +511,7 @@ def subjects(base, view=10):
     return {"notarize": proposal, "nullify": proposal[: 1 + len(number(view))], "finalize": proposal}
 
 
-def rows_of_signing(base):
+def vectors_of_signing(base):
     for kind, message in subjects(base).items():
         for me in (0, 3, None):
             yield f"sign {scheme_word(base, 4, me)} {kind} {message.hex()}", sign(base, me, kind, message)
@@ -523,7 +523,7 @@ def rows_of_signing(base):
     yield f"sign {scheme_word(base, 4, 1)} nobody 000a", "no row"
 
 
-def rows_of_assembling(base):
+def vectors_of_assembling(base):
     calls = {"notarize": "notarizes", "nullify": "nullifies", "finalize": "finalizes"}
     for kind, message in subjects(base).items():
         other = subjects(base, 11)[kind]
@@ -541,7 +541,7 @@ def rows_of_assembling(base):
     yield f"assemble {scheme_word(base, 4)} from_nobody 000a00aa", "no row"
 
 
-def rows_of_many(base):
+def vectors_of_many(base):
     word = f"many {scheme_word(base, 4)}"
     here, there = subjects(base), subjects(base, 11)
     made = {kind: bytes([KINDS.index(kind)]) + certificate(base, (0, 1, 2), kind, here[kind]) for kind in KINDS}
@@ -565,7 +565,7 @@ def rows_of_many(base):
         yield f"{word} {data.hex()}".strip(), many(base, 4, data)
 
 
-def rows_of_verifying(base):
+def vectors_of_verifying(base):
     word = f"verify {scheme_word(base, 4)}"
     here, there = subjects(base), subjects(base, 11)
     loose = {kind: vote(base, 1, kind, here[kind]) for kind in KINDS}
@@ -621,7 +621,7 @@ def messages(base, first):
     yield b"\x09" + votes["nullify"] + votes["finalize"]
 
 
-def rows_of_strangers():
+def vectors_of_strangers():
     """Each message, valid where it was signed, asked there and of another base or of other keys."""
     places = ((b"test", 0), (b"tests", 0), (b"test", 4))
     for base, first in places:
@@ -662,7 +662,7 @@ def values(base):
     return {prefix + kind: data for kind, data in kinds.items()}
 
 
-def rows_of_reading():
+def vectors_of_reading():
     plain, marked = values(b"test"), values(None)
     alone = {
         "epoch": number(333),
@@ -686,7 +686,7 @@ def rows_of_reading():
             yield f"cut {kind} 4 {data.hex()}", cut(kind, 4, data)
 
 
-def rows_of_batching():
+def vectors_of_batching():
     here = b"\x00\x0a\x05\x06"
     good = [vote(None, i, "notarize", here) for i in range(4)]
     bad, other = good[3][:-1] + b"\x00", vote(None, 3, "notarize", b"\x00\x0a\x05\x07")
@@ -706,7 +706,7 @@ def rows_of_batching():
         yield f"batch {n} {words}", batch(n, proposal, votes)
 
 
-def rows_of_resolving():
+def vectors_of_resolving():
     here, there = b"\x00\x0a\x05\x06", b"\x00\x0b\x0a\x07"
     good, more = (certificate(None, range(3), "notarize", one) for one in (here, there))
     few, bad = certificate(None, range(2), "notarize", there), good[:-1] + b"\x00"
@@ -721,7 +721,7 @@ def rows_of_resolving():
         yield f"resolve {n} {data.hex()}".strip(), resolve(n, data)
 
 
-def rows_of_following():
+def vectors_of_following():
     def of(view, payload, signers=(0, 1, 2)):
         return certificate(None, signers, "finalize", b"\x00" + number(view) + b"\x05" + payload)
 
@@ -741,7 +741,7 @@ def rows_of_following():
         yield f"follow {n} {' '.join(data.hex() for data in finalizations)}".strip(), follow(n, finalizations)
 
 
-def rows_of_storing():
+def vectors_of_storing():
     def loose(signer, kind, subject):
         return bytes([{"notarize": 0, "nullify": 3, "finalize": 5}[kind]]) + vote(None, signer, kind, subject)
 
@@ -767,7 +767,7 @@ def rows_of_storing():
         yield f"store {n} {' '.join(data.hex() for data in pieces)}".strip(), store(str(n), pieces)
 
 
-def rows_of_hearing():
+def vectors_of_hearing():
     numbers = [
         (8, 10, 2, length, ahead, certified, view)
         for length, ahead in ((1, 0), (5, 0), (5, 2), (20, 2))
@@ -800,10 +800,10 @@ def messages_in(n, stream):
     return found
 
 
-def rows_of_cuts(worked):
-    """A row of `cut` for each value that a row of `read` reads, and for each message of a row of `audit`, `feed` or `verify`."""
-    for row in worked:
-        form, *words = row.split()
+def vectors_of_cuts(worked):
+    """A vector of `cut` for each value that a vector of `read` reads, and for each message of a vector of `audit`, `feed` or `verify`."""
+    for vector in worked:
+        form, *words = vector.split()
         if form == "read":
             kind, bound, data = words[0], int(words[1]), bytes.fromhex("".join(words[2:]))
             reader = Reader(data, kind.startswith("plain-"), bound)
@@ -821,7 +821,7 @@ def rows_of_cuts(worked):
             yield f"cut {kind} {bound} {data.hex()}", cut(kind, bound, data)
 
 
-def rows_of_streams():
+def vectors_of_streams():
     """Streams of a committee of four that stop at a tag, alone or behind a message, or are cut off."""
     vote = "00000a050601aa"
     tags = [f"{tag:02x}" for tag in range(256)]
@@ -831,10 +831,10 @@ def rows_of_streams():
         yield f"audit 4 {stream}".strip(), audit("4", bytes.fromhex(stream))
 
 
-def rows_of_pieces(worked):
-    """A row of `feed` for each row of `audit` with a committee: a byte a piece, and cut in two at each byte."""
-    for row in worked:
-        form, *words = row.split()
+def vectors_of_pieces(worked):
+    """A vector of `feed` for each vector of `audit` with a committee: a byte a piece, and cut in two at each byte."""
+    for vector in worked:
+        form, *words = vector.split()
         if form != "audit" or bound_of(words[0]) == 0:
             continue
         who, stream = words[0], bytes.fromhex("".join(words[1:]))
@@ -843,35 +843,35 @@ def rows_of_pieces(worked):
             yield f"feed {who} {' '.join(piece.hex() for piece in pieces)}".strip(), feed(who, pieces)
 
 
-def rows():
-    yield from rows_of_names()
+def vectors():
+    yield from vectors_of_names()
     for base in (None, b"test"):
-        yield from rows_of_signing(base)
-        yield from rows_of_assembling(base)
-        yield from rows_of_many(base)
-        yield from rows_of_verifying(base)
-    yield from rows_of_strangers()
-    yield from rows_of_reading()
-    yield from rows_of_batching()
-    yield from rows_of_resolving()
-    yield from rows_of_following()
-    yield from rows_of_storing()
-    yield from rows_of_hearing()
-    yield from rows_of_streams()
+        yield from vectors_of_signing(base)
+        yield from vectors_of_assembling(base)
+        yield from vectors_of_many(base)
+        yield from vectors_of_verifying(base)
+    yield from vectors_of_strangers()
+    yield from vectors_of_reading()
+    yield from vectors_of_batching()
+    yield from vectors_of_resolving()
+    yield from vectors_of_following()
+    yield from vectors_of_storing()
+    yield from vectors_of_hearing()
+    yield from vectors_of_streams()
     if len(sys.argv) > 3:
         with open(sys.argv[3]) as worked:
             worked = worked.read().splitlines()
-        yield from rows_of_cuts(worked)
-        yield from rows_of_pieces(worked)
+        yield from vectors_of_cuts(worked)
+        yield from vectors_of_pieces(worked)
 
 
 def main():
     seen = set()
     with open(sys.argv[1], "w") as questions, open(sys.argv[2], "w") as answers:
-        for row, answer in rows():
-            if row not in seen:
-                seen.add(row)
-                questions.write(row + "\n")
+        for vector, answer in vectors():
+            if vector not in seen:
+                seen.add(vector)
+                questions.write(vector + "\n")
                 answers.write(answer + "\n")
 
 

@@ -49,7 +49,7 @@ pub enum Failure {
     Read,
     /// The text can't be written, or flushed.
     Write,
-    /// A growth was refused.
+    /// An allocation failed.
     OutOfMemory,
 }
 

@@ -26,7 +26,7 @@ impl ExactClone for CommitteesError {
 
 impl EqByParts for CommitteesError {
     ghost use Rattle.std.specs.Prelude.{refl};
-    ghost use Rattle.simplex_detector.specs.Committees.{same_refusal, Schedule, IsSchedule, schedule_of};
+    ghost use Rattle.simplex_detector.specs.Committees.{same_refusal};
     ghost use Rattle.simplex_detector.specs.declared.committees.CommitteesError.TheVariants.{Empty, Unordered};
 
     ghost same = { same_refusal };
@@ -52,6 +52,8 @@ pub struct Committees<S> {
 }
 
 impl<S> Model for Committees<S> {
+    ghost use Rattle.simplex_detector.specs.Committees.{Schedule, IsSchedule, schedule_of};
+
     ghost Value = { Schedule S };
 
     ghost view = { λ committees. schedule_of committees.entries };

@@ -50,7 +50,7 @@ fn ample(rt: HostRuntime) {
     assert!(rt; !any_is_refused(&rt));
 }
 
-/// Where a growth is refused the slice and the buffer are as before.
+/// Where an allocation fails the slice and the buffer are as before.
 #[test]
 fn refused(rt: HostRuntime) {
     let _ = any_is_refused(&rt);

@@ -1,4 +1,4 @@
-//! The map of first votes: who has an item, clears, many inserts, and refused growths.
+//! The map of first votes: who has an item, clears, many inserts, and failed allocations.
 
 use crate::without_memory::is_out;
 use simplex_base::positions::Participant;

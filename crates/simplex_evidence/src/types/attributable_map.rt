@@ -20,7 +20,7 @@ pub struct AttributableMap<T: Attributable> {
 }
 
 impl<T: Attributable> Model for AttributableMap<T> {
-    ghost use Rattle.std.specs.Prelude.{◌<◌, ◌≤◌, length, List};
+    ghost use Rattle.std.specs.Prelude.{◌<◌, ◌≤◌, length};
     ghost use Rattle.std.specs.Vec.{vec_capacity};
     ghost use Rattle.simplex_evidence.specs.VoteMap.{VoteMap, IsBySigner, AreParticipants};
 

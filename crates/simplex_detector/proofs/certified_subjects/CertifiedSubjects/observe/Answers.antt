@@ -17,14 +17,14 @@ returns-then-not-verify_certificate-clause-records g c subjects records =
     let y = subject_value c.args.subject.now in
     let certified = λ (x : _). g.S.CertificateVerifier.certified c.args.scheme.now x c.args.certificate.now in
     records_if g.D.PartialEq.eq subjects y (round_of y) c.args.self.now (certified y) records
-    (λ certifies. absurd (false≢true (sym c.if-not-verify_certificate.true ∙ c.verify_certificate.ensures ∙ ap certified c.same.ensures ∙ certifies)))
+    (λ certifies. absurd (false≢true (sym c.if-not-verify_certificate.true ∙ c.verify_certificate.ensures ∙ ap certified c.reborrow.ensures ∙ certifies)))
 
 -- it is recorded
 pub returns-clause-records : goal.returns-clause-records
 returns-clause-records g c subjects records =
     let y = subject_value c.args.subject.now in
     let certified = λ (x : _). g.S.CertificateVerifier.certified c.args.scheme.now x c.args.certificate.now in
-    rw (ap certified (sym c.same.ensures) ∙ sym c.verify_certificate.ensures ∙ c.if-not-verify_certificate.false)
+    rw (ap certified (sym c.reborrow.ensures) ∙ sym c.verify_certificate.ensures ∙ c.if-not-verify_certificate.false)
     (records_next g.D.PartialEq.eq g.met.D.Eq.laws subjects y c.args.self.now c.set_first.new.self records (λ whole. c.set_first.ensures.firsts) c.set_first.ensures.split)
 
 -- ---- when it answers that it certifies
@@ -37,10 +37,10 @@ returns-then-not-is_news-clause-verified g c = sym (and_left _ _ (sym c.is_news.
 pub returns-then-not-verify_certificate-clause-verified : goal.returns-then-not-verify_certificate-clause-verified
 returns-then-not-verify_certificate-clause-verified g c =
     let certified = λ (x : _). g.S.CertificateVerifier.certified c.args.scheme.now x c.args.certificate.now in
-    sym (and_right _ _ (ap certified (sym c.same.ensures) ∙ sym c.verify_certificate.ensures ∙ c.if-not-verify_certificate.true))
+    sym (and_right _ _ (ap certified (sym c.reborrow.ensures) ∙ sym c.verify_certificate.ensures ∙ c.if-not-verify_certificate.true))
 
 -- it was asked, and certifies
 pub returns-clause-verified : goal.returns-clause-verified
 returns-clause-verified g c =
     let certified = λ (x : _). g.S.CertificateVerifier.certified c.args.scheme.now x c.args.certificate.now in
-    sym (and_from _ _ (sym c.is_news.ensures ∙ c.if-not-is_news.false) (ap certified (sym c.same.ensures) ∙ sym c.verify_certificate.ensures ∙ c.if-not-verify_certificate.false))
+    sym (and_from _ _ (sym c.is_news.ensures ∙ c.if-not-is_news.false) (ap certified (sym c.reborrow.ensures) ∙ sym c.verify_certificate.ensures ∙ c.if-not-verify_certificate.false))
