@@ -154,16 +154,10 @@ fn read_message<S: Scheme<D>, D: Digest>(
     match kind {
         "proposal" => read_as(alloc, asked, &(), bytes, Proposal::<D>::clone),
         "attestation" => read_as(alloc, asked, &(), bytes, Attestation::<S>::clone),
-        "listed" => read_as(alloc, asked, &bound, bytes, S::Certificate::clone),
         "notarize" => read_as(alloc, asked, &(), bytes, Notarize::<S, D>::clone),
         "nullify" => read_as(alloc, asked, &(), bytes, Nullify::<S>::clone),
         "finalize" => read_as(alloc, asked, &(), bytes, Finalize::<S, D>::clone),
-        "notarization" => read_as(alloc, asked, &bound, bytes, Notarization::<S, D>::clone),
-        "nullification" => read_as(alloc, asked, &bound, bytes, Nullification::<S>::clone),
-        "finalization" => read_as(alloc, asked, &bound, bytes, Finalization::<S, D>::clone),
         "vote" => read_as(alloc, asked, &(), bytes, Vote::<S, D>::clone),
-        "certificate" => read_as(alloc, asked, &bound, bytes, Certificate::<S, D>::clone),
-        "artifact" => read_as(alloc, asked, &bound, bytes, Artifact::<S, D>::clone),
         "conflicting-notarize" => {
             read_as(alloc, asked, &(), bytes, ConflictingNotarize::<S, D>::clone)
         }
@@ -171,6 +165,25 @@ fn read_message<S: Scheme<D>, D: Digest>(
             read_as(alloc, asked, &(), bytes, ConflictingFinalize::<S, D>::clone)
         }
         "nullify-finalize" => read_as(alloc, asked, &(), bytes, NullifyFinalize::<S, D>::clone),
+        _ => read_bounded::<S, D>(alloc, asked, kind, bound, bytes),
+    }
+}
+
+/// The same of what has certificates, which are under the bound.
+fn read_bounded<S: Scheme<D>, D: Digest>(
+    alloc: Global,
+    asked: Asked,
+    kind: &str,
+    bound: u32,
+    bytes: &[u8],
+) -> Result<String, Unanswered> {
+    match kind {
+        "listed" => read_as(alloc, asked, &bound, bytes, S::Certificate::clone),
+        "notarization" => read_as(alloc, asked, &bound, bytes, Notarization::<S, D>::clone),
+        "nullification" => read_as(alloc, asked, &bound, bytes, Nullification::<S>::clone),
+        "finalization" => read_as(alloc, asked, &bound, bytes, Finalization::<S, D>::clone),
+        "certificate" => read_as(alloc, asked, &bound, bytes, Certificate::<S, D>::clone),
+        "artifact" => read_as(alloc, asked, &bound, bytes, Artifact::<S, D>::clone),
         "activity" => read_as(alloc, asked, &bound, bytes, Activity::<S, D>::clone),
         _ => Err(Unanswered::NoVector),
     }

@@ -24,7 +24,7 @@ listed-preserved g c =
     let item = c.attestation-item.result in
     let one_more : take i items ++ item ∷ [] ≡ take (i + 1) items = ap (λ y. take i items ++ y ∷ []) c.attestation-item.is ∙ sym (take_more items i item c.listed-test.true) in
     subst (λ given. HoldsMore eq n good x given c.args.self.now c.observe.new.self) one_more
-    (holds_one_more eq n good x (take i items) item c.args.self.now c.listed.self c.observe.new.self c.listed.invariant c.in_ok-keep.ensures)
+    (holds_one_more eq n good x (take i items) item c.args.self.now c.listed.self c.observe.new.self c.listed.invariant c.in_ok-observe.ensures)
 
 pub returns : goal.returns
 returns g c =
