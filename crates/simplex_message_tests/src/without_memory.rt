@@ -88,72 +88,91 @@ fn is_stored(alloc: Global, vote: &[u8], artifact: &[u8]) -> bool {
         && matches!(artifact, Ok(artifact) if artifact == Artifact::from(vote))
 }
 
-/// Whether participant 1 signs a vote of each kind that verifies, and nobody signs none.
-fn are_signed(alloc: Global, me: &Marked, nobody: &Marked) -> bool {
-    let round = Round::new(Epoch::new(0), View::new(10));
-    let (Ok(None), Ok(None), Ok(None)) = (
-        Notarize::sign(alloc, nobody, marked_proposal()),
-        Nullify::sign::<MarkedDigest>(alloc, nobody, round),
-        Finalize::sign(alloc, nobody, marked_proposal()),
-    ) else {
-        return false;
-    };
-    let (Ok(Some(notarize)), Ok(Some(nullify)), Ok(Some(finalize))) = (
-        Notarize::sign(alloc, me, marked_proposal()),
-        Nullify::sign::<MarkedDigest>(alloc, me, round),
-        Finalize::sign(alloc, me, marked_proposal()),
-    ) else {
-        return false;
-    };
-    notarize.verify(nobody) && nullify.verify::<MarkedDigest>(nobody) && finalize.verify(nobody)
+/// Whether participant 1 signs a notarize that verifies, and a verifier signs none.
+fn is_notarize_signed(alloc: Global, me: &Marked, verifier: &Marked) -> bool {
+    let none = Notarize::sign(alloc, verifier, marked_proposal());
+    let signed = Notarize::sign(alloc, me, marked_proposal());
+    matches!(none, Ok(None)) && matches!(signed, Ok(Some(vote)) if vote.verify(verifier))
 }
 
-/// Two notarizes by participant 1 contradict, and are the evidence that is made of them.
-fn are_conflicting_notarizes(alloc: Global, scheme: &Marked) -> bool {
-    let (Ok(first), Ok(second)) = (
-        decode::<Notarize<Marked, MarkedDigest>>(alloc, &[0, 10, 5, 6, 1, 0xaa]),
-        decode::<Notarize<Marked, MarkedDigest>>(alloc, &[0, 10, 5, 7, 1, 0xaa]),
-    ) else {
-        return false;
-    };
-    if !ConflictingNotarize::conflicts(&first, &second) {
+/// As [`is_notarize_signed`], of a nullify.
+fn is_nullify_signed(alloc: Global, me: &Marked, verifier: &Marked) -> bool {
+    let round = Round::new(Epoch::new(0), View::new(10));
+    let none = Nullify::sign::<MarkedDigest>(alloc, verifier, round);
+    let signed = Nullify::sign::<MarkedDigest>(alloc, me, round);
+    matches!(none, Ok(None))
+        && matches!(signed, Ok(Some(vote)) if vote.verify::<MarkedDigest>(verifier))
+}
+
+/// As [`is_notarize_signed`], of a finalize.
+fn is_finalize_signed(alloc: Global, me: &Marked, verifier: &Marked) -> bool {
+    let none = Finalize::sign(alloc, verifier, marked_proposal());
+    let signed = Finalize::sign(alloc, me, marked_proposal());
+    matches!(none, Ok(None)) && matches!(signed, Ok(Some(vote)) if vote.verify(verifier))
+}
+
+/// Whether two notarizes contradict, and are the evidence that is made of them.
+fn are_conflicting_notarizes(
+    scheme: &Marked,
+    first: &Notarize<Marked, MarkedDigest>,
+    second: &Notarize<Marked, MarkedDigest>,
+) -> bool {
+    if !ConflictingNotarize::conflicts(first, second) {
         return false;
     }
-    let (one, other) = (first.copy(), second.copy());
-    let evidence = ConflictingNotarize::new(first, second);
-    evidence.verify(scheme) && evidence.notarize_1() == &one && evidence.notarize_2() == &other
+    let evidence = ConflictingNotarize::new(first.copy(), second.copy());
+    evidence.verify(scheme) && evidence.notarize_1() == first && evidence.notarize_2() == second
 }
 
 /// As [`are_conflicting_notarizes`], of two finalizes.
-fn are_conflicting_finalizes(alloc: Global, scheme: &Marked) -> bool {
-    let (Ok(first), Ok(second)) = (
-        decode::<Finalize<Marked, MarkedDigest>>(alloc, &[0, 10, 5, 6, 1, 0xaa]),
-        decode::<Finalize<Marked, MarkedDigest>>(alloc, &[0, 10, 5, 7, 1, 0xaa]),
-    ) else {
-        return false;
-    };
-    if !ConflictingFinalize::conflicts(&first, &second) {
+fn are_conflicting_finalizes(
+    scheme: &Marked,
+    first: &Finalize<Marked, MarkedDigest>,
+    second: &Finalize<Marked, MarkedDigest>,
+) -> bool {
+    if !ConflictingFinalize::conflicts(first, second) {
         return false;
     }
-    let (one, other) = (first.copy(), second.copy());
-    let evidence = ConflictingFinalize::new(first, second);
-    evidence.verify(scheme) && evidence.finalize_1() == &one && evidence.finalize_2() == &other
+    let evidence = ConflictingFinalize::new(first.copy(), second.copy());
+    evidence.verify(scheme) && evidence.finalize_1() == first && evidence.finalize_2() == second
 }
 
 /// As [`are_conflicting_notarizes`], of a nullify and a finalize.
-fn are_nullify_and_finalize(alloc: Global, scheme: &Marked) -> bool {
-    let (Ok(first), Ok(second)) = (
-        decode::<Nullify<Marked>>(alloc, &[0, 10, 1, 0xaa]),
-        decode::<Finalize<Marked, MarkedDigest>>(alloc, &[0, 10, 5, 6, 1, 0xaa]),
-    ) else {
-        return false;
-    };
-    if !NullifyFinalize::conflicts(&first, &second) {
+fn are_nullify_and_finalize(
+    scheme: &Marked,
+    nullify: &Nullify<Marked>,
+    finalize: &Finalize<Marked, MarkedDigest>,
+) -> bool {
+    if !NullifyFinalize::conflicts(nullify, finalize) {
         return false;
     }
-    let (one, other) = (first.copy(), second.copy());
-    let evidence = NullifyFinalize::new(first, second);
-    evidence.verify(scheme) && evidence.nullify() == &one && evidence.finalize() == &other
+    let evidence = NullifyFinalize::new(nullify.copy(), finalize.copy());
+    evidence.verify(scheme) && evidence.nullify() == nullify && evidence.finalize() == finalize
+}
+
+/// Votes of participant 1 that contradict are evidence.
+#[test]
+fn without_memory_evidence(rt: HostRuntime) -> Result<(), Fail> {
+    let alloc = rt.alloc();
+    let scheme = Marked::new(alloc, 4, None)?;
+    let votes: [&[u8]; 2] = [&[0, 10, 5, 6, 1, 0xaa], &[0, 10, 5, 7, 1, 0xaa]];
+    let notarizes = decoded::<Notarize<Marked, MarkedDigest>>(alloc, &(), &votes)?;
+    let finalizes = decoded::<Finalize<Marked, MarkedDigest>>(alloc, &(), &votes)?;
+    let nullifies = decoded::<Nullify<Marked>>(alloc, &(), &[&[0, 10, 1, 0xaa]])?;
+    let _ = is_out(alloc);
+    assert!(rt;
+        matches!(notarizes.as_slice(),
+        [first, second] if are_conflicting_notarizes(&scheme, first, second))
+    );
+    assert!(rt;
+        matches!(finalizes.as_slice(),
+        [first, second] if are_conflicting_finalizes(&scheme, first, second))
+    );
+    assert!(rt;
+        matches!((nullifies.as_slice(), finalizes.as_slice()),
+        ([nullify], [finalize, _]) if are_nullify_and_finalize(&scheme, nullify, finalize))
+    );
+    Ok(())
 }
 
 #[test]
@@ -162,7 +181,9 @@ fn without_memory_votes(rt: HostRuntime) -> Result<(), Fail> {
     let me = Marked::new(alloc, 4, Some(Participant::new(1)))?;
     let nobody = Marked::new(alloc, 4, None)?;
     let _ = is_out(alloc);
-    assert!(rt; are_signed(alloc, &me, &nobody));
+    assert!(rt; is_notarize_signed(alloc, &me, &nobody));
+    assert!(rt; is_nullify_signed(alloc, &me, &nobody));
+    assert!(rt; is_finalize_signed(alloc, &me, &nobody));
     assert!(rt;
         is_stored(
             alloc,
@@ -178,9 +199,6 @@ fn without_memory_votes(rt: HostRuntime) -> Result<(), Fail> {
             &[5, 0, 10, 5, 6, 1, 0xaa]
         )
     );
-    assert!(rt; are_conflicting_notarizes(alloc, &nobody));
-    assert!(rt; are_conflicting_finalizes(alloc, &nobody));
-    assert!(rt; are_nullify_and_finalize(alloc, &nobody));
     Ok(())
 }
 
