@@ -88,34 +88,47 @@ fn is_stored(alloc: Global, vote: &[u8], artifact: &[u8]) -> bool {
         && matches!(artifact, Ok(artifact) if artifact == Artifact::from(vote))
 }
 
-/// Whether participant 1 signs a notarize that verifies, and a verifier signs none.
-fn is_notarize_signed(alloc: Global, me: &Marked, verifier: &Marked) -> bool {
-    let none = Notarize::sign(alloc, verifier, marked_proposal());
-    let signed = Notarize::sign(alloc, me, marked_proposal());
+/// Whether the participant signs a notarize that verifies, and the verifier signs none.
+fn is_notarize_signed<S: Scheme<D>, D: Digest>(
+    alloc: Global,
+    me: &S,
+    verifier: &S,
+    proposal: Proposal<D>,
+) -> bool {
+    let none = Notarize::sign(alloc, verifier, proposal);
+    let signed = Notarize::sign(alloc, me, proposal);
     matches!(none, Ok(None)) && matches!(signed, Ok(Some(vote)) if vote.verify(verifier))
 }
 
 /// As [`is_notarize_signed`], of a nullify.
-fn is_nullify_signed(alloc: Global, me: &Marked, verifier: &Marked) -> bool {
-    let round = Round::new(Epoch::new(0), View::new(10));
-    let none = Nullify::sign::<MarkedDigest>(alloc, verifier, round);
-    let signed = Nullify::sign::<MarkedDigest>(alloc, me, round);
-    matches!(none, Ok(None))
-        && matches!(signed, Ok(Some(vote)) if vote.verify::<MarkedDigest>(verifier))
+fn is_nullify_signed<S: Scheme<D>, D: Digest>(
+    alloc: Global,
+    me: &S,
+    verifier: &S,
+    proposal: Proposal<D>,
+) -> bool {
+    let none = Nullify::sign::<D>(alloc, verifier, proposal.round);
+    let signed = Nullify::sign::<D>(alloc, me, proposal.round);
+    matches!(none, Ok(None)) && matches!(signed, Ok(Some(vote)) if vote.verify::<D>(verifier))
 }
 
 /// As [`is_notarize_signed`], of a finalize.
-fn is_finalize_signed(alloc: Global, me: &Marked, verifier: &Marked) -> bool {
-    let none = Finalize::sign(alloc, verifier, marked_proposal());
-    let signed = Finalize::sign(alloc, me, marked_proposal());
+fn is_finalize_signed<S: Scheme<D>, D: Digest>(
+    alloc: Global,
+    me: &S,
+    verifier: &S,
+    proposal: Proposal<D>,
+) -> bool {
+    let none = Finalize::sign(alloc, verifier, proposal);
+    let signed = Finalize::sign(alloc, me, proposal);
     matches!(none, Ok(None)) && matches!(signed, Ok(Some(vote)) if vote.verify(verifier))
 }
 
 /// Whether two notarizes contradict, and are the evidence that is made of them.
-fn are_conflicting_notarizes(
-    scheme: &Marked,
-    first: &Notarize<Marked, MarkedDigest>,
-    second: &Notarize<Marked, MarkedDigest>,
+fn are_conflicting_notarizes<S: Scheme<D>, D: Digest>(
+    scheme: &S,
+    first: &Notarize<S, D>,
+    second: &Notarize<S, D>,
 ) -> bool {
     if !ConflictingNotarize::conflicts(first, second) {
         return false;
@@ -125,10 +138,10 @@ fn are_conflicting_notarizes(
 }
 
 /// As [`are_conflicting_notarizes`], of two finalizes.
-fn are_conflicting_finalizes(
-    scheme: &Marked,
-    first: &Finalize<Marked, MarkedDigest>,
-    second: &Finalize<Marked, MarkedDigest>,
+fn are_conflicting_finalizes<S: Scheme<D>, D: Digest>(
+    scheme: &S,
+    first: &Finalize<S, D>,
+    second: &Finalize<S, D>,
 ) -> bool {
     if !ConflictingFinalize::conflicts(first, second) {
         return false;
@@ -138,10 +151,10 @@ fn are_conflicting_finalizes(
 }
 
 /// As [`are_conflicting_notarizes`], of a nullify and a finalize.
-fn are_nullify_and_finalize(
-    scheme: &Marked,
-    nullify: &Nullify<Marked>,
-    finalize: &Finalize<Marked, MarkedDigest>,
+fn are_nullify_and_finalize<S: Scheme<D>, D: Digest>(
+    scheme: &S,
+    nullify: &Nullify<S>,
+    finalize: &Finalize<S, D>,
 ) -> bool {
     if !NullifyFinalize::conflicts(nullify, finalize) {
         return false;
@@ -181,9 +194,9 @@ fn without_memory_votes(rt: HostRuntime) -> Result<(), Fail> {
     let me = Marked::new(alloc, 4, Some(Participant::new(1)))?;
     let nobody = Marked::new(alloc, 4, None)?;
     let _ = is_out(alloc);
-    assert!(rt; is_notarize_signed(alloc, &me, &nobody));
-    assert!(rt; is_nullify_signed(alloc, &me, &nobody));
-    assert!(rt; is_finalize_signed(alloc, &me, &nobody));
+    assert!(rt; is_notarize_signed(alloc, &me, &nobody, marked_proposal()));
+    assert!(rt; is_nullify_signed(alloc, &me, &nobody, marked_proposal()));
+    assert!(rt; is_finalize_signed(alloc, &me, &nobody, marked_proposal()));
     assert!(rt;
         is_stored(
             alloc,
@@ -296,48 +309,60 @@ fn without_memory_assembly(rt: HostRuntime) -> Result<(), Fail> {
     Ok(())
 }
 
-/// Two notarizes are too few, lent or owned.
-#[test]
-fn without_memory_notarization(rt: HostRuntime) -> Result<(), Fail> {
-    let alloc = rt.alloc();
-    let scheme = Marked::new(alloc, 4, None)?;
-    let votes = decoded::<Notarize<Marked, MarkedDigest>>(alloc, &(), &VOTES)?;
-    let _ = is_out(alloc);
-    let lent = votes.as_slice();
-    assert!(rt; Notarization::can_assemble(&scheme, lent));
-    assert!(rt; are_too_few(Notarization::from_notarizes(alloc, &scheme, lent)));
-    assert!(rt; are_too_few(Notarization::from_owned_notarizes(alloc, &scheme, votes)));
-    Ok(())
+/// Whether these notarizes are too few, lent and owned.
+fn are_few_notarizes<S: Scheme<D>, D: Digest>(
+    alloc: Global,
+    scheme: &S,
+    votes: Vec<Notarize<S, D>>,
+) -> bool {
+    if !Notarization::can_assemble(scheme, votes.as_slice()) {
+        return false;
+    }
+    let lent = Notarization::from_notarizes(alloc, scheme, votes.as_slice());
+    are_too_few(lent) && are_too_few(Notarization::from_owned_notarizes(alloc, scheme, votes))
 }
 
-/// Two nullifies are too few, lent or owned.
-#[test]
-fn without_memory_nullification(rt: HostRuntime) -> Result<(), Fail> {
-    let alloc = rt.alloc();
-    let scheme = Marked::new(alloc, 4, None)?;
-    let votes: [&[u8]; 2] = [&[0, 10, 1, 0xaa], &[0, 10, 2, 0xaa]];
-    let votes = decoded::<Nullify<Marked>>(alloc, &(), &votes)?;
-    let _ = is_out(alloc);
-    let lent = votes.as_slice();
-    assert!(rt; Nullification::can_assemble::<MarkedDigest>(&scheme, lent));
-    let made = Nullification::from_nullifies::<MarkedDigest>(alloc, &scheme, lent);
-    assert!(rt; are_too_few(made));
-    let made = Nullification::from_owned_nullifies::<MarkedDigest>(alloc, &scheme, votes);
-    assert!(rt; are_too_few(made));
-    Ok(())
+/// Whether these nullifies are too few, lent and owned.
+fn are_few_nullifies<S: Scheme<D>, D: Digest>(
+    alloc: Global,
+    scheme: &S,
+    votes: Vec<Nullify<S>>,
+) -> bool {
+    if !Nullification::can_assemble::<D>(scheme, votes.as_slice()) {
+        return false;
+    }
+    let lent = Nullification::from_nullifies::<D>(alloc, scheme, votes.as_slice());
+    are_too_few(lent) && are_too_few(Nullification::from_owned_nullifies::<D>(alloc, scheme, votes))
 }
 
-/// Two finalizes are too few, lent or owned.
+/// Whether these finalizes are too few, lent and owned.
+fn are_few_finalizes<S: Scheme<D>, D: Digest>(
+    alloc: Global,
+    scheme: &S,
+    votes: Vec<Finalize<S, D>>,
+) -> bool {
+    if !Finalization::can_assemble(scheme, votes.as_slice()) {
+        return false;
+    }
+    let lent = Finalization::from_finalizes(alloc, scheme, votes.as_slice());
+    are_too_few(lent) && are_too_few(Finalization::from_owned_finalizes(alloc, scheme, votes))
+}
+
 #[test]
-fn without_memory_finalization(rt: HostRuntime) -> Result<(), Fail> {
+fn without_memory_builders(rt: HostRuntime) -> Result<(), Fail> {
     let alloc = rt.alloc();
     let scheme = Marked::new(alloc, 4, None)?;
-    let votes = decoded::<Finalize<Marked, MarkedDigest>>(alloc, &(), &VOTES)?;
+    let notarizes = decoded::<Notarize<Marked, MarkedDigest>>(alloc, &(), &VOTES)?;
+    let nullifies = decoded::<Nullify<Marked>>(
+        alloc,
+        &(),
+        &[&[0, 10, 1, 0xaa], &[0, 10, 2, 0xaa]],
+    )?;
+    let finalizes = decoded::<Finalize<Marked, MarkedDigest>>(alloc, &(), &VOTES)?;
     let _ = is_out(alloc);
-    let lent = votes.as_slice();
-    assert!(rt; Finalization::can_assemble(&scheme, lent));
-    assert!(rt; are_too_few(Finalization::from_finalizes(alloc, &scheme, lent)));
-    assert!(rt; are_too_few(Finalization::from_owned_finalizes(alloc, &scheme, votes)));
+    assert!(rt; are_few_notarizes(alloc, &scheme, notarizes));
+    assert!(rt; are_few_nullifies::<_, MarkedDigest>(alloc, &scheme, nullifies));
+    assert!(rt; are_few_finalizes(alloc, &scheme, finalizes));
     Ok(())
 }
 
