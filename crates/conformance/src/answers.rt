@@ -23,16 +23,24 @@ pub(crate) fn answer(alloc: Global, line: &str) -> Result<String, AllocError> {
 /// The answer to the test vector of these words; here those that ask for an audit, a light client or a ledger.
 fn answered(alloc: Global, words: &[&str]) -> Result<String, Unanswered> {
     match words {
-        ["audit", who, stream @ ..] => audit_vector(
+        ["audit", who, stream @ ..] => audit_vector::<_, MarkedDigest>(
             alloc,
             &committees(alloc, *who)?,
             bytes(alloc, stream)?.as_slice(),
         ),
-        ["feed", who, pieces @ ..] => feed_vector(alloc, &committees(alloc, *who)?, pieces),
+        ["feed", who, pieces @ ..] => feed_vector::<_, MarkedDigest>(
+            alloc,
+            &committees(alloc, *who)?,
+            pieces,
+        ),
         ["follow", who, encodings @ ..] => {
             follow::<_, MarkedDigest>(alloc, &committees(alloc, *who)?, encodings)
         }
-        ["store", who, pieces @ ..] => store(alloc, &committees(alloc, *who)?, pieces),
+        ["store", who, pieces @ ..] => store::<_, MarkedDigest>(
+            alloc,
+            &committees(alloc, *who)?,
+            pieces,
+        ),
         _ => message_vector(alloc, words),
     }
 }

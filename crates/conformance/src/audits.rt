@@ -7,8 +7,8 @@ use simplex_audit::audit::{
     Auditor, Committees, Evidence, Fault, Report, RunError, Watched, audit, run,
 };
 use simplex_base::positions::Epoch;
-use simplex_plain::marked::{Marked, MarkedDigest};
-use simplex_scheme::scheme::{Digest, SchemeTypes};
+use simplex_plain::marked::Marked;
+use simplex_scheme::scheme::{Digest, Listing, SchemeTypes};
 use std::alloc::{AllocError, Global};
 
 /// The marked committee of so many participants for every epoch, or `EPOCH:NUMBER`s parted by commas, of which each is the
@@ -33,12 +33,12 @@ fn pair(alloc: Global, word: &str) -> Result<(Epoch, Marked), Unanswered> {
 }
 
 /// The answer to an audit of a stream: that of `audit` and of two runs, one of which reads a byte a call, where all agree.
-pub(crate) fn audit_vector(
+pub(crate) fn audit_vector<S: Listing<D>, D: Digest>(
     alloc: Global,
-    committees: &Committees<Marked>,
+    committees: &Committees<S>,
     stream: &[u8],
 ) -> Result<String, Unanswered> {
-    let report = audit::<Marked, MarkedDigest>(alloc, committees, stream)?;
+    let report = audit::<S, D>(alloc, committees, stream)?;
     let answer = told(alloc, &report)?;
     for step in [usize::MAX, 1] {
         if ran(alloc, committees, stream, step)? != answer {
@@ -49,20 +49,15 @@ pub(crate) fn audit_vector(
 }
 
 /// What a run says that reads so many bytes a call.
-fn ran(
+fn ran<S: Listing<D>, D: Digest>(
     alloc: Global,
-    committees: &Committees<Marked>,
+    committees: &Committees<S>,
     stream: &[u8],
     step: usize,
 ) -> Result<String, Unanswered> {
     let mut reader = Watched::new(Source::new(stream, step.max(1), Trouble::Never));
     let mut writer = Watched::new(Vec::<u8>::new(alloc));
-    let summary = match run::<Marked, MarkedDigest, _, _>(
-        alloc,
-        committees,
-        &mut reader,
-        &mut writer,
-    ) {
+    let summary = match run::<S, D, _, _>(alloc, committees, &mut reader, &mut writer) {
         Ok(summary) => summary,
         Err(RunError::Read | RunError::TooLong) => return Err(Unanswered::NoVector),
         Err(RunError::Write | RunError::OutOfMemory) => return Err(Unanswered::OutOfMemory),
@@ -82,12 +77,12 @@ fn ran(
 }
 
 /// The answer to an audit of a stream in pieces: how it stands after each, and then what the audit finds.
-pub(crate) fn feed_vector(
+pub(crate) fn feed_vector<S: Listing<D>, D: Digest>(
     alloc: Global,
-    committees: &Committees<Marked>,
+    committees: &Committees<S>,
     pieces: &[&str],
 ) -> Result<String, Unanswered> {
-    let mut auditor = Auditor::<Marked, MarkedDigest>::new(alloc, committees);
+    let mut auditor = Auditor::<S, D>::new(alloc, committees);
     let mut text = String::new(alloc);
     for piece in pieces {
         auditor = fed_on(auditor, bytes(alloc, &[*piece])?.as_slice())?;
@@ -99,10 +94,10 @@ pub(crate) fn feed_vector(
 }
 
 /// Feeds a piece. A stream that is longer than can be counted is no test vector.
-fn fed_on<'a>(
-    auditor: Auditor<'a, Marked, MarkedDigest>,
+fn fed_on<'a, S: Listing<D>, D: Digest>(
+    auditor: Auditor<'a, S, D>,
     piece: &[u8],
-) -> Result<Auditor<'a, Marked, MarkedDigest>, Unanswered> {
+) -> Result<Auditor<'a, S, D>, Unanswered> {
     if piece.len() > usize::MAX - auditor.fed() {
         return Err(Unanswered::NoVector);
     }
@@ -111,16 +106,19 @@ fn fed_on<'a>(
 
 /// How an auditor stands: how many bytes it was fed, how many are left after the last whole message, and how many votes it
 /// keeps.
-fn standing(
+fn standing<S: Listing<D>, D: Digest>(
     alloc: Global,
-    auditor: &Auditor<'_, Marked, MarkedDigest>,
+    auditor: &Auditor<'_, S, D>,
 ) -> Result<String, AllocError> {
     let (fed, rest, votes) = (auditor.fed(), auditor.rest().len(), auditor.votes());
     format!(in alloc; "fed {fed}, rest {rest}, votes {votes}")
 }
 
 /// What a report says: how many messages were read, the lines of the evidence and of the splits, and the fault.
-fn told(alloc: Global, report: &Report<Marked, MarkedDigest>) -> Result<String, AllocError> {
+fn told<S: Listing<D>, D: Digest>(
+    alloc: Global,
+    report: &Report<S, D>,
+) -> Result<String, AllocError> {
     let mut text = format!(in alloc; "read {}", report.read)?;
     text.push_str(lines(alloc, report.evidence.as_slice())?.as_str())?;
     for split in &report.splits {

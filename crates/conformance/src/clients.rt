@@ -6,7 +6,6 @@ use conformance_messages::vectors::{Unanswered, bytes};
 use simplex_audit::audit::Committees;
 use simplex_clients::ledger::Ledger;
 use simplex_clients::light_client::{Followed, LightClient};
-use simplex_plain::marked::{Marked, MarkedDigest};
 use simplex_scheme::scheme::{Digest, Listing};
 use std::alloc::{AllocError, Global};
 
@@ -48,17 +47,17 @@ fn followed<S: Listing<D>, D: Digest>(
 }
 
 /// What a ledger stores that was fed these pieces, and the evidence of one that resumes with it.
-pub(crate) fn store(
+pub(crate) fn store<S: Listing<D>, D: Digest>(
     alloc: Global,
-    committees: &Committees<Marked>,
+    committees: &Committees<S>,
     pieces: &[&str],
 ) -> Result<String, Unanswered> {
-    let mut ledger = Ledger::<Marked, MarkedDigest>::new(alloc, committees);
+    let mut ledger = Ledger::<S, D>::new(alloc, committees);
     for piece in pieces {
         ledger = fed_on(ledger, bytes(alloc, &[*piece])?.as_slice())?;
     }
     let stored = ledger.store(alloc)?;
-    let resumed = Ledger::<Marked, MarkedDigest>::resume(alloc, committees, stored.as_slice())?;
+    let resumed = Ledger::<S, D>::resume(alloc, committees, stored.as_slice())?;
     let evidence = resumed.evidence()?;
     let mut text = hex::encode(alloc, stored.as_slice())?;
     text.push_str(lines(alloc, evidence.as_slice())?.as_str())?;
@@ -66,10 +65,10 @@ pub(crate) fn store(
 }
 
 /// Feeds a piece. A stream that is longer than can be counted is no test vector.
-fn fed_on<'a>(
-    ledger: Ledger<'a, Marked, MarkedDigest>,
+fn fed_on<'a, S: Listing<D>, D: Digest>(
+    ledger: Ledger<'a, S, D>,
     piece: &[u8],
-) -> Result<Ledger<'a, Marked, MarkedDigest>, Unanswered> {
+) -> Result<Ledger<'a, S, D>, Unanswered> {
     if piece.len() > usize::MAX - ledger.fed() {
         return Err(Unanswered::NoVector);
     }

@@ -17,7 +17,8 @@ use simplex_plain::plain::{Plain, PlainKey};
 use simplex_scheme::assembly::can_assemble;
 use simplex_scheme::proposal::Proposal;
 use simplex_scheme::scheme::{
-    AssemblyError, Attestation, CertificateVerifier, Digest, Scheme, Sha256Digest,
+    AssemblyError, Attestation, CertificateScheme, CertificateVerifier, Digest, Scheme,
+    SchemeTypes, Sha256Digest,
 };
 use simplex_scheme::set::{Set, SetError};
 use simplex_scheme::subject::Subject;
@@ -73,19 +74,25 @@ fn without_memory_reading(rt: HostRuntime) {
     assert!(rt; is_read::<NullifyFinalize<Marked, MarkedDigest>>(alloc, &pair));
 }
 
-/// Whether the vote with this encoding is one of participant 1 in round (0, 10), and becomes the artifact with the other.
-fn is_stored(alloc: Global, vote: &[u8], artifact: &[u8]) -> bool {
-    let Ok(vote) = decode::<Vote<Marked, MarkedDigest>>(alloc, vote) else {
-        return false;
-    };
-    let is_by = vote.signer() == Participant::new(1);
-    let is_at = vote.epoch() == Epoch::new(0) && vote.view() == View::new(10);
-    let is_bounded = vote.bounded_encode_size() <= Vote::<Marked, MarkedDigest>::max_encode_size();
-    let artifact = decode_cfg::<Artifact<Marked, MarkedDigest>>(alloc, artifact, &4);
-    is_by
-        && is_at
-        && is_bounded
-        && matches!(artifact, Ok(artifact) if artifact == Artifact::from(vote))
+/// Whether a vote is one of participant 1 in round (0, 10), and no longer than the greatest.
+fn is_by_participant<S: SchemeTypes, D: Digest>(vote: &Vote<S, D>) -> bool {
+    vote.signer() == Participant::new(1)
+        && vote.epoch() == Epoch::new(0)
+        && vote.view() == View::new(10)
+        && vote.bounded_encode_size() <= Vote::<S, D>::max_encode_size()
+}
+
+/// Whether votes of participant 1 become these artifacts.
+fn become_artifacts<S: CertificateScheme, D: Digest>(
+    votes: Vec<Vote<S, D>>,
+    artifacts: &[Artifact<S, D>],
+) -> bool {
+    for (vote, artifact) in votes.into_iter().zip(artifacts) {
+        if !is_by_participant(&vote) || &Artifact::from(vote) != artifact {
+            return false;
+        }
+    }
+    true
 }
 
 /// Whether the participant signs a notarize that verifies, and the verifier signs none.
@@ -197,21 +204,6 @@ fn without_memory_votes(rt: HostRuntime) -> Result<(), Fail> {
     assert!(rt; is_notarize_signed(alloc, &me, &nobody, marked_proposal()));
     assert!(rt; is_nullify_signed(alloc, &me, &nobody, marked_proposal()));
     assert!(rt; is_finalize_signed(alloc, &me, &nobody, marked_proposal()));
-    assert!(rt;
-        is_stored(
-            alloc,
-            &[0, 0, 10, 5, 6, 1, 0xaa],
-            &[0, 0, 10, 5, 6, 1, 0xaa]
-        )
-    );
-    assert!(rt; is_stored(alloc, &[1, 0, 10, 1, 0xaa], &[3, 0, 10, 1, 0xaa]));
-    assert!(rt;
-        is_stored(
-            alloc,
-            &[2, 0, 10, 5, 6, 1, 0xaa],
-            &[5, 0, 10, 5, 6, 1, 0xaa]
-        )
-    );
     Ok(())
 }
 
@@ -242,6 +234,22 @@ const ACTIVITIES: [&[u8]; 10] = [
     &[9, 0, 10, 1, 0xaa, 0, 10, 5, 6, 1, 0xaa],
 ];
 
+/// A vote of each kind becomes an artifact.
+#[test]
+fn without_memory_artifacts(rt: HostRuntime) -> Result<(), Fail> {
+    let encodings: [&[u8]; 3] = [
+        &[0, 0, 10, 5, 6, 1, 0xaa],
+        &[1, 0, 10, 1, 0xaa],
+        &[2, 0, 10, 5, 6, 1, 0xaa],
+    ];
+    let stored = [ACTIVITIES[0], ACTIVITIES[3], ACTIVITIES[5]];
+    let votes = decoded::<Vote<Marked, MarkedDigest>>(rt.alloc(), &(), &encodings)?;
+    let artifacts = decoded::<Artifact<Marked, MarkedDigest>>(rt.alloc(), &4, &stored)?;
+    let _ = is_out(rt.alloc());
+    assert!(rt; become_artifacts(votes, artifacts.as_slice()));
+    Ok(())
+}
+
 /// Every message verifies, and those with a certificate are verified before they are reported.
 #[test]
 fn without_memory_activities(rt: HostRuntime) -> Result<(), Fail> {
@@ -256,18 +264,30 @@ fn without_memory_activities(rt: HostRuntime) -> Result<(), Fail> {
     Ok(())
 }
 
-/// A certificate message is of this kind, which has this word, verifies, and becomes the artifact.
-fn check_certificate(
-    rt: &impl Abort,
-    scheme: &Marked,
-    message: Certificate<Marked, MarkedDigest>,
-    artifact: &Artifact<Marked, MarkedDigest>,
-    word: &str,
-) {
-    assert!(rt; message.verify(scheme));
-    assert_eq!(rt; message.kind().as_str(), word);
-    assert_eq!(rt; message.encode_size(), artifact.encode_size());
-    assert!(rt; &Artifact::from(message) == artifact);
+/// Whether certificate messages verify, and become these artifacts.
+fn are_stored<S: Scheme<D>, D: Digest>(
+    scheme: &S,
+    messages: Vec<Certificate<S, D>>,
+    artifacts: &[Artifact<S, D>],
+) -> bool {
+    for (message, artifact) in messages.into_iter().zip(artifacts) {
+        let is_valid = message.verify(scheme);
+        let is_whole = message.encode_size() == artifact.encode_size();
+        if !is_valid || !is_whole || &Artifact::from(message) != artifact {
+            return false;
+        }
+    }
+    true
+}
+
+/// Whether the kinds of certificate messages have these words.
+fn have_words<S: Scheme<D>, D: Digest>(messages: &[Certificate<S, D>], words: &[&str]) -> bool {
+    for (message, word) in messages.iter().zip(words) {
+        if message.kind().as_str() != *word {
+            return false;
+        }
+    }
+    true
 }
 
 #[test]
@@ -283,9 +303,8 @@ fn without_memory_certificates(rt: HostRuntime) -> Result<(), Fail> {
     let artifacts = decoded::<Artifact<Marked, MarkedDigest>>(rt.alloc(), &4, &stored)?;
     let _ = is_out(rt.alloc());
     let words = ["notarization", "nullification", "finalization"];
-    for ((message, artifact), word) in messages.into_iter().zip(artifacts.iter()).zip(words) {
-        check_certificate(&rt, &scheme, message, artifact, word);
-    }
+    assert!(rt; have_words(messages.as_slice(), &words));
+    assert!(rt; are_stored(&scheme, messages, artifacts.as_slice()));
     Ok(())
 }
 
@@ -366,8 +385,34 @@ fn without_memory_builders(rt: HostRuntime) -> Result<(), Fail> {
     Ok(())
 }
 
-/// Whether the participant of a committee of one signs a proposal, and its attestation makes a certificate of it, nobody signs,
-/// and no attestations are too few. `room` has room for one.
+/// The attestation of the participant to a proposal, if it is valid and nobody signs none.
+fn signed<S: Scheme<D>, D: Digest>(
+    alloc: Global,
+    me: &S,
+    nobody: &S,
+    proposal: &Proposal<D>,
+) -> Option<Attestation<S>> {
+    let none = nobody.sign(alloc, Subject::Notarize { proposal });
+    let attestation = me.sign(alloc, Subject::Notarize { proposal }).ok()??;
+    let is_valid = nobody.verify_attestation(Subject::Notarize { proposal }, &attestation);
+    if is_valid && matches!(none, Ok(None)) {
+        Some(attestation)
+    } else {
+        None
+    }
+}
+
+/// Whether no attestations are too few for a committee of one.
+fn is_refused_without_any<S: Scheme<D>, D: Digest>(alloc: Global, me: &S) -> bool {
+    let none = Vec::new(alloc);
+    if !can_assemble(me, none.as_slice()) {
+        return false;
+    }
+    let few = AssemblyError::InsufficientAttestations(1, 0);
+    matches!(me.assemble(alloc, none), Err(error) if error == few)
+}
+
+/// Whether the attestation of the participant of a committee of one makes a certificate of a proposal. `room` has room for one.
 fn is_assembled<S: Scheme<D>, D: Digest>(
     alloc: Global,
     me: &S,
@@ -376,22 +421,10 @@ fn is_assembled<S: Scheme<D>, D: Digest>(
     proposal: &Proposal<D>,
 ) -> bool {
     room.clear();
-    let Ok(None) = nobody.sign(alloc, Subject::Notarize { proposal }) else {
+    let Some(attestation) = signed(alloc, me, nobody, proposal) else {
         return false;
     };
-    let Ok(Some(attestation)) = me.sign(alloc, Subject::Notarize { proposal }) else {
-        return false;
-    };
-    let is_valid = nobody.verify_attestation(Subject::Notarize { proposal }, &attestation);
-    if !is_valid || room.push(attestation).is_err() {
-        return false;
-    }
-    let none = Vec::new(alloc);
-    if !can_assemble(me, none.as_slice()) || !can_assemble(me, room.as_slice()) {
-        return false;
-    }
-    let few = AssemblyError::InsufficientAttestations(1, 0);
-    if !matches!(me.assemble(alloc, none), Err(error) if error == few) {
+    if room.push(attestation).is_err() || !can_assemble(me, room.as_slice()) {
         return false;
     }
     let Ok(certificate) = me.assemble(alloc, room) else {
@@ -440,6 +473,7 @@ fn without_memory_marked(rt: HostRuntime) -> Result<(), Fail> {
     let certificates = decoded::<Listed<Marked>>(alloc, &1, &[&[1, 0, 0xaa]])?;
     let room = Vec::with_capacity(alloc, 1)?;
     let _ = is_out(alloc);
+    assert!(rt; is_refused_without_any::<_, MarkedDigest>(alloc, &me));
     assert!(rt; is_assembled(alloc, &me, &nobody, room, &marked_proposal()));
     for certificate in &certificates {
         assert!(rt; is_certified_twice(&nobody, &marked_proposal(), certificate));
@@ -461,6 +495,7 @@ fn without_memory_plain(rt: HostRuntime) -> Result<(), Fail> {
     let room = Vec::with_capacity(alloc, 1)?;
     let _ = is_out(alloc);
     let proposal = proposal(Sha256Digest::from_bytes(&[6; 32]));
+    assert!(rt; matches!(&me, Some(me) if is_refused_without_any::<_, Sha256Digest>(alloc, me)));
     assert!(rt; matches!(&me, Some(me) if is_assembled(alloc, me, &nobody, room, &proposal)));
     let stranger = PlainKey::from_bytes(&[1; 32]);
     assert!(rt; matches!(Plain::signer(alloc, b"test", members, &stranger), Ok(None)));
