@@ -1,9 +1,19 @@
-# The two commands of the README, and two for work on the code.
-.PHONY: run test quick check
+.PHONY: run audit install test quick check
 
-# Proves and builds the program, and runs it on the sample stream of crates/audit.
+PREFIX ?= /usr/local
+
+# Runs the program on the sample stream of crates/audit, without proving anything.
 run:
-	cd crates/audit && rt run -- $$(cat args) < stdin
+	@.ci/sample
+
+# Proves and builds the program, crates/audit/out/audit, and runs it on the sample stream.
+audit:
+	@.ci/built
+
+# Copies the program that `make audit` or `make test` has built.
+install:
+	@test -x crates/audit/out/audit || { echo 'There is no crates/audit/out/audit yet: make audit' >&2; exit 1; }
+	install -D -m 755 crates/audit/out/audit $(DESTDIR)$(PREFIX)/bin/audit
 
 # The gate: proves everything from nothing, tries the mutants, runs the tests and the programs, and then tries what was
 # built as its users would, and with each allocation refused in turn.
