@@ -82,17 +82,43 @@ fn is_by_participant<S: SchemeTypes, D: Digest>(vote: &Vote<S, D>) -> bool {
         && vote.bounded_encode_size() <= Vote::<S, D>::max_encode_size()
 }
 
-/// Whether votes of participant 1 become these artifacts.
-fn become_artifacts<S: CertificateScheme, D: Digest>(
-    votes: Vec<Vote<S, D>>,
-    artifacts: &[Artifact<S, D>],
+/// Whether the vote with this encoding is one of participant 1 and becomes the artifact.
+fn becomes<S: CertificateScheme, D: Digest>(
+    alloc: Global,
+    vote: &[u8],
+    artifact: &Artifact<S, D>,
 ) -> bool {
-    for (vote, artifact) in votes.into_iter().zip(artifacts) {
-        if !is_by_participant(&vote) || &Artifact::from(vote) != artifact {
-            return false;
-        }
-    }
-    true
+    let Ok(vote) = decode::<Vote<S, D>>(alloc, vote) else {
+        return false;
+    };
+    is_by_participant(&vote) && &Artifact::from(vote) == artifact
+}
+
+#[test]
+fn without_memory_stored_notarize(rt: HostRuntime) -> Result<(), Fail> {
+    let alloc = rt.alloc();
+    let artifact = decode_cfg::<Artifact<Marked, MarkedDigest>>(alloc, ACTIVITIES[0], &4)?;
+    let _ = is_out(alloc);
+    assert!(rt; becomes(alloc, &[0, 0, 10, 5, 6, 1, 0xaa], &artifact));
+    Ok(())
+}
+
+#[test]
+fn without_memory_stored_nullify(rt: HostRuntime) -> Result<(), Fail> {
+    let alloc = rt.alloc();
+    let artifact = decode_cfg::<Artifact<Marked, MarkedDigest>>(alloc, ACTIVITIES[3], &4)?;
+    let _ = is_out(alloc);
+    assert!(rt; becomes(alloc, &[1, 0, 10, 1, 0xaa], &artifact));
+    Ok(())
+}
+
+#[test]
+fn without_memory_stored_finalize(rt: HostRuntime) -> Result<(), Fail> {
+    let alloc = rt.alloc();
+    let artifact = decode_cfg::<Artifact<Marked, MarkedDigest>>(alloc, ACTIVITIES[5], &4)?;
+    let _ = is_out(alloc);
+    assert!(rt; becomes(alloc, &[2, 0, 10, 5, 6, 1, 0xaa], &artifact));
+    Ok(())
 }
 
 /// Whether the participant signs a notarize that verifies, and the verifier signs none.
@@ -234,77 +260,78 @@ const ACTIVITIES: [&[u8]; 10] = [
     &[9, 0, 10, 1, 0xaa, 0, 10, 5, 6, 1, 0xaa],
 ];
 
-/// A vote of each kind becomes an artifact.
-#[test]
-fn without_memory_artifacts(rt: HostRuntime) -> Result<(), Fail> {
-    let encodings: [&[u8]; 3] = [
-        &[0, 0, 10, 5, 6, 1, 0xaa],
-        &[1, 0, 10, 1, 0xaa],
-        &[2, 0, 10, 5, 6, 1, 0xaa],
-    ];
-    let stored = [ACTIVITIES[0], ACTIVITIES[3], ACTIVITIES[5]];
-    let votes = decoded::<Vote<Marked, MarkedDigest>>(rt.alloc(), &(), &encodings)?;
-    let artifacts = decoded::<Artifact<Marked, MarkedDigest>>(rt.alloc(), &4, &stored)?;
-    let _ = is_out(rt.alloc());
-    assert!(rt; become_artifacts(votes, artifacts.as_slice()));
-    Ok(())
+/// Whether messages verify, are as long as their encodings, and are verified before they are reported where they have a certificate.
+fn are_valid<S: Scheme<D>, D: Digest>(
+    scheme: &S,
+    messages: &[Activity<S, D>],
+    encodings: &[&[u8]],
+) -> bool {
+    for (message, encoding) in messages.iter().zip(encodings) {
+        let has_certificate = matches!(encoding, [1 | 2 | 4 | 6, ..]);
+        let is_whole = message.encode_size() == encoding.len();
+        if !message.verify(scheme) || !is_whole || message.verified() != has_certificate {
+            return false;
+        }
+    }
+    true
 }
 
-/// Every message verifies, and those with a certificate are verified before they are reported.
 #[test]
 fn without_memory_activities(rt: HostRuntime) -> Result<(), Fail> {
     let scheme = Marked::new(rt.alloc(), 4, None)?;
     let messages = decoded::<Activity<Marked, MarkedDigest>>(rt.alloc(), &4, &ACTIVITIES)?;
     let _ = is_out(rt.alloc());
-    for (message, encoding) in messages.iter().zip(ACTIVITIES) {
-        assert!(rt; message.verify(&scheme));
-        assert_eq!(rt; message.verified(), matches!(encoding, [1 | 2 | 4 | 6, ..]));
-        assert_eq!(rt; message.encode_size(), encoding.len());
-    }
+    assert!(rt; messages.len() == ACTIVITIES.len());
+    assert!(rt; are_valid(&scheme, messages.as_slice(), &ACTIVITIES));
     Ok(())
 }
 
-/// Whether certificate messages verify, and become these artifacts.
-fn are_stored<S: Scheme<D>, D: Digest>(
+/// Whether a certificate message is of the kind with this word, verifies, and becomes this artifact.
+fn is_stored<S: Scheme<D>, D: Digest>(
     scheme: &S,
-    messages: Vec<Certificate<S, D>>,
-    artifacts: &[Artifact<S, D>],
+    message: Certificate<S, D>,
+    artifact: &Artifact<S, D>,
+    word: &str,
 ) -> bool {
-    for (message, artifact) in messages.into_iter().zip(artifacts) {
-        let is_valid = message.verify(scheme);
-        let is_whole = message.encode_size() == artifact.encode_size();
-        if !is_valid || !is_whole || &Artifact::from(message) != artifact {
-            return false;
-        }
-    }
-    true
-}
-
-/// Whether the kinds of certificate messages have these words.
-fn have_words<S: Scheme<D>, D: Digest>(messages: &[Certificate<S, D>], words: &[&str]) -> bool {
-    for (message, word) in messages.iter().zip(words) {
-        if message.kind().as_str() != *word {
-            return false;
-        }
-    }
-    true
+    message.verify(scheme)
+        && message.kind().as_str() == word
+        && message.encode_size() == artifact.encode_size()
+        && &Artifact::from(message) == artifact
 }
 
 #[test]
-fn without_memory_certificates(rt: HostRuntime) -> Result<(), Fail> {
-    let encodings: [&[u8]; 3] = [
-        &[0, 0, 10, 5, 6, 3, 0, 0xaa, 1, 0xaa, 2, 0xaa],
-        &[1, 0, 10, 3, 0, 0xaa, 1, 0xaa, 2, 0xaa],
-        &[2, 0, 10, 5, 6, 3, 0, 0xaa, 1, 0xaa, 2, 0xaa],
-    ];
-    let stored = [ACTIVITIES[1], ACTIVITIES[4], ACTIVITIES[6]];
-    let scheme = Marked::new(rt.alloc(), 4, None)?;
-    let messages = decoded::<Certificate<Marked, MarkedDigest>>(rt.alloc(), &4, &encodings)?;
-    let artifacts = decoded::<Artifact<Marked, MarkedDigest>>(rt.alloc(), &4, &stored)?;
-    let _ = is_out(rt.alloc());
-    let words = ["notarization", "nullification", "finalization"];
-    assert!(rt; have_words(messages.as_slice(), &words));
-    assert!(rt; are_stored(&scheme, messages, artifacts.as_slice()));
+fn without_memory_stored_notarization(rt: HostRuntime) -> Result<(), Fail> {
+    let alloc = rt.alloc();
+    let scheme = Marked::new(alloc, 4, None)?;
+    let encoding = [0, 0, 10, 5, 6, 3, 0, 0xaa, 1, 0xaa, 2, 0xaa];
+    let message = decode_cfg::<Certificate<Marked, MarkedDigest>>(alloc, &encoding, &4)?;
+    let artifact = decode_cfg::<Artifact<Marked, MarkedDigest>>(alloc, ACTIVITIES[1], &4)?;
+    let _ = is_out(alloc);
+    assert!(rt; is_stored(&scheme, message, &artifact, "notarization"));
+    Ok(())
+}
+
+#[test]
+fn without_memory_stored_nullification(rt: HostRuntime) -> Result<(), Fail> {
+    let alloc = rt.alloc();
+    let scheme = Marked::new(alloc, 4, None)?;
+    let encoding = [1, 0, 10, 3, 0, 0xaa, 1, 0xaa, 2, 0xaa];
+    let message = decode_cfg::<Certificate<Marked, MarkedDigest>>(alloc, &encoding, &4)?;
+    let artifact = decode_cfg::<Artifact<Marked, MarkedDigest>>(alloc, ACTIVITIES[4], &4)?;
+    let _ = is_out(alloc);
+    assert!(rt; is_stored(&scheme, message, &artifact, "nullification"));
+    Ok(())
+}
+
+#[test]
+fn without_memory_stored_finalization(rt: HostRuntime) -> Result<(), Fail> {
+    let alloc = rt.alloc();
+    let scheme = Marked::new(alloc, 4, None)?;
+    let encoding = [2, 0, 10, 5, 6, 3, 0, 0xaa, 1, 0xaa, 2, 0xaa];
+    let message = decode_cfg::<Certificate<Marked, MarkedDigest>>(alloc, &encoding, &4)?;
+    let artifact = decode_cfg::<Artifact<Marked, MarkedDigest>>(alloc, ACTIVITIES[6], &4)?;
+    let _ = is_out(alloc);
+    assert!(rt; is_stored(&scheme, message, &artifact, "finalization"));
     Ok(())
 }
 
