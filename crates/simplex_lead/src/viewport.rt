@@ -46,7 +46,7 @@ impl Viewport {
         ensures taken { IsTrue result ↔
             (IsRetained self.now.finalized self.now.view_retention pending ×
             IsAdmitted self.now.lookahead.term_length self.now.lookahead.optimistic_views self.now.current pending) }
-        // Every retained view in which a correct peer may still vote is admitted.
+        // A retained view is admitted where a view that a correct peer may be in leads to it.
         ensures lead { (p : ℕ) → IsRetained self.now.finalized self.now.view_retention pending →
             Leads self.now.lookahead.term_length self.now.lookahead.optimistic_views self.now.current p pending →
             IsTrue result }
