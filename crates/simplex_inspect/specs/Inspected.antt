@@ -1,5 +1,5 @@
 -- What is written of a stream: the lines of its messages, and the line of its fault.
-use Rattle.std.specs.Prelude.{◌≡◌, ◌≢◌, ℕ, ◌+◌, ◌-◌, ◌^◌, List, [], ◌∷◌, ◌++◌, length, take, All, Option, Some, None, codes, decimal}
+use Rattle.std.specs.Prelude.{◌≡◌, ◌≢◌, ℕ, ◌+◌, ◌-◌, ◌^◌, ◌⊎◌, List, [], ◌∷◌, ◌++◌, length, take, All, Option, Some, None, codes, decimal}
 use Rattle.std.specs.List.{flat_map}
 use Rattle.std.specs.Io.KnownBytes.{Appends}
 use Rattle.hex.specs.Hex.{encode_lower}
@@ -57,6 +57,10 @@ pub record IsBegun {M : Type 0} (format : Format M) (line : ℕ → ℕ → M �
   pub whole : input ≡ flat_map format.encoding messages ++ rest
   pub each : All format.is_value messages
   pub text_is : text ≡ lines_from line format.encoding 0 messages
+
+-- The text is that of the first messages of the input, or of all of it.
+abbrev pub IsPart : {M : Type 0} → Format M → (ℕ → ℕ → M → List ℕ) → List ℕ → List ℕ → Type 0
+IsPart format line input text = IsBegun format line input text ⊎ ((fault : Option Fault) × IsInspected format line input fault text)
 
 -- The bytes that are held are what is left of the input behind its first messages, the offset is that of the first of them,
 -- and the lines of those messages were written.

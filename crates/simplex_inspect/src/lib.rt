@@ -6,6 +6,7 @@
 
 pub mod basis;
 pub mod fault;
+pub mod inspect;
 mod json;
 pub mod line;
 pub mod reading;
