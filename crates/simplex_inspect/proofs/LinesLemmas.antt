@@ -1,10 +1,9 @@
 -- The lines of messages, and of further ones.
-use Rattle.std.proofs.Common.{◌≡◌, ◌≢◌, ℕ, ◌+◌, ◌<◌, ◌≤◌, List, [], ◌∷◌, ◌++◌, length, Ok, Option, Some, None, refl, sym, ap, subst, ◌∙◌, arith, append_assoc, append-nil, length-append}
-use Rattle.std.specs.Prelude.{All}
+use Rattle.std.proofs.Common.{◌≡◌, ℕ, ◌+◌, List, [], ◌∷◌, ◌++◌, length, Ok, Option, sym, ap, subst, ◌∙◌, arith, append_assoc, append-nil, length-append}
 use Rattle.std.specs.List.{flat_map}
 use Rattle.std.proofs.lemmas.Grind.{flat_map-append}
 use Rattle.simplex_base.specs.Format.{Format, IsLawful}
-use Rattle.simplex_base.specs.Reading.{IsBytes, Fails}
+use Rattle.simplex_base.specs.Reading.{IsBytes}
 use Rattle.simplex_base.specs.FormatLaws.{IsBytes-after}
 use Rattle.simplex_base.specs.declared.codec.error.Error.{Error}
 use Rattle.simplex_audit.specs.Progress.{IsProgress}

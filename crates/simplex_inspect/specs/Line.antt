@@ -1,5 +1,5 @@
 -- The line of a message.
-use Rattle.std.specs.Prelude.{ℕ, List, ◌++◌, codes, map, option_map, None}
+use Rattle.std.specs.Prelude.{ℕ, List, ◌++◌, codes, map, option_map}
 use Rattle.simplex_scheme.specs.Subject.{SubjectValue, Notarizes, Nullifies, Finalizes}
 use Rattle.simplex_scheme.specs.declared.scheme.Attestation.{Attestation}
 use Rattle.simplex_evidence.specs.Activity.{activity_round}

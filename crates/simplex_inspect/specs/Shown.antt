@@ -4,7 +4,7 @@ use Rattle.simplex_scheme.specs.Committee.{quorum_of}
 use Rattle.simplex_scheme.specs.Subject.{SubjectValue, round_of}
 use Rattle.simplex_scheme.specs.declared.scheme.Attestation.{Attestation}
 use Rattle.simplex_votes.specs.Votes.{SignedVote}
-use Rattle.simplex_detector.specs.Committees.{Schedule, rules_of, bound_of}
+use Rattle.simplex_detector.specs.Committees.{Schedule, rules_of}
 use Rattle.simplex_detector.specs.Rules.{Rules, is_valid}
 use Rattle.simplex_inspect.specs.Verdict.{verdict_on_signature, verdict_on_certificate}
 use Rattle.simplex_inspect.specs.declared.verdict.Verdict.{Verdict}

@@ -1,4 +1,4 @@
-use Rattle.std.proofs.Common.{◌≡◌, ◌≢◌, ℕ, ◌+◌, ◌≤◌, List, [], ◌∷◌, ◌++◌, Option, Some, None, length, refl, sym, ap, subst, ◌∙◌, arith, string_bytes}
+use Rattle.std.proofs.Common.{◌≡◌, ◌≢◌, ℕ, ◌+◌, List, Option, Some, None, length, refl, sym, subst, ◌∙◌, arith, string_bytes}
 use Rattle.std.proofs.lemmas.Bool.{eqb-true, eqb-false}
 use Rattle.simplex_base.specs.Format.{Format, fixed, IsLawful}
 use Rattle.simplex_base.specs.declared.codec.error.Error.TheVariants as errors
@@ -9,7 +9,7 @@ use Rattle.simplex_audit.proofs.StreamLemmas.{so_far_start, so_far_next, so_far_
 use Rattle.simplex_inspect.specs.Inspected.{AreShown}
 use Rattle.simplex_inspect.specs.Line.{line_json}
 use Rattle.simplex_inspect.specs.Shown.{shown_of}
-use Rattle.simplex_inspect.proofs.LinesLemmas.{IsTextOf, text_of_none, text_of_more, read_length, shown_so_far}
+use Rattle.simplex_inspect.proofs.LinesLemmas.{text_of_none, text_of_more, read_length, shown_so_far}
 use Rattle.simplex_inspect.proofs.reading.read_lines.Given as given
 use Rattle.simplex_inspect.proofs.reading.read_lines.Goals as goal
 
