@@ -1,0 +1,5 @@
+pub mod Verdict
+pub mod Json
+pub mod Shown
+pub mod Line
+pub mod Inspected

@@ -1,0 +1,65 @@
+-- The line of a message.
+use Rattle.std.specs.Prelude.{ℕ, List, ◌++◌, codes, map, option_map}
+use Rattle.simplex_scheme.specs.Subject.{SubjectValue, Notarizes, Nullifies, Finalizes}
+use Rattle.simplex_scheme.specs.declared.scheme.Attestation.{Attestation}
+use Rattle.simplex_evidence.specs.Activity.{activity_round}
+use Rattle.simplex_evidence.specs.declared.types.activity.Activity.{Activity}
+use Rattle.simplex_evidence.specs.declared.types.activity.Activity.TheVariants as activity
+use Rattle.simplex_detector.specs.Rules.{vote_on}
+use Rattle.simplex_inspect.specs.Json.{listed_texts, verdict_json, signature_json, proposal_json, nullify_json, head_json}
+use Rattle.simplex_inspect.specs.Shown.{Shown, signature_verdict, certificate_verdict}
+
+-- the fields of a subject, up to the signatures of it
+abbrev pub subject_json : {D : Type 0} → (D → List ℕ) → SubjectValue D → List ℕ
+subject_json bytes_of (Notarizes p) = proposal_json (codes "notarize") p.parent (bytes_of p.payload)
+subject_json bytes_of (Nullifies r) = nullify_json
+subject_json bytes_of (Finalizes p) = proposal_json (codes "finalize") p.parent (bytes_of p.payload)
+
+-- an attestation of a subject, with the verdict on its signature
+abbrev pub attestation_json : {S D C P G : Type 0} → Shown S D C P G → SubjectValue D → Attestation S P G → List ℕ
+attestation_json shown x a = signature_json a.signer (shown.signature_bytes a.signature) (option_map (λ rules. signature_verdict rules (vote_on x a)) shown.rules)
+
+-- a vote: its subject, and its signature
+abbrev pub vote_json : {S D C P G : Type 0} → Shown S D C P G → SubjectValue D → Attestation S P G → List ℕ
+vote_json shown x a = subject_json shown.payload_bytes x ++ (attestation_json shown x a ++ codes "]}")
+
+-- a certificate: its subject, the signatures that it lists, and the verdict on it
+abbrev pub certificate_json : {S D C P G : Type 0} → Shown S D C P G → SubjectValue D → C → List ℕ
+certificate_json shown x certificate =
+    subject_json shown.payload_bytes x ++ (listed_texts (map (attestation_json shown x) (shown.listed certificate)) ++
+    (codes "]" ++ (verdict_json (option_map (λ rules. certificate_verdict rules x certificate) shown.rules) ++ codes "}")))
+
+-- two votes
+abbrev pub two_votes_json : {S D C P G : Type 0} → Shown S D C P G → SubjectValue D → Attestation S P G → SubjectValue D → Attestation S P G → List ℕ
+two_votes_json shown x a y b = vote_json shown x a ++ (codes "," ++ vote_json shown y b)
+
+-- what a message states: a vote, a certificate, or both votes of evidence
+abbrev pub statements_json : {S D C P G : Type 0} → Shown S D C P G → Activity S D C P G → List ℕ
+statements_json shown (activity.Notarize v) = vote_json shown (Notarizes v.proposal) v.attestation
+statements_json shown (activity.Notarization n) = certificate_json shown (Notarizes n.proposal) n.certificate
+statements_json shown (activity.Certification n) = certificate_json shown (Notarizes n.proposal) n.certificate
+statements_json shown (activity.Nullify v) = vote_json shown (Nullifies v.round) v.attestation
+statements_json shown (activity.Nullification n) = certificate_json shown (Nullifies n.round) n.certificate
+statements_json shown (activity.Finalize v) = vote_json shown (Finalizes v.proposal) v.attestation
+statements_json shown (activity.Finalization n) = certificate_json shown (Finalizes n.proposal) n.certificate
+statements_json shown (activity.ConflictingNotarize c) = two_votes_json shown (Notarizes c.first.proposal) c.first.attestation (Notarizes c.second.proposal) c.second.attestation
+statements_json shown (activity.ConflictingFinalize c) = two_votes_json shown (Finalizes c.first.proposal) c.first.attestation (Finalizes c.second.proposal) c.second.attestation
+statements_json shown (activity.NullifyFinalize c) = two_votes_json shown (Nullifies c.first.round) c.first.attestation (Finalizes c.second.proposal) c.second.attestation
+
+-- the word of a kind of message
+abbrev pub kind_word : {S D C P G : Type 0} → Activity S D C P G → List ℕ
+kind_word (activity.Notarize v) = codes "notarize"
+kind_word (activity.Notarization n) = codes "notarization"
+kind_word (activity.Certification n) = codes "certification"
+kind_word (activity.Nullify v) = codes "nullify"
+kind_word (activity.Nullification n) = codes "nullification"
+kind_word (activity.Finalize v) = codes "finalize"
+kind_word (activity.Finalization n) = codes "finalization"
+kind_word (activity.ConflictingNotarize c) = codes "conflicting-notarize"
+kind_word (activity.ConflictingFinalize c) = codes "conflicting-finalize"
+kind_word (activity.NullifyFinalize c) = codes "nullify-finalize"
+
+-- the line of a message of some bytes that begins at an offset, with the line's end
+abbrev pub line_json : {S D C P G : Type 0} → Shown S D C P G → ℕ → ℕ → Activity S D C P G → List ℕ
+line_json shown offset len m =
+    head_json offset len (kind_word m) (activity_round m).epoch (activity_round m).view ++ (statements_json shown m ++ codes "]}\n")

@@ -1,0 +1,36 @@
+-- What messages are shown by, and the verdicts on what they hold.
+use Rattle.std.specs.Prelude.{ℕ, Bool, List, length, Option, option_map}
+use Rattle.simplex_scheme.specs.Committee.{quorum_of}
+use Rattle.simplex_scheme.specs.Subject.{SubjectValue, round_of}
+use Rattle.simplex_scheme.specs.declared.scheme.Attestation.{Attestation}
+use Rattle.simplex_votes.specs.Votes.{SignedVote}
+use Rattle.simplex_detector.specs.Committees.{Schedule, rules_of}
+use Rattle.simplex_detector.specs.Rules.{Rules, is_valid}
+use Rattle.simplex_inspect.specs.Verdict.{verdict_on_signature, verdict_on_certificate}
+use Rattle.simplex_inspect.specs.declared.verdict.Verdict.{Verdict}
+
+-- What messages are shown by: the rules by which an audit judges them, where committees are given, what a certificate
+-- lists, and the bytes of payloads and of signatures.
+pub record Shown (S D C P G : Type 0) : Type 0 where
+  pub rules : Option (Rules S D C P G)
+  pub listed : C → List (Attestation S P G)
+  pub payload_bytes : D → List ℕ
+  pub signature_bytes : G → List ℕ
+
+-- what messages are shown by under committees, or without any
+abbrev pub shown_of : {S D C P G : Type 0} → (D → List ℕ) → (G → List ℕ) → (D → D → Bool) → (S → List P) → (S → SubjectValue D → ℕ → G → Bool) → (S → SubjectValue D → C → Bool) → (C → List (Attestation S P G)) → Option (Schedule S) → Shown S D C P G
+shown_of payload_bytes signature_bytes eq keys good certified listed committees = record {
+  rules = option_map (rules_of eq keys good certified listed) committees;
+  listed = listed;
+  payload_bytes = payload_bytes;
+  signature_bytes = signature_bytes;
+}
+
+-- the verdict on the signature of a vote
+abbrev pub signature_verdict : {S D C P G : Type 0} → Rules S D C P G → SignedVote D G → Verdict
+signature_verdict rules v = verdict_on_signature (is_valid rules v) (rules.size (round_of v.subject).epoch) v.signer
+
+-- the verdict on a certificate of a subject
+abbrev pub certificate_verdict : {S D C P G : Type 0} → Rules S D C P G → SubjectValue D → C → Verdict
+certificate_verdict rules x certificate =
+    verdict_on_certificate (rules.certified x certificate) (rules.size (round_of x).epoch) (quorum_of (rules.size (round_of x).epoch)) (length (rules.listed certificate))

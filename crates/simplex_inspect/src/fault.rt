@@ -1,0 +1,46 @@
+//! The line of a fault.
+
+ghost use Rattle.std.specs.Prelude.{◌≡◌, IfOk, string_bytes, take};
+ghost use Rattle.simplex_inspect.specs.Inspected.{refusal_name, fault_line};
+
+use simplex_audit::audit::Fault;
+use simplex_base::codec::error::Error;
+use std::alloc::{AllocError, Global};
+
+/// How many bytes behind a fault are shown.
+const SHOWN: usize = 16;
+
+/// The name of a refusal, and what it says of the value.
+fn refusal_name(alloc: Global, error: &Error) -> Result<String, AllocError>
+    ensures { IfOk result (λ text. string_bytes text ≡ refusal_name error.now) }
+{
+    match error {
+        Error::EndOfBuffer => String::from_str(alloc, "EndOfBuffer"),
+        Error::InvalidVarint => String::from_str(alloc, "InvalidVarint"),
+        Error::InvalidBool => String::from_str(alloc, "InvalidBool"),
+        Error::Invalid(subject, reason) => format!(in alloc; "Invalid {subject}: {reason}"),
+        Error::ExtraData => String::from_str(alloc, "ExtraData"),
+        Error::OutOfMemory => String::from_str(alloc, "OutOfMemory"),
+    }
+}
+
+/// The first bytes of some, as many as are shown.
+fn first_bytes(rest: &[u8]) -> &[u8]
+    ensures { result.now ≡ take 16 rest.now }
+{
+    if rest.len() > SHOWN {
+        &rest[..SHOWN]
+    } else {
+        rest
+    }
+}
+
+/// The line of a fault, with its end: the byte at which it is, the refusal, and the first 16 of the bytes there.
+pub fn fault_line(alloc: Global, fault: &Fault, rest: &[u8]) -> Result<String, AllocError>
+    ensures { IfOk result (λ text. string_bytes text ≡ fault_line fault.now rest.now) }
+{
+    let place = fault.place;
+    let name = refusal_name(alloc, &fault.error)?;
+    let next = hex::encode(alloc, first_bytes(rest))?;
+    format!(in alloc; "{{\"offset\":{place},\"fault\":\"{name}\",\"next\":\"{next}\"}}\n")
+}

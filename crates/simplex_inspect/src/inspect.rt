@@ -1,0 +1,124 @@
+//! Writes the lines of a stream.
+
+ghost use Rattle.std.specs.Prelude.{◌≡◌, ◌⊎◌, ◌↔◌, ◌+◌, ◌<◌, ◌^◌, ℕ, List, Option, false, Err, IsTrue, IfOk, IfErr, OnOk, length, string_bytes};
+ghost use Rattle.std.specs.Io.KnownBytes.{Appends};
+ghost use Rattle.simplex_audit.specs.Progress.{fault_of};
+ghost use Rattle.simplex_audit.specs.Run.{AppendsBeginning};
+ghost use Rattle.simplex_audit.specs.Watched.{inner_of, has_failed, is_flushed};
+ghost use Rattle.simplex_inspect.specs.Inspected.{IsWritten, IsPart, IsInspected, fault_text};
+
+use crate::basis::Inspected;
+use crate::fault::fault_line;
+use crate::reading::read_lines;
+use simplex_audit::audit::{Fault, RunError, Watched};
+use simplex_base::codec::error::Error;
+use simplex_detector::committees::Committees;
+use simplex_scheme::scheme::{Digest, Listing};
+use std::alloc::{AllocError, Global};
+use std::io::Write;
+
+/// Writes all of a text and flushes.
+fn write_text<W: Write>(writer: &mut Watched<W>, text: &[u8]) -> Result<(), RunError>
+    requires { has_failed writer.old ≡ false }
+    ensures written { OnOk result
+        (Appends (W.contents (inner_of writer.old)) (W.contents (inner_of writer.new)) text.now) }
+    ensures flushed { OnOk result (IsTrue (is_flushed writer.new)) }
+    ensures beginning { AppendsBeginning (W.contents (inner_of writer.old))
+        (W.contents (inner_of writer.new)) text.now }
+    ensures failed { IsTrue (has_failed writer.new) ↔ (result ≡ Err RunError.Write) }
+    ensures error { IfErr result (λ e. e ≡ RunError.Write) }
+{
+    let mut count = 0;
+    'parts: while count < text.len() {
+        match writer.write(&text[count..]) {
+            Ok(0) => return Err(RunError::Write),
+            Ok(taken) => count += taken,
+            Err(_) => return Err(RunError::Write),
+        }
+    }
+    match writer.flush() {
+        Ok(()) => Ok(()),
+        Err(_) => Err(RunError::Write),
+    }
+}
+
+/// The fault of bytes that end in this way.
+fn fault_at(place: usize, stop: Option<Error>) -> Option<Fault>
+    ensures { result ≡ fault_of place stop }
+{
+    match stop {
+        Some(error) => Some(Fault { place, error }),
+        None => None,
+    }
+}
+
+/// The line of a fault, where there is one.
+fn fault_text(alloc: Global, fault: &Option<Fault>, rest: &[u8]) -> Result<String, AllocError>
+    ensures { IfOk result (λ text. string_bytes text ≡ fault_text fault.now rest.now) }
+{
+    match fault {
+        Some(fault) => fault_line(alloc, fault, rest),
+        None => Ok(String::new(alloc)),
+    }
+}
+
+/// Writes the lines of the messages that begin the held bytes, behind which no bytes come, and that of the fault, if there
+/// is one. Returns the fault.
+fn finish<S: Listing<D>, D: Digest, W: Write>(
+    alloc: Global,
+    committees: &Option<Committees<S>>,
+    offset: usize,
+    held: &[u8],
+    writer: &mut Watched<W>,
+) -> Result<Option<Fault>, RunError>
+    requires fits { offset + length held.now < 2 ^ 64 }
+    requires well { has_failed writer.old ≡ false }
+    ensures whole { IfOk result (λ fault. (input : List ℕ) (start : Option (List ℕ)) →
+        IsWritten (⟦<S as Inspected<D>>⟧.format committees.now) (⟦<S as Inspected<D>>⟧.line committees.now)
+        input offset held.now start (W.contents (inner_of writer.old)) → (text : List ℕ)
+        × IsInspected (⟦<S as Inspected<D>>⟧.format committees.now) (⟦<S as Inspected<D>>⟧.line committees.now)
+        input fault text
+        × Appends start (W.contents (inner_of writer.new)) text) }
+    ensures begun { IfErr result (λ e. (input : List ℕ) (start : Option (List ℕ)) →
+        IsWritten (⟦<S as Inspected<D>>⟧.format committees.now) (⟦<S as Inspected<D>>⟧.line committees.now)
+        input offset held.now start (W.contents (inner_of writer.old)) → (text : List ℕ)
+        × IsPart (⟦<S as Inspected<D>>⟧.format committees.now) (⟦<S as Inspected<D>>⟧.line committees.now) input text
+        × AppendsBeginning start (W.contents (inner_of writer.new)) text) }
+    ensures flushed { OnOk result (IsTrue (is_flushed writer.new)) }
+    ensures failed { IsTrue (has_failed writer.new) ↔ (result ≡ Err RunError.Write) }
+    ensures error { IfErr result (λ e. (e ≡ RunError.Write) ⊎ (e ≡ RunError.OutOfMemory)) }
+{
+    let reading = read_lines::<S, D>(alloc, committees, offset, held)?;
+    let fault = fault_at(reading.offset, reading.stop);
+    let mut text = reading.text;
+    let last = fault_text(alloc, &fault, reading.rest)?;
+    text.push_str(last.as_str())?;
+    write_text(writer, text.as_bytes())?;
+    Ok(fault)
+}
+
+/// Writes the lines of a whole stream: one for each of its messages, in order, and one for its fault, if there is one.
+/// Returns the fault. The messages and the fault are those of an audit of the stream. After an error a beginning of the text
+/// was written; `Write` comes from the writer alone, and `OutOfMemory` where an allocation failed before the first write.
+pub fn inspect<S: Listing<D>, D: Digest, W: Write>(
+    alloc: Global,
+    committees: &Option<Committees<S>>,
+    stream: &[u8],
+    writer: &mut Watched<W>,
+) -> Result<Option<Fault>, RunError>
+    requires { has_failed writer.old ≡ false }
+    // Exactly the text of the stream was written.
+    ensures whole { IfOk result (λ fault. (text : List ℕ)
+        × IsInspected (⟦<S as Inspected<D>>⟧.format committees.now) (⟦<S as Inspected<D>>⟧.line committees.now)
+        stream.now fault text
+        × Appends (W.contents (inner_of writer.old)) (W.contents (inner_of writer.new)) text) }
+    ensures flushed { OnOk result (IsTrue (is_flushed writer.new)) }
+    // After an error a beginning of the text was.
+    ensures begun { IfErr result (λ e. (text : List ℕ)
+        × IsPart (⟦<S as Inspected<D>>⟧.format committees.now) (⟦<S as Inspected<D>>⟧.line committees.now) stream.now text
+        × AppendsBeginning (W.contents (inner_of writer.old)) (W.contents (inner_of writer.new)) text) }
+    ensures failed { IsTrue (has_failed writer.new) ↔ (result ≡ Err RunError.Write) }
+    ensures error { IfErr result (λ e. (e ≡ RunError.Write) ⊎ (e ≡ RunError.OutOfMemory)) }
+{
+    finish(alloc, committees, 0, stream, writer)
+}

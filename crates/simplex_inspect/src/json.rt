@@ -1,0 +1,75 @@
+//! The JSON of the parts of a message. Numbers are decimal, bytes lower-case hexadecimal.
+
+ghost use Rattle.std.specs.Prelude.{◌≡◌, IfOk, string_bytes};
+ghost use Rattle.simplex_inspect.specs.Json.{verdict_json, signature_json, proposal_json, head_json};
+
+use crate::verdict::Verdict;
+use std::alloc::{AllocError, Global};
+
+/// The fields of a verdict, each behind a comma; none where nobody judges.
+pub fn verdict_json(verdict: Option<Verdict>) -> &'static str
+    ensures { result.now ≡ verdict_json verdict }
+{
+    match verdict {
+        None => "",
+        Some(Verdict::Valid) => ",\"valid\":true",
+        Some(Verdict::NoCommittee) => { ",\"valid\":false,\"why\":\"no committee for the epoch\"" }
+        Some(Verdict::OutsideSigner) => {
+            ",\"valid\":false,\"why\":\"signer outside the committee\""
+        }
+        Some(Verdict::WrongSignature) => {
+            ",\"valid\":false,\"why\":\"signature does not verify\""
+        }
+        Some(Verdict::TooFew) => { ",\"valid\":false,\"why\":\"fewer signatures than a quorum\"" }
+        Some(Verdict::WrongAttestation) => {
+            ",\"valid\":false,\"why\":\"a listed signature is not valid\""
+        }
+    }
+}
+
+/// A signature with its signer and the verdict on it.
+pub fn signature_json(
+    alloc: Global,
+    signer: u32,
+    signature: &[u8],
+    verdict: Option<Verdict>,
+) -> Result<String, AllocError>
+    ensures { IfOk result (λ text. string_bytes text ≡ signature_json signer signature.now verdict) }
+{
+    let digits = hex::encode(alloc, signature)?;
+    let fields = verdict_json(verdict);
+    format!(in alloc; "{{\"signer\":{signer},\"signature\":\"{digits}\"{fields}}}")
+}
+
+/// The fields of a vote for a proposal, up to its signatures.
+pub fn proposal_json(
+    alloc: Global,
+    vote: &str,
+    parent: u64,
+    payload: &[u8],
+) -> Result<String, AllocError>
+    ensures { IfOk result (λ text. string_bytes text ≡ proposal_json vote.now parent payload.now) }
+{
+    let digits = hex::encode(alloc, payload)?;
+    format!(in alloc;
+        "{{\"vote\":\"{vote}\",\"parent\":{parent},\"payload\":\"{digits}\",\"signatures\":["
+    )
+}
+
+/// The fields in front of a message's statements: the byte at which it begins, how many bytes it has, its kind, and the
+/// epoch and the view of its round.
+pub fn head_json(
+    alloc: Global,
+    offset: usize,
+    length: usize,
+    kind: &str,
+    place: (u64, u64),
+) -> Result<String, AllocError>
+    ensures { IfOk result (λ text.
+        string_bytes text ≡ head_json offset length kind.now place.0 place.1) }
+{
+    let (epoch, view) = place;
+    format!(in alloc;
+        "{{\"offset\":{offset},\"length\":{length},\"kind\":\"{kind}\",\"epoch\":{epoch},\"view\":{view},\"statements\":["
+    )
+}

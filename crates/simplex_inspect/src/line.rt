@@ -1,0 +1,367 @@
+//! The line of a message.
+
+ghost use Rattle.std.specs.Prelude.{◌≡◌, ◌++◌, IfOk, string_bytes, map, option_map, codes};
+ghost use Rattle.std.specs.Option.{option_copied};
+ghost use Rattle.simplex_scheme.specs.Committee.{quorum_of};
+ghost use Rattle.simplex_scheme.specs.Subject.{Notarizes, Nullifies, Finalizes, subject_value};
+ghost use Rattle.simplex_detector.specs.Committees.{valid_by, certified_by, size_by};
+ghost use Rattle.simplex_detector.specs.Rules.{vote_on};
+ghost use Rattle.simplex_inspect.specs.Json.{each_behind, listed_texts};
+ghost use Rattle.simplex_inspect.specs.Line.{subject_json, attestation_json, vote_json, certificate_json, statements_json, kind_word};
+ghost use Rattle.simplex_inspect.specs.Shown.{signature_verdict, certificate_verdict};
+
+use crate::basis::Inspected;
+use crate::json::{head_json, proposal_json, signature_json, verdict_json};
+use crate::verdict::{Verdict, verdict_on_certificate, verdict_on_signature};
+use simplex_base::codec::Fixed;
+use simplex_base::positions::Roundable;
+use simplex_detector::committees::Committees;
+use simplex_evidence::types::Activity;
+use simplex_scheme::faults::quorum;
+use simplex_scheme::scheme::{Attestation, CertificateScheme, Digest, Listing, Scheme};
+use simplex_scheme::subject::Subject;
+use simplex_votes::types::{Finalize, Notarization, Notarize, Nullify};
+use std::alloc::{AllocError, Global};
+
+/// How many participants a committee has, 0 where there is none.
+fn size_of<S: CertificateScheme>(committee: Option<&S>) -> u32
+    ensures { result ≡ size_by S.keys (option_copied committee.entry) }
+{
+    match committee {
+        Some(committee) => committee.participants().len() as u32,
+        None => 0,
+    }
+}
+
+/// How many of so many participants are a quorum, 0 of none.
+fn quorum_among(size: u32) -> usize
+    ensures { result ≡ quorum_of size }
+{
+    if size == 0 {
+        return 0;
+    }
+    quorum(size) as usize
+}
+
+/// Whether a signature is valid by a committee. Without one none is.
+fn is_valid<S: Scheme<D>, D: Digest>(
+    committee: Option<&S>,
+    subject: &Subject<'_, D>,
+    attestation: &Attestation<S>,
+) -> bool
+    ensures { result ≡ valid_by S.good (option_copied committee.entry) (subject_value subject.now)
+        attestation.now.signer attestation.now.signature }
+{
+    match committee {
+        Some(committee) => committee.verify_attestation(subject.reborrow(), attestation),
+        None => false,
+    }
+}
+
+/// Whether a certificate is one of a committee. Without one none is.
+fn is_certified<S: Listing<D>, D: Digest>(
+    committee: Option<&S>,
+    subject: &Subject<'_, D>,
+    certificate: &S::Certificate,
+) -> bool
+    ensures { result ≡
+        certified_by S.certified (option_copied committee.entry) (subject_value subject.now) certificate.now }
+{
+    match committee {
+        Some(committee) => committee.verify_certificate(subject.reborrow(), certificate),
+        None => false,
+    }
+}
+
+/// The verdict on a signature, where there are committees.
+fn signature_verdict<S: Listing<D>, D: Digest>(
+    committees: &Option<Committees<S>>,
+    subject: &Subject<'_, D>,
+    attestation: &Attestation<S>,
+) -> Option<Verdict>
+    ensures { result ≡ option_map (λ rules.
+        signature_verdict rules (vote_on (subject_value subject.now) attestation.now))
+        (⟦<S as Inspected<D>>⟧.shown committees.now).rules }
+{
+    let Some(committees) = committees else {
+        return None;
+    };
+    let committee = committees.get(subject.round().epoch());
+    let valid = is_valid(committee, subject, attestation);
+    let size = size_of(committee) as usize;
+    Some(verdict_on_signature(valid, size, attestation.signer.get()))
+}
+
+/// The verdict on a certificate, where there are committees.
+fn certificate_verdict<S: Listing<D>, D: Digest>(
+    committees: &Option<Committees<S>>,
+    subject: &Subject<'_, D>,
+    certificate: &S::Certificate,
+) -> Option<Verdict>
+    ensures { result ≡ option_map (λ rules.
+        certificate_verdict rules (subject_value subject.now) certificate.now)
+        (⟦<S as Inspected<D>>⟧.shown committees.now).rules }
+{
+    let Some(committees) = committees else {
+        return None;
+    };
+    let committee = committees.get(subject.round().epoch());
+    let valid = is_certified(committee, subject, certificate);
+    let size = size_of(committee);
+    let count = S::attestations(certificate).len();
+    Some(verdict_on_certificate(valid, size as usize, quorum_among(size), count))
+}
+
+/// The fields of a subject, up to the signatures of it.
+fn subject_json<D: Digest>(alloc: Global, subject: &Subject<'_, D>) -> Result<String, AllocError>
+    ensures { IfOk result (λ text.
+        string_bytes text ≡ subject_json D.bytes_of (subject_value subject.now)) }
+{
+    match subject {
+        Subject::Notarize { proposal } => {
+            let (parent, payload) = (proposal.parent.get(), proposal.payload.as_bytes());
+            proposal_json(alloc, "notarize", parent, payload)
+        }
+        Subject::Nullify { .. } => String::from_str(
+            alloc,
+            "{\"vote\":\"nullify\",\"signatures\":[",
+        ),
+        Subject::Finalize { proposal } => {
+            let (parent, payload) = (proposal.parent.get(), proposal.payload.as_bytes());
+            proposal_json(alloc, "finalize", parent, payload)
+        }
+    }
+}
+
+/// An attestation of a subject, with the verdict on its signature.
+fn attestation_json<S: Listing<D>, D: Digest>(
+    alloc: Global,
+    committees: &Option<Committees<S>>,
+    subject: &Subject<'_, D>,
+    attestation: &Attestation<S>,
+) -> Result<String, AllocError>
+    ensures { IfOk result (λ text. string_bytes text ≡
+        attestation_json (⟦<S as Inspected<D>>⟧.shown committees.now) (subject_value subject.now) attestation.now) }
+{
+    let verdict = signature_verdict(committees, subject, attestation);
+    let signer = attestation.signer.get();
+    signature_json(alloc, signer, attestation.signature.as_bytes(), verdict)
+}
+
+/// Attestations of a subject, each behind a comma.
+fn further_json<S: Listing<D>, D: Digest>(
+    alloc: Global,
+    committees: &Option<Committees<S>>,
+    subject: &Subject<'_, D>,
+    attestations: &[Attestation<S>],
+) -> Result<String, AllocError>
+    ensures { IfOk result (λ text. string_bytes text ≡
+        each_behind (map (attestation_json (⟦<S as Inspected<D>>⟧.shown committees.now)
+        (subject_value subject.now)) attestations.now)) }
+{
+    let mut text = String::new(alloc);
+    for attestation in attestations {
+        let one = attestation_json(alloc, committees, subject, attestation)?;
+        text.push_str(",")?;
+        text.push_str(one.as_str())?;
+    }
+    Ok(text)
+}
+
+/// Attestations of a subject, with commas between them.
+fn attestations_json<S: Listing<D>, D: Digest>(
+    alloc: Global,
+    committees: &Option<Committees<S>>,
+    subject: &Subject<'_, D>,
+    attestations: &[Attestation<S>],
+) -> Result<String, AllocError>
+    ensures { IfOk result (λ text. string_bytes text ≡
+        listed_texts (map (attestation_json (⟦<S as Inspected<D>>⟧.shown committees.now)
+        (subject_value subject.now)) attestations.now)) }
+{
+    let Some((first, further)) = attestations.split_first() else {
+        return Ok(String::new(alloc));
+    };
+    let first = attestation_json(alloc, committees, subject, first)?;
+    let further = further_json(alloc, committees, subject, further)?;
+    format!(in alloc; "{first}{further}")
+}
+
+/// A vote: its subject, and its signature.
+fn vote_json<S: Listing<D>, D: Digest>(
+    alloc: Global,
+    committees: &Option<Committees<S>>,
+    subject: &Subject<'_, D>,
+    attestation: &Attestation<S>,
+) -> Result<String, AllocError>
+    ensures { IfOk result (λ text. string_bytes text ≡
+        vote_json (⟦<S as Inspected<D>>⟧.shown committees.now) (subject_value subject.now) attestation.now) }
+{
+    let says = subject_json(alloc, subject)?;
+    let signature = attestation_json(alloc, committees, subject, attestation)?;
+    format!(in alloc; "{says}{signature}]}}")
+}
+
+/// A certificate: its subject, the signatures that it lists, and the verdict on it.
+fn certificate_json<S: Listing<D>, D: Digest>(
+    alloc: Global,
+    committees: &Option<Committees<S>>,
+    subject: &Subject<'_, D>,
+    certificate: &S::Certificate,
+) -> Result<String, AllocError>
+    ensures { IfOk result (λ text. string_bytes text ≡
+        certificate_json (⟦<S as Inspected<D>>⟧.shown committees.now) (subject_value subject.now) certificate.now) }
+{
+    let says = subject_json(alloc, subject)?;
+    let attestations = S::attestations(certificate);
+    let signatures = attestations_json(alloc, committees, subject, attestations)?;
+    let verdict = verdict_json(certificate_verdict(committees, subject, certificate));
+    format!(in alloc; "{says}{signatures}]{verdict}}}")
+}
+
+/// A notarize.
+fn notarize_json<S: Listing<D>, D: Digest>(
+    alloc: Global,
+    committees: &Option<Committees<S>>,
+    vote: &Notarize<S, D>,
+) -> Result<String, AllocError>
+    ensures { IfOk result (λ text. string_bytes text ≡ vote_json
+        (⟦<S as Inspected<D>>⟧.shown committees.now) (Notarizes vote.now.proposal) vote.now.attestation) }
+{
+    let subject = Subject::Notarize {
+        proposal: &vote.proposal,
+    };
+    vote_json(alloc, committees, &subject, &vote.attestation)
+}
+
+/// A nullify.
+fn nullify_json<S: Listing<D>, D: Digest>(
+    alloc: Global,
+    committees: &Option<Committees<S>>,
+    vote: &Nullify<S>,
+) -> Result<String, AllocError>
+    ensures { IfOk result (λ text. string_bytes text ≡ vote_json
+        (⟦<S as Inspected<D>>⟧.shown committees.now) (Nullifies vote.now.round) vote.now.attestation) }
+{
+    let subject = Subject::Nullify { round: vote.round };
+    vote_json::<S, D>(alloc, committees, &subject, &vote.attestation)
+}
+
+/// A finalize.
+fn finalize_json<S: Listing<D>, D: Digest>(
+    alloc: Global,
+    committees: &Option<Committees<S>>,
+    vote: &Finalize<S, D>,
+) -> Result<String, AllocError>
+    ensures { IfOk result (λ text. string_bytes text ≡ vote_json
+        (⟦<S as Inspected<D>>⟧.shown committees.now) (Finalizes vote.now.proposal) vote.now.attestation) }
+{
+    let subject = Subject::Finalize {
+        proposal: &vote.proposal,
+    };
+    vote_json(alloc, committees, &subject, &vote.attestation)
+}
+
+/// Two texts with a comma between them.
+fn both(alloc: Global, first: &str, second: &str) -> Result<String, AllocError>
+    ensures { IfOk result (λ text. string_bytes text ≡ first.now ++ (codes "," ++ second.now)) }
+{
+    format!(in alloc; "{first},{second}")
+}
+
+/// The certificate of a message that certifies a proposal to be notarized.
+fn notarization_json<S: Listing<D>, D: Digest>(
+    alloc: Global,
+    committees: &Option<Committees<S>>,
+    message: &Notarization<S, D>,
+) -> Result<String, AllocError>
+    ensures { IfOk result (λ text. string_bytes text ≡ certificate_json
+        (⟦<S as Inspected<D>>⟧.shown committees.now) (Notarizes message.now.proposal) message.now.certificate) }
+{
+    let subject = Subject::Notarize {
+        proposal: &message.proposal,
+    };
+    certificate_json(alloc, committees, &subject, &message.certificate)
+}
+
+/// What a message states: a vote, a certificate, or both votes of evidence.
+fn statements_json<S: Listing<D>, D: Digest>(
+    alloc: Global,
+    committees: &Option<Committees<S>>,
+    message: &Activity<S, D>,
+) -> Result<String, AllocError>
+    ensures { IfOk result (λ text. string_bytes text ≡
+        statements_json (⟦<S as Inspected<D>>⟧.shown committees.now) message.now) }
+{
+    match message {
+        Activity::Notarize(vote) => notarize_json(alloc, committees, vote),
+        Activity::Notarization(message) => notarization_json(alloc, committees, message),
+        Activity::Certification(message) => notarization_json(alloc, committees, message),
+        Activity::Nullify(vote) => nullify_json::<S, D>(alloc, committees, vote),
+        Activity::Nullification(message) => {
+            let subject = Subject::Nullify {
+                round: message.round,
+            };
+            certificate_json::<S, D>(alloc, committees, &subject, &message.certificate)
+        }
+        Activity::Finalize(vote) => finalize_json(alloc, committees, vote),
+        Activity::Finalization(message) => {
+            let subject = Subject::Finalize {
+                proposal: &message.proposal,
+            };
+            certificate_json(alloc, committees, &subject, &message.certificate)
+        }
+        Activity::ConflictingNotarize(evidence) => {
+            let first = notarize_json(alloc, committees, evidence.notarize_1())?;
+            let second = notarize_json(alloc, committees, evidence.notarize_2())?;
+            both(alloc, first.as_str(), second.as_str())
+        }
+        Activity::ConflictingFinalize(evidence) => {
+            let first = finalize_json(alloc, committees, evidence.finalize_1())?;
+            let second = finalize_json(alloc, committees, evidence.finalize_2())?;
+            both(alloc, first.as_str(), second.as_str())
+        }
+        Activity::NullifyFinalize(evidence) => {
+            let first = nullify_json::<S, D>(alloc, committees, evidence.nullify())?;
+            let second = finalize_json(alloc, committees, evidence.finalize())?;
+            both(alloc, first.as_str(), second.as_str())
+        }
+    }
+}
+
+/// The word of a kind of message.
+fn kind_word<S: CertificateScheme, D: Digest>(message: &Activity<S, D>) -> &'static str
+    ensures { result.now ≡ kind_word message.now }
+{
+    match message {
+        Activity::Notarize(_) => "notarize",
+        Activity::Notarization(_) => "notarization",
+        Activity::Certification(_) => "certification",
+        Activity::Nullify(_) => "nullify",
+        Activity::Nullification(_) => "nullification",
+        Activity::Finalize(_) => "finalize",
+        Activity::Finalization(_) => "finalization",
+        Activity::ConflictingNotarize(_) => "conflicting-notarize",
+        Activity::ConflictingFinalize(_) => "conflicting-finalize",
+        Activity::NullifyFinalize(_) => "nullify-finalize",
+    }
+}
+
+/// The line of a message, with its end: the byte at which it begins, the number of its bytes, its kind, its round, and its
+/// statements. Without committees nothing is said of what is valid.
+pub fn line<S: Listing<D>, D: Digest>(
+    alloc: Global,
+    committees: &Option<Committees<S>>,
+    offset: usize,
+    length: usize,
+    message: &Activity<S, D>,
+) -> Result<String, AllocError>
+    ensures { IfOk result (λ text. string_bytes text ≡
+        ⟦<S as Inspected<D>>⟧.line committees.now offset length message.now) }
+{
+    let round = message.round();
+    let place = (round.epoch().get(), round.view().get());
+    let head = head_json(alloc, offset, length, kind_word(message), place)?;
+    let statements = statements_json(alloc, committees, message)?;
+    format!(in alloc; "{head}{statements}]}}\n")
+}

@@ -1,0 +1,58 @@
+//! What is said of a signature and of a certificate.
+
+ghost use Rattle.std.specs.Prelude.{◌≡◌};
+ghost use Rattle.simplex_inspect.specs.Verdict.{verdict_on_signature, verdict_on_certificate};
+
+/// Whether a signature or a certificate is valid, and why not.
+#[derive(Clone, Copy)]
+pub enum Verdict {
+    /// It is valid.
+    Valid,
+    /// The epoch has no committee.
+    NoCommittee,
+    /// Of a signature: its signer is no participant of the epoch's committee.
+    OutsideSigner,
+    /// Of a signature: it is not one of its signer for what is signed.
+    WrongSignature,
+    /// Of a certificate: it lists fewer attestations than a quorum.
+    TooFew,
+    /// Of a certificate: it lists enough attestations, and one of them is not valid.
+    WrongAttestation,
+}
+
+/// The verdict on a signature, by whether it is valid, how many participants the epoch's committee has (0 where there is
+/// none), and the number of its signer.
+pub(crate) fn verdict_on_signature(valid: bool, size: usize, signer: u32) -> Verdict
+    ensures { result ≡ verdict_on_signature valid size signer }
+{
+    if valid {
+        Verdict::Valid
+    } else if size == 0 {
+        Verdict::NoCommittee
+    } else if (signer as usize) < size {
+        Verdict::WrongSignature
+    } else {
+        Verdict::OutsideSigner
+    }
+}
+
+/// The verdict on a certificate, by whether it is valid, how many participants the epoch's committee has (0 where there is
+/// none), how many of them are a quorum, and how many attestations it lists.
+pub(crate) fn verdict_on_certificate(
+    valid: bool,
+    size: usize,
+    quorum: usize,
+    count: usize,
+) -> Verdict
+    ensures { result ≡ verdict_on_certificate valid size quorum count }
+{
+    if valid {
+        Verdict::Valid
+    } else if size == 0 {
+        Verdict::NoCommittee
+    } else if count < quorum {
+        Verdict::TooFew
+    } else {
+        Verdict::WrongAttestation
+    }
+}
