@@ -22,6 +22,7 @@ fn sha256(bytes: &[u8]) -> [u8; 32] {
     let mut state: [u32; 8] = [
         0x6a09e667, 0xbb67ae85, 0x3c6ef372, 0xa54ff53a, 0x510e527f, 0x9b05688c, 0x1f83d9ab, 0x5be0cd19,
     ];
+    let compress = compression();
     let mut chunks = bytes.chunks_exact(64);
     for chunk in &mut chunks {
         compress(&mut state, chunk.try_into().unwrap());
@@ -40,6 +41,56 @@ fn sha256(bytes: &[u8]) -> [u8; 32] {
         place.copy_from_slice(&word.to_be_bytes());
     }
     digest
+}
+
+/// The compression function: by the processor's instructions for SHA-256 where it has them, unless this is built to do without.
+fn compression() -> fn(&mut [u32; 8], &[u8; 64]) {
+    #[cfg(all(target_arch = "x86_64", not(portable)))]
+    if is_x86_feature_detected!("sha") && is_x86_feature_detected!("ssse3") && is_x86_feature_detected!("sse4.1") {
+        // Safe, since the processor was asked for each instruction set that the function uses.
+        return |state, block| unsafe { compress_by_instructions(state, block) };
+    }
+    compress
+}
+
+/// Four rounds at a time. The instructions want the state as (f e b a) and (h g d c), lowest word first.
+#[cfg(all(target_arch = "x86_64", not(portable)))]
+#[target_feature(enable = "sha,ssse3,sse4.1")]
+fn compress_by_instructions(state: &mut [u32; 8], block: &[u8; 64]) {
+    use std::arch::x86_64::*;
+
+    fn load(words: &[u32]) -> __m128i {
+        let words: &[u32; 4] = words.try_into().unwrap();
+        unsafe { _mm_loadu_si128(words.as_ptr().cast()) }
+    }
+    let abcd = _mm_shuffle_epi32(load(&state[..4]), 0xb1);
+    let efgh = _mm_shuffle_epi32(load(&state[4..]), 0x1b);
+    let (first, second) = (_mm_alignr_epi8(abcd, efgh, 8), _mm_blend_epi16(efgh, abcd, 0xf0));
+    let (mut feba, mut hgdc) = (first, second);
+    let mut words = [_mm_setzero_si128(); 4];
+    for t in 0..16 {
+        let here = t % 4;
+        words[here] = if t < 4 {
+            let mut read = [0; 4];
+            for (word, bytes) in read.iter_mut().zip(block[16 * t..].chunks_exact(4)) {
+                *word = u32::from_be_bytes(bytes.try_into().unwrap());
+            }
+            load(&read)
+        } else {
+            let (next, before, last) = (words[(t + 1) % 4], words[(t + 2) % 4], words[(t + 3) % 4]);
+            let sum = _mm_add_epi32(_mm_sha256msg1_epu32(words[here], next), _mm_alignr_epi8(last, before, 4));
+            _mm_sha256msg2_epu32(sum, last)
+        };
+        let added = _mm_add_epi32(words[here], load(&ROUND_CONSTANTS[4 * t..4 * t + 4]));
+        hgdc = _mm_sha256rnds2_epu32(hgdc, feba, added);
+        feba = _mm_sha256rnds2_epu32(feba, hgdc, _mm_shuffle_epi32(added, 0x0e));
+    }
+    let abef = _mm_shuffle_epi32(_mm_add_epi32(feba, first), 0x1b);
+    let ghcd = _mm_shuffle_epi32(_mm_add_epi32(hgdc, second), 0xb1);
+    unsafe {
+        _mm_storeu_si128(state[..4].as_mut_ptr().cast(), _mm_blend_epi16(abef, ghcd, 0xf0));
+        _mm_storeu_si128(state[4..].as_mut_ptr().cast(), _mm_alignr_epi8(ghcd, abef, 8));
+    }
 }
 
 fn compress(state: &mut [u32; 8], block: &[u8; 64]) {

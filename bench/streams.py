@@ -5,7 +5,7 @@ SHAPE is `votes` (a notarize of each participant in each round), `certificates` 
 round), `fork` (two of them, which contradict) or `all` (messages of every kind: in each round a notarize of each participant
 and a notarization, a certification, a nullify and a finalize of some and a finalization of all). In each tenth round, but for
 `fork`, participant 0 votes for a second payload too, and where all kinds are there the round has a nullification and evidence
-of each kind. The base of the namespaces is `bench`, and participant i has the key whose 32 bytes are the number i, the highest
+of each kind. `honest` is as `votes` without the second votes, and `forged` has one in each round, with a signature of zeros. The base of the namespaces is `bench`, and participant i has the key whose 32 bytes are the number i, the highest
 byte first. With `keys` as the SHAPE the program's arguments are written instead, one a line.
 
 Floods are SHAPEs too: `member` (participant 0 votes once in each round), `two` (and for a second payload), `five` (and with a
@@ -78,13 +78,15 @@ def messages(shape, participants, view):
         yield from every_kind(participants, view)
         return
     proposed = proposal(view, b"first")
-    if shape == "votes":
+    if shape in ("votes", "honest", "forged"):
         yield from (b"\x00" + vote(NOTARIZE, i, proposed) for i in range(participants))
     else:
         yield b"\x01" + certificate(NOTARIZE, participants, proposed)
     if shape == "fork":
         yield b"\x01" + certificate(NOTARIZE, participants, proposal(view, b"second"))
-    elif view % 10 == 0:
+    elif shape == "forged":
+        yield b"\x00" + proposal(view, b"second") + number(0) + bytes(32)
+    elif shape != "honest" and view % 10 == 0:
         yield b"\x00" + vote(NOTARIZE, 0, proposal(view, b"second"))
 
 

@@ -54,7 +54,7 @@ impl<'a, S: Scheme<D>, D: Digest> Batcher<'a, S, D> {
 
     /// Takes a vote of any signer for any proposal. It is kept if it is valid, for the proposal, and its signer's first
     /// such; so no bad vote is in a valid one's place. From then on that a quorum of participants has signed such votes
-    /// there is a notarization, and before there is none. Where memory was refused the vote may have been kept or not.
+    /// there is a notarization, and before there is none. Where an allocation failed the vote may have been kept or not.
     pub fn take(
         &mut self,
         alloc: Global,

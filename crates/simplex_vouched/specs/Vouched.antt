@@ -1,5 +1,5 @@
 -- A scheme whose signatures the caller verified. The proof at the end stands here, since a ghost member of the scheme cites it.
-use Rattle.std.specs.Prelude.{◌≡◌, ℕ, ◌<◌, ◌&&◌, Bool, true, List, [], ◌∷◌, Option, None, nat_eq, nat_lt}
+use Rattle.std.specs.Prelude.{◌≡◌, ℕ, ◌<◌, ◌&&◌, Bool, true, List, [], ◌∷◌, Option, None, length, nat_eq, nat_lt}
 use Rattle.std.specs.List.{ends_with}
 use Rattle.std.proofs.Common.{arith}
 use Rattle.std.proofs.lemmas.Bool.Decides.{nat_tests}
@@ -17,11 +17,11 @@ nobody = None
 abbrev pub is_vouched : List ℕ → Bool
 is_vouched signature = ends_with nat_eq signature (1 ∷ [])
 
--- the signer is one of n participants, and the caller found the signature valid
-abbrev pub vouched_valid : {D : Type 0} → ℕ → SubjectValue D → ℕ → List ℕ → Bool
-vouched_valid n subject signer signature = nat_lt signer n && is_vouched signature
+-- the signer is one of the participants, and the caller found the signature valid
+abbrev pub vouched_valid : {D : Type 0} → List (List ℕ) → SubjectValue D → ℕ → List ℕ → Bool
+vouched_valid keys subject signer signature = nat_lt signer (length keys) && is_vouched signature
 
 -- whose signature is valid is in the committee
-pub vouched_members : {D : Type 0} (n : ℕ) (subject : SubjectValue D) (signer : ℕ) (signature : List ℕ) →
-    vouched_valid n subject signer signature ≡ true → signer < n
-vouched_members n subject signer signature h = grind (arith, nat_tests)
+pub vouched_members : {D : Type 0} (keys : List (List ℕ)) (subject : SubjectValue D) (signer : ℕ) (signature : List ℕ) →
+    vouched_valid keys subject signer signature ≡ true → signer < length keys
+vouched_members keys subject signer signature h = grind (arith, nat_tests)

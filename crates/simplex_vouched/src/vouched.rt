@@ -61,7 +61,8 @@ impl<R, const N: usize> Vouched<R, N> {
 impl<R: Role<N>, const N: usize> Vouched<R, N> {
     /// Whether the signer is in the committee and the verdict is `01`.
     fn is_valid(&self, attestation: &Attestation<Self>) -> bool
-        ensures { result ≡ (nat_lt attestation.now.signer (length self.now.keys) && is_vouched attestation.now.signature) }
+        ensures { result ≡
+            (nat_lt attestation.now.signer (length self.now.keys) && is_vouched attestation.now.signature) }
     {
         (attestation.signer.get() as usize) < self.committee.participants().len()
             && attestation.signature.as_bytes().ends_with(&[1])
@@ -108,11 +109,12 @@ impl<R: Role<N>, const N: usize> CertificateScheme for Vouched<R, N> {
 
     ghost certificates_limited = { lit≤ tt };
 
-    ghost certificates_within = { λ participants certificate few fits. fixed_within N (λ signature. signature) (λ bytes. bytes) participants certificate fits };
+    ghost certificates_within = { λ participants certificate few fits.
+        fixed_within N (λ signature. signature) (λ bytes. bytes) participants certificate fits };
 }
 
 impl<D: Digest, R: Role<N>, const N: usize> AttestationVerifier<D> for Vouched<R, N> {
-    ghost accepted = { λ vouched. vouched_valid (length vouched.keys) };
+    ghost accepted = { λ vouched. vouched_valid vouched.keys };
 
     fn accepts(&self, _subject: &Subject<'_, D>, attestation: &Attestation<Self>) -> bool {
         self.is_valid(attestation)
@@ -120,14 +122,16 @@ impl<D: Digest, R: Role<N>, const N: usize> AttestationVerifier<D> for Vouched<R
 }
 
 impl<D: Digest, R: Role<N>, const N: usize> CertificateVerifier<D> for Vouched<R, N> {
-    ghost certified = { λ scheme subject. is_quorum (length scheme.keys) (vouched_valid (length scheme.keys) subject) };
+    ghost certified = { λ scheme subject.
+        is_quorum (length scheme.keys) (vouched_valid scheme.keys subject) };
 
     fn verify_certificate(
         &self,
         subject: Subject<'_, D>,
         certificate: &Listed<Vouched<R, N>>,
     ) -> bool
-        ensures { result ≡ is_quorum (length self.now.keys) (vouched_valid (length self.now.keys) (subject_value subject.entry)) certificate.now }
+        ensures { result ≡ is_quorum (length self.now.keys)
+            (vouched_valid self.now.keys (subject_value subject.entry)) certificate.now }
     {
         // The prover knows a subject that came by value only by its kinds.
         let subject = match subject {
@@ -144,7 +148,7 @@ impl<D: Digest, R: Role<N>, const N: usize> CertificateVerifier<D> for Vouched<R
 }
 
 impl<D: Digest, R: Role<N>, const N: usize> Scheme<D> for Vouched<R, N> {
-    ghost good = { λ vouched. vouched_valid (length vouched.keys) };
+    ghost good = { λ vouched. vouched_valid vouched.keys };
 
     ghost made_of = { IsInOrder };
 
@@ -156,13 +160,15 @@ impl<D: Digest, R: Role<N>, const N: usize> Scheme<D> for Vouched<R, N> {
     ) -> Result<Option<Attestation<Self>>, AllocError>
         ensures none { nobody ≡ None → result ≡ Ok None }
         ensures signed { IfOk result (λ signed. MatchOption signed (nobody ≡ None) (λ a.
-            (nobody ≡ Some a.signer) × (vouched_valid (length self.now.keys) (subject_value _subject.entry) a.signer a.signature ≡ true))) }
+            (nobody ≡ Some a.signer)
+            × (vouched_valid self.now.keys (subject_value _subject.entry) a.signer a.signature ≡ true))) }
     {
         Ok(None)
     }
 
     fn verify_attestation(&self, _subject: Subject<'_, D>, attestation: &Attestation<Self>) -> bool
-        ensures { result ≡ vouched_valid (length self.now.keys) (subject_value _subject.entry) attestation.now.signer attestation.now.signature }
+        ensures { result ≡ vouched_valid self.now.keys (subject_value _subject.entry)
+            attestation.now.signer attestation.now.signature }
     {
         self.is_valid(attestation)
     }
@@ -175,17 +181,19 @@ impl<D: Digest, R: Role<N>, const N: usize> Scheme<D> for Vouched<R, N> {
         requires distinct { IsDistinct nat_eq (signers_of attestations.items) }
         requires members { All (λ a. a.signer < length self.now.keys) attestations.items }
         ensures below { length attestations.items < quorum_of (length self.now.keys) →
-            result ≡ Err (AssemblyError.InsufficientAttestations (quorum_of (length self.now.keys)) (length attestations.items)) }
-        ensures enough { quorum_of (length self.now.keys) ≤ length attestations.items → IfErr result (λ error. error ≡ AssemblyError.OutOfMemory) }
+            result ≡ Err (AssemblyError.InsufficientAttestations
+            (quorum_of (length self.now.keys)) (length attestations.items)) }
+        ensures enough { quorum_of (length self.now.keys) ≤ length attestations.items →
+            IfErr result (λ error. error ≡ AssemblyError.OutOfMemory) }
         ensures made { IfOk result (λ certificate. IsInOrder attestations.items certificate) }
         ensures certified { IfOk result (λ certificate. (subject : SubjectValue D) →
-            All (λ a. vouched_valid (length self.now.keys) subject a.signer a.signature ≡ true) attestations.items →
-            is_quorum (length self.now.keys) (vouched_valid (length self.now.keys) subject) certificate ≡ true) }
+            All (λ a. vouched_valid self.now.keys subject a.signer a.signature ≡ true) attestations.items →
+            is_quorum (length self.now.keys) (vouched_valid self.now.keys subject) certificate ≡ true) }
     {
         assembled(self, attestations)
     }
 
-    ghost members = { λ scheme subject signer signature h. vouched_members (length scheme.keys) subject signer signature h };
+    ghost members = { λ scheme. vouched_members scheme.keys };
 }
 
 impl<D: Digest, R: Role<N>, const N: usize> Listing<D> for Vouched<R, N> {
@@ -195,7 +203,8 @@ impl<D: Digest, R: Role<N>, const N: usize> Listing<D> for Vouched<R, N> {
         certificate.attestations()
     }
 
-    ghost lists_quorums = { λ scheme subject certificate. (quorum_meaning (length scheme.keys) (vouched_valid (length scheme.keys) subject) certificate).0 };
+    ghost lists_quorums = { λ scheme subject certificate.
+        (quorum_meaning (length scheme.keys) (vouched_valid scheme.keys subject) certificate).0 };
 
     ghost lists_given = { λ given certificate made. made };
 }
