@@ -5,8 +5,9 @@ SHAPE is `votes` (a notarize of each participant in each round), `certificates` 
 round), `fork` (two of them, which contradict) or `all` (messages of every kind: in each round a notarize of each participant
 and a notarization, a certification, a nullify and a finalize of some and a finalization of all). In each tenth round, but for
 `fork`, participant 0 votes for a second payload too, and where all kinds are there the round has a nullification and evidence
-of each kind. `honest` is as `votes` without the second votes, and `forged` has one in each round, with a signature of zeros. The base of the namespaces is `bench`, and participant i has the key whose 32 bytes are the number i, the highest
-byte first. With `keys` as the SHAPE the program's arguments are written instead, one a line.
+of each kind. `honest` is as `votes` without the second votes, and `forged` has one in each round, with a signature of zeros.
+The base of the namespaces is `bench`, and participant i has the key whose 32 bytes are the number i, the highest byte first.
+With `keys` as the SHAPE the program's arguments are written instead, one a line.
 
 Floods are SHAPEs too: `member` (participant 0 votes once in each round), `two` (and for a second payload), `five` (and with a
 nullify and two finalizes), `unsigned` (a notarize of participant 0 in each round, whose signature is 32 zeros), `again` (the
@@ -17,6 +18,7 @@ import random
 import sys
 
 BASE = b"bench"
+SHAPES = ("votes", "honest", "forged", "certificates", "fork", "all")
 FLOODS = ("member", "two", "five", "unsigned", "again", "zeros", "random")
 NOTARIZE, NULLIFY, FINALIZE = (BASE + suffix for suffix in (b"_NOTARIZE", b"_NULLIFY", b"_FINALIZE"))
 
@@ -111,6 +113,8 @@ def flood(shape, view):
 
 
 def main():
+    if len(sys.argv) != 4 or sys.argv[1] not in ("keys", *SHAPES, *FLOODS):
+        sys.exit(__doc__)
     shape, participants, rounds = sys.argv[1], int(sys.argv[2]), int(sys.argv[3])
     if shape == "keys":
         print(BASE.decode(), *(key(participant).hex() for participant in range(participants)), sep="\n")
