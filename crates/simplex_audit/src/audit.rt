@@ -1,8 +1,9 @@
 //! The audit of a whole stream.
 
-ghost use Rattle.std.specs.Prelude.{◌&&◌, All, IfOk, nat_eq, refl};
+ghost use Rattle.std.specs.Prelude.{◌&&◌, ℕ, List, All, IfOk, nat_eq, refl};
 ghost use Rattle.simplex_base.specs.Format.{IsLawful};
-ghost use Rattle.simplex_audit.specs.Guarantees.{HasOneReading, NamesExactlyThem, ShowsTwoVotes, HasNoOtherEvidence, NamesInAnyOrder, NamesStayWithMore, ForksNameEnough, SignersOfBothAreNamed, ShowsForks, ReadsAgain};
+ghost use Rattle.simplex_audit.specs.Deferred.{NeedsSuspectsAlone};
+ghost use Rattle.simplex_audit.specs.Guarantees.{HasOneReading, NamesExactlyThem, ShowsTwoVotes, HasNoOtherEvidence, NamesInAnyOrder, NamesStayWithMore, ForksNameEnough, SignersOfBothAreNamed, ShowsForks, ReadsAgain, IsAudit};
 ghost use Rattle.simplex_audit.specs.Report.{IsReport, as_messages};
 ghost use Rattle.simplex_detector.specs.Rules.{AreLawful};
 
@@ -17,8 +18,10 @@ use simplex_base::values::{EqByParts, ExactClone};
 pub use simplex_detector::committees::{Committees, CommitteesError};
 use simplex_detector::detector::Detector;
 pub use simplex_detector::evidence::Evidence;
+use simplex_detector::judging::{Judging, rounds_of};
 use simplex_detector::laws::{
     certificates_are_accountable, evidence_is_determined, names_stay, splits_are_determined,
+    suspects_suffice, suspects_tell_all,
 };
 pub use simplex_detector::split::Split;
 use simplex_scheme::scheme::{Digest, Listing, SchemeTypes};
@@ -102,11 +105,41 @@ pub fn audit<S: Listing<D>, D: Digest>(
     evidence_is_determined::<S, D>();
     certificates_are_accountable::<S, D>();
     splits_are_determined::<S, D>();
-    audit_stream(alloc, committees, stream)
+    audit_stream(alloc, committees, &Judging::Verified, stream)
 }
 
-/// The report of a stream.
-fn audit_stream<S: Listing<D>, D: Digest>(
+/// Returns the report that [`audit`] returns, with fewer signatures verified: only those of votes and certificates of suspect
+/// rounds. A round is suspect where two votes contradict that claim one signer of its committee. Where no round is
+/// suspect, the stream is read once and nothing is verified; otherwise it is read twice. The first reading records votes
+/// with invalid signatures too, so memory is bounded by the stream and not by the committees alone. That suits a stored
+/// stream or a batch of bounded size; for an endless stream of strangers there is [`Auditor`]. `AllocError` comes where memory is
+/// refused, and then there is no report.
+pub fn audit_deferred<S: Listing<D>, D: Digest>(
+    alloc: Global,
+    committees: &Committees<S>,
+    stream: &[u8],
+) -> Result<Report<S, D>, AllocError>
+    // All that `audit` says of a stream and of its report.
+    ensures audit { IfOk result (λ report.
+        IsAudit (⟦<S as Audited<D>>⟧.basis committees.now) stream.now report) }
+    // No signature outside suspect rounds has a part in it.
+    ensures suspects { IfOk result (λ report.
+        NeedsSuspectsAlone (⟦<S as Audited<D>>⟧.basis committees.now) stream.now report) }
+    // Each stream has one list of messages.
+    ensures single { (other : List ℕ) →
+        HasOneReading (⟦<S as Audited<D>>⟧.basis committees.now) other }
+{
+    // What holds of any messages.
+    names_stay::<S, D>();
+    evidence_is_determined::<S, D>();
+    certificates_are_accountable::<S, D>();
+    splits_are_determined::<S, D>();
+    suspects_suffice::<S, D>();
+    audit_suspects(alloc, committees, stream)
+}
+
+/// The report of a stream, of which only suspect rounds are verified.
+fn audit_suspects<S: Listing<D>, D: Digest>(
     alloc: Global,
     committees: &Committees<S>,
     stream: &[u8],
@@ -118,9 +151,34 @@ fn audit_stream<S: Listing<D>, D: Digest>(
     ensures encoded { IfOk result (λ report.
         All (⟦<S as Audited<D>>⟧.basis committees.now).format.is_value (as_messages report)) }
 {
+    suspects_tell_all::<S, D>();
+    let claims = audit_stream(alloc, committees, &Judging::Claimed, stream)?;
+    if claims.evidence.is_empty() {
+        return Ok(claims);
+    }
+    let rounds = rounds_of(alloc, &claims.evidence)?;
+    let judging = Judging::Suspects(rounds);
+    let report = audit_stream(alloc, committees, &judging, stream)?;
+    Ok(report)
+}
+
+/// The report of a stream whose votes and certificates are judged so strictly.
+fn audit_stream<S: Listing<D>, D: Digest>(
+    alloc: Global,
+    committees: &Committees<S>,
+    judging: &Judging,
+    stream: &[u8],
+) -> Result<Report<S, D>, AllocError>
+    ensures readable { IsLawful (⟦<S as Audited<D>>⟧.basis committees.now).format }
+    ensures lawful { AreLawful (⟦<S as Audited<D>>⟧.basis committees.now).rules }
+    ensures report { IfOk result (λ report.
+        IsReport (⟦<S as Audited<D>>⟧.basis_under judging.now committees.now) stream.now report) }
+    ensures encoded { IfOk result (λ report.
+        All (⟦<S as Audited<D>>⟧.basis committees.now).format.is_value (as_messages report)) }
+{
     let bound = reading_bound::<S, D>(committees);
     let mut detector = Detector::new(alloc);
-    let progress = read_messages(alloc, committees, bound, stream, &mut detector)?;
+    let progress = read_messages(alloc, committees, judging, bound, stream, &mut detector)?;
     let place = stream.len() - progress.rest.len();
     make_report(
         alloc,

@@ -15,6 +15,7 @@ use crate::reporting::make_report;
 use simplex_base::codec::error::Error;
 use simplex_detector::committees::Committees;
 use simplex_detector::detector::Detector;
+use simplex_detector::judging::Judging;
 use simplex_detector::laws::{
     certificates_are_accountable, evidence_is_determined, few_votes_are_recorded, names_stay,
     recorded_votes_have_room, splits_are_determined,
@@ -127,7 +128,8 @@ impl<'a, S: Listing<D>, D: Digest> Auditor<'a, S, D> {
             stop: _,
         } = taken;
         let alloc = *rest.allocator();
-        let progress = read_messages(alloc, committees, bound, piece, &mut detector)?;
+        let judging = Judging::Verified;
+        let progress = read_messages(alloc, committees, &judging, bound, piece, &mut detector)?;
         rest.extend_from_slice(progress.rest)?;
         Ok(Auditor {
             committees,
@@ -200,7 +202,14 @@ impl<'a, S: Listing<D>, D: Digest> Auditor<'a, S, D> {
             stop: _,
         } = taken;
         let alloc = *rest.allocator();
-        let progress = read_messages(alloc, committees, bound, rest.as_slice(), &mut detector)?;
+        let progress = read_messages(
+            alloc,
+            committees,
+            &Judging::Verified,
+            bound,
+            rest.as_slice(),
+            &mut detector,
+        )?;
         let (more, stop) = (progress.read, progress.stop);
         let count = rest.len() - progress.rest.len();
         drop_front(&mut rest, count);

@@ -1,7 +1,9 @@
 //! What an audit goes by, for contracts alone.
 
 ghost use Rattle.simplex_audit.specs.Basis.{Basis, basis_of};
+ghost use Rattle.simplex_audit.specs.Deferred.{basis_under};
 ghost use Rattle.simplex_detector.specs.Committees.{Schedule};
+ghost use Rattle.simplex_detector.specs.declared.judging.Judging.{Judging};
 
 use simplex_base::codec::Read;
 use simplex_evidence::types::Activity;
@@ -12,8 +14,15 @@ use simplex_scheme::scheme::{Digest, Listing};
 pub trait Audited<D: Digest>: Listing<D> {
     /// How messages are read under committees, and what they are judged by.
     ghost basis: { Schedule Self → Basis Self D Self.Certificate Self.PublicKey Self.Signature };
+
+    /// The same, where votes and certificates are judged so strictly.
+    ghost basis_under: { Judging → Schedule Self →
+        Basis Self D Self.Certificate Self.PublicKey Self.Signature };
 }
 
 impl<S: Listing<D>, D: Digest> Audited<D> for S {
     ghost basis = { basis_of ⟦<Activity<S, D> as Read>⟧ D.eq S.keys S.good S.certified S.listed };
+
+    ghost basis_under = { basis_under ⟦<Activity<S, D> as Read>⟧ D.eq S.keys S.good
+        S.certified S.listed };
 }

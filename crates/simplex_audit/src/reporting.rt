@@ -4,6 +4,7 @@ ghost use Rattle.std.specs.Prelude.{◌≡◌, ◌+◌, ℕ, List, All, length, 
 ghost use Rattle.simplex_audit.specs.Progress.{IsProgress, fault_of};
 ghost use Rattle.simplex_audit.specs.Report.{IsReport, as_messages};
 ghost use Rattle.simplex_detector.specs.Rules.{AreLawful};
+ghost use Rattle.simplex_detector.specs.declared.judging.Judging.{Judging};
 ghost use Rattle.simplex_detector.specs.Detector.{Recalls};
 
 use crate::audit::{Fault, Report};
@@ -23,12 +24,13 @@ pub fn make_report<S: Listing<D>, D: Digest>(
     place: usize,
     stop: Option<Error>,
 ) -> Result<Report<S, D>, AllocError>
-    ensures report { IfOk result (λ report. (stream rest : List ℕ) →
-        AreLawful (⟦<S as Audited<D>>⟧.basis committees.now).rules →
+    ensures report { IfOk result (λ report. (judging : Judging) (stream rest : List ℕ) →
+        AreLawful (⟦<S as Audited<D>>⟧.basis_under judging committees.now).rules →
         place + length rest ≡ length stream →
         IsProgress (⟦<S as Audited<D>>⟧.basis committees.now).format (λ messages.
-        Recalls (⟦<S as Audited<D>>⟧.basis committees.now).rules messages detector.now) stream rest read stop →
-        IsReport (⟦<S as Audited<D>>⟧.basis committees.now) stream report) }
+        Recalls (⟦<S as Audited<D>>⟧.basis_under judging committees.now).rules messages
+        detector.now) stream rest read stop →
+        IsReport (⟦<S as Audited<D>>⟧.basis_under judging committees.now) stream report) }
     ensures encoded { IfOk result (λ report.
         All (⟦<S as Audited<D>>⟧.basis committees.now).format.is_value (as_messages report)) }
 {

@@ -26,3 +26,6 @@ pub mod VerdictLemmas
 pub mod RoundEvidence
 pub mod AgainLemmas
 pub mod RoomLemmas
+pub mod JudgingLemmas
+pub mod SuspectLemmas
+pub mod SuspectRounds

@@ -37,7 +37,7 @@ contradict-subjects rules m k x y m_is k_is =
     λ i. certificates_contradict rules.eq (m_has i) (k_has i)
 
 -- two messages that split a round certify subjects of it that exclude each other
-split_to_subjects : {S D C P G : Type 0} (rules : Rules S D C P G) (messages : List (Activity S D C P G)) (round : Round) → is_split rules messages round ≡ true → Opposites rules.eq (certified_subjects rules messages) round
+pub split_to_subjects : {S D C P G : Type 0} (rules : Rules S D C P G) (messages : List (Activity S D C P G)) (round : Round) → is_split rules messages round ≡ true → Opposites rules.eq (certified_subjects rules messages) round
 split_to_subjects rules messages round h =
     let (m, m_in, e) = Contains-from_list_any (λ m. (same_round (activity_round m) round && is_certified rules m) && list_any (λ k. is_certified rules k && messages_contradict rules.eq m k) messages) messages h in
     let p = and_parts (same_round (activity_round m) round && is_certified rules m) (list_any (λ k. is_certified rules k && messages_contradict rules.eq m k) messages) e in
@@ -59,7 +59,7 @@ split_to_subjects rules messages round h =
     }
 
 -- subjects of a round that exclude each other are certified by messages that split it
-split_from_subjects : {S D C P G : Type 0} (rules : Rules S D C P G) (messages : List (Activity S D C P G)) (round : Round) → Opposites rules.eq (certified_subjects rules messages) round → is_split rules messages round ≡ true
+pub split_from_subjects : {S D C P G : Type 0} (rules : Rules S D C P G) (messages : List (Activity S D C P G)) (round : Round) → Opposites rules.eq (certified_subjects rules messages) round → is_split rules messages round ≡ true
 split_from_subjects rules messages round o =
     let (m, m_in, m_is) = Contains-from_filter_map (certified_in rules) messages o.x o.x_in in
     let (k, k_in, k_is) = Contains-from_filter_map (certified_in rules) messages o.y o.y_in in

@@ -13,4 +13,6 @@ pub mod Certificates
 pub mod Splits
 pub mod FirstCertified
 pub mod Detector
+pub mod Judging
 pub mod SplitLaws
+pub mod Suspects

@@ -4,8 +4,10 @@ ghost use Rattle.std.specs.Prelude.{◌≡◌, ◌↔◌, ◌&&◌, ◌||◌, �
 ghost use Rattle.std.specs.Option.{is_some};
 ghost use Rattle.simplex_scheme.specs.Subject.{SubjectValue, subject_value, round_of};
 ghost use Rattle.simplex_votes.specs.Votes.{Sort, sort_of};
+ghost use Rattle.simplex_detector.specs.Judging.{certified_under};
 ghost use Rattle.simplex_detector.specs.FirstCertified.{nothing_certified, RecordsFirsts, firsts_of, first_with, changes_firsts, excludes_some, differs_from_first};
 
+use crate::judging::Judging;
 use simplex_base::positions::Round;
 use simplex_scheme::proposal::Proposal;
 use simplex_scheme::scheme::{CertificateVerifier, Digest};
@@ -49,21 +51,25 @@ impl<D: Digest> CertifiedSubjects<D> {
         scheme: &S,
         subject: &Subject<'_, D>,
         certificate: &S::Certificate,
+        judging: &Judging,
     ) -> bool
         ensures records { (subjects : List (SubjectValue D)) →
             RecordsFirsts D.eq subjects (round_of (subject_value subject.now)) self.old →
             RecordsFirsts D.eq (subjects ++
-            (if S.certified scheme.now (subject_value subject.now) certificate.now
-            then subject_value subject.now ∷ [] else [])) (round_of (subject_value subject.now)) self.new }
+            (if certified_under S.certified judging.now scheme.now
+            (subject_value subject.now) certificate.now
+            then subject_value subject.now ∷ [] else []))
+            (round_of (subject_value subject.now)) self.new }
         // It was found to certify exactly where it was asked, which is where it can change what is recorded, and certifies.
         ensures verified { result ≡
             (changes_firsts D.eq (firsts_of self.old) self.old.split (subject_value subject.now) &&
-            S.certified scheme.now (subject_value subject.now) certificate.now) }
+            certified_under S.certified judging.now scheme.now
+            (subject_value subject.now) certificate.now) }
     {
         if !self.is_news(subject) {
             return false;
         }
-        if !scheme.verify_certificate(subject.reborrow(), certificate) {
+        if !judging.certifies(scheme, subject, certificate) {
             return false;
         }
         self.set_first(subject);

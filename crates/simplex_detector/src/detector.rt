@@ -6,7 +6,9 @@ ghost use Rattle.simplex_base.specs.Readable.{format_of};
 ghost use Rattle.simplex_scheme.specs.Subject.{round_of};
 ghost use Rattle.simplex_evidence.specs.Activity.{activity_round, votes_in};
 ghost use Rattle.simplex_evidence.specs.declared.types.activity.Activity.{Activity};
-ghost use Rattle.simplex_detector.specs.Committees.{Schedule, rules_of};
+ghost use Rattle.simplex_detector.specs.Committees.{Schedule};
+ghost use Rattle.simplex_detector.specs.Judging.{rules_under};
+ghost use Rattle.simplex_detector.specs.declared.judging.Judging as judgings;
 ghost use Rattle.simplex_detector.specs.Evidence.{IsEvidence};
 ghost use Rattle.simplex_detector.specs.Recorded.{votes_recorded};
 ghost use Rattle.simplex_detector.specs.Rules.{AreLawful, valid_votes};
@@ -17,6 +19,7 @@ ghost use Rattle.simplex_detector.specs.Values.{evidence_value};
 
 use crate::committees::Committees;
 use crate::evidence::{Evidence, are_encoded};
+use crate::judging::Judging;
 use crate::round_state::RoundState;
 use crate::split::Split;
 use simplex_base::codec::Read;
@@ -35,8 +38,9 @@ pub struct Detector<S: SchemeTypes, D: Digest> {
 impl<S: Listing<D>, D: Digest> Detector<S, D> {
     /// No message was seen yet.
     pub fn new(alloc: Global) -> Self
-        ensures { (schedule : Schedule S) →
-            Recalls (rules_of D.eq S.keys S.good S.certified S.listed schedule) [] result }
+        ensures { (judging : judgings.Judging) (schedule : Schedule S) →
+            Recalls (rules_under D.eq S.keys S.good S.certified S.listed judging schedule)
+            [] result }
     {
         Detector {
             rounds: BTreeMap::new(alloc),
@@ -48,20 +52,22 @@ impl<S: Listing<D>, D: Digest> Detector<S, D> {
         &mut self,
         alloc: Global,
         committees: &Committees<S>,
+        judging: &Judging,
         message: Activity<S, D>,
     ) -> Result<(), AllocError>
         ensures { OnOk result (RecallsMore
-            (rules_of D.eq S.keys S.good S.certified S.listed committees.now) (message ∷ []) self.old self.new) }
+            (rules_under D.eq S.keys S.good S.certified S.listed judging.now committees.now)
+            (message ∷ []) self.old self.new) }
     {
         let round = message_round(&message);
         let Some(committee) = committees.get(round.epoch()) else {
             return Ok(());
         };
         if let Some(round_state) = self.rounds.get_mut(&round) {
-            return round_state.observe(committee, message);
+            return round_state.observe(committee, judging, message);
         }
         let mut round_state = RoundState::new(alloc, committee.participants().len());
-        round_state.observe(committee, message)?;
+        round_state.observe(committee, judging, message)?;
         if !round_state.is_empty() {
             self.rounds.insert(round, round_state)?;
         }
@@ -71,9 +77,11 @@ impl<S: Listing<D>, D: Digest> Detector<S, D> {
     /// The evidence in the votes so far: one for each round, signer and kind, in that order.
     pub fn evidence(&self, alloc: Global) -> Result<Vec<Evidence<S, D>>, AllocError>
         ensures evidence { IfOk result (λ found.
-            (schedule : Schedule S) (messages : List (Activity S D S.Certificate S.PublicKey S.Signature)) →
-            Recalls (rules_of D.eq S.keys S.good S.certified S.listed schedule) messages self.now →
-            IsEvidence D.eq (valid_votes (rules_of D.eq S.keys S.good S.certified S.listed schedule)
+            (judging : judgings.Judging) (schedule : Schedule S)
+            (messages : List (Activity S D S.Certificate S.PublicKey S.Signature)) →
+            Recalls (rules_under D.eq S.keys S.good S.certified S.listed judging schedule)
+            messages self.now → IsEvidence D.eq (valid_votes
+            (rules_under D.eq S.keys S.good S.certified S.listed judging schedule)
             messages) (map evidence_value found.items)) }
         // Each can be encoded as a message.
         ensures encoded { IfOk result (λ found.
@@ -87,9 +95,11 @@ impl<S: Listing<D>, D: Digest> Detector<S, D> {
     /// The evidence in the state of each round.
     fn walk(&self, alloc: Global) -> Result<Vec<Evidence<S, D>>, AllocError>
         ensures { IfOk result (λ found.
-            (schedule : Schedule S) (messages : List (Activity S D S.Certificate S.PublicKey S.Signature)) →
-            Recalls (rules_of D.eq S.keys S.good S.certified S.listed schedule) messages self.now →
-            IsEvidence D.eq (valid_votes (rules_of D.eq S.keys S.good S.certified S.listed schedule)
+            (judging : judgings.Judging) (schedule : Schedule S)
+            (messages : List (Activity S D S.Certificate S.PublicKey S.Signature)) →
+            Recalls (rules_under D.eq S.keys S.good S.certified S.listed judging schedule)
+            messages self.now → IsEvidence D.eq (valid_votes
+            (rules_under D.eq S.keys S.good S.certified S.listed judging schedule)
             messages) (map evidence_value found.items)) }
     {
         let mut found = Vec::new(alloc);
@@ -106,10 +116,13 @@ impl<S: Listing<D>, D: Digest> Detector<S, D> {
         committees: &Committees<S>,
     ) -> Result<Vec<Split>, AllocError>
         ensures { IfOk result (λ splits.
+            (judging : judgings.Judging)
             (messages : List (Activity S D S.Certificate S.PublicKey S.Signature)) →
-            AreLawful (rules_of D.eq S.keys S.good S.certified S.listed committees.now) →
-            Recalls (rules_of D.eq S.keys S.good S.certified S.listed committees.now) messages self.now →
-            AreSplits (rules_of D.eq S.keys S.good S.certified S.listed committees.now) messages splits.items) }
+            AreLawful (rules_under D.eq S.keys S.good S.certified S.listed judging committees.now) →
+            Recalls (rules_under D.eq S.keys S.good S.certified S.listed judging committees.now)
+            messages self.now →
+            AreSplits (rules_under D.eq S.keys S.good S.certified S.listed judging committees.now)
+            messages splits.items) }
     {
         let mut splits = Vec::new(alloc);
         'rounds: for (round, round_state) in &self.rounds {
@@ -121,10 +134,12 @@ impl<S: Listing<D>, D: Digest> Detector<S, D> {
     /// How many votes are recorded, of the valid ones of the messages so far: of each signer in a round the earliest of each
     /// sort, and of notarizes and finalizes also the earliest with another proposal. The number stops at 2^64 - 1.
     pub fn votes(&self) -> usize
-        ensures { (schedule : Schedule S) (messages : List (Activity S D S.Certificate S.PublicKey S.Signature)) →
-            Recalls (rules_of D.eq S.keys S.good S.certified S.listed schedule) messages self.now →
-            result ≡ min (votes_recorded D.eq
-            (valid_votes (rules_of D.eq S.keys S.good S.certified S.listed schedule) messages)) (2 ^ 64 - 1) }
+        ensures { (judging : judgings.Judging) (schedule : Schedule S)
+            (messages : List (Activity S D S.Certificate S.PublicKey S.Signature)) →
+            Recalls (rules_under D.eq S.keys S.good S.certified S.listed judging schedule)
+            messages self.now → result ≡ min (votes_recorded D.eq (valid_votes
+            (rules_under D.eq S.keys S.good S.certified S.listed judging schedule) messages))
+            (2 ^ 64 - 1) }
     {
         let mut count: usize = 0;
         'rounds: for (_, round_state) in &self.rounds {

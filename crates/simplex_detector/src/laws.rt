@@ -1,19 +1,27 @@
 //! What holds of any messages, and of what is reported of them. The functions have no code: a call gives its caller, in
 //! another crate, what the clauses state.
 
-ghost use Rattle.std.specs.Prelude.{◌≡◌, ◌≤◌, ℕ, List, Some, All, length, map};
+ghost use Rattle.std.specs.Prelude.{◌≡◌, ◌≤◌, ◌↔◌, ℕ, List, [], Some, All, Contains, length, map, IsTrue};
+ghost use Rattle.std.specs.BTreeSet.{BTreeSet, contains};
 ghost use Rattle.std.specs.List.{flat_map};
+ghost use Rattle.simplex_base.specs.Positions.{Round};
 ghost use Rattle.simplex_base.specs.Readable.{format_of};
+ghost use Rattle.simplex_scheme.specs.Subject.{round_of};
 ghost use Rattle.simplex_votes.specs.Votes.{SignedVote};
 ghost use Rattle.simplex_evidence.specs.Activity.{activity_encoding};
 ghost use Rattle.simplex_evidence.specs.Contradiction as contradiction;
 ghost use Rattle.simplex_evidence.specs.declared.types.activity.Activity.{Activity};
 ghost use Rattle.simplex_detector.specs.Committees.{Schedule, committee_of, rules_of};
+ghost use Rattle.simplex_detector.specs.Judging.{rules_under};
+ghost use Rattle.simplex_detector.specs.declared.judging.Judging.{Judging};
+ghost use Rattle.simplex_detector.specs.declared.judging.Judging.TheVariants.{Claimed, Suspects};
+ghost use Rattle.simplex_detector.specs.Named.{round_cmp};
 ghost use Rattle.simplex_detector.specs.Evidence.{IsEvidence, IsEquivocation};
 ghost use Rattle.simplex_detector.specs.Recorded.{RecordedAreSlots, FewAreRecorded, votes_recorded};
 ghost use Rattle.simplex_detector.specs.Laws.{EvidenceIsUnique, NamesExactly, NamedInAnyOrder, NamesStay, IsEvidenceAgain};
 ghost use Rattle.simplex_detector.specs.Rules.{Rules, AreLawful, valid_votes};
 ghost use Rattle.simplex_detector.specs.Splits.{AreSplits};
+ghost use Rattle.simplex_detector.specs.Suspects.{claimed, is_suspect, SuspectsSuffice};
 ghost use Rattle.simplex_detector.specs.SplitLaws.{EnoughAreNamed, SignersAreAccountable, SplitsAreUnique, SplitsHaveNames};
 ghost use Rattle.simplex_detector.specs.Values.{evidence_value};
 ghost use Rattle.simplex_detector.specs.declared.evidence.Evidence.{Evidence};
@@ -25,10 +33,10 @@ use simplex_scheme::scheme::{CertificateScheme, Digest, Listing};
 /// Committees with participants judge lawfully: whose signature is valid is in the committee of the epoch, and what
 /// certifies a subject lists a quorum of it.
 pub fn committees_are_lawful<S: Listing<D>, D: Digest>()
-    ensures { (schedule : Schedule S) →
+    ensures { (judging : Judging) (schedule : Schedule S) →
         ((epoch : ℕ) (committee : S) → committee_of schedule epoch ≡ Some committee →
         1 ≤ length (S.keys committee)) →
-        AreLawful (rules_of D.eq S.keys S.good S.certified S.listed schedule) }
+        AreLawful (rules_under D.eq S.keys S.good S.certified S.listed judging schedule) }
 {}
 
 /// Who is named does not depend on the order of the messages, and stays named.
@@ -97,4 +105,50 @@ pub fn recorded_votes_have_room<S: Listing<D>, D: Digest>()
         votes_recorded D.eq (valid_votes (rules_of D.eq S.keys S.good S.certified S.listed schedule) messages) ≤
         length (flat_map (activity_encoding D.eq (format_of ⟦<D as Read>⟧) S.Certificate.encoding
         (format_of ⟦<S::Signature as Read>⟧)) messages) }
+{}
+
+/// What votes claim, before any signature is verified, decides which rounds are suspect: those in which votes that claim one
+/// signer contradict. Suspect rounds alone have the evidence and the splits of all messages. Where no round is suspect there
+/// are none.
+pub fn suspects_tell_all<S: Listing<D>, D: Digest>()
+    ensures nobody { (schedule : Schedule S)
+        (messages : List (Activity S D S.Certificate S.PublicKey S.Signature))
+        (splits : List Split) →
+        AreLawful (rules_of D.eq S.keys S.good S.certified S.listed schedule) →
+        IsEvidence D.eq (valid_votes
+        (rules_under D.eq S.keys S.good S.certified S.listed Claimed schedule) messages) [] →
+        AreSplits (rules_under D.eq S.keys S.good S.certified S.listed Claimed schedule)
+        messages splits → IsEvidence D.eq (valid_votes
+        (rules_of D.eq S.keys S.good S.certified S.listed schedule) messages) [] ×
+        AreSplits (rules_of D.eq S.keys S.good S.certified S.listed schedule) messages splits }
+    ensures suspects { (schedule : Schedule S)
+        (messages : List (Activity S D S.Certificate S.PublicKey S.Signature))
+        (claims : List (contradiction.Evidence D S.Signature)) (rounds : BTreeSet Round) →
+        AreLawful (rules_of D.eq S.keys S.good S.certified S.listed schedule) →
+        IsEvidence D.eq (valid_votes
+        (rules_under D.eq S.keys S.good S.certified S.listed Claimed schedule) messages) claims →
+        All (λ round. IsTrue (contains round_cmp rounds round))
+        (map (λ e. round_of e.first.subject) claims) →
+        (es : List (contradiction.Evidence D S.Signature)) (splits : List Split) →
+        IsEvidence D.eq (valid_votes (rules_under D.eq S.keys S.good S.certified S.listed
+        (Suspects rounds) schedule) messages) es →
+        AreSplits (rules_under D.eq S.keys S.good S.certified S.listed
+        (Suspects rounds) schedule) messages splits →
+        IsEvidence D.eq (valid_votes
+        (rules_of D.eq S.keys S.good S.certified S.listed schedule) messages) es ×
+        AreSplits (rules_of D.eq S.keys S.good S.certified S.listed schedule) messages splits }
+{}
+
+/// The evidence and the splits of messages depend on no signature outside suspect rounds. These are the rounds of what votes
+/// claim.
+pub fn suspects_suffice<S: CertificateScheme, D: Digest>()
+    ensures suffice { (rules : Rules S D S.Certificate S.PublicKey S.Signature)
+        (messages : List (Activity S D S.Certificate S.PublicKey S.Signature)) →
+        AreLawful rules → SuspectsSuffice rules messages }
+    ensures rounds { (rules : Rules S D S.Certificate S.PublicKey S.Signature)
+        (messages : List (Activity S D S.Certificate S.PublicKey S.Signature))
+        (claims : List (contradiction.Evidence D S.Signature)) → AreLawful rules →
+        IsEvidence rules.eq (valid_votes (claimed rules) messages) claims → (round : Round) →
+        Contains (map (λ e. round_of e.first.subject) claims) round ↔
+        IsTrue (is_suspect rules messages round) }
 {}

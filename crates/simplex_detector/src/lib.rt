@@ -11,6 +11,7 @@ mod certified_subjects;
 pub mod committees;
 pub mod detector;
 pub mod evidence;
+pub mod judging;
 pub mod laws;
 mod round_state;
 mod round_votes;

@@ -8,7 +8,8 @@ ghost use Rattle.simplex_scheme.specs.Subject.{subject_value, round_of};
 ghost use Rattle.simplex_votes.specs.Votes.{Sort, notarize_vote, nullify_vote, finalize_vote};
 ghost use Rattle.simplex_evidence.specs.declared.types.activity.Activity.{Activity};
 ghost use Rattle.simplex_detector.specs.Rules.{vote_on, AreLawful};
-ghost use Rattle.simplex_detector.specs.Committees.{rules_of};
+ghost use Rattle.simplex_detector.specs.Judging.{rules_under};
+ghost use Rattle.simplex_detector.specs.declared.judging.Judging as judgings;
 ghost use Rattle.simplex_detector.specs.Rounds.{round_count, IsSized, slots, no_slot};
 ghost use Rattle.simplex_detector.specs.FirstCertified.{nothing_certified, firsts_of};
 ghost use Rattle.simplex_detector.specs.Detector.{TakesIn, TakesMessage, RecallsRound};
@@ -18,6 +19,7 @@ ghost use Rattle.simplex_detector.specs.Values.{evidence_value};
 use crate::certified_subjects::CertifiedSubjects;
 use crate::committees::Committees;
 use crate::evidence::Evidence;
+use crate::judging::Judging;
 use crate::round_votes::RoundVotes;
 use crate::split::Split;
 use simplex_base::positions::{Participant, Round};
@@ -65,77 +67,109 @@ impl<S: SchemeTypes, D: Digest> RoundState<S, D> {
 
 impl<S: Listing<D>, D: Digest> RoundState<S, D> {
     /// Takes in a message of the round, judged by the committee of its epoch.
-    pub fn observe(&mut self, committee: &S, message: Activity<S, D>) -> Result<(), AllocError>
-        ensures { OnOk result (TakesMessage (rules_of D.eq S.keys S.good S.certified S.listed)
-            committee.now S.listed message self.old self.new) }
+    pub fn observe(
+        &mut self,
+        committee: &S,
+        judging: &Judging,
+        message: Activity<S, D>,
+    ) -> Result<(), AllocError>
+        ensures { OnOk result (TakesMessage
+            (rules_under D.eq S.keys S.good S.certified S.listed judging.now) committee.now
+            S.listed message self.old self.new) }
     {
         match message {
-            Activity::Notarize(vote) => self.observe_notarize(committee, &vote),
+            Activity::Notarize(vote) => self.observe_notarize(committee, judging, &vote),
             Activity::Notarization(message) | Activity::Certification(message) => {
                 let proposal = &message.proposal;
                 let subject = Subject::Notarize { proposal };
-                self.observe_certificate(committee, &subject, &message.certificate)
+                self.observe_certificate(committee, judging, &subject, &message.certificate)
             }
-            Activity::Nullify(vote) => self.observe_nullify(committee, &vote),
+            Activity::Nullify(vote) => self.observe_nullify(committee, judging, &vote),
             Activity::Nullification(message) => {
                 let round = message.round;
                 self.observe_certificate(
                     committee,
+                    judging,
                     &Subject::Nullify { round },
                     &message.certificate,
                 )
             }
-            Activity::Finalize(vote) => self.observe_finalize(committee, &vote),
+            Activity::Finalize(vote) => self.observe_finalize(committee, judging, &vote),
             Activity::Finalization(message) => {
                 let proposal = &message.proposal;
                 let subject = Subject::Finalize { proposal };
-                self.observe_certificate(committee, &subject, &message.certificate)
+                self.observe_certificate(committee, judging, &subject, &message.certificate)
             }
             Activity::ConflictingNotarize(message) => {
-                self.observe_notarize(committee, message.notarize_1())?;
-                self.observe_notarize(committee, message.notarize_2())
+                self.observe_notarize(committee, judging, message.notarize_1())?;
+                self.observe_notarize(committee, judging, message.notarize_2())
             }
             Activity::ConflictingFinalize(message) => {
-                self.observe_finalize(committee, message.finalize_1())?;
-                self.observe_finalize(committee, message.finalize_2())
+                self.observe_finalize(committee, judging, message.finalize_1())?;
+                self.observe_finalize(committee, judging, message.finalize_2())
             }
             Activity::NullifyFinalize(message) => {
-                self.observe_nullify(committee, message.nullify())?;
-                self.observe_finalize(committee, message.finalize())
+                self.observe_nullify(committee, judging, message.nullify())?;
+                self.observe_finalize(committee, judging, message.finalize())
             }
         }
     }
 
     /// Takes in a notarize of the round.
-    fn observe_notarize(&mut self, committee: &S, vote: &Notarize<S, D>) -> Result<(), AllocError>
-        ensures { OnOk result (TakesIn (rules_of D.eq S.keys S.good S.certified S.listed)
-            committee.now vote.now.proposal.round (notarize_vote vote.now ∷ []) None self.old self.new) }
+    fn observe_notarize(
+        &mut self,
+        committee: &S,
+        judging: &Judging,
+        vote: &Notarize<S, D>,
+    ) -> Result<(), AllocError>
+        ensures { OnOk result (TakesIn
+            (rules_under D.eq S.keys S.good S.certified S.listed judging.now) committee.now
+            vote.now.proposal.round (notarize_vote vote.now ∷ []) None self.old self.new) }
     {
         let proposal = &vote.proposal;
         self.observe_vote(
             committee,
+            judging,
             &Subject::Notarize { proposal },
             &vote.attestation,
         )
     }
 
     /// Takes in a nullify of the round.
-    fn observe_nullify(&mut self, committee: &S, vote: &Nullify<S>) -> Result<(), AllocError>
-        ensures { OnOk result (TakesIn (rules_of D.eq S.keys S.good S.certified S.listed)
-            committee.now vote.now.round (nullify_vote vote.now ∷ []) None self.old self.new) }
+    fn observe_nullify(
+        &mut self,
+        committee: &S,
+        judging: &Judging,
+        vote: &Nullify<S>,
+    ) -> Result<(), AllocError>
+        ensures { OnOk result (TakesIn
+            (rules_under D.eq S.keys S.good S.certified S.listed judging.now) committee.now
+            vote.now.round (nullify_vote vote.now ∷ []) None self.old self.new) }
     {
         let round = vote.round;
-        self.observe_vote(committee, &Subject::Nullify { round }, &vote.attestation)
+        self.observe_vote(
+            committee,
+            judging,
+            &Subject::Nullify { round },
+            &vote.attestation,
+        )
     }
 
     /// Takes in a finalize of the round.
-    fn observe_finalize(&mut self, committee: &S, vote: &Finalize<S, D>) -> Result<(), AllocError>
-        ensures { OnOk result (TakesIn (rules_of D.eq S.keys S.good S.certified S.listed)
-            committee.now vote.now.proposal.round (finalize_vote vote.now ∷ []) None self.old self.new) }
+    fn observe_finalize(
+        &mut self,
+        committee: &S,
+        judging: &Judging,
+        vote: &Finalize<S, D>,
+    ) -> Result<(), AllocError>
+        ensures { OnOk result (TakesIn
+            (rules_under D.eq S.keys S.good S.certified S.listed judging.now) committee.now
+            vote.now.proposal.round (finalize_vote vote.now ∷ []) None self.old self.new) }
     {
         let proposal = &vote.proposal;
         self.observe_vote(
             committee,
+            judging,
             &Subject::Finalize { proposal },
             &vote.attestation,
         )
@@ -145,14 +179,17 @@ impl<S: Listing<D>, D: Digest> RoundState<S, D> {
     fn observe_vote(
         &mut self,
         committee: &S,
+        judging: &Judging,
         subject: &Subject<'_, D>,
         attestation: &Attestation<S>,
     ) -> Result<(), AllocError>
-        ensures { OnOk result (TakesIn (rules_of D.eq S.keys S.good S.certified S.listed)
-            committee.now (round_of (subject_value subject.now))
+        ensures { OnOk result (TakesIn
+            (rules_under D.eq S.keys S.good S.certified S.listed judging.now) committee.now
+            (round_of (subject_value subject.now))
             (vote_on (subject_value subject.now) attestation.now ∷ []) None self.old self.new) }
     {
-        self.votes.observe(committee, subject, attestation, false)
+        self.votes
+            .observe(committee, subject, attestation, judging, false)
     }
 
     /// Takes in a certificate of the round and the votes that it lists. Where it is found to certify the subject all of
@@ -160,18 +197,22 @@ impl<S: Listing<D>, D: Digest> RoundState<S, D> {
     fn observe_certificate(
         &mut self,
         committee: &S,
+        judging: &Judging,
         subject: &Subject<'_, D>,
         certificate: &S::Certificate,
     ) -> Result<(), AllocError>
-        ensures { OnOk result (TakesIn (rules_of D.eq S.keys S.good S.certified S.listed)
-            committee.now (round_of (subject_value subject.now))
+        ensures { OnOk result (TakesIn
+            (rules_under D.eq S.keys S.good S.certified S.listed judging.now) committee.now
+            (round_of (subject_value subject.now))
             (map (vote_on (subject_value subject.now)) (S.listed certificate.now))
             (Some (subject_value subject.now, certificate.now)) self.old self.new) }
     {
-        let certifies = self.certified.observe(committee, subject, certificate);
+        let certifies = self
+            .certified
+            .observe(committee, subject, certificate, judging);
         let attestations = S::attestations(certificate);
         self.votes
-            .observe_all(committee, subject, attestations, certifies)
+            .observe_all(committee, subject, attestations, judging, certifies)
     }
 
     /// The split of the round, if it is split.
@@ -182,10 +223,13 @@ impl<S: Listing<D>, D: Digest> RoundState<S, D> {
         round: Round,
     ) -> Result<Option<Split>, AllocError>
         ensures { IfOk result (λ split.
+            (judging : judgings.Judging)
             (messages : List (Activity S D S.Certificate S.PublicKey S.Signature)) →
-            AreLawful (rules_of D.eq S.keys S.good S.certified S.listed committees.now) →
-            RecallsRound (rules_of D.eq S.keys S.good S.certified S.listed committees.now) messages round self.now →
-            split ≡ split_of (rules_of D.eq S.keys S.good S.certified S.listed committees.now) messages round) }
+            AreLawful (rules_under D.eq S.keys S.good S.certified S.listed judging committees.now) →
+            RecallsRound (rules_under D.eq S.keys S.good S.certified S.listed judging committees.now)
+            messages round self.now → split ≡ split_of
+            (rules_under D.eq S.keys S.good S.certified S.listed judging committees.now)
+            messages round) }
     {
         if !self.certified.is_split() {
             return Ok(None);

@@ -6,6 +6,7 @@ ghost use Rattle.std.specs.Option.{option_to_list};
 ghost use Rattle.simplex_scheme.specs.Subject.{subject_value, round_of};
 ghost use Rattle.simplex_votes.specs.Votes.{SignedVote, Sort, sort_of};
 ghost use Rattle.simplex_evidence.specs.Contradiction.{Conflicting_notarize, Conflicting_finalize, Nullify_finalize};
+ghost use Rattle.simplex_detector.specs.Judging.{valid_under};
 ghost use Rattle.simplex_detector.specs.Recorded.{changes};
 ghost use Rattle.simplex_detector.specs.Rounds.{round_count, slots, no_slot, IsSized, TakesVote, HoldsRound, found_of_kind, found_at, ListsSigners};
 ghost use Rattle.simplex_detector.specs.Rules.{vote_on};
@@ -13,6 +14,7 @@ ghost use Rattle.simplex_detector.specs.Values.{evidence_value};
 
 use crate::boxed_map::BoxedMap;
 use crate::evidence::Evidence;
+use crate::judging::Judging;
 use crate::vote_pairs::{VotePairs, add_signers};
 use simplex_base::positions::Participant;
 use simplex_evidence::types::{ConflictingFinalize, ConflictingNotarize, NullifyFinalize};
@@ -116,23 +118,26 @@ impl<S: SchemeTypes, D: Digest> RoundVotes<S, D> {
         scheme: &S,
         subject: &Subject<'_, D>,
         attestation: &Attestation<S>,
+        judging: &Judging,
         known: bool,
     ) -> Result<(), AllocError>
     where
         S: Scheme<D>,
         requires { IsTrue known →
-            S.good scheme.now (subject_value subject.now) attestation.now.signer attestation.now.signature ≡ true }
+            valid_under S.keys S.good judging.now scheme.now (subject_value subject.now)
+            attestation.now.signer attestation.now.signature ≡ true }
         ensures { OnOk result ((vs : List (SignedVote D S.Signature)) →
             HoldsRound D.eq (length (S.keys scheme.now)) vs (round_of (subject_value subject.now)) self.old →
             HoldsRound D.eq (length (S.keys scheme.now))
-            (vs ++ filter (λ v. S.good scheme.now v.subject v.signer v.signature)
+            (vs ++ filter (λ v. valid_under S.keys S.good judging.now scheme.now
+            v.subject v.signer v.signature)
             (vote_on (subject_value subject.now) attestation.now ∷ []))
             (round_of (subject_value subject.now)) self.new) }
     {
         if !self.is_news(subject, attestation.signer) {
             return Ok(());
         }
-        if !is_valid(scheme, subject, attestation, known) {
+        if !is_valid(scheme, subject, attestation, judging, known) {
             return Ok(());
         }
         let (signer, signature) = (attestation.signer, attestation.signature);
@@ -146,22 +151,24 @@ impl<S: SchemeTypes, D: Digest> RoundVotes<S, D> {
         scheme: &S,
         subject: &Subject<'_, D>,
         attestations: &[Attestation<S>],
+        judging: &Judging,
         known: bool,
     ) -> Result<(), AllocError>
     where
         S: Scheme<D>,
         requires { IsTrue known →
-            All (λ a. S.good scheme.now (subject_value subject.now) a.signer a.signature ≡
-            true) attestations.now }
+            All (λ a. valid_under S.keys S.good judging.now scheme.now (subject_value subject.now)
+            a.signer a.signature ≡ true) attestations.now }
         ensures { OnOk result ((vs : List (SignedVote D S.Signature)) →
             HoldsRound D.eq (length (S.keys scheme.now)) vs (round_of (subject_value subject.now)) self.old →
             HoldsRound D.eq (length (S.keys scheme.now))
-            (vs ++ filter (λ v. S.good scheme.now v.subject v.signer v.signature)
+            (vs ++ filter (λ v. valid_under S.keys S.good judging.now scheme.now
+            v.subject v.signer v.signature)
             (map (vote_on (subject_value subject.now)) attestations.now))
             (round_of (subject_value subject.now)) self.new) }
     {
         'listed: for attestation in attestations {
-            self.observe(scheme, subject, attestation, known)?;
+            self.observe(scheme, subject, attestation, judging, known)?;
         }
         Ok(())
     }
@@ -256,14 +263,16 @@ fn is_valid<S: Scheme<D>, D: Digest>(
     scheme: &S,
     subject: &Subject<'_, D>,
     attestation: &Attestation<S>,
+    judging: &Judging,
     known: bool,
 ) -> bool
     requires { IsTrue known →
-        S.good scheme.now (subject_value subject.now) attestation.now.signer attestation.now.signature ≡ true }
-    ensures { result ≡ S.good scheme.now (subject_value subject.now) attestation.now.signer
-        attestation.now.signature }
+        valid_under S.keys S.good judging.now scheme.now (subject_value subject.now)
+        attestation.now.signer attestation.now.signature ≡ true }
+    ensures { result ≡ valid_under S.keys S.good judging.now scheme.now
+        (subject_value subject.now) attestation.now.signer attestation.now.signature }
 {
-    known || scheme.verify_attestation(subject.reborrow(), attestation)
+    known || judging.accepts(scheme, subject, attestation)
 }
 
 /// Appends an evidence, if there is one.

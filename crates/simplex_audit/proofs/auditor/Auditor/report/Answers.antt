@@ -1,6 +1,7 @@
 use Rattle.std.proofs.Common.{◌-◌, length, ap, arith}
 use Rattle.simplex_detector.specs.Committees.{Schedule, rules_of}
 use Rattle.simplex_detector.specs.Rules.{Rules}
+use Rattle.simplex_detector.specs.declared.judging.Judging.TheVariants.{Verified}
 use Rattle.simplex_audit.proofs.AuditorLemmas.{stands_reported, stands_audited}
 use Rattle.simplex_audit.proofs.NamesLemmas.{if_both}
 use Rattle.simplex_audit.proofs.StreamLemmas.{messages_once}
@@ -30,7 +31,7 @@ returns-clause-audit g c =
       only_splits = c.splits_are_determined.ensures.only (rules g committees);
       split_names = c.splits_are_determined.ensures.names (rules g committees);
     })
-    (stands_reported _ auditor (auditor.taken.fed - length c.as_slice-rest.result.now) report (omega arith) is) each)
+    (stands_reported _ auditor (auditor.taken.fed - length c.as_slice-rest.result.now) report (omega arith) (is Verified)) each)
     c.make_report.result c.make_report.ensures.report c.make_report.ensures.encoded
 
 pub returns-clause-single : goal.returns-clause-single

@@ -3,6 +3,7 @@ use Rattle.std.specs.Prelude.{min}
 use Rattle.simplex_evidence.specs.declared.types.activity.Activity.{Activity}
 use Rattle.simplex_detector.specs.Committees.{Schedule}
 use Rattle.simplex_detector.specs.Detector.{Recalls}
+use Rattle.simplex_detector.specs.declared.judging.Judging.TheVariants.{Verified}
 use Rattle.simplex_audit.specs.Auditor.{Stands}
 use Rattle.simplex_audit.specs.Basis.{Basis}
 use Rattle.simplex_audit.specs.Messages.{AreMessages}
@@ -22,9 +23,9 @@ not_stopped : (number recorded fed : ℕ) (stream front rest : List ℕ) → str
 not_stopped number recorded fed stream front rest whole is few room stops = let len = ap length whole in omega (arith, length-append front rest)
 
 pub returns-clause-number : goal.returns-clause-number
-returns-clause-number g c = λ committees stream messages rest stands are. c.votes.ensures committees messages (stands_recalls _ committees c.args.self.now stream rest messages stands are)
+returns-clause-number g c = λ committees stream messages rest stands are. c.votes.ensures Verified committees messages (stands_recalls _ committees c.args.self.now stream rest messages stands are)
 
 pub returns-clause-exact : goal.returns-clause-exact
 returns-clause-exact g c = λ room committees stream messages rest stands are.
     not_stopped _ _ _ stream _ rest are.whole stands.fed.fed_is c.counts_are_few.ensures (c.recorded_votes_have_room.ensures room committees messages)
-    (c.votes.ensures committees messages (stands_recalls _ committees c.args.self.now stream rest messages stands are))
+    (c.votes.ensures Verified committees messages (stands_recalls _ committees c.args.self.now stream rest messages stands are))

@@ -3,30 +3,32 @@ use Rattle.std.specs.Option.{IsSome}
 use Rattle.std.specs.BTreeMap.{get, is_at as is_key}
 use Rattle.simplex_base.specs.Positions.{Round}
 use Rattle.simplex_evidence.specs.Activity.{activity_round}
-use Rattle.simplex_detector.specs.Committees.{Schedule, committee_of, size_by, rules_of}
+use Rattle.simplex_detector.specs.Committees.{Schedule, committee_of, size_by}
 use Rattle.simplex_detector.specs.Named.{round_cmp}
 use Rattle.simplex_detector.specs.Rounds.{IsSized}
+use Rattle.simplex_detector.specs.Judging.{valid_under, certified_under, rules_under}
 use Rattle.simplex_detector.specs.Rules.{Rules}
 use Rattle.simplex_detector.specs.Detector.{RecallsAt}
+use Rattle.simplex_detector.specs.declared.judging.Judging.{Judging}
 use Rattle.simplex_detector.proofs.Results.{on_ok}
 use Rattle.simplex_detector.proofs.DetectorLemmas.{recalls_changed, recalls_still_none, recalls_found, recalls_new, recalls_taken, recalls_no_committee}
 use Rattle.simplex_detector.proofs.detector.Detector.observe.Given as given
 use Rattle.simplex_detector.proofs.detector.Detector.observe.Goals as goal
 
 -- what messages are judged by
-abbrev rules : (g : given.Over) → Schedule g.row.S.Denot → Rules g.row.S.Denot g.row.D.Denot g.row.S-Certificate.Denot g.row.S-PublicKey.Denot g.row.S-Signature.Denot
-rules g = rules_of g.D.PartialEq.eq g.S.CertificateScheme.keys g.S.Scheme.good g.S.CertificateVerifier.certified g.S.Listing.listed
+abbrev rules : (g : given.Over) → Judging → Schedule g.row.S.Denot → Rules g.row.S.Denot g.row.D.Denot g.row.S-Certificate.Denot g.row.S-PublicKey.Denot g.row.S-Signature.Denot
+rules g = rules_under g.D.PartialEq.eq g.S.CertificateScheme.keys g.S.Scheme.good g.S.CertificateVerifier.certified g.S.Listing.listed
 
 -- its epoch has no committee
 pub returns-in_default : goal.returns-in_default
 returns-in_default g c messages holds round =
     let none = c.in_default.ensures ∙ ap (committee_of c.args.committees.now) (c.epoch.ensures ∙ ap (λ r. r.epoch) c.message_round-round.ensures.message) in
-    recalls_no_committee g.D.PartialEq.eq g.S.CertificateScheme.keys g.S.Scheme.good g.S.CertificateVerifier.certified g.S.Listing.listed c.args.committees.now messages c.args.message c.message_round-round.ensures.votes none round (get round_cmp c.args.self.now.rounds round) (holds round)
+    recalls_no_committee g.D.PartialEq.eq g.S.CertificateScheme.keys (valid_under g.S.CertificateScheme.keys g.S.Scheme.good c.args.judging.now) (certified_under g.S.CertificateVerifier.certified c.args.judging.now) g.S.Listing.listed c.args.committees.now messages c.args.message c.message_round-round.ensures.votes none round (get round_cmp c.args.self.now.rounds round) (holds round)
 
 -- something was recorded of its round
 pub returns-in-Some-get_mut : goal.returns-in-Some-get_mut
 returns-in-Some-get_mut g c =
-    let all = rules g c.args.committees.now in
+    let all = rules g c.args.judging.now c.args.committees.now in
     let m = c.args.message in
     let at = c.message_round-round.ensures.message in
     let judge = sym (c.in-Some.ensures ∙ ap (committee_of c.args.committees.now) (c.epoch.ensures ∙ ap (λ r. r.epoch) at)) in
@@ -35,14 +37,14 @@ returns-in-Some-get_mut g c =
     let updates = c.get_mut.follows.holds after in
     on_ok _ _ (λ takes messages holds.
     let before = recalls_found all messages c.args.self.now.rounds (activity_round m) c.in-Some-get_mut.round_state.now (found ∙ ap (get round_cmp c.args.self.now.rounds) at) holds in
-    let own = recalls_taken g.D.PartialEq.eq g.S.CertificateScheme.keys g.S.Scheme.good g.S.CertificateVerifier.certified g.S.Listing.listed c.args.committees.now messages m c.in-Some.committee.now judge c.in-Some-get_mut.round_state.now after takes before in
+    let own = recalls_taken g.D.PartialEq.eq g.S.CertificateScheme.keys (valid_under g.S.CertificateScheme.keys g.S.Scheme.good c.args.judging.now) (certified_under g.S.CertificateVerifier.certified c.args.judging.now) g.S.Listing.listed c.args.committees.now messages m c.in-Some.committee.now judge c.in-Some-get_mut.round_state.now after takes before in
     recalls_changed all messages m g.met.D.Eq.laws c.message_round-round.result at c.message_round-round.ensures.votes after c.args.self.now.rounds (c.get_mut.follows.lender after) (updates.3 (subst IsSome found refl)).0 own holds)
     c.observe.result c.observe.ensures
 
 -- nothing was recorded of its round
 pub returns-in_ok-insert : goal.returns-in_ok-insert
 returns-in_ok-insert g c messages holds =
-    let all = rules g c.args.committees.now in
+    let all = rules g c.args.judging.now c.args.committees.now in
     let m = c.args.message in
     let at = c.message_round-round.ensures.message in
     let judge = sym (c.in-Some.ensures ∙ ap (committee_of c.args.committees.now) (c.epoch.ensures ∙ ap (λ r. r.epoch) at)) in
@@ -51,14 +53,14 @@ returns-in_ok-insert g c messages holds =
     let sized = subst (λ n. IsSized n c.new-round_state.result.votes) size c.new-round_state.ensures.sized in
     let after = c.observe-2.new.self in
     let before = recalls_new all g.met.D.Eq.laws messages c.args.self.now.rounds (activity_round m) c.new-round_state.result (none ∙ ap (get round_cmp c.args.self.now.rounds) at) sized c.new-round_state.ensures.empty c.new-round_state.ensures.none c.new-round_state.ensures.certified holds in
-    let own = recalls_taken g.D.PartialEq.eq g.S.CertificateScheme.keys g.S.Scheme.good g.S.CertificateVerifier.certified g.S.Listing.listed c.args.committees.now messages m c.in-Some.committee.now judge c.new-round_state.result after c.in_ok-observe.ensures before in
+    let own = recalls_taken g.D.PartialEq.eq g.S.CertificateScheme.keys (valid_under g.S.CertificateScheme.keys g.S.Scheme.good c.args.judging.now) (certified_under g.S.CertificateVerifier.certified c.args.judging.now) g.S.Listing.listed c.args.committees.now messages m c.in-Some.committee.now judge c.new-round_state.result after c.in_ok-observe.ensures before in
     recalls_changed all messages m g.met.D.Eq.laws c.message_round-round.result at c.message_round-round.ensures.votes after c.args.self.now.rounds c.insert.new.self
     (subst (λ rounds. (q : Round) → get round_cmp c.insert.new.self q ≡ cond (is_key (round_cmp c.message_round-round.result) q) (Some after) (get round_cmp rounds q)) c.get_mut.follows.holds-at-none c.in_ok-insert.ensures.updates.0) own holds
 
 -- nothing is recorded of it still
 pub returns-else-not-is_empty : goal.returns-else-not-is_empty
 returns-else-not-is_empty g c messages holds =
-    let all = rules g c.args.committees.now in
+    let all = rules g c.args.judging.now c.args.committees.now in
     let m = c.args.message in
     let at = c.message_round-round.ensures.message in
     let judge = sym (c.in-Some.ensures ∙ ap (committee_of c.args.committees.now) (c.epoch.ensures ∙ ap (λ r. r.epoch) at)) in
@@ -67,7 +69,7 @@ returns-else-not-is_empty g c messages holds =
     let sized = subst (λ n. IsSized n c.new-round_state.result.votes) size c.new-round_state.ensures.sized in
     let after = c.observe-2.new.self in
     let before = recalls_new all g.met.D.Eq.laws messages c.args.self.now.rounds (activity_round m) c.new-round_state.result (none ∙ ap (get round_cmp c.args.self.now.rounds) at) sized c.new-round_state.ensures.empty c.new-round_state.ensures.none c.new-round_state.ensures.certified holds in
-    let own = recalls_taken g.D.PartialEq.eq g.S.CertificateScheme.keys g.S.Scheme.good g.S.CertificateVerifier.certified g.S.Listing.listed c.args.committees.now messages m c.in-Some.committee.now judge c.new-round_state.result after c.in_ok-observe.ensures before in
+    let own = recalls_taken g.D.PartialEq.eq g.S.CertificateScheme.keys (valid_under g.S.CertificateScheme.keys g.S.Scheme.good c.args.judging.now) (certified_under g.S.CertificateVerifier.certified c.args.judging.now) g.S.Listing.listed c.args.committees.now messages m c.in-Some.committee.now judge c.new-round_state.result after c.in_ok-observe.ensures before in
     let empty = c.if-not-is_empty.false in
     subst (λ rounds. (round : Round) → RecallsAt all (messages ++ m ∷ []) round (get round_cmp rounds round)) (sym c.get_mut.follows.holds-at-none)
     (recalls_still_none all messages m g.met.D.Eq.laws c.message_round-round.result at c.message_round-round.ensures.votes after c.args.self.now.rounds (sym none) (c.is_empty.ensures.votes empty) (c.is_empty.ensures.certified empty) own holds)

@@ -1,21 +1,23 @@
 use Rattle.std.proofs.Common.{ap, arith}
 use Rattle.std.proofs.Common.{rules as std_rules}
 use Rattle.std.specs.BTreeMap.{IsOrdered}
-use Rattle.simplex_detector.specs.Committees.{Schedule, rules_of}
+use Rattle.simplex_detector.specs.Committees.{Schedule}
 use Rattle.simplex_detector.specs.Named.{round_cmp}
+use Rattle.simplex_detector.specs.Judging.{rules_under}
 use Rattle.simplex_detector.specs.Rules.{Rules}
+use Rattle.simplex_detector.specs.declared.judging.Judging.{Judging}
 use Rattle.simplex_detector.proofs.RoundCounts.{rounds_count, counted_votes}
 use Rattle.simplex_detector.proofs.detector.Detector.votes.Given as given
 use Rattle.simplex_detector.proofs.detector.Detector.votes.Goals as goal
 
 -- what messages are judged by
-abbrev rules : (g : given.Over) → Schedule g.row.S.Denot → Rules g.row.S.Denot g.row.D.Denot g.row.S-Certificate.Denot g.row.S-PublicKey.Denot g.row.S-Signature.Denot
-rules g = rules_of g.D.PartialEq.eq g.S.CertificateScheme.keys g.S.Scheme.good g.S.CertificateVerifier.certified g.S.Listing.listed
+abbrev rules : (g : given.Over) → Judging → Schedule g.row.S.Denot → Rules g.row.S.Denot g.row.D.Denot g.row.S-Certificate.Denot g.row.S-PublicKey.Denot g.row.S-Signature.Denot
+rules g = rules_under g.D.PartialEq.eq g.S.CertificateScheme.keys g.S.Scheme.good g.S.CertificateVerifier.certified g.S.Listing.listed
 
 pub returns : goal.returns
-returns g c schedule messages holds =
+returns g c judging schedule messages holds =
     let ordered : IsOrdered round_cmp c.args.self.now.rounds = search std_rules in
-    let all = counted_votes (rules g schedule) g.met.D.Eq.laws c.args.self.now ordered messages holds in
+    let all = counted_votes (rules g judging schedule) g.met.D.Eq.laws c.args.self.now ordered messages holds in
     let walked = c.rounds.invariant.1 in
     let done = ap rounds_count c.in-None.ensures.steps.0 in
     omega (arith, all, walked, done)

@@ -1,17 +1,19 @@
 use Rattle.std.proofs.Common.{map, sym, ap, subst}
 use Rattle.std.proofs.Common.{rules as std_rules}
 use Rattle.std.specs.BTreeMap.{IsOrdered}
-use Rattle.simplex_detector.specs.Committees.{Schedule, rules_of}
+use Rattle.simplex_detector.specs.Committees.{Schedule}
 use Rattle.simplex_detector.specs.Named.{round_cmp}
+use Rattle.simplex_detector.specs.Judging.{rules_under}
 use Rattle.simplex_detector.specs.Rules.{Rules}
 use Rattle.simplex_detector.specs.Values.{evidence_value}
+use Rattle.simplex_detector.specs.declared.judging.Judging.{Judging}
 use Rattle.simplex_detector.proofs.WalkLemmas.{Walked, walked_start, walked_next, report_of_walk}
 use Rattle.simplex_detector.proofs.detector.Detector.walk.Given as given
 use Rattle.simplex_detector.proofs.detector.Detector.walk.Goals as goal
 
 -- what messages are judged by
-abbrev rules : (g : given.Over) → Schedule g.row.S.Denot → Rules g.row.S.Denot g.row.D.Denot g.row.S-Certificate.Denot g.row.S-PublicKey.Denot g.row.S-Signature.Denot
-rules g = rules_of g.D.PartialEq.eq g.S.CertificateScheme.keys g.S.Scheme.good g.S.CertificateVerifier.certified g.S.Listing.listed
+abbrev rules : (g : given.Over) → Judging → Schedule g.row.S.Denot → Rules g.row.S.Denot g.row.D.Denot g.row.S-Certificate.Denot g.row.S-PublicKey.Denot g.row.S-Signature.Denot
+rules g = rules_under g.D.PartialEq.eq g.S.CertificateScheme.keys g.S.Scheme.good g.S.CertificateVerifier.certified g.S.Listing.listed
 
 pub rounds-init : goal.rounds-init
 rounds-init g c =
@@ -24,7 +26,7 @@ rounds-preserved g c =
     walked_next g.D.PartialEq.eq c.args.self.now.rounds.entries c.rounds.round_state-iterator c.next.new.self c.in-Some.field-0-0.now c.in-Some.round_state.now signers (map evidence_value c.rounds.found.items) (map evidence_value c.report_to.new.found.items) c.in-Some.ensures.steps lists is c.rounds.invariant
 
 pub returns : goal.returns
-returns g c = λ schedule messages.
+returns g c = λ judging schedule messages.
     let ordered : IsOrdered round_cmp c.args.self.now.rounds = search std_rules in
-    report_of_walk (rules g schedule) g.met.D.Eq.laws c.args.self.now ordered (map evidence_value c.rounds.found.items)
+    report_of_walk (rules g judging schedule) g.met.D.Eq.laws c.args.self.now ordered (map evidence_value c.rounds.found.items)
     (subst (λ rest. Walked g.D.PartialEq.eq c.args.self.now.rounds.entries rest (map evidence_value c.rounds.found.items)) c.in-None.ensures.steps.0 c.rounds.invariant) messages

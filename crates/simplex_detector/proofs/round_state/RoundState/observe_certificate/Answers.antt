@@ -2,6 +2,8 @@ use Rattle.std.proofs.Common.{◌≡◌, true, subst, sym, ◌∙◌}
 use Rattle.std.specs.Prelude.{All}
 use Rattle.std.proofs.lemmas.Bool.{and_parts}
 use Rattle.simplex_scheme.specs.Subject.{subject_value}
+use Rattle.simplex_detector.specs.Judging.{valid_under, certified_under}
+use Rattle.simplex_detector.proofs.JudgingLemmas.{quorums_under}
 use Rattle.simplex_detector.proofs.Results.{on_ok}
 use Rattle.simplex_detector.proofs.RoundStateLemmas.{takes_certificate, RecordsValid}
 use Rattle.simplex_detector.proofs.round_state.RoundState.observe_certificate.Goals as goal
@@ -10,12 +12,12 @@ use Rattle.simplex_detector.proofs.round_state.RoundState.observe_certificate.Go
 pub observe_all-requires : goal.observe_all-requires
 observe_all-requires g c = λ certifies.
     let x = subject_value c.args.subject.now in
-    subst (All (λ a. g.S.Scheme.good c.args.committee.now x a.signer a.signature ≡ true)) (sym c.attestations-attestations.ensures)
-    (g.met.S.Listing.lists_quorums c.args.committee.now x c.args.certificate.now (and_parts _ _ (sym c.observe-certifies.ensures.verified ∙ certifies)).1).each_good
+    subst (All (λ a. valid_under g.S.CertificateScheme.keys g.S.Scheme.good c.args.judging.now c.args.committee.now x a.signer a.signature ≡ true)) (sym c.attestations-attestations.ensures)
+    (quorums_under g.S.CertificateScheme.keys g.S.Scheme.good g.S.CertificateVerifier.certified g.S.Listing.listed g.met.S.Listing.lists_quorums c.args.judging.now c.args.committee.now x c.args.certificate.now (and_parts _ _ (sym c.observe-certifies.ensures.verified ∙ certifies)).1).each_good
 
 pub returns : goal.returns
 returns g c =
     let x = subject_value c.args.subject.now in
-    on_ok _ _ (λ votes. takes_certificate g.D.PartialEq.eq g.S.CertificateScheme.keys g.S.Scheme.good g.S.CertificateVerifier.certified g.S.Listing.listed c.args.committee.now x c.args.certificate.now c.args.self.now _ c.observe-certifies.ensures.records
-    (subst (λ given. RecordsValid g.D.PartialEq.eq g.S.CertificateScheme.keys g.S.Scheme.good g.S.CertificateVerifier.certified g.S.Listing.listed c.args.committee.now x given c.args.self.now.votes c.observe_all.new.self) c.attestations-attestations.ensures votes))
+    on_ok _ _ (λ votes. takes_certificate g.D.PartialEq.eq g.S.CertificateScheme.keys (valid_under g.S.CertificateScheme.keys g.S.Scheme.good c.args.judging.now) (certified_under g.S.CertificateVerifier.certified c.args.judging.now) g.S.Listing.listed c.args.committee.now x c.args.certificate.now c.args.self.now _ c.observe-certifies.ensures.records
+    (subst (λ given. RecordsValid g.D.PartialEq.eq g.S.CertificateScheme.keys (valid_under g.S.CertificateScheme.keys g.S.Scheme.good c.args.judging.now) (certified_under g.S.CertificateVerifier.certified c.args.judging.now) g.S.Listing.listed c.args.committee.now x given c.args.self.now.votes c.observe_all.new.self) c.attestations-attestations.ensures votes))
     c.observe_all.result c.observe_all.ensures

@@ -4,33 +4,35 @@ use Rattle.std.specs.List.{flat_map}
 use Rattle.std.specs.List.Sorted.{IsNonDecreasing}
 use Rattle.std.specs.Set.{distinct_count}
 use Rattle.std.proofs.lemmas.Simd.{map-map}
-use Rattle.simplex_detector.specs.Committees.{Schedule, committee_of, size_by, rules_of}
+use Rattle.simplex_detector.specs.Committees.{Schedule, committee_of, size_by}
 use Rattle.simplex_detector.specs.Rounds.{slots, found_at}
+use Rattle.simplex_detector.specs.Judging.{rules_under}
 use Rattle.simplex_detector.specs.Rules.{Rules, valid_votes}
 use Rattle.simplex_detector.specs.Values.{evidence_value}
+use Rattle.simplex_detector.specs.declared.judging.Judging.{Judging}
 use Rattle.simplex_detector.proofs.RoundEvidence.{evidence_in_round}
 use Rattle.simplex_detector.proofs.VerdictLemmas.{no_split, no_committee, split_found}
 use Rattle.simplex_detector.proofs.round_state.RoundState.split.Given as given
 use Rattle.simplex_detector.proofs.round_state.RoundState.split.Goals as goal
 
 -- what messages are judged by
-abbrev rules : (g : given.Over) → Schedule g.row.S.Denot → Rules g.row.S.Denot g.row.D.Denot g.row.S-Certificate.Denot g.row.S-PublicKey.Denot g.row.S-Signature.Denot
-rules g = rules_of g.D.PartialEq.eq g.S.CertificateScheme.keys g.S.Scheme.good g.S.CertificateVerifier.certified g.S.Listing.listed
+abbrev rules : (g : given.Over) → Judging → Schedule g.row.S.Denot → Rules g.row.S.Denot g.row.D.Denot g.row.S-Certificate.Denot g.row.S-PublicKey.Denot g.row.S-Signature.Denot
+rules g = rules_under g.D.PartialEq.eq g.S.CertificateScheme.keys g.S.Scheme.good g.S.CertificateVerifier.certified g.S.Listing.listed
 
 -- it is not split
 pub returns-then-not-is_split : goal.returns-then-not-is_split
-returns-then-not-is_split g c messages l recalls = sym (no_split (rules g c.args.committees.now) messages c.args.round c.args.self.now.certified recalls.subjects (sym c.is_split.ensures ∙ c.if-not-is_split.true))
+returns-then-not-is_split g c judging messages l recalls = sym (no_split (rules g judging c.args.committees.now) messages c.args.round c.args.self.now.certified recalls.subjects (sym c.is_split.ensures ∙ c.if-not-is_split.true))
 
 -- it has no committee
 pub returns-in_default : goal.returns-in_default
-returns-in_default g c messages l recalls =
+returns-in_default g c judging messages l recalls =
     let size = ap (λ epoch. size_by g.S.CertificateScheme.keys (committee_of c.args.committees.now epoch)) (sym c.epoch.ensures) ∙ sym (ap (size_by g.S.CertificateScheme.keys) c.in_default.ensures) in
-    sym (no_committee (rules g c.args.committees.now) l messages c.args.round size)
+    sym (no_committee (rules g judging c.args.committees.now) l messages c.args.round size)
 
 -- it is split
 pub returns : goal.returns
-returns g c messages l recalls =
-    let all = rules g c.args.committees.now in
+returns g c judging messages l recalls =
+    let all = rules g judging c.args.committees.now in
     let found = c.in-Some.ensures in
     let len : c.len-participants.result ≡ length (g.S.CertificateScheme.keys c.in-Some.committee.now) = c.len-participants.ensures ∙ ap length c.participants.ensures.keys in
     let size = ap (λ epoch. size_by g.S.CertificateScheme.keys (committee_of c.args.committees.now epoch)) (sym c.epoch.ensures) ∙ sym (ap (size_by g.S.CertificateScheme.keys) found) ∙ sym len in

@@ -1,23 +1,24 @@
 use Rattle.std.proofs.Common.{◌≡◌, true, ◌+◌, [], ◌∷◌, ◌++◌, take, length, sym, ap, subst, ◌∙◌}
 use Rattle.std.proofs.lemmas.List.{take_more, take_all}
 use Rattle.simplex_scheme.specs.Subject.{subject_value}
+use Rattle.simplex_detector.specs.Judging.{valid_under}
 use Rattle.simplex_detector.proofs.RoundLemmas.{HoldsMore, holds_none_more, holds_one_more}
 use Rattle.simplex_detector.proofs.round_votes.RoundVotes.observe_all.Goals as goal
 
 pub listed-init : goal.listed-init
-listed-init g c = holds_none_more {S = g.row.S.Denot} {P = g.row.S-PublicKey.Denot} g.D.PartialEq.eq (length (g.S.CertificateScheme.keys c.args.scheme.now)) (g.S.Scheme.good c.args.scheme.now) (subject_value c.args.subject.now) c.args.self.now
+listed-init g c = holds_none_more {S = g.row.S.Denot} {P = g.row.S-PublicKey.Denot} g.D.PartialEq.eq (length (g.S.CertificateScheme.keys c.args.scheme.now)) ((valid_under g.S.CertificateScheme.keys g.S.Scheme.good c.args.judging.now) c.args.scheme.now) (subject_value c.args.subject.now) c.args.self.now
 
--- each of them is known to be valid where all are
+-- each of them is known to be good where all are
 pub observe-requires : goal.observe-requires
 observe-requires g c = λ known.
-    subst (λ a. g.S.Scheme.good c.args.scheme.now (subject_value c.args.subject.now) a.signer a.signature ≡ true) (sym c.attestation-item.is)
+    subst (λ a. (valid_under g.S.CertificateScheme.keys g.S.Scheme.good c.args.judging.now) c.args.scheme.now (subject_value c.args.subject.now) a.signer a.signature ≡ true) (sym c.attestation-item.is)
     (c.requires known c.listed.attestation-index c.attestation-item.result c.listed-test.true)
 
 pub listed-preserved : goal.listed-preserved
 listed-preserved g c =
     let eq = g.D.PartialEq.eq in
     let n = length (g.S.CertificateScheme.keys c.args.scheme.now) in
-    let good = g.S.Scheme.good c.args.scheme.now in
+    let good = (valid_under g.S.CertificateScheme.keys g.S.Scheme.good c.args.judging.now) c.args.scheme.now in
     let x = subject_value c.args.subject.now in
     let items = c.args.attestations.now in
     let i = c.listed.attestation-index in
@@ -28,5 +29,5 @@ listed-preserved g c =
 
 pub returns : goal.returns
 returns g c =
-    subst (λ given. HoldsMore g.D.PartialEq.eq (length (g.S.CertificateScheme.keys c.args.scheme.now)) (g.S.Scheme.good c.args.scheme.now) (subject_value c.args.subject.now) given c.args.self.now c.listed.self)
+    subst (λ given. HoldsMore g.D.PartialEq.eq (length (g.S.CertificateScheme.keys c.args.scheme.now)) ((valid_under g.S.CertificateScheme.keys g.S.Scheme.good c.args.judging.now) c.args.scheme.now) (subject_value c.args.subject.now) given c.args.self.now c.listed.self)
     (take_all c.listed.attestation-index c.args.attestations.now c.listed-test.false) c.listed.invariant

@@ -1,0 +1,39 @@
+use Rattle.std.proofs.Common.{arith}
+use Rattle.simplex_detector.specs.Committees.{Schedule, rules_of}
+use Rattle.simplex_detector.specs.Rules.{Rules}
+use Rattle.simplex_audit.proofs.DeferredLemmas.{needs_suspects}
+use Rattle.simplex_audit.proofs.NamesLemmas.{if_ok, if_both, audited}
+use Rattle.simplex_audit.proofs.StreamLemmas.{messages_once}
+use Rattle.simplex_audit.proofs.audit.audit_deferred.Given as given
+use Rattle.simplex_audit.proofs.audit.audit_deferred.Goals as goal
+
+-- what messages are judged by
+abbrev rules : (g : given.Over) → Schedule g.row.S.Denot → Rules g.row.S.Denot g.row.D.Denot g.row.S-Certificate.Denot g.row.S-PublicKey.Denot g.row.S-Signature.Denot
+rules g schedule = rules_of g.D.PartialEq.eq g.S.CertificateScheme.keys g.S.Scheme.good g.S.CertificateVerifier.certified g.S.Listing.listed schedule
+
+pub returns-clause-audit : goal.returns-clause-audit
+returns-clause-audit g c =
+    let committees = c.args.committees.now in
+    if_both _ _ _ (λ report is each. audited _ c.audit_suspects.ensures.readable (λ m. omega arith) c.audit_suspects.ensures.lawful
+    (record {
+      any_order = c.names_stay.ensures.any_order (rules g committees);
+      later = c.names_stay.ensures.later (rules g committees);
+      names = c.evidence_is_determined.ensures.names;
+      sound = c.evidence_is_determined.ensures.sound;
+      only = c.evidence_is_determined.ensures.only;
+      again = c.evidence_is_determined.ensures.again (rules g committees);
+      enough = c.certificates_are_accountable.ensures.enough (rules g committees);
+      signers = c.certificates_are_accountable.ensures.signers (rules g committees);
+      only_splits = c.splits_are_determined.ensures.only (rules g committees);
+      split_names = c.splits_are_determined.ensures.names (rules g committees);
+    })
+    c.args.stream.now report is each)
+    c.audit_suspects.result c.audit_suspects.ensures.report c.audit_suspects.ensures.encoded
+
+pub returns-clause-suspects : goal.returns-clause-suspects
+returns-clause-suspects g c =
+    if_ok _ _ (λ report is. needs_suspects _ c.audit_suspects.ensures.readable (λ messages. c.suspects_suffice.ensures.suffice (rules g c.args.committees.now) messages c.audit_suspects.ensures.lawful) c.args.stream.now report is)
+    c.audit_suspects.result c.audit_suspects.ensures.report
+
+pub returns-clause-single : goal.returns-clause-single
+returns-clause-single g c other = λ messages others rest left are are'. messages_once _ c.audit_suspects.ensures.readable other rest left messages others are are'

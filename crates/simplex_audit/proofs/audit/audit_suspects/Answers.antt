@@ -1,0 +1,32 @@
+use Rattle.std.proofs.Common.{◌≡◌, length, map, sym, ap, ◌∙◌, subst, arith, vec_len}
+use Rattle.std.specs.Prelude.{All, IsTrue}
+use Rattle.std.specs.BTreeSet.{contains}
+use Rattle.std.proofs.lemmas.Bool.{eqb-true}
+use Rattle.std.proofs.lemmas.Simd.{map-map}
+use Rattle.simplex_scheme.specs.Subject.{round_of}
+use Rattle.simplex_detector.specs.Named.{round_cmp}
+use Rattle.simplex_detector.specs.Values.{evidence_value}
+use Rattle.simplex_audit.specs.Report.{evidence_in}
+use Rattle.simplex_audit.proofs.DeferredLemmas.{nobody_reported, suspects_reported}
+use Rattle.simplex_audit.proofs.audit.audit_suspects.Goals as goal
+
+-- nobody is claimed to contradict
+pub returns-then-is_empty-clause-report : goal.returns-then-is_empty-clause-report
+returns-then-is_empty-clause-report g c =
+    let claims = c.in_ok-claims.claims in
+    let len : vec_len claims.evidence ≡ 0 = eqb-true (vec_len claims.evidence) 0 (sym c.is_empty.ensures ∙ c.if-is_empty.true) in
+    let none : length claims.evidence.items ≡ 0 = omega (arith, claims.evidence.ok.0, len) in
+    nobody_reported _ _ _ _ c.args.stream.now claims none
+    (λ messages splits. c.suspects_tell_all.ensures.nobody c.args.committees.now messages splits c.in_ok-claims.ensures.lawful)
+    c.in_ok-claims.ensures.report
+
+-- the suspect rounds tell all
+pub returns-clause-report : goal.returns-clause-report
+returns-clause-report g c =
+    let claims = c.in_ok-claims.claims in
+    let rounds = c.in_ok-rounds.rounds in
+    let has = subst (All (λ round. IsTrue (contains round_cmp rounds round)))
+    (ap (map (λ e. round_of (evidence_value e).first.subject)) c.deref.ensures.value ∙ sym (map-map (λ e. round_of e.first.subject) evidence_value claims.evidence.items)) c.in_ok-rounds.ensures.all in
+    suspects_reported _ _ c.in_ok-claims.ensures.readable _ _ _ c.args.stream.now claims c.in_ok-report.report c.in_ok-claims.ensures.report
+    (λ messages es splits claimed judged are. c.suspects_tell_all.ensures.suspects c.args.committees.now messages (evidence_in claims) rounds c.in_ok-claims.ensures.lawful claimed has es splits judged are)
+    c.in_ok-report.ensures.report

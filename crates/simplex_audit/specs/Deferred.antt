@@ -1,0 +1,28 @@
+-- What the two readings of a deferred audit go by, and what its report depends on.
+use Rattle.std.specs.Prelude.{ℕ, Bool, List}
+use Rattle.simplex_base.specs.Readable.{Readable, format_under}
+use Rattle.simplex_scheme.specs.Subject.{SubjectValue}
+use Rattle.simplex_scheme.specs.declared.scheme.Attestation.{Attestation}
+use Rattle.simplex_evidence.specs.declared.types.activity.Activity.{Activity}
+use Rattle.simplex_detector.specs.Committees.{Schedule, bound_of}
+use Rattle.simplex_detector.specs.Judging.{rules_under}
+use Rattle.simplex_detector.specs.Suspects.{judged_by, JudgeAlike}
+use Rattle.simplex_detector.specs.declared.judging.Judging.{Judging}
+use Rattle.simplex_audit.specs.Basis.{Basis}
+use Rattle.simplex_audit.specs.Guarantees.{OfMessages}
+use Rattle.simplex_audit.specs.Report.{IsReport}
+use Rattle.simplex_audit.specs.declared.audit.Report.{Report}
+
+-- messages are read as ever, and votes and certificates are judged so strictly
+abbrev pub basis_under : {S D C P G : Type 0} → Readable ℕ (Activity S D C P G) → (D → D → Bool) → (S → List P) → (S → SubjectValue D → ℕ → G → Bool) → (S → SubjectValue D → C → Bool) → (C → List (Attestation S P G)) → Judging → Schedule S → Basis S D C P G
+basis_under message eq keys good certified listed judging committees = record {
+  bound = bound_of keys committees;
+  format = format_under message (bound_of keys committees);
+  rules = rules_under eq keys good certified listed judging committees;
+}
+
+-- No signature outside suspect rounds has a part in the report: it is the same, no matter which votes and certificates are
+-- valid there.
+abbrev pub NeedsSuspectsAlone : {S D C P G : Type 0} → Basis S D C P G → List ℕ → Report S D P G → Type 0
+NeedsSuspectsAlone {S} {D} {C} {P} {G} basis stream report = OfMessages basis stream (λ messages. (good : SubjectValue D → ℕ → G → Bool) (certified : SubjectValue D → C → Bool) →
+    JudgeAlike basis.rules messages good certified → IsReport (record basis { rules = judged_by basis.rules good certified }) stream report)

@@ -1,0 +1,33 @@
+-- How strictly votes and certificates are judged.
+use Rattle.std.specs.Prelude.{ℕ, Bool, true, false, ◌&&◌, List, length, nat_lt}
+use Rattle.std.specs.BTreeSet.{contains}
+use Rattle.simplex_base.specs.Positions.{Round}
+use Rattle.simplex_scheme.specs.Subject.{SubjectValue, round_of}
+use Rattle.simplex_scheme.specs.declared.scheme.Attestation.{Attestation}
+use Rattle.simplex_detector.specs.Committees.{Schedule, rules_of}
+use Rattle.simplex_detector.specs.Named.{round_cmp}
+use Rattle.simplex_detector.specs.Rules.{Rules}
+use Rattle.simplex_detector.specs.declared.judging.Judging.{Judging}
+use Rattle.simplex_detector.specs.declared.judging.Judging.TheVariants.{Verified, Claimed, Suspects}
+
+-- whether the signatures of a round are verified
+abbrev pub is_verified : Judging → Round → Bool
+is_verified Verified round = true
+is_verified Claimed round = false
+is_verified (Suspects rounds) round = contains round_cmp rounds round
+
+-- whose signatures are valid by a committee that judges so
+abbrev pub valid_under : {S D P G : Type 0} → (S → List P) → (S → SubjectValue D → ℕ → G → Bool) → Judging → S → SubjectValue D → ℕ → G → Bool
+valid_under keys good Verified = good
+valid_under keys good Claimed = λ committee x signer signature. nat_lt signer (length (keys committee))
+valid_under keys good (Suspects rounds) = λ committee x signer signature. contains round_cmp rounds (round_of x) && good committee x signer signature
+
+-- which certificates certify by it
+abbrev pub certified_under : {S D C : Type 0} → (S → SubjectValue D → C → Bool) → Judging → S → SubjectValue D → C → Bool
+certified_under certified Verified = certified
+certified_under certified Claimed = λ committee x certificate. false
+certified_under certified (Suspects rounds) = λ committee x certificate. contains round_cmp rounds (round_of x) && certified committee x certificate
+
+-- each vote and each certificate is judged so by the committee of its round's epoch
+abbrev pub rules_under : {S D C P G : Type 0} → (D → D → Bool) → (S → List P) → (S → SubjectValue D → ℕ → G → Bool) → (S → SubjectValue D → C → Bool) → (C → List (Attestation S P G)) → Judging → Schedule S → Rules S D C P G
+rules_under eq keys good certified listed judging = rules_of eq keys (valid_under keys good judging) (certified_under certified judging) listed
