@@ -1,6 +1,6 @@
 //! Many certificates verified at once.
 
-use simplex_base::codec::{Fixed, decode_cfg};
+use simplex_base::codec::{Fixed, Read, decode_cfg};
 use simplex_base::positions::{Epoch, Round, View};
 use simplex_evidence::types::verify_certificates;
 use simplex_plain::marked::{Marked, MarkedDigest};
@@ -12,17 +12,23 @@ use simplex_scheme::subject::Subject;
 use std::alloc::Global;
 use std::process::Abort;
 
-/// The certificate of this encoding in hexadecimal, under a bound of four.
-fn certificate<S: CertificateVerifier<D>, D: Digest>(
-    alloc: Global,
-    encoding: &str,
-) -> Option<S::Certificate> {
+/// The value with this encoding in hexadecimal.
+fn value<T: Read + Drop>(alloc: Global, cfg: &T::Cfg, encoding: &str) -> Option<T> {
     let bytes = hex::decode(alloc, encoding).ok()?;
-    decode_cfg(alloc, bytes.as_slice(), &4).ok()
+    decode_cfg(alloc, bytes.as_slice(), cfg).ok()
 }
 
-/// Certificates of these encodings for the proposal with this payload in round (0, 10) verify as wanted. Returns whether memory
-/// was refused; then the same list is verified when it is asked about again.
+/// The values with these encodings in hexadecimal.
+fn listed<T: Read + Drop>(alloc: Global, cfg: &T::Cfg, encodings: &[&str]) -> Option<Vec<T>> {
+    let mut values = Vec::new(alloc);
+    for encoding in encodings {
+        values.push(value(alloc, cfg, encoding)?).ok()?;
+    }
+    Some(values)
+}
+
+/// Certificates of these encodings for the proposal with this payload in round (0, 10), under a bound of four, verify as wanted.
+/// Returns whether memory was refused; then the same list is verified when it is asked about again.
 fn is_refused<S: CertificateVerifier<D>, D: Digest>(
     rt: &(impl Abort + AllocGlobal),
     scheme: &S,
@@ -30,18 +36,9 @@ fn is_refused<S: CertificateVerifier<D>, D: Digest>(
     encodings: &[&str],
     wanted: &[bool],
 ) -> bool {
-    let alloc = rt.alloc();
-    let Ok(mut certificates) = Vec::with_capacity(alloc, encodings.len()) else {
+    let Some(certificates) = listed::<S::Certificate>(rt.alloc(), &4, encodings) else {
         return true;
     };
-    for encoding in encodings {
-        let Some(certificate) = certificate::<S, D>(alloc, encoding) else {
-            return true;
-        };
-        if certificates.push(certificate).is_err() {
-            return true;
-        }
-    }
     let round = Round::new(Epoch::new(0), View::new(10));
     let proposal = Proposal::new(round, View::new(5), payload);
     let items = certificates.iter().map(|certificate| {
@@ -50,15 +47,22 @@ fn is_refused<S: CertificateVerifier<D>, D: Digest>(
         };
         (subject, certificate)
     });
-    let Ok(mut pairs) = Vec::with_capacity(alloc, encodings.len()) else {
+    let Ok(pairs) = items.collect::<Vec<_>>(rt.alloc()) else {
         return true;
     };
-    if pairs.extend(items).is_err() {
-        return true;
-    }
-    let first = verify_certificates(alloc, scheme, pairs.as_slice());
+    is_answer_refused(rt, scheme, pairs.as_slice(), wanted)
+}
+
+/// Certificates verify as wanted. Returns whether memory was refused; then the same list is verified when it is asked about again.
+fn is_answer_refused<S: CertificateVerifier<D>, D: Digest>(
+    rt: &(impl Abort + AllocGlobal),
+    scheme: &S,
+    pairs: &[(Subject<'_, D>, &S::Certificate)],
+    wanted: &[bool],
+) -> bool {
+    let first = verify_certificates(rt.alloc(), scheme, pairs);
     let refused = first.is_err();
-    let answers = first.or_else(|_| verify_certificates(alloc, scheme, pairs.as_slice()));
+    let answers = first.or_else(|_| verify_certificates(rt.alloc(), scheme, pairs));
     assert!(rt; matches!(&answers, Ok(answers) if answers.as_slice() == wanted));
     refused
 }
@@ -78,14 +82,16 @@ fn any_list_is_refused<S: CertificateVerifier<D>, D: Digest>(
     five || second || fourth || is_refused(rt, scheme, payload, &[], &[])
 }
 
+/// The key that is this number.
+fn key(number: u8) -> PlainKey {
+    let mut key = [0; 32];
+    key[31] = number;
+    PlainKey::from_bytes(&key)
+}
+
 /// The plain scheme under the base `test` of four participants, whose keys are their numbers.
 fn plain(alloc: Global) -> Option<Plain> {
-    let mut keys = Vec::new(alloc);
-    for number in 0..4 {
-        let mut key = [0; 32];
-        key[31] = number;
-        keys.push(PlainKey::from_bytes(&key)).ok()?;
-    }
+    let keys = Vec::from_array(alloc, [key(0), key(1), key(2), key(3)]).ok()?;
     let keys = Set::try_from_vec(keys).ok()?;
     if keys.len() != 4 {
         return None;
@@ -103,24 +109,30 @@ const PLAIN: [&str; 3] = [
     "03008c6774d2f68c567d3d7099353ba7b9a73b4a3919f00bf8571c6cf14b8b0e1fbc01045f6c82c9c6a62e370b1625789d3877a1e768f34ec0eaf45ca823338253d4690256b0150cd77310b6cc13b4743086ea7b3f8068421bc0c1da306cbc8083376a00",
 ];
 
-/// The lists of both schemes.
-fn any_is_refused(rt: &(impl Abort + AllocGlobal)) -> bool {
-    let alloc = rt.alloc();
-    let (Ok(marked), Some(plain)) = (Marked::new(alloc, 4, None), plain(alloc)) else {
+/// The lists of the marked scheme.
+fn marked_is_refused(rt: &(impl Abort + AllocGlobal)) -> bool {
+    let Ok(scheme) = Marked::new(rt.alloc(), 4, None) else {
         return true;
     };
-    let marked = any_list_is_refused(rt, &marked, MarkedDigest::from_bytes(&[6]), MARKED);
-    let plain = any_list_is_refused(rt, &plain, Sha256Digest::from_bytes(&[6; 32]), PLAIN);
-    marked || plain
+    any_list_is_refused(rt, &scheme, MarkedDigest::from_bytes(&[6]), MARKED)
+}
+
+/// The lists of the plain scheme.
+fn plain_is_refused(rt: &(impl Abort + AllocGlobal)) -> bool {
+    let Some(scheme) = plain(rt.alloc()) else {
+        return true;
+    };
+    any_list_is_refused(rt, &scheme, Sha256Digest::from_bytes(&[6; 32]), PLAIN)
 }
 
 #[test]
 fn ample(rt: HostRuntime) {
-    assert!(rt; !any_is_refused(&rt));
+    assert!(rt; !marked_is_refused(&rt) && !plain_is_refused(&rt));
 }
 
 /// Where the answers' memory is refused there is none.
 #[test]
 fn refused(rt: HostRuntime) {
-    let _ = any_is_refused(&rt);
+    let _ = marked_is_refused(&rt);
+    let _ = plain_is_refused(&rt);
 }

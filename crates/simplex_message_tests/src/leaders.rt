@@ -155,12 +155,24 @@ fn leaders<E: Elector<Marked>>(
     Ok(leaders)
 }
 
+/// So many participants lead the first views in this order, by an elector of this configuration.
+fn check_leaders<C: Config<Marked>>(
+    rt: &impl Abort,
+    alloc: Global,
+    config: C,
+    participants: u32,
+    order: &[u32],
+) -> Result<(), Fail> {
+    let elector = built(rt, alloc, config, participants)?;
+    let leaders = leaders(alloc, &elector, order.len() as u64)?;
+    assert_eq!(rt; leaders.as_slice(), order);
+    Ok(())
+}
+
 /// By these hashes five participants lead the first six views in this order.
 fn check_order<H: Hasher>(rt: &impl Abort, alloc: Global, order: [u32; 6]) -> Result<(), Fail> {
     let shuffled: RoundRobin<H> = RoundRobin::shuffled(alloc, b"s")?;
-    let elector = built(rt, alloc, shuffled, 5)?;
-    assert_eq!(rt; leaders(alloc, &elector, 6)?.as_slice(), order.as_slice());
-    Ok(())
+    check_leaders(rt, alloc, shuffled, 5, &order)
 }
 
 /// Hashes that tie leave the order, and hashes that fall turn it.
@@ -188,9 +200,8 @@ fn by_digest(alloc: Global, seed: &[u8], participants: u32) -> Result<Vec<u32>, 
 /// The order in which ten participants lead by a seed, which is that of the digests.
 fn order_of(rt: &impl Abort, alloc: Global, seed: &[u8]) -> Result<Vec<u32>, Fail> {
     let shuffled: RoundRobin<Sha256> = RoundRobin::shuffled(alloc, seed)?;
-    let elector = built(rt, alloc, shuffled, 10)?;
     let order = by_digest(alloc, seed, 10)?;
-    assert_eq!(rt; leaders(alloc, &elector, 10)?.as_slice(), order.as_slice());
+    check_leaders(rt, alloc, shuffled, 10, order.as_slice())?;
     Ok(order)
 }
 
@@ -210,23 +221,34 @@ fn ample_elector_of_its_own(rt: HostRuntime) -> Result<(), Fail> {
         Duration::from_secs(10),
         ViewDelta::new(1),
     );
-    let elector = built(&rt, rt.alloc(), FirstAlways(terms), 4)?;
-    assert_eq!(rt;
-        leaders(rt.alloc(), &elector, 4)?.as_slice(),
-        [0; 4].as_slice()
-    );
-    assert_eq!(rt; mode_and_terms(&elector), (Mode::Dynamic, terms));
-    let elector = built(&rt, rt.alloc(), RoundRobin::<Sha256>::default(), 4)?;
-    assert_eq!(rt;
-        mode_and_terms(&elector),
-        (Mode::Scheduled, Terms::rotating())
-    );
-    Ok(())
+    check_leaders(&rt, rt.alloc(), FirstAlways(terms), 4, &[0; 4])?;
+    check_mode(&rt, rt.alloc(), FirstAlways(terms), Mode::Dynamic, terms)
 }
 
-/// How an elector goes by certificates and terms.
-fn mode_and_terms<E: Elector<Marked>>(elector: &E) -> (Mode, Terms) {
-    (elector.mode(), elector.terms())
+#[test]
+fn ample_rotation(rt: HostRuntime) -> Result<(), Fail> {
+    let rotation = RoundRobin::<Sha256>::default();
+    check_mode(
+        &rt,
+        rt.alloc(),
+        rotation,
+        Mode::Scheduled,
+        Terms::rotating(),
+    )
+}
+
+/// An elector of this configuration goes by certificates and terms so.
+fn check_mode<C: Config<Marked>>(
+    rt: &impl Abort,
+    alloc: Global,
+    config: C,
+    mode: Mode,
+    terms: Terms,
+) -> Result<(), Fail> {
+    let elector = built(rt, alloc, config, 4)?;
+    assert_eq!(rt; elector.mode(), mode);
+    assert_eq!(rt; elector.terms(), terms);
+    Ok(())
 }
 
 #[test]
@@ -248,69 +270,100 @@ fn the_last_view_that_fits(rt: HostRuntime) {
     assert!(rt; !look.fits(View::new(18_446_744_065_119_617_026)));
 }
 
-/// What terms, modes and electors answer.
-#[test]
-fn without_memory_leaders(rt: HostRuntime) -> Result<(), Fail> {
-    let elector = built(&rt, rt.alloc(), RoundRobin::<Sha256>::default(), 4)?;
-    let _ = is_out(rt.alloc());
+/// An elector of this configuration goes by rotating terms, and participant 3 leads the third of them.
+fn check_rotating<C: Config<Marked>>(
+    rt: &impl Abort,
+    alloc: Global,
+    config: C,
+) -> Result<(), Fail> {
+    let elector = built(rt, alloc, config, 4)?;
+    let _ = is_out(alloc);
     let round = Round::new(Epoch::new(0), View::new(3));
-    assert_eq!(rt;
-        Elector::<Marked>::elect(&elector, round, None),
-        Participant::new(3)
-    );
-    assert_eq!(rt;
-        mode_and_terms(&elector),
-        (Mode::Scheduled, Terms::default())
-    );
-    assert_eq!(rt; Mode::Scheduled.input(Some(&7)), None);
-    assert_eq!(rt; Mode::Dynamic.input(Some(&7)), Some(&7));
-    assert_eq!(rt; Mode::Dynamic.early::<u32>(), None);
-    assert_eq!(rt; Mode::Scheduled.early::<u32>(), Some(None));
-    let (length, second) = (TermLength::new(20), Duration::from_secs(1));
-    assert!(rt; can_be_stable(length, second));
-    let terms = Terms::stable(length, second, ViewDelta::new(2));
-    assert_eq!(rt;
-        (terms.length().get(), terms.stall_timeout()),
-        (20, Some(second))
-    );
-    assert_eq!(rt; terms.optimistic_views(), ViewDelta::new(2));
+    assert!(rt; elector.mode() == Mode::Scheduled);
+    assert!(rt; elector.terms() == Terms::default());
+    assert!(rt; elector.elect(round, None) == Participant::new(3));
     Ok(())
 }
 
-/// What is counted of views and of participants.
+#[test]
+fn without_memory_leaders(rt: HostRuntime) -> Result<(), Fail> {
+    check_rotating(&rt, rt.alloc(), RoundRobin::<Sha256>::default())
+}
+
+/// What each mode makes of a certificate.
+#[test]
+fn without_memory_modes(rt: HostRuntime) {
+    let _ = is_out(rt.alloc());
+    assert!(rt; Mode::Scheduled.input(Some(&7)).is_none());
+    assert!(rt; Mode::Dynamic.input(Some(&7)) == Some(&7));
+    assert!(rt; Mode::Dynamic.early::<u32>().is_none());
+    assert!(rt; matches!(Mode::Scheduled.early::<u32>(), Some(None)));
+}
+
+/// What stable terms keep.
+#[test]
+fn without_memory_terms(rt: HostRuntime) {
+    let _ = is_out(rt.alloc());
+    let (length, second) = (TermLength::new(20), Duration::from_secs(1));
+    assert!(rt; can_be_stable(length, second));
+    let terms = Terms::stable(length, second, ViewDelta::new(2));
+    assert!(rt; terms.length().get() == 20 && terms.stall_timeout() == Some(second));
+    assert!(rt; terms.optimistic_views() == ViewDelta::new(2));
+}
+
+/// What is counted of views.
 #[test]
 fn without_memory_views(rt: HostRuntime) {
     let _ = is_out(rt.alloc());
-    let (view, length) = (View::new(10), TermLength::new(20));
-    let terms = Terms::stable(length, Duration::from_secs(1), ViewDelta::new(2));
-    assert_eq!(rt; view.saturating_add(ViewDelta::new(5)), View::new(15));
-    assert_eq!(rt; view.saturating_sub(ViewDelta::new(11)), View::zero());
+    let view = View::new(10);
+    assert!(rt; view.saturating_add(ViewDelta::new(5)) == View::new(15));
+    assert!(rt; view.saturating_sub(ViewDelta::new(11)) == View::zero());
     assert!(rt; View::zero().is_zero() && !view.is_zero());
-    assert_eq!(rt;
-        (view.term_index(length), view.term_start(length)),
-        (1, View::new(1))
-    );
+    assert!(rt; max_faults(4) == 1 && quorum(4) == 3);
+}
+
+/// The term of 20 views that holds view 10.
+#[test]
+fn without_memory_term_of_a_view(rt: HostRuntime) {
+    let _ = is_out(rt.alloc());
+    let (view, length) = (View::new(10), TermLength::new(20));
+    assert!(rt; view.term_index(length) == 1 && view.term_start(length) == View::new(1));
     assert!(rt; view.term_fits(length) && !view.is_term_start(length));
-    assert_eq!(rt;
-        (view.term_end(length), view.next_term_start(length)),
-        (View::new(20), View::new(21))
-    );
+    assert!(rt; view.term_end(length) == View::new(20));
+    assert!(rt; view.next_term_start(length) == View::new(21));
     assert!(rt; view.admits(View::new(21), length) && !view.admits(View::new(12), length));
-    let lookahead = Lookahead::new(&terms);
+}
+
+/// How far ahead a node looks in terms of 20 views.
+fn lookahead() -> Lookahead {
+    let (length, second) = (TermLength::new(20), Duration::from_secs(1));
+    Lookahead::new(&Terms::stable(length, second, ViewDelta::new(2)))
+}
+
+#[test]
+fn without_memory_lookahead(rt: HostRuntime) {
+    let _ = is_out(rt.alloc());
+    let (view, lookahead) = (View::new(10), lookahead());
     assert!(rt; lookahead.fits(view));
-    assert_eq!(rt; lookahead.admission_limit(view), View::new(15));
+    assert!(rt; lookahead.admission_limit(view) == View::new(15));
     assert!(rt; lookahead.in_admission_window(view, View::new(15)));
     assert!(rt; lookahead.admits(view, View::new(24)) && !lookahead.admits(view, View::new(25)));
     assert!(rt; lookahead.admits_outbound(view, View::new(12)));
-    assert_eq!(rt; lookahead.issuance_floor(view), Some(View::new(7)));
+    assert!(rt; lookahead.issuance_floor(view) == Some(View::new(7)));
+}
+
+#[test]
+fn without_memory_viewport(rt: HostRuntime) {
+    let _ = is_out(rt.alloc());
+    let lookahead = lookahead();
+    assert!(rt; lookahead.fits(View::new(10)));
     let viewport = Viewport {
         finalized: View::new(5),
-        current: view,
+        current: View::new(10),
         view_retention: ViewDelta::new(10),
         lookahead,
     };
-    assert_eq!(rt; viewport.floor(), View::zero());
+    assert!(rt; viewport.floor() == View::zero());
     assert!(rt; viewport.retains(View::new(1)) && !viewport.retains(View::zero()));
     assert!(rt; viewport.admits_vote(View::new(15)) && viewport.admits_certificate(View::new(99)));
-    assert_eq!(rt; (max_faults(4), quorum(4)), (1, 3));
 }

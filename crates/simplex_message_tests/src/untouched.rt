@@ -5,35 +5,39 @@ use simplex_plain::marked::{Marked, MarkedDigest};
 use simplex_votes::types::{Certificate, Vote};
 use std::process::Abort;
 
-/// Reads a value with a byte behind it, and appends it to a buffer that holds a byte. Answers whether memory was
-/// refused; then the slice and the buffer were as before, and the same call does what it does with ample memory.
+/// Reads a value with a byte behind it, and appends it to a buffer that holds a byte. Returns whether an allocation failed; then the
+/// slice and the buffer were as before, and the same call does what it does with ample memory.
 fn is_refused<T: Read + Encode + Drop>(
     rt: &(impl Abort + AllocGlobal),
     cfg: &T::Cfg,
     bytes: &[u8],
 ) -> bool {
-    let alloc = rt.alloc();
     let mut rest: &[u8] = bytes;
-    let mut read = T::read_cfg(alloc, &mut rest, cfg);
-    let mut refused = read.is_err();
+    let mut read = T::read_cfg(rt.alloc(), &mut rest, cfg);
+    let refused = read.is_err();
     if refused {
-        assert_eq!(rt; rest.len(), bytes.len());
-        read = T::read_cfg(alloc, &mut rest, cfg);
+        assert!(rt; rest.len() == bytes.len());
+        read = T::read_cfg(rt.alloc(), &mut rest, cfg);
     }
-    assert_eq!(rt; rest.len(), 1);
-    let Ok(value) = read else {
-        return refused;
-    };
-    let mut buf = Vec::new(alloc);
+    assert!(rt; rest.len() == 1);
+    match read {
+        Ok(value) => is_write_refused(rt, &value, bytes.len()) || refused,
+        Err(_) => refused,
+    }
+}
+
+/// Appends a value to a buffer that holds a byte, which makes it this long. Returns whether an allocation failed.
+fn is_write_refused<T: Encode>(rt: &(impl Abort + AllocGlobal), value: &T, length: usize) -> bool {
+    let mut buf = Vec::new(rt.alloc());
     if buf.push(7).is_err() {
         return true;
     }
-    if value.write(&mut buf).is_err() {
-        refused = true;
-        assert_eq!(rt; buf.as_slice(), [7].as_slice());
+    let refused = value.write(&mut buf).is_err();
+    if refused {
+        assert!(rt; buf.as_slice() == [7].as_slice());
         assert!(rt; value.write(&mut buf).is_ok());
     }
-    assert_eq!(rt; buf.len(), bytes.len());
+    assert!(rt; buf.len() == length);
     refused
 }
 

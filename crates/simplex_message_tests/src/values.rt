@@ -10,55 +10,54 @@ use std::collections::HashSet;
 use std::process::Abort;
 use std::test::Fail;
 
-/// The value of the bytes that are named by two digits each, parted by blanks.
-fn read<T: Read + Drop>(alloc: Global, cfg: &T::Cfg, encoding: &str) -> Result<T, Fail> {
-    let digits: Vec<u8> = encoding
-        .bytes()
-        .filter(|byte| *byte != b' ')
-        .collect(alloc)?;
-    let bytes = hex::decode(alloc, digits.as_slice())?;
-    Ok(decode_cfg::<T>(alloc, bytes.as_slice(), cfg)?)
-}
-
-/// Values are equal exactly where their bytes are.
+/// Values are equal exactly where their encodings are.
 fn are_told_apart<T: Read + PartialEq + Drop>(
     rt: &impl Abort,
     alloc: Global,
     cfg: &T::Cfg,
-    encodings: &[&str],
+    encodings: &[&[u8]],
 ) -> Result<(), Fail> {
-    for (place, encoding) in encodings.iter().enumerate() {
-        let value = read::<T>(alloc, cfg, encoding)?;
-        for (other_place, other_encoding) in encodings.iter().enumerate() {
-            let other = read::<T>(alloc, cfg, other_encoding)?;
-            assert_eq!(rt;
-                value == other,
-                place == other_place,
-                "{encoding}, {other_encoding}"
+    for encoding in encodings {
+        let value = decode_cfg::<T>(alloc, encoding, cfg)?;
+        for other in encodings {
+            let is_same = encoding == other;
+            assert!(rt;
+                equals(alloc, cfg, &value, other)? == is_same,
+                "{encoding:?}, {other:?}"
             );
         }
     }
     Ok(())
 }
 
+/// Whether a value equals the one with this encoding.
+fn equals<T: Read + PartialEq + Drop>(
+    alloc: Global,
+    cfg: &T::Cfg,
+    value: &T,
+    encoding: &[u8],
+) -> Result<bool, Fail> {
+    Ok(*value == decode_cfg::<T>(alloc, encoding, cfg)?)
+}
+
 /// Messages that differ in their kind or in one part.
-const MESSAGES: [&str; 16] = [
-    "00 000a0506 01aa",
-    "00 010a0506 01aa",
-    "00 000b0506 01aa",
-    "00 000a0406 01aa",
-    "00 000a0507 01aa",
-    "00 000a0506 02aa",
-    "00 000a0506 0100",
-    "05 000a0506 01aa",
-    "03 000a 01aa",
-    "01 000a0506 01 01aa",
-    "02 000a0506 01 01aa",
-    "01 000a0506 02 00aa 01aa",
-    "04 000a 01 01aa",
-    "07 000a0506 01aa 000a0507 01aa",
-    "07 000a0507 01aa 000a0506 01aa",
-    "09 000a 01aa 000a0506 01aa",
+const MESSAGES: [&[u8]; 16] = [
+    &[0, 0, 10, 5, 6, 1, 0xaa],
+    &[0, 1, 10, 5, 6, 1, 0xaa],
+    &[0, 0, 11, 5, 6, 1, 0xaa],
+    &[0, 0, 10, 4, 6, 1, 0xaa],
+    &[0, 0, 10, 5, 7, 1, 0xaa],
+    &[0, 0, 10, 5, 6, 2, 0xaa],
+    &[0, 0, 10, 5, 6, 1, 0],
+    &[5, 0, 10, 5, 6, 1, 0xaa],
+    &[3, 0, 10, 1, 0xaa],
+    &[1, 0, 10, 5, 6, 1, 1, 0xaa],
+    &[2, 0, 10, 5, 6, 1, 1, 0xaa],
+    &[1, 0, 10, 5, 6, 2, 0, 0xaa, 1, 0xaa],
+    &[4, 0, 10, 1, 1, 0xaa],
+    &[7, 0, 10, 5, 6, 1, 0xaa, 0, 10, 5, 7, 1, 0xaa],
+    &[7, 0, 10, 5, 7, 1, 0xaa, 0, 10, 5, 6, 1, 0xaa],
+    &[9, 0, 10, 1, 0xaa, 0, 10, 5, 6, 1, 0xaa],
 ];
 
 #[test]

@@ -3,6 +3,8 @@
 //! Each test makes first what takes memory, and then asks for [`SIGNAL`] bytes. An allocator that refuses this request and every
 //! later one leaves the calls behind it without memory; under any other allocator they are made with memory.
 
+ghost use Rattle.std.specs.Prelude.{◌≡◌, IfOk, length};
+
 use simplex_base::codec::error::Error;
 use simplex_base::codec::{
     EncodeSize, Fixed, MaxEncodeSize, Read, ReadExt, decode, decode_cfg, read_value,
@@ -53,25 +55,39 @@ fn is_read<T: ReadExt + EncodeSize + Drop>(alloc: Global, encoding: &[u8]) -> bo
     is_whole && matches!(decode::<T>(alloc, short), Err(Error::EndOfBuffer))
 }
 
+/// Whether the parts of votes are read.
+fn are_parts_read<S: SchemeTypes, D: Digest>(alloc: Global) -> bool {
+    is_read::<Attestation<S>>(alloc, &[1, 0xaa])
+        && is_read::<Proposal<D>>(alloc, &[0, 10, 5, 6])
+        && is_read::<Context<D, S::PublicKey>>(alloc, &[0, 10, 0, 0, 0, 1, 5, 6])
+}
+
+/// Whether votes are read.
+fn are_votes_read<S: SchemeTypes, D: Digest>(alloc: Global) -> bool {
+    let vote = [0, 10, 5, 6, 1, 0xaa];
+    is_read::<Notarize<S, D>>(alloc, &vote)
+        && is_read::<Nullify<S>>(alloc, &[0, 10, 1, 0xaa])
+        && is_read::<Finalize<S, D>>(alloc, &vote)
+        && is_read::<Vote<S, D>>(alloc, &[1, 0, 10, 1, 0xaa])
+}
+
+/// Whether evidence is read.
+fn is_evidence_read<S: SchemeTypes, D: Digest>(alloc: Global) -> bool {
+    let pair = [0, 10, 5, 6, 1, 0xaa, 0, 10, 5, 7, 1, 0xaa];
+    is_read::<ConflictingNotarize<S, D>>(alloc, &pair)
+        && is_read::<ConflictingFinalize<S, D>>(alloc, &pair)
+        && is_read::<NullifyFinalize<S, D>>(alloc, &[0, 10, 1, 0xaa, 0, 10, 5, 6, 1, 0xaa])
+}
+
 #[test]
 fn without_memory_reading(rt: HostRuntime) {
     let alloc = rt.alloc();
     let _ = is_out(alloc);
-    let (proposal, vote) = ([0, 10, 5, 6], [0, 10, 5, 6, 1, 0xaa]);
-    let pair = [0, 10, 5, 6, 1, 0xaa, 0, 10, 5, 7, 1, 0xaa];
     assert!(rt; is_read::<Epoch>(alloc, &[0xcd, 2]) && is_read::<View>(alloc, &[10]));
     assert!(rt; is_read::<Participant>(alloc, &[1]) && is_read::<Round>(alloc, &[0, 10]));
-    assert!(rt; is_read::<Attestation<Marked>>(alloc, &[1, 0xaa]));
-    assert!(rt; is_read::<Proposal<MarkedDigest>>(alloc, &proposal));
-    assert!(rt; is_read::<Context<MarkedDigest, MarkedKey>>(alloc, &[0, 10, 0, 0, 0, 1, 5, 6]));
-    assert!(rt; is_read::<Notarize<Marked, MarkedDigest>>(alloc, &vote));
-    assert!(rt; is_read::<Nullify<Marked>>(alloc, &[0, 10, 1, 0xaa]));
-    assert!(rt; is_read::<Finalize<Marked, MarkedDigest>>(alloc, &vote));
-    assert!(rt; is_read::<Vote<Marked, MarkedDigest>>(alloc, &[1, 0, 10, 1, 0xaa]));
-    assert!(rt; is_read::<ConflictingNotarize<Marked, MarkedDigest>>(alloc, &pair));
-    assert!(rt; is_read::<ConflictingFinalize<Marked, MarkedDigest>>(alloc, &pair));
-    let pair = [0, 10, 1, 0xaa, 0, 10, 5, 6, 1, 0xaa];
-    assert!(rt; is_read::<NullifyFinalize<Marked, MarkedDigest>>(alloc, &pair));
+    assert!(rt; are_parts_read::<Marked, MarkedDigest>(alloc));
+    assert!(rt; are_votes_read::<Marked, MarkedDigest>(alloc));
+    assert!(rt; is_evidence_read::<Marked, MarkedDigest>(alloc));
 }
 
 /// Whether a vote is one of participant 1 in round (0, 10), and no longer than the greatest.
@@ -94,30 +110,27 @@ fn becomes<S: CertificateScheme, D: Digest>(
     is_by_participant(&vote) && &Artifact::from(vote) == artifact
 }
 
-#[test]
-fn without_memory_stored_notarize(rt: HostRuntime) -> Result<(), Fail> {
-    let alloc = rt.alloc();
-    let artifact = decode_cfg::<Artifact<Marked, MarkedDigest>>(alloc, ACTIVITIES[0], &4)?;
+/// Whether a vote of each kind becomes the artifact of its kind.
+fn are_votes_stored<S: CertificateScheme, D: Digest>(alloc: Global) -> Result<bool, Fail> {
+    let artifacts = decoded::<Artifact<S, D>>(
+        alloc,
+        &4,
+        &[ACTIVITIES[0], ACTIVITIES[3], ACTIVITIES[5]],
+    )?;
     let _ = is_out(alloc);
-    assert!(rt; becomes(alloc, &[0, 0, 10, 5, 6, 1, 0xaa], &artifact));
-    Ok(())
+    let [notarize, nullify, finalize] = artifacts.as_slice() else {
+        return Ok(false);
+    };
+    Ok(
+        becomes(alloc, &[0, 0, 10, 5, 6, 1, 0xaa], notarize)
+            && becomes(alloc, &[1, 0, 10, 1, 0xaa], nullify)
+            && becomes(alloc, &[2, 0, 10, 5, 6, 1, 0xaa], finalize),
+    )
 }
 
 #[test]
-fn without_memory_stored_nullify(rt: HostRuntime) -> Result<(), Fail> {
-    let alloc = rt.alloc();
-    let artifact = decode_cfg::<Artifact<Marked, MarkedDigest>>(alloc, ACTIVITIES[3], &4)?;
-    let _ = is_out(alloc);
-    assert!(rt; becomes(alloc, &[1, 0, 10, 1, 0xaa], &artifact));
-    Ok(())
-}
-
-#[test]
-fn without_memory_stored_finalize(rt: HostRuntime) -> Result<(), Fail> {
-    let alloc = rt.alloc();
-    let artifact = decode_cfg::<Artifact<Marked, MarkedDigest>>(alloc, ACTIVITIES[5], &4)?;
-    let _ = is_out(alloc);
-    assert!(rt; becomes(alloc, &[2, 0, 10, 5, 6, 1, 0xaa], &artifact));
+fn without_memory_stored_votes(rt: HostRuntime) -> Result<(), Fail> {
+    assert!(rt; are_votes_stored::<Marked, MarkedDigest>(rt.alloc())?);
     Ok(())
 }
 
@@ -156,6 +169,36 @@ fn is_finalize_signed<S: Scheme<D>, D: Digest>(
     let signed = Finalize::sign(alloc, me, proposal);
     matches!(none, Ok(None)) && matches!(signed, Ok(Some(vote)) if vote.verify(verifier))
 }
+
+/// Whether a vote of each kind is signed by the participant, and none by the verifier.
+fn are_votes_signed<S: Scheme<D>, D: Digest>(
+    alloc: Global,
+    me: &S,
+    verifier: &S,
+    payload: D,
+) -> bool {
+    let proposal = proposal(payload);
+    is_notarize_signed(alloc, me, verifier, proposal)
+        && is_nullify_signed(alloc, me, verifier, proposal)
+        && is_finalize_signed(alloc, me, verifier, proposal)
+}
+
+#[test]
+fn without_memory_votes(rt: HostRuntime) -> Result<(), Fail> {
+    let alloc = rt.alloc();
+    let me = Marked::new(alloc, 4, Some(Participant::new(1)))?;
+    let nobody = Marked::new(alloc, 4, None)?;
+    let _ = is_out(alloc);
+    assert!(rt; are_votes_signed(alloc, &me, &nobody, MarkedDigest::from_bytes(&[6])));
+    Ok(())
+}
+
+/// Of participant 1 the votes for two proposals, and a nullify.
+const CONTRADICTING: [&[u8]; 3] = [
+    &[0, 10, 5, 6, 1, 0xaa],
+    &[0, 10, 5, 7, 1, 0xaa],
+    &[0, 10, 1, 0xaa],
+];
 
 /// Whether two notarizes contradict, and are the evidence that is made of them.
 fn are_conflicting_notarizes<S: Scheme<D>, D: Digest>(
@@ -196,40 +239,47 @@ fn are_nullify_and_finalize<S: Scheme<D>, D: Digest>(
     evidence.verify(scheme) && evidence.nullify() == nullify && evidence.finalize() == finalize
 }
 
+/// The values with these two encodings.
+fn pair<A: ReadExt + Drop, B: ReadExt + Drop>(
+    alloc: Global,
+    [first, second]: [&[u8]; 2],
+) -> Result<(A, B), Fail> {
+    Ok((decode(alloc, first)?, decode(alloc, second)?))
+}
+
+/// Whether the notarizes among [`CONTRADICTING`] are evidence.
+fn are_notarizes_evidence<S: Scheme<D>, D: Digest>(
+    alloc: Global,
+    scheme: &S,
+) -> Result<bool, Fail> {
+    let votes = pair(alloc, [CONTRADICTING[0], CONTRADICTING[1]])?;
+    Ok(are_conflicting_notarizes::<S, D>(scheme, &votes.0, &votes.1))
+}
+
+/// As [`are_notarizes_evidence`], of the finalizes.
+fn are_finalizes_evidence<S: Scheme<D>, D: Digest>(
+    alloc: Global,
+    scheme: &S,
+) -> Result<bool, Fail> {
+    let votes = pair(alloc, [CONTRADICTING[0], CONTRADICTING[1]])?;
+    Ok(are_conflicting_finalizes::<S, D>(scheme, &votes.0, &votes.1))
+}
+
+/// As [`are_notarizes_evidence`], of the nullify and the first finalize.
+fn are_both_evidence<S: Scheme<D>, D: Digest>(alloc: Global, scheme: &S) -> Result<bool, Fail> {
+    let votes = pair(alloc, [CONTRADICTING[2], CONTRADICTING[0]])?;
+    Ok(are_nullify_and_finalize::<S, D>(scheme, &votes.0, &votes.1))
+}
+
 /// Votes of participant 1 that contradict are evidence.
 #[test]
 fn without_memory_evidence(rt: HostRuntime) -> Result<(), Fail> {
     let alloc = rt.alloc();
     let scheme = Marked::new(alloc, 4, None)?;
-    let votes: [&[u8]; 2] = [&[0, 10, 5, 6, 1, 0xaa], &[0, 10, 5, 7, 1, 0xaa]];
-    let notarizes = decoded::<Notarize<Marked, MarkedDigest>>(alloc, &(), &votes)?;
-    let finalizes = decoded::<Finalize<Marked, MarkedDigest>>(alloc, &(), &votes)?;
-    let nullifies = decoded::<Nullify<Marked>>(alloc, &(), &[&[0, 10, 1, 0xaa]])?;
     let _ = is_out(alloc);
-    assert!(rt;
-        matches!(notarizes.as_slice(),
-        [first, second] if are_conflicting_notarizes(&scheme, first, second))
-    );
-    assert!(rt;
-        matches!(finalizes.as_slice(),
-        [first, second] if are_conflicting_finalizes(&scheme, first, second))
-    );
-    assert!(rt;
-        matches!((nullifies.as_slice(), finalizes.as_slice()),
-        ([nullify], [finalize, _]) if are_nullify_and_finalize(&scheme, nullify, finalize))
-    );
-    Ok(())
-}
-
-#[test]
-fn without_memory_votes(rt: HostRuntime) -> Result<(), Fail> {
-    let alloc = rt.alloc();
-    let me = Marked::new(alloc, 4, Some(Participant::new(1)))?;
-    let nobody = Marked::new(alloc, 4, None)?;
-    let _ = is_out(alloc);
-    assert!(rt; is_notarize_signed(alloc, &me, &nobody, marked_proposal()));
-    assert!(rt; is_nullify_signed(alloc, &me, &nobody, marked_proposal()));
-    assert!(rt; is_finalize_signed(alloc, &me, &nobody, marked_proposal()));
+    assert!(rt; are_notarizes_evidence::<Marked, MarkedDigest>(alloc, &scheme)?);
+    assert!(rt; are_finalizes_evidence::<Marked, MarkedDigest>(alloc, &scheme)?);
+    assert!(rt; are_both_evidence::<Marked, MarkedDigest>(alloc, &scheme)?);
     Ok(())
 }
 
@@ -260,78 +310,77 @@ const ACTIVITIES: [&[u8]; 10] = [
     &[9, 0, 10, 1, 0xaa, 0, 10, 5, 6, 1, 0xaa],
 ];
 
-/// Whether messages verify, are as long as their encodings, and are verified before they are reported where they have a certificate.
-fn are_valid<S: Scheme<D>, D: Digest>(
-    scheme: &S,
-    messages: &[Activity<S, D>],
-    encodings: &[&[u8]],
-) -> bool {
-    for (message, encoding) in messages.iter().zip(encodings) {
+/// Whether messages of each tag verify, are as long as their encodings, and are verified before they are reported where they have a
+/// certificate.
+fn are_valid<S: Scheme<D>, D: Digest>(alloc: Global, scheme: &S) -> Result<bool, Fail> {
+    let messages = decoded::<Activity<S, D>>(alloc, &4, &ACTIVITIES)?;
+    let _ = is_out(alloc);
+    for (message, encoding) in messages.iter().zip(&ACTIVITIES) {
         let has_certificate = matches!(encoding, [1 | 2 | 4 | 6, ..]);
         let is_whole = message.encode_size() == encoding.len();
         if !message.verify(scheme) || !is_whole || message.verified() != has_certificate {
-            return false;
+            return Ok(false);
         }
     }
-    true
+    Ok(messages.len() == ACTIVITIES.len())
 }
 
 #[test]
 fn without_memory_activities(rt: HostRuntime) -> Result<(), Fail> {
     let scheme = Marked::new(rt.alloc(), 4, None)?;
-    let messages = decoded::<Activity<Marked, MarkedDigest>>(rt.alloc(), &4, &ACTIVITIES)?;
-    let _ = is_out(rt.alloc());
-    assert!(rt; messages.len() == ACTIVITIES.len());
-    assert!(rt; are_valid(&scheme, messages.as_slice(), &ACTIVITIES));
+    assert!(rt; are_valid::<Marked, MarkedDigest>(rt.alloc(), &scheme)?);
     Ok(())
 }
 
-/// Whether a certificate message is of the kind with this word, verifies, and becomes this artifact.
+/// Whether the certificate message with this encoding is of the kind with this word, verifies, and becomes the artifact with that
+/// encoding.
 fn is_stored<S: Scheme<D>, D: Digest>(
+    alloc: Global,
     scheme: &S,
-    message: Certificate<S, D>,
-    artifact: &Artifact<S, D>,
+    [message, artifact]: [&[u8]; 2],
     word: &str,
-) -> bool {
-    message.verify(scheme)
-        && message.kind().as_str() == word
-        && message.encode_size() == artifact.encode_size()
-        && &Artifact::from(message) == artifact
+) -> Result<bool, Fail> {
+    let message = decode_cfg::<Certificate<S, D>>(alloc, message, &4)?;
+    let artifact = decode_cfg::<Artifact<S, D>>(alloc, artifact, &4)?;
+    let _ = is_out(alloc);
+    Ok(
+        message.verify(scheme)
+            && message.kind().as_str() == word
+            && message.encode_size() == artifact.encode_size()
+            && Artifact::from(message) == artifact,
+    )
 }
 
 #[test]
 fn without_memory_stored_notarization(rt: HostRuntime) -> Result<(), Fail> {
-    let alloc = rt.alloc();
-    let scheme = Marked::new(alloc, 4, None)?;
-    let encoding = [0, 0, 10, 5, 6, 3, 0, 0xaa, 1, 0xaa, 2, 0xaa];
-    let message = decode_cfg::<Certificate<Marked, MarkedDigest>>(alloc, &encoding, &4)?;
-    let artifact = decode_cfg::<Artifact<Marked, MarkedDigest>>(alloc, ACTIVITIES[1], &4)?;
-    let _ = is_out(alloc);
-    assert!(rt; is_stored(&scheme, message, &artifact, "notarization"));
+    let scheme = Marked::new(rt.alloc(), 4, None)?;
+    let encodings = [
+        [0, 0, 10, 5, 6, 3, 0, 0xaa, 1, 0xaa, 2, 0xaa].as_slice(),
+        ACTIVITIES[1],
+    ];
+    assert!(rt; is_stored::<_, MarkedDigest>(rt.alloc(), &scheme, encodings, "notarization")?);
     Ok(())
 }
 
 #[test]
 fn without_memory_stored_nullification(rt: HostRuntime) -> Result<(), Fail> {
-    let alloc = rt.alloc();
-    let scheme = Marked::new(alloc, 4, None)?;
-    let encoding = [1, 0, 10, 3, 0, 0xaa, 1, 0xaa, 2, 0xaa];
-    let message = decode_cfg::<Certificate<Marked, MarkedDigest>>(alloc, &encoding, &4)?;
-    let artifact = decode_cfg::<Artifact<Marked, MarkedDigest>>(alloc, ACTIVITIES[4], &4)?;
-    let _ = is_out(alloc);
-    assert!(rt; is_stored(&scheme, message, &artifact, "nullification"));
+    let scheme = Marked::new(rt.alloc(), 4, None)?;
+    let encodings = [
+        [1, 0, 10, 3, 0, 0xaa, 1, 0xaa, 2, 0xaa].as_slice(),
+        ACTIVITIES[4],
+    ];
+    assert!(rt; is_stored::<_, MarkedDigest>(rt.alloc(), &scheme, encodings, "nullification")?);
     Ok(())
 }
 
 #[test]
 fn without_memory_stored_finalization(rt: HostRuntime) -> Result<(), Fail> {
-    let alloc = rt.alloc();
-    let scheme = Marked::new(alloc, 4, None)?;
-    let encoding = [2, 0, 10, 5, 6, 3, 0, 0xaa, 1, 0xaa, 2, 0xaa];
-    let message = decode_cfg::<Certificate<Marked, MarkedDigest>>(alloc, &encoding, &4)?;
-    let artifact = decode_cfg::<Artifact<Marked, MarkedDigest>>(alloc, ACTIVITIES[6], &4)?;
-    let _ = is_out(alloc);
-    assert!(rt; is_stored(&scheme, message, &artifact, "finalization"));
+    let scheme = Marked::new(rt.alloc(), 4, None)?;
+    let encodings = [
+        [2, 0, 10, 5, 6, 3, 0, 0xaa, 1, 0xaa, 2, 0xaa].as_slice(),
+        ACTIVITIES[6],
+    ];
+    assert!(rt; is_stored::<_, MarkedDigest>(rt.alloc(), &scheme, encodings, "finalization")?);
     Ok(())
 }
 
@@ -343,72 +392,75 @@ fn are_too_few<T: Drop>(made: Result<T, AssemblyError>) -> bool {
 /// Votes of participants 1 and 2 for one proposal.
 const VOTES: [&[u8]; 2] = [&[0, 10, 5, 6, 1, 0xaa], &[0, 10, 5, 6, 2, 0xaa]];
 
+/// Whether attestations of distinct participants can be assembled, and those of one participant cannot.
+fn are_distinct_assembled<S: CertificateScheme>(alloc: Global, scheme: &S) -> Result<bool, Fail> {
+    let distinct = decoded::<Attestation<S>>(alloc, &(), &[&[1, 0xaa], &[2, 0xaa]])?;
+    let repeated = decoded::<Attestation<S>>(alloc, &(), &[&[1, 0xaa], &[1, 0xaa]])?;
+    let _ = is_out(alloc);
+    Ok(can_assemble(scheme, distinct.as_slice()) && !can_assemble(scheme, repeated.as_slice()))
+}
+
 #[test]
 fn without_memory_assembly(rt: HostRuntime) -> Result<(), Fail> {
-    let alloc = rt.alloc();
-    let scheme = Marked::new(alloc, 4, None)?;
-    let distinct = decoded::<Attestation<Marked>>(alloc, &(), &[&[1, 0xaa], &[2, 0xaa]])?;
-    let repeated = decoded::<Attestation<Marked>>(alloc, &(), &[&[1, 0xaa], &[1, 0xaa]])?;
-    let _ = is_out(alloc);
-    assert!(rt; can_assemble(&scheme, distinct.as_slice()));
-    assert!(rt; !can_assemble(&scheme, repeated.as_slice()));
+    let scheme = Marked::new(rt.alloc(), 4, None)?;
+    assert!(rt; are_distinct_assembled(rt.alloc(), &scheme)?);
     Ok(())
 }
 
-/// Whether these notarizes are too few, lent and owned.
-fn are_few_notarizes<S: Scheme<D>, D: Digest>(
-    alloc: Global,
-    scheme: &S,
-    votes: Vec<Notarize<S, D>>,
-) -> bool {
+/// Whether two notarizes are too few, lent and owned.
+fn are_few_notarizes<S: Scheme<D>, D: Digest>(alloc: Global, scheme: &S) -> Result<bool, Fail> {
+    let votes = decoded::<Notarize<S, D>>(alloc, &(), &VOTES)?;
+    let _ = is_out(alloc);
     if !Notarization::can_assemble(scheme, votes.as_slice()) {
-        return false;
+        return Ok(false);
     }
     let lent = Notarization::from_notarizes(alloc, scheme, votes.as_slice());
-    are_too_few(lent) && are_too_few(Notarization::from_owned_notarizes(alloc, scheme, votes))
+    Ok(are_too_few(lent) && are_too_few(Notarization::from_owned_notarizes(alloc, scheme, votes)))
 }
 
-/// Whether these nullifies are too few, lent and owned.
-fn are_few_nullifies<S: Scheme<D>, D: Digest>(
-    alloc: Global,
-    scheme: &S,
-    votes: Vec<Nullify<S>>,
-) -> bool {
+/// Whether two nullifies are too few, lent and owned.
+fn are_few_nullifies<S: Scheme<D>, D: Digest>(alloc: Global, scheme: &S) -> Result<bool, Fail> {
+    let votes = decoded::<Nullify<S>>(alloc, &(), &[&[0, 10, 1, 0xaa], &[0, 10, 2, 0xaa]])?;
+    let _ = is_out(alloc);
     if !Nullification::can_assemble::<D>(scheme, votes.as_slice()) {
-        return false;
+        return Ok(false);
     }
     let lent = Nullification::from_nullifies::<D>(alloc, scheme, votes.as_slice());
-    are_too_few(lent) && are_too_few(Nullification::from_owned_nullifies::<D>(alloc, scheme, votes))
+    Ok(
+        are_too_few(lent)
+            && are_too_few(Nullification::from_owned_nullifies::<D>(alloc, scheme, votes)),
+    )
 }
 
-/// Whether these finalizes are too few, lent and owned.
-fn are_few_finalizes<S: Scheme<D>, D: Digest>(
-    alloc: Global,
-    scheme: &S,
-    votes: Vec<Finalize<S, D>>,
-) -> bool {
+/// Whether two finalizes are too few, lent and owned.
+fn are_few_finalizes<S: Scheme<D>, D: Digest>(alloc: Global, scheme: &S) -> Result<bool, Fail> {
+    let votes = decoded::<Finalize<S, D>>(alloc, &(), &VOTES)?;
+    let _ = is_out(alloc);
     if !Finalization::can_assemble(scheme, votes.as_slice()) {
-        return false;
+        return Ok(false);
     }
     let lent = Finalization::from_finalizes(alloc, scheme, votes.as_slice());
-    are_too_few(lent) && are_too_few(Finalization::from_owned_finalizes(alloc, scheme, votes))
+    Ok(are_too_few(lent) && are_too_few(Finalization::from_owned_finalizes(alloc, scheme, votes)))
 }
 
 #[test]
-fn without_memory_builders(rt: HostRuntime) -> Result<(), Fail> {
-    let alloc = rt.alloc();
-    let scheme = Marked::new(alloc, 4, None)?;
-    let notarizes = decoded::<Notarize<Marked, MarkedDigest>>(alloc, &(), &VOTES)?;
-    let nullifies = decoded::<Nullify<Marked>>(
-        alloc,
-        &(),
-        &[&[0, 10, 1, 0xaa], &[0, 10, 2, 0xaa]],
-    )?;
-    let finalizes = decoded::<Finalize<Marked, MarkedDigest>>(alloc, &(), &VOTES)?;
-    let _ = is_out(alloc);
-    assert!(rt; are_few_notarizes(alloc, &scheme, notarizes));
-    assert!(rt; are_few_nullifies::<_, MarkedDigest>(alloc, &scheme, nullifies));
-    assert!(rt; are_few_finalizes(alloc, &scheme, finalizes));
+fn without_memory_few_notarizes(rt: HostRuntime) -> Result<(), Fail> {
+    let scheme = Marked::new(rt.alloc(), 4, None)?;
+    assert!(rt; are_few_notarizes::<_, MarkedDigest>(rt.alloc(), &scheme)?);
+    Ok(())
+}
+
+#[test]
+fn without_memory_few_nullifies(rt: HostRuntime) -> Result<(), Fail> {
+    let scheme = Marked::new(rt.alloc(), 4, None)?;
+    assert!(rt; are_few_nullifies::<_, MarkedDigest>(rt.alloc(), &scheme)?);
+    Ok(())
+}
+
+#[test]
+fn without_memory_few_finalizes(rt: HostRuntime) -> Result<(), Fail> {
+    let scheme = Marked::new(rt.alloc(), 4, None)?;
+    assert!(rt; are_few_finalizes::<_, MarkedDigest>(rt.alloc(), &scheme)?);
     Ok(())
 }
 
@@ -461,6 +513,37 @@ fn is_assembled<S: Scheme<D>, D: Digest>(
         && nobody.verify_certificate(Subject::Notarize { proposal }, &certificate)
 }
 
+/// Whether the participant of a committee of one signs, and makes a certificate of its attestation and of no less.
+fn is_quorum_alone<S: Scheme<D>, D: Digest>(
+    alloc: Global,
+    me: &S,
+    nobody: &S,
+    payload: D,
+) -> Result<bool, Fail> {
+    let room = Vec::with_capacity(alloc, 1)?;
+    let _ = is_out(alloc);
+    Ok(
+        is_refused_without_any::<S, D>(alloc, me)
+            && is_assembled(alloc, me, nobody, room, &proposal(payload)),
+    )
+}
+
+/// The proposal for this payload in round (0, 10), built on view 5.
+fn proposal<D: Digest>(payload: D) -> Proposal<D> {
+    let round = Round::new(Epoch::new(0), View::new(10));
+    Proposal::new(round, View::new(5), payload)
+}
+
+#[test]
+fn without_memory_marked(rt: HostRuntime) -> Result<(), Fail> {
+    let alloc = rt.alloc();
+    let me = Marked::new(alloc, 1, Some(Participant::new(0)))?;
+    let nobody = Marked::new(alloc, 1, None)?;
+    let payload = MarkedDigest::from_bytes(&[6]);
+    assert!(rt; is_quorum_alone(alloc, &me, &nobody, payload)?);
+    Ok(())
+}
+
 /// Whether a certificate certifies a proposal, twice in one list.
 fn is_certified_twice(
     scheme: &Marked,
@@ -474,56 +557,47 @@ fn is_certified_twice(
     scheme.verify_all(&items)
 }
 
-/// The proposal for this payload in round (0, 10), built on view 5.
-fn proposal<D: Digest>(payload: D) -> Proposal<D> {
-    let round = Round::new(Epoch::new(0), View::new(10));
-    Proposal::new(round, View::new(5), payload)
-}
-
-/// The proposal of the marked scheme for payload 6.
-fn marked_proposal() -> Proposal<MarkedDigest> {
-    proposal(MarkedDigest::from_bytes(&[6]))
+#[test]
+fn without_memory_twice(rt: HostRuntime) -> Result<(), Fail> {
+    let alloc = rt.alloc();
+    let nobody = Marked::new(alloc, 1, None)?;
+    let certificate = decode_cfg::<Listed<Marked>>(alloc, &[1, 0, 0xaa], &1)?;
+    let _ = is_out(alloc);
+    let proposal = proposal(MarkedDigest::from_bytes(&[6]));
+    assert!(rt; is_certified_twice(&nobody, &proposal, &certificate));
+    Ok(())
 }
 
 /// The set of the key of zeros.
-fn key_of_zeros(alloc: Global) -> Result<Set<PlainKey>, Fail> {
+fn key_of_zeros(alloc: Global) -> Result<Set<PlainKey>, Fail>
+    ensures { IfOk result (λ keys. length keys ≡ 1) }
+{
     let mut keys = Vec::new(alloc);
     keys.push(PlainKey::from_bytes(&[0; 32]))?;
-    Ok(Set::try_from_vec(keys)?)
-}
-
-#[test]
-fn without_memory_marked(rt: HostRuntime) -> Result<(), Fail> {
-    let alloc = rt.alloc();
-    let me = Marked::new(alloc, 1, Some(Participant::new(0)))?;
-    let nobody = Marked::new(alloc, 1, None)?;
-    let certificates = decoded::<Listed<Marked>>(alloc, &1, &[&[1, 0, 0xaa]])?;
-    let room = Vec::with_capacity(alloc, 1)?;
-    let _ = is_out(alloc);
-    assert!(rt; is_refused_without_any::<_, MarkedDigest>(alloc, &me));
-    assert!(rt; is_assembled(alloc, &me, &nobody, room, &marked_proposal()));
-    for certificate in &certificates {
-        assert!(rt; is_certified_twice(&nobody, &marked_proposal(), certificate));
+    let keys = Set::try_from_vec(keys)?;
+    if keys.len() != 1 {
+        return Err("no key".into());
     }
-    Ok(())
+    Ok(keys)
 }
 
 #[test]
 fn without_memory_plain(rt: HostRuntime) -> Result<(), Fail> {
     let alloc = rt.alloc();
-    let (keys, others, members) = (
-        key_of_zeros(alloc)?,
-        key_of_zeros(alloc)?,
-        key_of_zeros(alloc)?,
-    );
-    assert!(rt; keys.len() == 1 && others.len() == 1 && members.len() == 1);
-    let me = Plain::signer(alloc, b"test", keys, &PlainKey::from_bytes(&[0; 32]))?;
-    let nobody = Plain::verifier(alloc, b"test", others)?;
-    let room = Vec::with_capacity(alloc, 1)?;
+    let own = PlainKey::from_bytes(&[0; 32]);
+    let me = Plain::signer(alloc, b"test", key_of_zeros(alloc)?, &own)?.ok_or("nobody")?;
+    let nobody = Plain::verifier(alloc, b"test", key_of_zeros(alloc)?)?;
+    let payload = Sha256Digest::from_bytes(&[6; 32]);
+    assert!(rt; is_quorum_alone(alloc, &me, &nobody, payload)?);
+    Ok(())
+}
+
+/// A key that is in no committee signs for nobody.
+#[test]
+fn without_memory_stranger(rt: HostRuntime) -> Result<(), Fail> {
+    let alloc = rt.alloc();
+    let members = key_of_zeros(alloc)?;
     let _ = is_out(alloc);
-    let proposal = proposal(Sha256Digest::from_bytes(&[6; 32]));
-    assert!(rt; matches!(&me, Some(me) if is_refused_without_any::<_, Sha256Digest>(alloc, me)));
-    assert!(rt; matches!(&me, Some(me) if is_assembled(alloc, me, &nobody, room, &proposal)));
     let stranger = PlainKey::from_bytes(&[1; 32]);
     assert!(rt; matches!(Plain::signer(alloc, b"test", members, &stranger), Ok(None)));
     Ok(())
