@@ -7,12 +7,11 @@ use Rattle.std.proofs.KnownBytes.{Appends-nil, Appends-trans}
 use Rattle.std.proofs.Math.Seq.{take-length, take-append-add}
 use Rattle.std.proofs.lemmas.Grind.{flat_map-append}
 use Rattle.std.proofs.lemmas.List.Elements.{All-nil, All-append}
-use Rattle.simplex_base.specs.Format.{Format}
 use Rattle.simplex_base.specs.declared.codec.error.Error.{Error}
 use Rattle.simplex_audit.specs.Messages.{IsStop, IsFault}
 use Rattle.simplex_audit.specs.Progress.{fault_of}
 use Rattle.simplex_audit.specs.Run.{AppendsBeginning}
-use Rattle.simplex_inspect.specs.Inspected.{lines_from, fault_text, AreShown, IsWritten, IsBegun, IsInspected}
+use Rattle.simplex_inspect.specs.Inspected.{Lines, lines_from, fault_text, AreShown, IsWritten, IsBegun, IsInspected}
 use Rattle.simplex_inspect.proofs.LinesLemmas.{lines_append}
 
 -- what holds whatever the error is
@@ -30,49 +29,49 @@ if_err_then (Ok x) P Q f h = tt
 if_err_then (Err e) P Q f h = f e h
 
 -- nothing was written yet
-pub nothing_written : {M : Type 0} (format : Format M) (line : ℕ → ℕ → M → List ℕ) (input : List ℕ) (start : Option (List ℕ)) → IsWritten format line input 0 input start start
-nothing_written format line input start = record { messages = []; whole = refl; each = All-nil format.is_value; offset_is = refl; written = Appends-nil start }
+pub nothing_written : {M : Type 0} (lines : Lines M) (input : List ℕ) (start : Option (List ℕ)) → IsWritten lines input 0 input start start
+nothing_written lines input start = record { messages = []; whole = refl; each = All-nil lines.format.is_value; offset_is = refl; written = Appends-nil start }
 
-module _ {M : Type 0} (format : Format M) (line : ℕ → ℕ → M → List ℕ) (input : List ℕ) (offset : ℕ) (held : List ℕ) (start : Option (List ℕ)) (w0 : Option (List ℕ)) (far : IsWritten format line input offset held start w0) where
+module _ {M : Type 0} (lines : Lines M) (input : List ℕ) (offset : ℕ) (held : List ℕ) (start : Option (List ℕ)) (w0 : Option (List ℕ)) (far : IsWritten lines input offset held start w0) where
   -- the lines so far
   abbrev pub before : List ℕ
-  before = lines_from line format.encoding 0 far.messages
+  before = lines_from lines.line lines.format.encoding 0 far.messages
 
   -- what was written is the text of the first messages
-  pub begun_now : (text : List ℕ) × IsBegun format line input text × AppendsBeginning start w0 text
+  pub begun_now : (text : List ℕ) × IsBegun lines input text × AppendsBeginning start w0 text
   begun_now = (before, record { messages = far.messages; rest = held; whole = far.whole; each = far.each; text_is = refl }, (length before, subst (Appends start w0) (sym (take-length before)) far.written))
 
-  module _ (rest : List ℕ) (next : ℕ) (stop : Option Error) (text : List ℕ) (shown : AreShown format line held rest offset next stop text) where
+  module _ (rest : List ℕ) (next : ℕ) (stop : Option Error) (text : List ℕ) (shown : AreShown lines held rest offset next stop text) where
     -- the messages so far and the further ones
     abbrev pub all : List M
     all = far.messages ++ shown.messages
 
-    all_encoded : flat_map format.encoding all ≡ flat_map format.encoding far.messages ++ flat_map format.encoding shown.messages
-    all_encoded = flat_map-append format.encoding far.messages shown.messages
+    all_encoded : flat_map lines.format.encoding all ≡ flat_map lines.format.encoding far.messages ++ flat_map lines.format.encoding shown.messages
+    all_encoded = flat_map-append lines.format.encoding far.messages shown.messages
 
-    pub all_whole : input ≡ flat_map format.encoding all ++ rest
+    pub all_whole : input ≡ flat_map lines.format.encoding all ++ rest
     all_whole =
-        far.whole ∙ (ap (λ (t : List ℕ). flat_map format.encoding far.messages ++ t) shown.are_messages.whole
-        ∙ (sym (append_assoc (flat_map format.encoding far.messages) (flat_map format.encoding shown.messages) rest) ∙ ap (λ (t : List ℕ). t ++ rest) (sym all_encoded)))
+        far.whole ∙ (ap (λ (t : List ℕ). flat_map lines.format.encoding far.messages ++ t) shown.are_messages.whole
+        ∙ (sym (append_assoc (flat_map lines.format.encoding far.messages) (flat_map lines.format.encoding shown.messages) rest) ∙ ap (λ (t : List ℕ). t ++ rest) (sym all_encoded)))
 
-    pub all_length : next ≡ length (flat_map format.encoding all)
+    pub all_length : next ≡ length (flat_map lines.format.encoding all)
     all_length =
         let a = far.offset_is in
         let b = shown.behind_is in
-        let e = ap length all_encoded ∙ length-append (flat_map format.encoding far.messages) (flat_map format.encoding shown.messages) in
+        let e = ap length all_encoded ∙ length-append (flat_map lines.format.encoding far.messages) (flat_map lines.format.encoding shown.messages) in
         omega (arith, a, b, e)
 
-    pub all_lines : before ++ text ≡ lines_from line format.encoding 0 all
+    pub all_lines : before ++ text ≡ lines_from lines.line lines.format.encoding 0 all
     all_lines =
-        let at : offset ≡ 0 + length (flat_map format.encoding far.messages) = let a = far.offset_is in omega (arith, a) in
-        ap (λ (t : List ℕ). before ++ t) (shown.text_is ∙ ap (λ (n : ℕ). lines_from line format.encoding n shown.messages) at) ∙ sym (lines_append line format.encoding 0 far.messages shown.messages)
+        let at : offset ≡ 0 + length (flat_map lines.format.encoding far.messages) = let a = far.offset_is in omega (arith, a) in
+        ap (λ (t : List ℕ). before ++ t) (shown.text_is ∙ ap (λ (n : ℕ). lines_from lines.line lines.format.encoding n shown.messages) at) ∙ sym (lines_append lines.line lines.format.encoding 0 far.messages shown.messages)
 
     -- the further lines were written
-    pub advanced : (w1 : Option (List ℕ)) → Appends w0 w1 text → IsWritten format line input next rest start w1
+    pub advanced : (w1 : Option (List ℕ)) → Appends w0 w1 text → IsWritten lines input next rest start w1
     advanced w1 more = record {
       messages = all;
       whole = all_whole;
-      each = All-append format.is_value far.messages shown.messages far.each shown.are_messages.each;
+      each = All-append lines.format.is_value far.messages shown.messages far.each shown.are_messages.each;
       offset_is = all_length;
       written = subst (Appends start w1) all_lines (Appends-trans start w0 w1 before text far.written more);
     }
@@ -82,23 +81,23 @@ module _ {M : Type 0} (format : Format M) (line : ℕ → ℕ → M → List ℕ
     begun_behind w1 more (count, grown) = (length before + count, subst (Appends start w1) (sym (take-append-add before more count)) (Appends-trans start w0 w1 before (take count more) far.written grown))
 
     -- a beginning of the further lines was written
-    pub begun_more : (w1 : Option (List ℕ)) → AppendsBeginning w0 w1 text → (whole : List ℕ) × IsBegun format line input whole × AppendsBeginning start w1 whole
+    pub begun_more : (w1 : Option (List ℕ)) → AppendsBeginning w0 w1 text → (whole : List ℕ) × IsBegun lines input whole × AppendsBeginning start w1 whole
     begun_more w1 some = (
       before ++ text,
-      record { messages = all; rest = rest; whole = all_whole; each = All-append format.is_value far.messages shown.messages far.each shown.are_messages.each; text_is = all_lines },
+      record { messages = all; rest = rest; whole = all_whole; each = All-append lines.format.is_value far.messages shown.messages far.each shown.are_messages.each; text_is = all_lines },
       begun_behind w1 text some,
     )
 
-    fault_at : (stop' : Option Error) → IsStop format.reading rest stop' → IsFault format.reading (length (flat_map format.encoding all)) rest (fault_of next stop')
+    fault_at : (stop' : Option Error) → IsStop lines.format.reading rest stop' → IsFault lines.format.reading (length (flat_map lines.format.encoding all)) rest (fault_of next stop')
     fault_at None none = none
     fault_at (Some e) some = (some.0, all_length, some.1)
 
     -- with the line of the fault the text is that of the whole input
-    pub inspected : IsInspected format line input (fault_of next stop) (before ++ (text ++ fault_text (fault_of next stop) rest))
+    pub inspected : IsInspected lines input (fault_of next stop) (before ++ (text ++ fault_text (fault_of next stop) rest))
     inspected = record {
       messages = all;
       rest = rest;
-      are_messages = record { whole = all_whole; each = All-append format.is_value far.messages shown.messages far.each shown.are_messages.each; stuck = shown.are_messages.stuck };
+      are_messages = record { whole = all_whole; each = All-append lines.format.is_value far.messages shown.messages far.each shown.are_messages.each; stuck = shown.are_messages.stuck };
       fault_is = fault_at stop shown.stop_is;
       text_is = sym (append_assoc before text (fault_text (fault_of next stop) rest)) ∙ ap (λ (t : List ℕ). t ++ fault_text (fault_of next stop) rest) all_lines;
     }

@@ -8,7 +8,7 @@ use Rattle.simplex_base.specs.FormatLaws.{IsBytes-after}
 use Rattle.simplex_base.specs.declared.codec.error.Error.{Error}
 use Rattle.simplex_audit.specs.Progress.{IsProgress}
 use Rattle.simplex_audit.proofs.StreamLemmas.{SoFar}
-use Rattle.simplex_inspect.specs.Inspected.{lines_from, AreShown}
+use Rattle.simplex_inspect.specs.Inspected.{Lines, lines_from, AreShown}
 
 -- the lines of messages and of further ones
 pub lines_append : {M : Type 0} (line : ℕ → ℕ → M → List ℕ) (encoding : M → List ℕ) (offset : ℕ) (ms ks : List M) →
@@ -58,10 +58,10 @@ read_length format Recorded stream rest rest' read m law fit far e =
     ap length t.parts ∙ length-append (format.encoding m) rest'
 
 -- what was read is shown
-pub shown_so_far : {M : Type 0} (format : Format M) (line : ℕ → ℕ → M → List ℕ) (bytes rest : List ℕ) (read offset place : ℕ) (stop : Option Error) (text : List ℕ) →
-    IsProgress format (IsTextOf line format.encoding offset place text) bytes rest read stop →
-    AreShown format line bytes rest offset place stop text
-shown_so_far format line bytes rest read offset place stop text p = record {
+pub shown_so_far : {M : Type 0} (lines : Lines M) (bytes rest : List ℕ) (read offset place : ℕ) (stop : Option Error) (text : List ℕ) →
+    IsProgress lines.format (IsTextOf lines.line lines.format.encoding offset place text) bytes rest read stop →
+    AreShown lines bytes rest offset place stop text
+shown_so_far lines bytes rest read offset place stop text p = record {
   messages = p.messages;
   are_messages = p.are_messages;
   stop_is = p.stop_is;

@@ -1,20 +1,35 @@
 -- What is written of a stream: the lines of its messages, and the line of its fault.
-use Rattle.std.specs.Prelude.{◌≡◌, ℕ, ◌+◌, ◌-◌, ◌^◌, ◌⊎◌, List, [], ◌∷◌, ◌++◌, length, take, All, Option, Some, None, codes, decimal}
+use Rattle.std.specs.Prelude.{⊤, ◌≡◌, ℕ, ◌+◌, ◌-◌, ◌^◌, ◌⊎◌, List, [], ◌∷◌, ◌++◌, length, take, All, Option, Some, None, codes, decimal}
 use Rattle.std.specs.List.{flat_map}
 use Rattle.std.specs.Io.KnownBytes.{Appends}
 use Rattle.hex.specs.Hex.{encode_lower}
+use Rattle.json.specs.Print.{quoted}
 use Rattle.simplex_base.specs.Format.{Format}
+use Rattle.simplex_base.specs.Readable.{Readable, format_under}
 use Rattle.simplex_base.specs.declared.codec.error.Error.{Error}
 use Rattle.simplex_base.specs.declared.codec.error.Error.TheVariants as errors
+use Rattle.simplex_evidence.specs.declared.types.activity.Activity.{Activity}
 use Rattle.simplex_detector.specs.Committees.{Schedule, bound_of}
 use Rattle.simplex_audit.specs.Messages.{AreMessages, IsFault, IsStop}
+use Rattle.simplex_audit.specs.Run.{AppendsBeginning}
 use Rattle.simplex_audit.specs.declared.audit.Fault.{Fault}
+use Rattle.simplex_inspect.specs.Line.{line_json}
+use Rattle.simplex_inspect.specs.Shown.{Shown}
 
 -- the bound under which certificates are read: the number of participants of the greatest committee, and without
 -- committees the greatest number that a committee can have
 abbrev pub bound_under : {S P : Type 0} → (S → List P) → Option (Schedule S) → ℕ
 bound_under keys None = 2 ^ 32 - 1
 bound_under keys (Some committees) = bound_of keys committees
+
+-- How the messages of a stream are read, and the line of each: from the byte at which it begins and the number of its bytes.
+pub record Lines (M : Type 0) : Type 1 where
+  pub format : Format M
+  pub line : ℕ → ℕ → M → List ℕ
+
+-- how messages are read under committees or without any, and the line of what is shown by these
+abbrev pub lines_of : {S D C P G : Type 0} → Readable ℕ (Activity S D C P G) → (S → List P) → (Option (Schedule S) → Shown S D C P G) → Option (Schedule S) → Lines (Activity S D C P G)
+lines_of message keys shown committees = record { format = format_under message (bound_under keys committees); line = line_json (shown committees) }
 
 -- the lines of messages, the first of which begins at an offset: `line` gives that of a message from its offset and the
 -- number of its bytes
@@ -31,10 +46,10 @@ refusal_name (errors.Invalid subject reason) = codes "Invalid " ++ (subject.now 
 refusal_name errors.ExtraData = codes "ExtraData"
 refusal_name errors.OutOfMemory = codes "OutOfMemory"
 
--- the line of a fault: its offset, the refusal, and the first 16 of the bytes there
+-- the line of a fault: its offset, the refusal as a JSON string, and the first 16 of the bytes there
 abbrev pub fault_line : Fault → List ℕ → List ℕ
 fault_line fault rest =
-    codes "{\"offset\":" ++ (decimal fault.place ++ (codes ",\"fault\":\"" ++ (refusal_name fault.error ++ (codes "\",\"next\":\"" ++ (encode_lower (take 16 rest) ++ codes "\"}\n")))))
+    codes "{\"offset\":" ++ (decimal fault.place ++ (codes ",\"fault\":" ++ (quoted (refusal_name fault.error) ++ (codes ",\"next\":\"" ++ (encode_lower (take 16 rest) ++ codes "\"}\n")))))
 
 -- the same, where there is a fault
 abbrev pub fault_text : Option Fault → List ℕ → List ℕ
@@ -43,39 +58,56 @@ fault_text (Some fault) rest = fault_line fault rest
 
 -- The text is that of the whole input: the lines of its messages in order, and that of its fault, if there is one. They are
 -- the messages and the fault of an audit.
-pub record IsInspected {M : Type 0} (format : Format M) (line : ℕ → ℕ → M → List ℕ) (input : List ℕ) (fault : Option Fault) (text : List ℕ) : Type 0 where
+pub record IsInspected {M : Type 0} (lines : Lines M) (input : List ℕ) (fault : Option Fault) (text : List ℕ) : Type 0 where
   pub messages : List M
   pub rest : List ℕ
-  pub are_messages : AreMessages format input messages rest
-  pub fault_is : IsFault format.reading (length (flat_map format.encoding messages)) rest fault
-  pub text_is : text ≡ lines_from line format.encoding 0 messages ++ fault_text fault rest
+  pub are_messages : AreMessages lines.format input messages rest
+  pub fault_is : IsFault lines.format.reading (length (flat_map lines.format.encoding messages)) rest fault
+  pub text_is : text ≡ lines_from lines.line lines.format.encoding 0 messages ++ fault_text fault rest
 
 -- The text is that of the first messages of the input.
-pub record IsBegun {M : Type 0} (format : Format M) (line : ℕ → ℕ → M → List ℕ) (input : List ℕ) (text : List ℕ) : Type 0 where
+pub record IsBegun {M : Type 0} (lines : Lines M) (input : List ℕ) (text : List ℕ) : Type 0 where
   pub messages : List M
   pub rest : List ℕ
-  pub whole : input ≡ flat_map format.encoding messages ++ rest
-  pub each : All format.is_value messages
-  pub text_is : text ≡ lines_from line format.encoding 0 messages
+  pub whole : input ≡ flat_map lines.format.encoding messages ++ rest
+  pub each : All lines.format.is_value messages
+  pub text_is : text ≡ lines_from lines.line lines.format.encoding 0 messages
 
 -- The text is that of the first messages of the input, or of all of it.
-abbrev pub IsPart : {M : Type 0} → Format M → (ℕ → ℕ → M → List ℕ) → List ℕ → List ℕ → Type 0
-IsPart format line input text = IsBegun format line input text ⊎ ((fault : Option Fault) × IsInspected format line input fault text)
+abbrev pub IsPart : {M : Type 0} → Lines M → List ℕ → List ℕ → Type 0
+IsPart lines input text = IsBegun lines input text ⊎ ((fault : Option Fault) × IsInspected lines input fault text)
 
 -- The bytes that are held are what is left of the input behind its first messages, the offset is that of the first of them,
 -- and the lines of those messages were written.
-pub record IsWritten {M : Type 0} (format : Format M) (line : ℕ → ℕ → M → List ℕ) (input : List ℕ) (offset : ℕ) (held : List ℕ) (old new : Option (List ℕ)) : Type 0 where
+pub record IsWritten {M : Type 0} (lines : Lines M) (input : List ℕ) (offset : ℕ) (held : List ℕ) (old new : Option (List ℕ)) : Type 0 where
   pub messages : List M
-  pub whole : input ≡ flat_map format.encoding messages ++ held
-  pub each : All format.is_value messages
-  pub offset_is : offset ≡ length (flat_map format.encoding messages)
-  pub written : Appends old new (lines_from line format.encoding 0 messages)
+  pub whole : input ≡ flat_map lines.format.encoding messages ++ held
+  pub each : All lines.format.is_value messages
+  pub offset_is : offset ≡ length (flat_map lines.format.encoding messages)
+  pub written : Appends old new (lines_from lines.line lines.format.encoding 0 messages)
 
 -- Some messages begin the bytes, the offset is that behind them, no message begins what is left, for which the stop is the
 -- reason, and the text has grown by their lines.
-pub record AreShown {M : Type 0} (format : Format M) (line : ℕ → ℕ → M → List ℕ) (bytes rest : List ℕ) (offset behind : ℕ) (stop : Option Error) (text : List ℕ) : Type 0 where
+pub record AreShown {M : Type 0} (lines : Lines M) (bytes rest : List ℕ) (offset behind : ℕ) (stop : Option Error) (text : List ℕ) : Type 0 where
   pub messages : List M
-  pub are_messages : AreMessages format bytes messages rest
-  pub stop_is : IsStop format.reading rest stop
-  pub behind_is : behind ≡ offset + length (flat_map format.encoding messages)
-  pub text_is : text ≡ lines_from line format.encoding offset messages
+  pub are_messages : AreMessages lines.format bytes messages rest
+  pub stop_is : IsStop lines.format.reading rest stop
+  pub behind_is : behind ≡ offset + length (flat_map lines.format.encoding messages)
+  pub text_is : text ≡ lines_from lines.line lines.format.encoding offset messages
+
+-- the text of the whole input was written
+abbrev pub AppendsText : {M : Type 0} → Lines M → List ℕ → Option Fault → Option (List ℕ) → Option (List ℕ) → Type 0
+AppendsText lines input fault old new = (text : List ℕ) × IsInspected lines input fault text × Appends old new text
+
+-- a beginning of the lines of the first messages of the input was written
+abbrev pub AppendsBegun : {M : Type 0} → Lines M → List ℕ → Option (List ℕ) → Option (List ℕ) → Type 0
+AppendsBegun lines input old new = (text : List ℕ) × IsBegun lines input text × AppendsBeginning old new text
+
+-- the same, or a beginning of the text of the whole input was
+abbrev pub AppendsPart : {M : Type 0} → Lines M → List ℕ → Option (List ℕ) → Option (List ℕ) → Type 0
+AppendsPart lines input old new = (text : List ℕ) × IsPart lines input text × AppendsBeginning old new text
+
+-- the input is all that a reader had left, where that is known
+abbrev pub IsInput : Option (List ℕ) → List ℕ → Type 0
+IsInput None input = ⊤
+IsInput (Some bytes) input = bytes ≡ input

@@ -3,3 +3,4 @@ pub mod Json
 pub mod Shown
 pub mod Line
 pub mod Inspected
+pub mod Left

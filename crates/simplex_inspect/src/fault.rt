@@ -1,11 +1,14 @@
 //! The line of a fault.
 
 ghost use Rattle.std.specs.Prelude.{◌≡◌, IfOk, string_bytes, take};
+ghost use Rattle.json.specs.Print.{quoted};
 ghost use Rattle.simplex_inspect.specs.Inspected.{refusal_name, fault_line};
 
+use json::Writer;
 use simplex_audit::audit::Fault;
 use simplex_base::codec::error::Error;
 use std::alloc::{AllocError, Global};
+use std::str;
 
 /// How many bytes behind a fault are shown.
 const SHOWN: usize = 16;
@@ -24,6 +27,19 @@ fn refusal_name(alloc: Global, error: &Error) -> Result<String, AllocError>
     }
 }
 
+/// A text as a JSON string, in quotation marks.
+fn quoted(alloc: Global, text: &str) -> Result<String, AllocError>
+    ensures { IfOk result (λ made. string_bytes made ≡ quoted text.now) }
+{
+    let mut writer = Writer::new(Vec::new(alloc));
+    writer.string(text)?;
+    let bytes = writer.into_inner();
+    match str::from_utf8(bytes.as_slice()) {
+        Ok(text) => String::from_str(alloc, text),
+        Err(_) => unreachable!(),
+    }
+}
+
 /// The first bytes of some, as many as are shown.
 fn first_bytes(rest: &[u8]) -> &[u8]
     ensures { result.now ≡ take 16 rest.now }
@@ -35,12 +51,14 @@ fn first_bytes(rest: &[u8]) -> &[u8]
     }
 }
 
-/// The line of a fault, with its end: the byte at which it is, the refusal, and the first 16 of the bytes there.
+/// The line of a fault, with its end: the byte at which it is, the refusal as a JSON string, and the first 16 of the bytes
+/// there.
 pub fn fault_line(alloc: Global, fault: &Fault, rest: &[u8]) -> Result<String, AllocError>
     ensures { IfOk result (λ text. string_bytes text ≡ fault_line fault.now rest.now) }
 {
     let place = fault.place;
     let name = refusal_name(alloc, &fault.error)?;
+    let refusal = quoted(alloc, name.as_str())?;
     let next = hex::encode(alloc, first_bytes(rest))?;
-    format!(in alloc; "{{\"offset\":{place},\"fault\":\"{name}\",\"next\":\"{next}\"}}\n")
+    format!(in alloc; "{{\"offset\":{place},\"fault\":{refusal},\"next\":\"{next}\"}}\n")
 }

@@ -5,7 +5,7 @@ ghost use Rattle.std.specs.Io.KnownBytes.{Appends};
 ghost use Rattle.simplex_audit.specs.Progress.{fault_of};
 ghost use Rattle.simplex_audit.specs.Run.{AppendsBeginning};
 ghost use Rattle.simplex_audit.specs.Watched.{inner_of, has_failed, is_flushed};
-ghost use Rattle.simplex_inspect.specs.Inspected.{IsWritten, IsPart, IsInspected, fault_text};
+ghost use Rattle.simplex_inspect.specs.Inspected.{IsWritten, AppendsText, AppendsPart, fault_text};
 
 use crate::basis::Inspected;
 use crate::fault::fault_line;
@@ -18,7 +18,7 @@ use std::alloc::{AllocError, Global};
 use std::io::Write;
 
 /// Writes all of a text and flushes.
-fn write_text<W: Write>(writer: &mut Watched<W>, text: &[u8]) -> Result<(), RunError>
+pub(crate) fn write_text<W: Write>(writer: &mut Watched<W>, text: &[u8]) -> Result<(), RunError>
     requires { has_failed writer.old ≡ false }
     ensures written { OnOk result
         (Appends (W.contents (inner_of writer.old)) (W.contents (inner_of writer.new)) text.now) }
@@ -64,7 +64,7 @@ fn fault_text(alloc: Global, fault: &Option<Fault>, rest: &[u8]) -> Result<Strin
 
 /// Writes the lines of the messages that begin the held bytes, behind which no bytes come, and that of the fault, if there
 /// is one. Returns the fault.
-fn finish<S: Listing<D>, D: Digest, W: Write>(
+pub(crate) fn finish<S: Listing<D>, D: Digest, W: Write>(
     alloc: Global,
     committees: &Option<Committees<S>>,
     offset: usize,
@@ -74,16 +74,15 @@ fn finish<S: Listing<D>, D: Digest, W: Write>(
     requires fits { offset + length held.now < 2 ^ 64 }
     requires well { has_failed writer.old ≡ false }
     ensures whole { IfOk result (λ fault. (input : List ℕ) (start : Option (List ℕ)) →
-        IsWritten (⟦<S as Inspected<D>>⟧.format committees.now) (⟦<S as Inspected<D>>⟧.line committees.now)
-        input offset held.now start (W.contents (inner_of writer.old)) → (text : List ℕ)
-        × IsInspected (⟦<S as Inspected<D>>⟧.format committees.now) (⟦<S as Inspected<D>>⟧.line committees.now)
-        input fault text
-        × Appends start (W.contents (inner_of writer.new)) text) }
+        IsWritten (⟦<S as Inspected<D>>⟧.lines committees.now) input offset held.now
+        start (W.contents (inner_of writer.old)) →
+        AppendsText (⟦<S as Inspected<D>>⟧.lines committees.now) input fault
+        start (W.contents (inner_of writer.new))) }
     ensures begun { IfErr result (λ e. (input : List ℕ) (start : Option (List ℕ)) →
-        IsWritten (⟦<S as Inspected<D>>⟧.format committees.now) (⟦<S as Inspected<D>>⟧.line committees.now)
-        input offset held.now start (W.contents (inner_of writer.old)) → (text : List ℕ)
-        × IsPart (⟦<S as Inspected<D>>⟧.format committees.now) (⟦<S as Inspected<D>>⟧.line committees.now) input text
-        × AppendsBeginning start (W.contents (inner_of writer.new)) text) }
+        IsWritten (⟦<S as Inspected<D>>⟧.lines committees.now) input offset held.now
+        start (W.contents (inner_of writer.old)) →
+        AppendsPart (⟦<S as Inspected<D>>⟧.lines committees.now) input
+        start (W.contents (inner_of writer.new))) }
     ensures flushed { OnOk result (IsTrue (is_flushed writer.new)) }
     ensures failed { IsTrue (has_failed writer.new) ↔ (result ≡ Err RunError.Write) }
     ensures error { IfErr result (λ e. (e ≡ RunError.Write) ⊎ (e ≡ RunError.OutOfMemory)) }
@@ -108,15 +107,14 @@ pub fn inspect<S: Listing<D>, D: Digest, W: Write>(
 ) -> Result<Option<Fault>, RunError>
     requires { has_failed writer.old ≡ false }
     // Exactly the text of the stream was written.
-    ensures whole { IfOk result (λ fault. (text : List ℕ)
-        × IsInspected (⟦<S as Inspected<D>>⟧.format committees.now) (⟦<S as Inspected<D>>⟧.line committees.now)
-        stream.now fault text
-        × Appends (W.contents (inner_of writer.old)) (W.contents (inner_of writer.new)) text) }
+    ensures whole { IfOk result (λ fault.
+        AppendsText (⟦<S as Inspected<D>>⟧.lines committees.now) stream.now fault
+        (W.contents (inner_of writer.old)) (W.contents (inner_of writer.new))) }
     ensures flushed { OnOk result (IsTrue (is_flushed writer.new)) }
     // After an error a beginning of the text was.
-    ensures begun { IfErr result (λ e. (text : List ℕ)
-        × IsPart (⟦<S as Inspected<D>>⟧.format committees.now) (⟦<S as Inspected<D>>⟧.line committees.now) stream.now text
-        × AppendsBeginning (W.contents (inner_of writer.old)) (W.contents (inner_of writer.new)) text) }
+    ensures begun { IfErr result (λ e.
+        AppendsPart (⟦<S as Inspected<D>>⟧.lines committees.now) stream.now
+        (W.contents (inner_of writer.old)) (W.contents (inner_of writer.new))) }
     ensures failed { IsTrue (has_failed writer.new) ↔ (result ≡ Err RunError.Write) }
     ensures error { IfErr result (λ e. (e ≡ RunError.Write) ⊎ (e ≡ RunError.OutOfMemory)) }
 {

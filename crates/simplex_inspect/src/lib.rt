@@ -1,13 +1,16 @@
 //! What is in a stream of messages: a line of JSON for each message, and one for the fault, if there is one.
 //!
-//! Crates above rest on [`reading::read_lines`], the lines of the messages that begin some bytes, and on
-//! [`fault::fault_line`], the line of a fault.
+//! [`inspect::inspect`] writes the lines of a stream that is in memory, and [`input::inspect_input`] those of all that a reader
+//! gives, which it reads in pieces. Both rest on [`reading::read_lines`], the lines of the messages that begin some bytes, and
+//! on [`fault::fault_line`], the line of a fault.
 #![tactic(auto)]
 
 pub mod basis;
 pub mod fault;
+pub mod input;
 pub mod inspect;
-mod json;
+mod left;
 pub mod line;
+mod parts;
 pub mod reading;
 pub mod verdict;

@@ -11,7 +11,7 @@ ghost use Rattle.simplex_inspect.specs.Line.{subject_json, attestation_json, vot
 ghost use Rattle.simplex_inspect.specs.Shown.{signature_verdict, certificate_verdict};
 
 use crate::basis::Inspected;
-use crate::json::{head_json, proposal_json, signature_json, verdict_json};
+use crate::parts::{head_json, proposal_json, signature_json, verdict_json};
 use crate::verdict::{Verdict, verdict_on_certificate, verdict_on_signature};
 use simplex_base::codec::Fixed;
 use simplex_base::positions::Roundable;
@@ -65,7 +65,8 @@ fn is_certified<S: Listing<D>, D: Digest>(
     certificate: &S::Certificate,
 ) -> bool
     ensures { result ≡
-        certified_by S.certified (option_copied committee.entry) (subject_value subject.now) certificate.now }
+        certified_by S.certified (option_copied committee.entry)
+        (subject_value subject.now) certificate.now }
 {
     match committee {
         Some(committee) => committee.verify_certificate(subject.reborrow(), certificate),
@@ -141,7 +142,8 @@ fn attestation_json<S: Listing<D>, D: Digest>(
     attestation: &Attestation<S>,
 ) -> Result<String, AllocError>
     ensures { IfOk result (λ text. string_bytes text ≡
-        attestation_json (⟦<S as Inspected<D>>⟧.shown committees.now) (subject_value subject.now) attestation.now) }
+        attestation_json (⟦<S as Inspected<D>>⟧.shown committees.now)
+        (subject_value subject.now) attestation.now) }
 {
     let verdict = signature_verdict(committees, subject, attestation);
     let signer = attestation.signer.get();
@@ -195,7 +197,8 @@ fn vote_json<S: Listing<D>, D: Digest>(
     attestation: &Attestation<S>,
 ) -> Result<String, AllocError>
     ensures { IfOk result (λ text. string_bytes text ≡
-        vote_json (⟦<S as Inspected<D>>⟧.shown committees.now) (subject_value subject.now) attestation.now) }
+        vote_json (⟦<S as Inspected<D>>⟧.shown committees.now)
+        (subject_value subject.now) attestation.now) }
 {
     let says = subject_json(alloc, subject)?;
     let signature = attestation_json(alloc, committees, subject, attestation)?;
@@ -210,7 +213,8 @@ fn certificate_json<S: Listing<D>, D: Digest>(
     certificate: &S::Certificate,
 ) -> Result<String, AllocError>
     ensures { IfOk result (λ text. string_bytes text ≡
-        certificate_json (⟦<S as Inspected<D>>⟧.shown committees.now) (subject_value subject.now) certificate.now) }
+        certificate_json (⟦<S as Inspected<D>>⟧.shown committees.now)
+        (subject_value subject.now) certificate.now) }
 {
     let says = subject_json(alloc, subject)?;
     let attestations = S::attestations(certificate);
@@ -225,8 +229,9 @@ fn notarize_json<S: Listing<D>, D: Digest>(
     committees: &Option<Committees<S>>,
     vote: &Notarize<S, D>,
 ) -> Result<String, AllocError>
-    ensures { IfOk result (λ text. string_bytes text ≡ vote_json
-        (⟦<S as Inspected<D>>⟧.shown committees.now) (Notarizes vote.now.proposal) vote.now.attestation) }
+    ensures { IfOk result (λ text. string_bytes text ≡
+        vote_json (⟦<S as Inspected<D>>⟧.shown committees.now)
+        (Notarizes vote.now.proposal) vote.now.attestation) }
 {
     let subject = Subject::Notarize {
         proposal: &vote.proposal,
@@ -240,8 +245,9 @@ fn nullify_json<S: Listing<D>, D: Digest>(
     committees: &Option<Committees<S>>,
     vote: &Nullify<S>,
 ) -> Result<String, AllocError>
-    ensures { IfOk result (λ text. string_bytes text ≡ vote_json
-        (⟦<S as Inspected<D>>⟧.shown committees.now) (Nullifies vote.now.round) vote.now.attestation) }
+    ensures { IfOk result (λ text. string_bytes text ≡
+        vote_json (⟦<S as Inspected<D>>⟧.shown committees.now)
+        (Nullifies vote.now.round) vote.now.attestation) }
 {
     let subject = Subject::Nullify { round: vote.round };
     vote_json::<S, D>(alloc, committees, &subject, &vote.attestation)
@@ -253,8 +259,9 @@ fn finalize_json<S: Listing<D>, D: Digest>(
     committees: &Option<Committees<S>>,
     vote: &Finalize<S, D>,
 ) -> Result<String, AllocError>
-    ensures { IfOk result (λ text. string_bytes text ≡ vote_json
-        (⟦<S as Inspected<D>>⟧.shown committees.now) (Finalizes vote.now.proposal) vote.now.attestation) }
+    ensures { IfOk result (λ text. string_bytes text ≡
+        vote_json (⟦<S as Inspected<D>>⟧.shown committees.now)
+        (Finalizes vote.now.proposal) vote.now.attestation) }
 {
     let subject = Subject::Finalize {
         proposal: &vote.proposal,
@@ -275,8 +282,9 @@ fn notarization_json<S: Listing<D>, D: Digest>(
     committees: &Option<Committees<S>>,
     message: &Notarization<S, D>,
 ) -> Result<String, AllocError>
-    ensures { IfOk result (λ text. string_bytes text ≡ certificate_json
-        (⟦<S as Inspected<D>>⟧.shown committees.now) (Notarizes message.now.proposal) message.now.certificate) }
+    ensures { IfOk result (λ text. string_bytes text ≡
+        certificate_json (⟦<S as Inspected<D>>⟧.shown committees.now)
+        (Notarizes message.now.proposal) message.now.certificate) }
 {
     let subject = Subject::Notarize {
         proposal: &message.proposal,
@@ -357,7 +365,7 @@ pub fn line<S: Listing<D>, D: Digest>(
     message: &Activity<S, D>,
 ) -> Result<String, AllocError>
     ensures { IfOk result (λ text. string_bytes text ≡
-        ⟦<S as Inspected<D>>⟧.line committees.now offset length message.now) }
+        (⟦<S as Inspected<D>>⟧.lines committees.now).line offset length message.now) }
 {
     let round = message.round();
     let place = (round.epoch().get(), round.view().get());

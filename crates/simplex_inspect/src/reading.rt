@@ -22,7 +22,7 @@ pub struct Reading<'a> {
     pub offset: usize,
     /// These bytes.
     pub rest: &'a [u8],
-    /// What reading a message there answers, if anything is left.
+    /// What reading a message there returns, if anything is left.
     pub stop: Option<Error>,
 }
 
@@ -57,8 +57,8 @@ pub fn read_lines<'a, S: Listing<D>, D: Digest>(
 ) -> Result<Reading<'a>, AllocError>
     requires { offset + length bytes.now < 2 ^ 64 }
     ensures shown { IfOk result (λ r.
-        AreShown (⟦<S as Inspected<D>>⟧.format committees.now) (⟦<S as Inspected<D>>⟧.line committees.now)
-        bytes.now r.rest.now offset r.offset r.stop (string_bytes r.text)) }
+        AreShown (⟦<S as Inspected<D>>⟧.lines committees.now) bytes.now r.rest.now
+        offset r.offset r.stop (string_bytes r.text)) }
     ensures whole { IfOk result (λ r. r.offset + length r.rest.now ≡ offset + length bytes.now) }
 {
     let bound = reading_bound(committees);

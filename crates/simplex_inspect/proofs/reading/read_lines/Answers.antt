@@ -6,7 +6,7 @@ use Rattle.simplex_evidence.specs.Activity.{activity_format, activity_lawful}
 use Rattle.simplex_evidence.specs.declared.types.activity.Activity.{Activity}
 use Rattle.simplex_detector.specs.Committees.{Schedule}
 use Rattle.simplex_audit.proofs.StreamLemmas.{so_far_start, so_far_next, so_far_shorter, progress_at_refusal, progress_at_end, none_left, some_left, fails_whatever}
-use Rattle.simplex_inspect.specs.Inspected.{AreShown}
+use Rattle.simplex_inspect.specs.Inspected.{Lines, AreShown}
 use Rattle.simplex_inspect.specs.Line.{line_json}
 use Rattle.simplex_inspect.specs.Shown.{shown_of}
 use Rattle.simplex_inspect.proofs.LinesLemmas.{text_of_none, text_of_more, read_length, shown_so_far}
@@ -24,6 +24,10 @@ law g bound = activity_lawful g.D.PartialEq.eq _ _ _ g.met.D.Fixed.lawful (g.met
 -- the line of a message
 abbrev line : (g : given.Over) → Option (Schedule g.row.S.Denot) → ℕ → ℕ → Activity g.row.S.Denot g.row.D.Denot g.row.S-Certificate.Denot g.row.S-PublicKey.Denot g.row.S-Signature.Denot → List ℕ
 line g committees = line_json (shown_of g.D.Fixed.bytes_of g.S.Signature.Fixed.bytes_of g.D.PartialEq.eq g.S.CertificateScheme.keys g.S.Scheme.good g.S.CertificateVerifier.certified g.S.Listing.listed committees)
+
+-- both
+abbrev lines : (g : given.Over) → ℕ → Option (Schedule g.row.S.Denot) → Lines (Activity g.row.S.Denot g.row.D.Denot g.row.S-Certificate.Denot g.row.S-PublicKey.Denot g.row.S-Signature.Denot)
+lines g bound committees = record { format = format g bound; line = line g committees }
 
 pub messages-init : goal.messages-init
 messages-init g c = ((0, so_far_start (format g c.reading_bound-bound.result) _ c.args.bytes.now (text_of_none (line g c.args.committees.now) (format g c.reading_bound-bound.result).encoding c.args.offset _ c.new-text.ensures.bytes)), refl)
@@ -63,17 +67,17 @@ returns-in-Err-clause-shown g c =
     let some = some_left c.messages.rest.now (eqb-false (length c.messages.rest.now) 0 (sym c.is_empty.ensures ∙ c.messages-test.true)) in
     let reading = (format g bound).reading c.messages.rest.now in
     let fails = fails_whatever g.S.Certificate.Read.takes_memory c.in-Err.error reading (subst (λ e. e ≢ errors.OutOfMemory) error c.in_ok-refusal-in-Err.ensures.1) c.in-Err.ensures.1 in
-    let shown = λ (b : ℕ) (left : List ℕ) (e : _). AreShown (format g b) (line g c.args.committees.now) c.args.bytes.now left c.args.offset c.messages.place (Some e) (string_bytes c.messages.text) in
+    let shown = λ (b : ℕ) (left : List ℕ) (e : _). AreShown (lines g b c.args.committees.now) c.args.bytes.now left c.args.offset c.messages.place (Some e) (string_bytes c.messages.text) in
     subst (λ (b : ℕ). shown b c.read_cfg.new.input.now c.in_ok-refusal-in-Err.field-0) c.reading_bound-bound.ensures
     (subst (λ (left : List ℕ). shown bound left c.in_ok-refusal-in-Err.field-0) (sym at)
     (subst (λ e. shown bound c.messages.rest.now e) (sym error)
-    (shown_so_far (format g bound) (line g c.args.committees.now) c.args.bytes.now c.messages.rest.now read c.args.offset c.messages.place (Some c.in-Err.error) (string_bytes c.messages.text)
+    (shown_so_far (lines g bound c.args.committees.now) c.args.bytes.now c.messages.rest.now read c.args.offset c.messages.place (Some c.in-Err.error) (string_bytes c.messages.text)
     (progress_at_refusal (format g bound) _ c.args.bytes.now c.messages.rest.now read c.in-Err.error (law g bound) far some fails))))
 
 pub returns-clause-shown : goal.returns-clause-shown
 returns-clause-shown g c =
     let (read, far) = c.messages.invariant.0 in
     let bound = c.reading_bound-bound.result in
-    subst (λ (b : ℕ). AreShown (format g b) (line g c.args.committees.now) c.args.bytes.now c.messages.rest.now c.args.offset c.messages.place None (string_bytes c.messages.text)) c.reading_bound-bound.ensures
-    (shown_so_far (format g bound) (line g c.args.committees.now) c.args.bytes.now c.messages.rest.now read c.args.offset c.messages.place None (string_bytes c.messages.text)
+    subst (λ (b : ℕ). AreShown (lines g b c.args.committees.now) c.args.bytes.now c.messages.rest.now c.args.offset c.messages.place None (string_bytes c.messages.text)) c.reading_bound-bound.ensures
+    (shown_so_far (lines g bound c.args.committees.now) c.args.bytes.now c.messages.rest.now read c.args.offset c.messages.place None (string_bytes c.messages.text)
     (progress_at_end (format g bound) _ c.args.bytes.now c.messages.rest.now read (λ m. omega arith) far (none_left c.messages.rest.now (eqb-true (length c.messages.rest.now) 0 (sym c.is_empty.ensures ∙ c.messages-test.false)))))

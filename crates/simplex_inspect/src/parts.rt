@@ -34,7 +34,8 @@ pub fn signature_json(
     signature: &[u8],
     verdict: Option<Verdict>,
 ) -> Result<String, AllocError>
-    ensures { IfOk result (λ text. string_bytes text ≡ signature_json signer signature.now verdict) }
+    ensures { IfOk result (λ text.
+        string_bytes text ≡ signature_json signer signature.now verdict) }
 {
     let digits = hex::encode(alloc, signature)?;
     let fields = verdict_json(verdict);

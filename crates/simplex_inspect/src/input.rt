@@ -1,0 +1,219 @@
+//! Writes the lines of all that a reader gives.
+
+ghost use Rattle.std.specs.Prelude.{◌≡◌, ◌≢◌, ◌⊎◌, ◌↔◌, ◌+◌, ◌<◌, ◌≤◌, ◌^◌, ◌++◌, [], ℕ, List, Option, false, Ok, Err, IsTrue, IfOk, IfErr, OnOk, OnErr, drop, take, length, vec_len};
+ghost use Rattle.std.specs.Io.KnownBytes.{Consumes, IsAtEnd, Keeps};
+ghost use Rattle.simplex_audit.specs.Watched.{inner_of, has_failed, is_flushed};
+ghost use Rattle.simplex_inspect.specs.Inspected.{AppendsText, AppendsBegun, AppendsPart, IsInput};
+ghost use Rattle.simplex_inspect.specs.Left.{IsLeft, bytes_seen};
+
+use crate::basis::Inspected;
+use crate::inspect::{finish, write_text};
+use crate::left::Left;
+use crate::reading::{Reading, read_lines};
+use simplex_audit::audit::{Fault, RunError, Watched};
+use simplex_detector::committees::Committees;
+use simplex_scheme::scheme::{Digest, Listing};
+use std::alloc::{AllocError, Global};
+use std::io::{Read, Write};
+
+/// The number of bytes that a read asks for.
+const PIECE: usize = 65536;
+
+/// Fewer bytes than this are looked through after each read.
+const FEW: usize = 4096;
+
+/// Nothing of a stream, whose first byte comes next.
+fn nothing(alloc: Global) -> Left
+    ensures offset { result.offset ≡ 0 }
+    ensures held { result.held.items ≡ [] }
+{
+    Left {
+        offset: 0,
+        held: Vec::new(alloc),
+        tried: 0,
+    }
+}
+
+/// A piece of this many bytes.
+fn make_piece(alloc: Global, size: usize) -> Result<Vec<u8>, AllocError>
+    ensures { IfOk result (λ piece. vec_len piece ≡ size) }
+{
+    vec![in alloc; 0u8; size]
+}
+
+/// Drops this many bytes in front.
+fn drop_front(bytes: &mut Vec<u8>, count: usize)
+    requires { count ≤ vec_len bytes.old }
+    ensures { bytes.new.items ≡ drop count bytes.old.items }
+{
+    bytes.drain(..count);
+}
+
+/// Reads once. Returns how many bytes came; none came only at the end.
+fn read_some<R: Read>(reader: &mut Watched<R>, piece: &mut [u8]) -> Result<usize, RunError>
+    requires well { has_failed reader.old ≡ false }
+    requires room { 0 < length piece.old }
+    ensures within { IfOk result (λ count. count ≤ length piece.new) }
+    ensures bytes { IfOk result (λ count.
+        Consumes (R.remaining (inner_of reader.old)) (R.remaining (inner_of reader.new))
+        (take count piece.new)) }
+    ensures end { result ≡ Ok 0 → IsAtEnd (R.remaining (inner_of reader.new)) }
+    ensures kept { OnErr result
+        (Keeps (R.remaining (inner_of reader.old)) (R.remaining (inner_of reader.new))) }
+    ensures failed { IsTrue (has_failed reader.new) ↔ (result ≡ Err RunError.Read) }
+    ensures error { IfErr result (λ e. e ≡ RunError.Read) }
+{
+    match reader.read(piece) {
+        Ok(count) => Ok(count),
+        Err(_) => Err(RunError::Read),
+    }
+}
+
+/// Holds a piece behind what is left. `TooLong` comes where they are more bytes than are counted.
+fn hold(left: Left, piece: &[u8]) -> Result<Left, RunError>
+    ensures offset { IfOk result (λ next. next.offset ≡ left.offset) }
+    ensures held { IfOk result (λ next. next.held.items ≡ left.held.items ++ piece.now) }
+    ensures too_long { result ≡ Err RunError.TooLong →
+        2 ^ 64 ≤ bytes_seen left + length piece.now }
+    ensures error { IfErr result (λ e. (e ≡ RunError.OutOfMemory) ⊎ (e ≡ RunError.TooLong)) }
+{
+    let Left {
+        offset,
+        mut held,
+        tried,
+    } = left;
+    if piece.len() > usize::MAX - (offset + held.len()) {
+        return Err(RunError::TooLong);
+    }
+    held.extend_from_slice(piece)?;
+    Ok(Left {
+        offset,
+        held,
+        tried,
+    })
+}
+
+/// Writes the lines of the messages that begin what is left, and drops these.
+fn advance<S: Listing<D>, D: Digest, W: Write>(
+    alloc: Global,
+    committees: &Option<Committees<S>>,
+    left: Left,
+    writer: &mut Watched<W>,
+) -> Result<Left, RunError>
+    requires { has_failed writer.old ≡ false }
+    ensures written { IfOk result (λ next. (input : List ℕ) (start : Option (List ℕ)) →
+        IsLeft (⟦<S as Inspected<D>>⟧.lines committees.now) left input
+        start (W.contents (inner_of writer.old)) →
+        IsLeft (⟦<S as Inspected<D>>⟧.lines committees.now) next input
+        start (W.contents (inner_of writer.new))) }
+    ensures seen { IfOk result (λ next. bytes_seen next ≡ bytes_seen left) }
+    ensures begun { IfErr result (λ e. (input : List ℕ) (start : Option (List ℕ)) →
+        IsLeft (⟦<S as Inspected<D>>⟧.lines committees.now) left input
+        start (W.contents (inner_of writer.old)) →
+        AppendsBegun (⟦<S as Inspected<D>>⟧.lines committees.now) input
+        start (W.contents (inner_of writer.new))) }
+    ensures failed { IsTrue (has_failed writer.new) ↔ (result ≡ Err RunError.Write) }
+    ensures error { IfErr result (λ e. (e ≡ RunError.Write) ⊎ (e ≡ RunError.OutOfMemory)) }
+{
+    let Left {
+        offset,
+        mut held,
+        tried: _,
+    } = left;
+    let reading = read_lines::<S, D>(alloc, committees, offset, held.as_slice())?;
+    let Reading {
+        text,
+        offset: next,
+        rest,
+        stop: _,
+    } = reading;
+    let count = held.len() - rest.len();
+    write_text(writer, text.as_bytes())?;
+    drop_front(&mut held, count);
+    Ok(Left {
+        offset: next,
+        tried: held.len(),
+        held,
+    })
+}
+
+/// Takes a piece behind what is left. It may put off looking for messages until it holds twice as many bytes as when it last
+/// did, so that the bytes of a long message are looked at a bounded number of times.
+fn take_piece<S: Listing<D>, D: Digest, W: Write>(
+    alloc: Global,
+    committees: &Option<Committees<S>>,
+    left: Left,
+    piece: &[u8],
+    writer: &mut Watched<W>,
+) -> Result<Left, RunError>
+    requires { has_failed writer.old ≡ false }
+    ensures written { IfOk result (λ next. (input : List ℕ) (start : Option (List ℕ)) →
+        IsLeft (⟦<S as Inspected<D>>⟧.lines committees.now) left input
+        start (W.contents (inner_of writer.old)) →
+        IsLeft (⟦<S as Inspected<D>>⟧.lines committees.now) next (input ++ piece.now)
+        start (W.contents (inner_of writer.new))) }
+    ensures seen { IfOk result (λ next.
+        bytes_seen next ≡ bytes_seen left + length piece.now) }
+    ensures begun { IfErr result (λ e. (input : List ℕ) (start : Option (List ℕ)) →
+        IsLeft (⟦<S as Inspected<D>>⟧.lines committees.now) left input
+        start (W.contents (inner_of writer.old)) →
+        AppendsBegun (⟦<S as Inspected<D>>⟧.lines committees.now) (input ++ piece.now)
+        start (W.contents (inner_of writer.new))) }
+    ensures failed { IsTrue (has_failed writer.new) ↔ (result ≡ Err RunError.Write) }
+    ensures too_long { result ≡ Err RunError.TooLong →
+        2 ^ 64 ≤ bytes_seen left + length piece.now }
+    ensures error { result ≢ Err RunError.Read }
+{
+    let left = hold(left, piece)?;
+    if left.held.len() >= FEW && left.held.len() / 2 < left.tried {
+        return Ok(left);
+    }
+    advance::<S, D, W>(alloc, committees, left, writer)
+}
+
+/// Writes the lines of all that a reader gives: one for each message of the stream, in order, as soon as the message is read,
+/// and one for its fault, if there is one. Returns the fault. The messages and the fault are those of an audit of the stream.
+///
+/// The input is read in pieces of up to 65,536 bytes, each written and flushed before the next is read. Nothing is held but the
+/// bytes behind the last whole message, which are all that comes behind a fault. Of a message of more than 4,096 bytes that
+/// comes in several pieces the line may come a piece later, when twice as many bytes are held as at the last look.
+///
+/// `Read` comes from the reader alone and `Write` from the writer alone; an interrupted call counts as failed. `OutOfMemory`
+/// comes where an allocation failed, and `TooLong` where the reader gave more than 2^64 - 1 bytes. After each of them a
+/// beginning of the text was written.
+pub fn inspect_input<S: Listing<D>, D: Digest, R: Read, W: Write>(
+    alloc: Global,
+    committees: &Option<Committees<S>>,
+    reader: &mut Watched<R>,
+    writer: &mut Watched<W>,
+) -> Result<Option<Fault>, RunError>
+    requires reader_well { has_failed reader.old ≡ false }
+    requires writer_well { has_failed writer.old ≡ false }
+    // The whole input was read, and exactly its text was written.
+    ensures whole { IfOk result (λ fault. (input : List ℕ)
+        × IsInput (R.remaining (inner_of reader.old)) input
+        × AppendsText (⟦<S as Inspected<D>>⟧.lines committees.now) input fault
+        (W.contents (inner_of writer.old)) (W.contents (inner_of writer.new))) }
+    ensures end { OnOk result (IsAtEnd (R.remaining (inner_of reader.new))) }
+    ensures flushed { OnOk result (IsTrue (is_flushed writer.new)) }
+    // After an error a beginning of the text of the input was.
+    ensures begun { IfErr result (λ e. (input : List ℕ)
+        × IsInput (R.remaining (inner_of reader.old)) input
+        × AppendsPart (⟦<S as Inspected<D>>⟧.lines committees.now) input
+        (W.contents (inner_of writer.old)) (W.contents (inner_of writer.new))) }
+    // Read and write errors come from the reader and the writer alone.
+    ensures read_failed { IsTrue (has_failed reader.new) ↔ (result ≡ Err RunError.Read) }
+    ensures write_failed { IsTrue (has_failed writer.new) ↔ (result ≡ Err RunError.Write) }
+    ensures too_long { result ≡ Err RunError.TooLong → (input : List ℕ) × (2 ^ 64 ≤ length input)
+        × Consumes (R.remaining (inner_of reader.old)) (R.remaining (inner_of reader.new)) input }
+{
+    let mut left = nothing(alloc);
+    let mut piece = make_piece(alloc, PIECE)?;
+    'reads: loop {
+        let count = read_some(reader, piece.as_mut_slice())?;
+        if count == 0 {
+            return finish::<S, D, W>(alloc, committees, left.offset, left.held.as_slice(), writer);
+        }
+        left = take_piece::<S, D, W>(alloc, committees, left, &piece[..count], writer)?;
+    }
+}
