@@ -1,4 +1,4 @@
-.PHONY: run audit install test quick check
+.PHONY: run audit inspect install test quick check
 
 PREFIX ?= /usr/local
 
@@ -8,12 +8,18 @@ run:
 
 # Proves and builds the program, crates/audit/out/audit, and runs it on the sample stream.
 audit:
-	@.ci/built
+	@.ci/built audit
 
-# Copies the program that `make audit` or `make test` has built.
+# Proves and builds the program that shows what is in a stream, crates/inspect/out/inspect, and runs it on the same stream.
+inspect:
+	@.ci/built inspect
+
+# Copies those of the two programs that `make audit`, `make inspect` or `make test` has built, `audit` among them.
 install:
 	@test -x crates/audit/out/audit || { echo 'There is no crates/audit/out/audit yet: make audit' >&2; exit 1; }
 	install -D -m 755 crates/audit/out/audit $(DESTDIR)$(PREFIX)/bin/audit
+	@test -x crates/inspect/out/inspect || echo 'There is no crates/inspect/out/inspect yet: make inspect' >&2
+	if test -x crates/inspect/out/inspect; then install -D -m 755 crates/inspect/out/inspect $(DESTDIR)$(PREFIX)/bin/inspect; fi
 
 # The gate: proves everything from nothing, tries the mutants, runs the tests and the programs, and then tries what was
 # built as its users would, and with each allocation refused in turn.

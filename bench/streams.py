@@ -127,4 +127,5 @@ def main():
             sys.stdout.buffer.write(message)
 
 
-main()
+if __name__ == "__main__":
+    main()

@@ -49,7 +49,7 @@ fn audit_input<R: Read, W: Write>(
 }
 
 /// Says something, and flushes. An interrupted write is made again; any other failure changes nothing.
-fn say<E: Write>(errors: &mut E, text: &[u8])
+pub fn say<E: Write>(errors: &mut E, text: &[u8])
     ensures { AppendsBeginning (E.contents errors.old) (E.contents errors.new) text.now }
 {
     let mut count = 0;

@@ -21,7 +21,7 @@ use std::io;
 use std::io::{ErrorKind, Read, Write};
 
 /// The arguments after the program's name.
-fn without_name(alloc: Global, given: Args) -> Result<Vec<String>, AllocError>
+pub fn without_name(alloc: Global, given: Args) -> Result<Vec<String>, AllocError>
     ensures { IfOk result (λ words.
         map string_bytes words.items ≡ words_of (into_iter_items given)) }
 {
@@ -31,7 +31,7 @@ fn without_name(alloc: Global, given: Args) -> Result<Vec<String>, AllocError>
 }
 
 /// Why arguments can't be had: for want of memory, or because one of them is not UTF-8.
-fn no_arguments(error: &io::Error) -> Failure
+pub fn no_arguments(error: &io::Error) -> Failure
     ensures memory { error_kind error.now ≡ ErrorKind.OutOfMemory → result ≡ Failure.OutOfMemory }
     ensures usage { error_kind error.now ≢ ErrorKind.OutOfMemory → result ≡ Failure.Usage }
 {

@@ -1,0 +1,20 @@
+//! `inspect`, `inspect NAMESPACE KEY...` or `inspect NAMESPACE @EPOCH KEY...`: reads a stream of messages from standard input,
+//! and prints each as a line of JSON, under committees also whether each signature and certificate is valid, and then a line
+//! for the fault, if there is one.
+#![tactic(auto)]
+
+use inspect_cli::start::start;
+use simplex_audit::audit::Watched;
+use std::env;
+use std::process::ExitCode;
+
+fn main(rt: HostRuntime) -> ExitCode {
+    let number = start(
+        rt.alloc(),
+        env::args(&rt),
+        &mut Watched::new(rt.stdin()),
+        &mut Watched::new(rt.stdout()),
+        &mut rt.stderr(),
+    );
+    ExitCode::from(number)
+}

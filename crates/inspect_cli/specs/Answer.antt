@@ -1,0 +1,49 @@
+-- What the program makes of its arguments and its input.
+use Rattle.std.specs.Prelude.{◌≡◌, ◌⊎◌, ℕ, IsTrue, List, [], Option, Some, None, Ok, Err}
+use Rattle.std.specs.Io.KnownBytes.{IsAtEnd, Keeps}
+use Rattle.simplex_plain.specs.Plain.{PlainScheme}
+use Rattle.simplex_evidence.specs.declared.types.activity.Activity.{Activity}
+use Rattle.simplex_detector.specs.Committees.{Schedule}
+use Rattle.simplex_audit.specs.declared.audit.Fault.{Fault}
+use Rattle.simplex_inspect.specs.Inspected.{Lines, AppendsText, AppendsPart, IsInput}
+use Rattle.audit_cli.specs.Answer.{Certificate, ReaderUse, WriterUse, GaveTooMuch, Ending}
+use Rattle.audit_cli.specs.declared.status.Failure.TheVariants.{Usage, Read, Write, OutOfMemory}
+use Rattle.inspect_cli.specs.Arguments.{AreGiven, AreNotGiven}
+use Rattle.inspect_cli.specs.Status.{complaint_of, complaint_at}
+
+-- how messages are read under committees or without any, and the line of each
+abbrev pub LinesUnder : Type 1
+LinesUnder = Option (Schedule PlainScheme) → Lines (Activity PlainScheme (List ℕ) Certificate (List ℕ) (List ℕ))
+
+-- A whole input was read, and exactly its text was written and flushed, by the committees that the arguments name, or
+-- without any.
+pub record IsShown (lines : LinesUnder) (words : List (List ℕ)) (reader : ReaderUse) (writer : WriterUse) (fault : Option Fault) : Type 0 where
+  pub committees : Option (Schedule PlainScheme)
+  pub input : List ℕ
+  pub given : AreGiven words committees
+  pub input_is : IsInput reader.before input
+  pub ended : IsAtEnd reader.after
+  pub written : AppendsText (lines committees) input fault writer.before writer.after
+  pub flushed : IsTrue writer.flushed
+
+-- A beginning of the text of an input was written, be it empty or the whole.
+pub record IsBegun (lines : LinesUnder) (words : List (List ℕ)) (reader : ReaderUse) (writer : WriterUse) : Type 0 where
+  pub committees : Option (Schedule PlainScheme)
+  pub input : List ℕ
+  pub given : AreGiven words committees
+  pub input_is : IsInput reader.before input
+  pub written : AppendsPart (lines committees) input writer.before writer.after
+
+-- what is said of an ending
+abbrev pub said_of : Ending → List ℕ
+said_of (Ok None) = []
+said_of (Ok (Some fault)) = complaint_at fault.place
+said_of (Err failure) = complaint_of failure
+
+-- what an ending says of the arguments, of the reader and of the writer
+abbrev pub Ends : LinesUnder → List (List ℕ) → ReaderUse → WriterUse → Ending → Type 0
+Ends lines words reader writer (Ok fault) = IsShown lines words reader writer fault
+Ends lines words reader writer (Err Usage) = AreNotGiven words × Keeps writer.before writer.after
+Ends lines words reader writer (Err Read) = (IsTrue reader.failed ⊎ GaveTooMuch reader) × IsBegun lines words reader writer
+Ends lines words reader writer (Err OutOfMemory) = Keeps writer.before writer.after ⊎ IsBegun lines words reader writer
+Ends lines words reader writer (Err Write) = IsTrue writer.failed × IsBegun lines words reader writer

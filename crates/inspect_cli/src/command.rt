@@ -1,0 +1,117 @@
+//! The program as a function over its arguments and streams.
+
+ghost use Rattle.std.specs.Prelude.{◌≡◌, ◌⊎◌, false, Err, IsTrue, map, string_bytes};
+ghost use Rattle.simplex_audit.specs.Run.{AppendsBeginning};
+ghost use Rattle.simplex_audit.specs.Watched.{inner_of, has_failed, is_flushed};
+ghost use Rattle.audit_cli.specs.Answer.{Ending, status_of};
+ghost use Rattle.inspect_cli.specs.Arguments.{AreNotGiven};
+ghost use Rattle.inspect_cli.specs.Answer.{Ends, said_of};
+ghost use Rattle.inspect_cli.specs.Status.{complaint_of};
+
+use crate::arguments::parse_any;
+use crate::complaints::{complaint, complaint_at};
+use audit_cli::command::say;
+use audit_cli::status::{Failure, Status};
+use simplex_audit::audit::{Fault, Watched};
+use simplex_inspect::basis::Inspected;
+use simplex_inspect::input::inspect_input;
+use simplex_plain::plain::Plain;
+use simplex_scheme::hash::Sha256Digest;
+use std::alloc::Global;
+use std::io::{Read, Write};
+
+/// Writes the lines of the input, judged by the committees that the arguments name, if they name any. Returns its fault, if
+/// there is one.
+fn show_input<R: Read, W: Write>(
+    alloc: Global,
+    arguments: &[String],
+    input: &mut Watched<R>,
+    output: &mut Watched<W>,
+) -> Result<Option<Fault>, Failure>
+    requires input_well { has_failed input.old ≡ false }
+    requires output_well { has_failed output.old ≡ false }
+    ensures ends { Ends ⟦<Plain as Inspected<Sha256Digest>>⟧.lines (map string_bytes arguments.now)
+        (record {
+          before = R.remaining (inner_of input.old);
+          after = R.remaining (inner_of input.new);
+          failed = has_failed input.new;
+        })
+        (record {
+          before = W.contents (inner_of output.old);
+          after = W.contents (inner_of output.new);
+          failed = has_failed output.new;
+          flushed = is_flushed output.new;
+        })
+        result }
+    ensures read_failed { IsTrue (has_failed input.new) → result ≡ Err Failure.Read }
+    ensures write_failed { IsTrue (has_failed output.new) → result ≡ Err Failure.Write }
+    ensures untouched { AreNotGiven (map string_bytes arguments.now) → (input.new ≡ input.old) ×
+        (output.new ≡ output.old) }
+{
+    let committees = parse_any(alloc, arguments)?;
+    let fault = inspect_input::<Plain, Sha256Digest, R, W>(alloc, &committees, input, output)?;
+    Ok(fault)
+}
+
+/// Says on standard error how a run ended, and gives its status. That it can't be said changes nothing.
+pub(crate) fn conclude<E: Write>(errors: &mut E, ended: Result<Option<Fault>, Failure>) -> Status
+    ensures status { result ≡ status_of ended }
+    ensures said { AppendsBeginning (E.contents errors.old) (E.contents errors.new)
+        (said_of ended) }
+{
+    match ended {
+        Ok(None) => Status::Whole,
+        Ok(Some(fault)) => {
+            say(errors, complaint_at(fault.place).as_bytes());
+            Status::Fault
+        }
+        Err(failure) => {
+            say(errors, complaint(failure).as_bytes());
+            failure.status()
+        }
+    }
+}
+
+/// Runs the program over its arguments, without the program's name, and its three streams.
+///
+/// The arguments are judged before anything is read. The line of a message is written as soon as the message is read, so after
+/// a failure a beginning of the text may have been written. What can't be said on `errors` leaves the status.
+pub fn command<R: Read, W: Write, E: Write>(
+    alloc: Global,
+    arguments: &[String],
+    input: &mut Watched<R>,
+    output: &mut Watched<W>,
+    errors: &mut E,
+) -> Status
+    requires input_well { has_failed input.old ≡ false }
+    requires output_well { has_failed output.old ≡ false }
+    ensures ends { (ending : Ending) × (result ≡ status_of ending)
+        × AppendsBeginning (E.contents errors.old) (E.contents errors.new) (said_of ending)
+        × Ends ⟦<Plain as Inspected<Sha256Digest>>⟧.lines (map string_bytes arguments.now)
+        (record {
+          before = R.remaining (inner_of input.old);
+          after = R.remaining (inner_of input.new);
+          failed = has_failed input.new;
+        })
+        (record {
+          before = W.contents (inner_of output.old);
+          after = W.contents (inner_of output.new);
+          failed = has_failed output.new;
+          flushed = is_flushed output.new;
+        })
+        ending }
+    // Where a device failed the status says so, and nothing else is said.
+    ensures read_failed { IsTrue (has_failed input.new) → (result ≡ Status.Failed)
+        × AppendsBeginning (E.contents errors.old) (E.contents errors.new)
+        (complaint_of Failure.Read) }
+    ensures write_failed { IsTrue (has_failed output.new) → (result ≡ Status.Failed)
+        × AppendsBeginning (E.contents errors.old) (E.contents errors.new)
+        (complaint_of Failure.Write) }
+    ensures refused { AreNotGiven (map string_bytes arguments.now) → (result ≡ Status.Usage) ⊎
+        (result ≡ Status.Failed) }
+    ensures untouched { AreNotGiven (map string_bytes arguments.now) → (input.new ≡ input.old) ×
+        (output.new ≡ output.old) }
+{
+    let ended = show_input(alloc, arguments, input, output);
+    conclude(errors, ended)
+}

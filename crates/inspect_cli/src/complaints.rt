@@ -1,0 +1,33 @@
+//! What the program says as it ends.
+
+ghost use Rattle.std.specs.Prelude.{◌≡◌};
+ghost use Rattle.inspect_cli.specs.Status.{complaint_of, complaint_at};
+
+use arrayvec::ArrayString;
+use audit_cli::status::Failure;
+use itoa::Buffer;
+
+/// What is said on standard error of a failure, with its line's end.
+pub fn complaint(failure: Failure) -> &'static str
+    ensures { result.now ≡ complaint_of failure }
+{
+    match failure {
+        Failure::Usage => "usage: inspect [NAMESPACE KEY...]\n",
+        Failure::Read => "inspect: read failed\n",
+        Failure::Write => "inspect: write failed\n",
+        Failure::OutOfMemory => "inspect: out of memory\n",
+    }
+}
+
+/// What is said on standard error of a fault at a byte, with its line's end. It takes no memory, and the longest, of 44 bytes,
+/// has room.
+pub fn complaint_at(place: usize) -> ArrayString<64>
+    ensures { result.bytes ≡ complaint_at place }
+{
+    let mut number = Buffer::new();
+    let mut text = ArrayString::new();
+    text.push_str("inspect: fault at byte ");
+    text.push_str(number.format(place));
+    text.push_str("\n");
+    text
+}

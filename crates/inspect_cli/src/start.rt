@@ -1,0 +1,76 @@
+//! The program as a function over what its process is given.
+
+ghost use Rattle.std.specs.Prelude.{◌≡◌, ◌≢◌, ◌⊎◌, false, IfOk, IfErr, OnErr};
+ghost use Rattle.std.specs.IoError.{error_kind};
+ghost use Rattle.std.specs.Vec.Iter.{into_iter_items};
+ghost use Rattle.audit_cli.specs.Arguments.{words_of};
+ghost use Rattle.audit_cli.specs.Answer.{Ending, status_of};
+ghost use Rattle.audit_cli.specs.Status.{number_of};
+ghost use Rattle.inspect_cli.specs.Arguments.{AreNotGiven};
+ghost use Rattle.inspect_cli.specs.Answer.{Ends, said_of};
+ghost use Rattle.inspect_cli.specs.Status.{complaint_of};
+ghost use Rattle.simplex_audit.specs.Run.{AppendsBeginning};
+ghost use Rattle.simplex_audit.specs.Watched.{inner_of, has_failed, is_flushed};
+
+use crate::command::{command, conclude};
+use audit_cli::start::{no_arguments, without_name};
+use audit_cli::status::{Failure, Status};
+use simplex_audit::audit::Watched;
+use simplex_inspect::basis::Inspected;
+use simplex_plain::plain::Plain;
+use simplex_scheme::hash::Sha256Digest;
+use std::alloc::Global;
+use std::env::Args;
+use std::io;
+use std::io::{ErrorKind, Read, Write};
+
+/// Runs the program over the arguments that its process is given, the program's name first, and its three
+/// streams, and returns the number that the process ends with.
+///
+/// Where the arguments can't be had nothing is read or written, and the number is that of an allocation failure, or else of
+/// arguments that are no namespace and keys.
+pub fn start<R: Read, W: Write, E: Write>(
+    alloc: Global,
+    given: io::Result<Args>,
+    input: &mut Watched<R>,
+    output: &mut Watched<W>,
+    errors: &mut E,
+) -> u8
+    requires input_well { has_failed input.old ≡ false }
+    requires output_well { has_failed output.old ≡ false }
+    ensures ends { IfOk given (λ given. (ending : Ending) × (result ≡ number_of (status_of ending))
+        × AppendsBeginning (E.contents errors.old) (E.contents errors.new) (said_of ending)
+        × Ends ⟦<Plain as Inspected<Sha256Digest>>⟧.lines (words_of (into_iter_items given))
+        (record {
+          before = R.remaining (inner_of input.old);
+          after = R.remaining (inner_of input.new);
+          failed = has_failed input.new;
+        })
+        (record {
+          before = W.contents (inner_of output.old);
+          after = W.contents (inner_of output.new);
+          failed = has_failed output.new;
+          flushed = is_flushed output.new;
+        })
+        ending) }
+    ensures refused { IfOk given (λ given. AreNotGiven (words_of (into_iter_items given)) →
+        (result ≡ 2) ⊎ (result ≡ 3)) }
+    ensures untouched { IfOk given (λ given. AreNotGiven (words_of (into_iter_items given)) →
+        (input.new ≡ input.old) × (output.new ≡ output.old)) }
+    ensures memory { IfErr given (λ error. error_kind error ≡ ErrorKind.OutOfMemory → (result ≡ 3)
+        × AppendsBeginning (E.contents errors.old) (E.contents errors.new)
+        (complaint_of Failure.OutOfMemory)) }
+    ensures usage { IfErr given (λ error. error_kind error ≢ ErrorKind.OutOfMemory → (result ≡ 2)
+        × AppendsBeginning (E.contents errors.old) (E.contents errors.new)
+        (complaint_of Failure.Usage)) }
+    ensures unused { OnErr given ((input.new ≡ input.old) × (output.new ≡ output.old)) }
+{
+    let given = match given {
+        Ok(given) => given,
+        Err(error) => return conclude(errors, Err(no_arguments(&error))).number(),
+    };
+    match without_name(alloc, given) {
+        Ok(words) => command(alloc, words.as_slice(), input, output, errors).number(),
+        Err(_) => conclude(errors, Err(Failure::OutOfMemory)).number(),
+    }
+}
