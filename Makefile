@@ -1,4 +1,4 @@
-.PHONY: run audit inspect install test quick check
+.PHONY: run audit audit_stored inspect install test quick check
 
 PREFIX ?= /usr/local
 
@@ -10,16 +10,18 @@ run:
 audit:
 	@.ci/built audit
 
+# Proves and builds the program for stored streams, crates/audit_stored/out/audit_stored, and runs it on the same stream.
+audit_stored:
+	@.ci/built audit_stored
+
 # Proves and builds the program that shows what is in a stream, crates/inspect/out/inspect, and runs it on the same stream.
 inspect:
 	@.ci/built inspect
 
-# Copies those of the two programs that `make audit`, `make inspect` or `make test` has built, `audit` among them.
+# Copies those of the programs that were built, by a target above or by `make test`.
 install:
 	@test -x crates/audit/out/audit || { echo 'There is no crates/audit/out/audit yet: make audit' >&2; exit 1; }
-	install -D -m 755 crates/audit/out/audit $(DESTDIR)$(PREFIX)/bin/audit
-	@test -x crates/inspect/out/inspect || echo 'There is no crates/inspect/out/inspect yet: make inspect' >&2
-	if test -x crates/inspect/out/inspect; then install -D -m 755 crates/inspect/out/inspect $(DESTDIR)$(PREFIX)/bin/inspect; fi
+	for it in audit audit_stored inspect; do if test -x crates/$$it/out/$$it; then install -D -m 755 crates/$$it/out/$$it $(DESTDIR)$(PREFIX)/bin/$$it; fi; done
 
 # The gate: proves everything from nothing, tries the mutants, runs the tests and the programs, and then tries what was
 # built as its users would, and with each allocation refused in turn.
