@@ -138,3 +138,7 @@ none_left f xs i all past is = is ∙ ap (flat_map f) (take_all i xs past)
 pub if_ok : {X E : Type 0} (Given Wanted : X → Type 0) → ((x : X) → Given x → Wanted x) → (r : Result X E) → IfOk r Given → IfOk r Wanted
 if_ok Given Wanted f (Ok x) h = f x h
 if_ok Given Wanted f (Err e) h = tt
+
+-- what is stored of a stream is stored of the same stream
+pub stored_same : {S D C P G : Type 0} (basis : Basis S D C P G) (stream same bytes : List ℕ) → stream ≡ same → IsStored basis stream bytes → IsStored basis same bytes
+stored_same basis stream same bytes e is = subst (λ (xs : List ℕ). IsStored basis xs bytes) e is

@@ -6,7 +6,7 @@ ghost use Rattle.simplex_detector.specs.Committees.{Schedule};
 ghost use Rattle.simplex_detector.specs.Values.{message_of};
 ghost use Rattle.simplex_clients.specs.Holding.{IsEvidenceOf, IsStored, WasFed, bytes_fed};
 
-use simplex_audit::audit::{Auditor, Committees, Evidence};
+use simplex_audit::audit::{Auditor, Committees, Evidence, audit_deferred};
 use simplex_audit::basis::Audited;
 use simplex_base::codec::Read;
 use simplex_base::codec::unions::write_tagged;
@@ -94,6 +94,38 @@ impl<'a, S: Listing<D>, D: Digest> Ledger<'a, S, D> {
         let report = self.auditor.report()?;
         write_all(alloc, &report.evidence)
     }
+}
+
+/// What a ledger stores that was fed what an earlier one stored, or nothing, and then a batch of messages. Only suspect rounds
+/// are verified, as by [`audit_deferred`], and the memory taken is bounded by the stored bytes and the batch.
+pub fn store_batch<S: Listing<D>, D: Digest>(
+    alloc: Global,
+    committees: &Committees<S>,
+    stored: &[u8],
+    batch: &[u8],
+) -> Result<Vec<u8>, AllocError>
+    // All that `Ledger::store` says of what was fed.
+    ensures { IfOk result (λ bytes. IsStored (⟦<S as Audited<D>>⟧.basis committees.now)
+        (stored.now ++ batch.now) bytes.items) }
+{
+    let mut stream = Vec::new(alloc);
+    stream.extend_from_slice(stored)?;
+    stream.extend_from_slice(batch)?;
+    store_stream::<S, D>(alloc, committees, stream.as_slice())
+}
+
+/// The evidence of a stream by a deferred audit, as messages.
+fn store_stream<S: Listing<D>, D: Digest>(
+    alloc: Global,
+    committees: &Committees<S>,
+    stream: &[u8],
+) -> Result<Vec<u8>, AllocError>
+    ensures { IfOk result (λ bytes.
+        IsStored (⟦<S as Audited<D>>⟧.basis committees.now) stream.now bytes.items) }
+{
+    evidence_is_determined::<S, D>();
+    let found = audit_deferred::<S, D>(alloc, committees, stream)?;
+    write_all(alloc, &found.evidence)
 }
 
 /// Some evidence as messages, one after the other.
