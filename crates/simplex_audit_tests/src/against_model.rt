@@ -1,7 +1,7 @@
-//! The audit and the auditor by its definition, over many small streams.
+//! The audit, the deferred one and the auditor by its definition, over many small streams.
 
 use crate::model::audit_by_definition;
-use crate::outcome::{four_and_one, outcome_of};
+use crate::outcome::{deferred_outcome_of, four_and_one, outcome_of};
 use simplex_plain::marked::{Marked, MarkedDigest};
 use std::alloc::{AllocError, Global};
 use std::test::Fail;
@@ -74,9 +74,12 @@ fn ample_every_small_stream_is_audited_by_the_definition(rt: HostRuntime) -> Res
         for number in 0..streams {
             let mut stream = stream_of(alloc, messages, number)?;
             stream.extend_from_slice(TAILS[number / 7 % 6])?;
-            let found = outcome_of::<Marked, MarkedDigest>(alloc, &committees, stream.as_slice())?;
-            let wanted = audit_by_definition(alloc, &committees, stream.as_slice())?;
+            let bytes = stream.as_slice();
+            let wanted = audit_by_definition(alloc, &committees, bytes)?;
+            let found = outcome_of::<Marked, MarkedDigest>(alloc, &committees, bytes)?;
             assert_eq!(rt; found, wanted, "of {stream:?}");
+            let found = deferred_outcome_of::<Marked, MarkedDigest>(alloc, &committees, bytes)?;
+            assert_eq!(rt; found, wanted, "deferred, of {stream:?}");
         }
     }
     Ok(())

@@ -8,6 +8,8 @@ mod command;
 #[cfg(test)]
 mod counted;
 #[cfg(test)]
+mod deferred;
+#[cfg(test)]
 mod long;
 #[cfg(test)]
 mod model;

@@ -2,7 +2,7 @@
 
 ghost use Rattle.std.specs.Prelude.{◌≤◌};
 
-use simplex_audit::audit::{Committees, Fault, audit};
+use simplex_audit::audit::{Committees, Fault, Report, audit, audit_deferred};
 use simplex_base::positions::Epoch;
 use simplex_plain::marked::Marked;
 use simplex_scheme::scheme::{Digest, Listing};
@@ -40,7 +40,20 @@ pub(crate) fn outcome_of<S: Listing<D>, D: Digest>(
     committees: &Committees<S>,
     stream: &[u8],
 ) -> Result<Outcome, Fail> {
-    let report = audit::<S, D>(alloc, committees, stream)?;
+    written(alloc, audit::<S, D>(alloc, committees, stream)?)
+}
+
+/// What the deferred audit of a stream answers.
+pub(crate) fn deferred_outcome_of<S: Listing<D>, D: Digest>(
+    alloc: Global,
+    committees: &Committees<S>,
+    stream: &[u8],
+) -> Result<Outcome, Fail> {
+    written(alloc, audit_deferred::<S, D>(alloc, committees, stream)?)
+}
+
+/// A report in this form.
+fn written<S: Listing<D>, D: Digest>(alloc: Global, report: Report<S, D>) -> Result<Outcome, Fail> {
     let mut text = String::new(alloc);
     for evidence in &report.evidence {
         text.push_str(evidence.line(alloc)?.as_str())?;

@@ -1,8 +1,8 @@
 //! How many attestations an audit has verified: a vote that changes nothing is not verified, nor is one again whose certificate
-//! was found to certify.
+//! was found to certify. A deferred audit verifies those alone of rounds in which votes claim to contradict.
 
 use crate::counted::Counted;
-use simplex_audit::audit::{Committees, audit};
+use simplex_audit::audit::{Committees, audit, audit_deferred};
 use simplex_base::codec::Fixed;
 use simplex_base::positions::Epoch;
 use simplex_plain::marked::{MarkedDigest, MarkedKey};
@@ -31,44 +31,103 @@ const FINALIZATION: &[u8] = &[6, 0, 10, 5, 6, 3, 1, 0xaa, 2, 0xaa, 3, 0xaa];
 /// A nullify and a finalize of participant 1.
 const EVIDENCE: &[u8] = &[9, 0, 10, 1, 0xaa, 0, 10, 5, 6, 1, 0xaa];
 
-/// How many attestations the audit of some messages has verified under a committee of four.
-fn count(rt: &impl Abort, alloc: Global, messages: &[&[u8]]) -> Result<usize, Fail> {
+/// A notarize of participant 1 for another proposal of view 10, whose signature is invalid.
+const UNSIGNED: &[u8] = &[0, 0, 10, 5, 7, 1, 0];
+
+/// Messages of participants 0 and 1 in view 11, which contradict nothing.
+const VIEW_11: [&[u8]; 2] = [
+    &[0, 0, 11, 5, 7, 1, 0xaa],
+    &[1, 0, 11, 5, 7, 3, 0, 0xaa, 1, 0xaa, 2, 0xaa],
+];
+
+/// A committee of four that has verified nothing.
+fn four(rt: &impl Abort, alloc: Global) -> Result<Committees<Counted>, Fail> {
     let mut keys = Vec::with_capacity(alloc, 4)?;
     for number in 0_u32..4 {
         keys.push(MarkedKey::from_bytes(&number.to_be_bytes()))?;
     }
     let participants = Set::try_from_vec(keys)?;
     assert_eq!(rt; participants.len(), 4);
-    let committees = Committees::every(Counted::new(participants));
+    Ok(Committees::every(Counted::new(participants)))
+}
+
+/// How many attestations these committees have verified.
+fn verified(committees: &Committees<Counted>) -> Result<usize, Fail> {
+    let committee = committees.get(Epoch::new(0)).ok_or("no committee")?;
+    Ok(committee.verified())
+}
+
+/// How many attestations an audit of some messages verifies, and how many a deferred one does.
+fn counts(rt: &impl Abort, alloc: Global, messages: &[&[u8]]) -> Result<(usize, usize), Fail> {
     let mut stream = Vec::new(alloc);
     for message in messages {
         stream.extend_from_slice(message)?;
     }
-    let report = audit::<Counted, MarkedDigest>(alloc, &committees, stream.as_slice())?;
+    let (whole, deferred) = (four(rt, alloc)?, four(rt, alloc)?);
+    let report = audit::<Counted, MarkedDigest>(alloc, &whole, stream.as_slice())?;
     assert_eq!(rt; report.read, messages.len());
-    let committee = committees.get(Epoch::new(0)).ok_or("no committee")?;
-    Ok(committee.verified())
+    let report = audit_deferred::<Counted, MarkedDigest>(alloc, &deferred, stream.as_slice())?;
+    assert_eq!(rt; report.read, messages.len());
+    Ok((verified(&whole)?, verified(&deferred)?))
 }
 
 #[test]
 fn ample_nothing_is_verified_twice(rt: HostRuntime) -> Result<(), Fail> {
     let [first, second, third] = NOTARIZES;
-    let cases: [(&[&[u8]], usize); 8] = [
-        (&[first, first, first], 1),
-        (&[first, second, first, second, third], 2),
-        (&[NULLIFY, NULLIFY], 1),
-        (&[FINALIZE, FINALIZE, EVIDENCE, NULLIFY, EVIDENCE], 2),
-        (&[NOTARIZATION, NOTARIZATION, first], 3),
-        (&[NULLIFICATION, NULLIFICATION, NULLIFY], 3),
-        (&[NULLIFICATION, FINALIZATION, EVIDENCE, FINALIZATION], 6),
-        (&[NOTARIZATION, second, third], 4),
+    let [vote, certificate] = VIEW_11;
+    let cases: [(&[&[u8]], (usize, usize)); 11] = [
+        (&[first, first, first], (1, 0)),
+        (&[first, second, first, second, third], (2, 2)),
+        (&[NULLIFY, NULLIFY], (1, 0)),
+        (&[FINALIZE, FINALIZE, EVIDENCE, NULLIFY, EVIDENCE], (2, 2)),
+        (&[NOTARIZATION, NOTARIZATION, first], (3, 0)),
+        (&[NULLIFICATION, NULLIFICATION, NULLIFY], (3, 0)),
+        (
+            &[NULLIFICATION, FINALIZATION, EVIDENCE, FINALIZATION],
+            (6, 6),
+        ),
+        (&[NOTARIZATION, second, third], (4, 4)),
+        // What claims to contradict is verified, and nothing of another round.
+        (&[first, UNSIGNED], (2, 2)),
+        (&[vote, certificate, first, second], (6, 2)),
+        (&[vote, first, certificate, UNSIGNED], (6, 2)),
     ];
     for (messages, verified) in cases {
         assert_eq!(rt;
-            count(&rt, rt.alloc(), messages)?,
+            counts(&rt, rt.alloc(), messages)?,
             verified,
             "of {messages:?}"
         );
     }
+    Ok(())
+}
+
+/// An honest stream: four notarizes and their notarization in each of 2,500 views.
+fn honest(alloc: Global) -> Result<Vec<u8>, Fail> {
+    let mut stream = Vec::new(alloc);
+    for view in 128_u16..2_628 {
+        let low = (view % 128 + 128) as u8;
+        let high = (view / 128 % 128) as u8;
+        for signer in 0_u8..4 {
+            stream.extend_from_slice(&[0, 0, low, high, 5, 6, signer, 0xaa])?;
+        }
+        stream.extend_from_slice(&[1, 0, low, high, 5, 6, 3, 0, 0xaa, 1, 0xaa, 2, 0xaa])?;
+    }
+    Ok(stream)
+}
+
+#[test]
+fn ample_nothing_of_an_honest_stream_is_verified(rt: HostRuntime) -> Result<(), Fail> {
+    let alloc = rt.alloc();
+    let committees = four(&rt, alloc)?;
+    let mut stream = honest(alloc)?;
+    let report = audit_deferred::<Counted, MarkedDigest>(alloc, &committees, stream.as_slice())?;
+    assert_eq!(rt; (report.read, report.evidence.len()), (12_500, 0));
+    assert_eq!(rt; verified(&committees)?, 0);
+    // One vote that contradicts costs what its own round has.
+    stream.extend_from_slice(&[0, 0, 128, 1, 5, 7, 3, 0xaa])?;
+    let report = audit_deferred::<Counted, MarkedDigest>(alloc, &committees, stream.as_slice())?;
+    assert_eq!(rt; (report.read, report.evidence.len()), (12_501, 1));
+    assert_eq!(rt; verified(&committees)?, 8);
     Ok(())
 }
