@@ -14,7 +14,7 @@ ghost use Rattle.simplex_audit.specs.Watched.{inner_of, has_failed, is_flushed};
 
 use crate::command::{command, conclude};
 use audit_cli::start::{no_arguments, without_name};
-use audit_cli::status::{Failure, Status};
+use audit_cli::status::Failure;
 use simplex_audit::audit::Watched;
 use simplex_inspect::basis::Inspected;
 use simplex_plain::plain::Plain;

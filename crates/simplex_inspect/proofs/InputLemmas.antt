@@ -1,11 +1,11 @@
 -- What was written of an input that comes in pieces.
-use Rattle.std.proofs.Common.{◌≡◌, ℕ, ◌+◌, List, [], ◌++◌, length, take, drop, Option, Some, None, inl, refl, sym, ap, subst, ◌∙◌, arith, append_assoc, append-nil, length-append}
+use Rattle.std.proofs.Common.{◌≡◌, ℕ, ◌+◌, List, [], ◌++◌, length, take, drop, Option, Some, None, inl, sym, ap, subst, ◌∙◌, arith, append_assoc, append-nil, length-append}
 use Rattle.std.specs.List.{flat_map}
 use Rattle.std.proofs.Math.Seq.{drop-append_seam}
 use Rattle.std.proofs.lemmas.List.Elements.{All-nil}
 use Rattle.std.specs.Io.KnownBytes.{Consumes, IsAtEnd}
 use Rattle.std.proofs.KnownBytes.{Appends-nil, Consumes-trans}
-use Rattle.simplex_inspect.specs.Inspected.{Lines, IsWritten, IsBegun, AppendsBegun, AppendsPart, IsInput}
+use Rattle.simplex_inspect.specs.Inspected.{Lines, IsWritten, AppendsBegun, AppendsPart, IsInput}
 
 -- more bytes are held
 pub held_more : {M : Type 0} (lines : Lines M) (input : List ℕ) (offset offset' : ℕ) (held : List ℕ) (start now : Option (List ℕ)) (piece held' : List ℕ) → offset' ≡ offset → held' ≡ held ++ piece →
