@@ -1,0 +1,6 @@
+//! Audits over slices and numbers, as a caller that is not Rattle has them.
+#![tactic(auto)]
+
+pub mod answer;
+pub mod leaders;
+pub mod numbers;
