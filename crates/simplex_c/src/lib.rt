@@ -6,10 +6,23 @@ ghost use Rattle.std.specs.Prelude.{◌≡◌, ◌≢◌, ◌⊎◌, ◌-◌, �
 ghost use Rattle.simplex_base.specs.Terms.{term_start};
 ghost use Rattle.simplex_scheme.specs.Committee.{faults_of, quorum_of};
 ghost use Rattle.simplex_lead.specs.Windows.{FitsWindow, IsAdmitted, IsOutbound};
+ghost use Rattle.simplex_plain.specs.Plain.{PlainScheme};
+ghost use Rattle.simplex_detector.specs.Committees.{Schedule};
+ghost use Rattle.simplex_vouched.specs.Vouched.{VouchedScheme};
+ghost use Rattle.simplex_ffi.specs.Answer.{IsAudited};
+ghost use Rattle.simplex_ffi.specs.Keys.{AreKeys, AreOfKeys};
 ghost use Rattle.simplex_ffi.specs.Leaders.{LeadsRound};
+ghost use Rattle.simplex_ffi.specs.Sizes.{AreSizes};
 
+use simplex_audit::basis::Audited;
+use simplex_base::codec::Fixed;
+use simplex_ffi::answer::Summary;
+use simplex_ffi::plain::answer_plain;
+use simplex_ffi::vouched::{Role48, Role64, Role96, answer_vouched};
 use simplex_ffi::{leaders, numbers};
+use simplex_plain::plain::Plain;
 use simplex_scheme::hash::{Hasher, Sha256, Sha256Digest};
+use simplex_vouched::vouched::Vouched;
 use std::alloc::Global;
 
 /// The version of these calls: 1.
@@ -18,6 +31,97 @@ pub extern "C" fn simplex_version() -> u32
     ensures { result ≡ 1 }
 {
     1
+}
+
+/// Audits a stream whose signatures have 48 bytes, as those of BLS12-381 in G1, each with the
+/// caller's verdict behind it, under the committees of these sizes.
+#[unsafe(no_mangle)]
+pub extern "C" fn simplex_audit_vouched_48(
+    alloc: Global,
+    epochs: &[u64],
+    sizes: &[u32],
+    stream: &[u8],
+    text: &mut [u8],
+    summary: &mut Summary,
+) -> u32
+    ensures audited { result ≢ 2 → result ≢ 3 → (committees : Schedule VouchedScheme) ×
+        AreSizes epochs.now sizes.now committees ×
+        IsAudited (⟦<Vouched<Role48, 49> as Audited<Sha256Digest>>⟧.basis committees)
+        ⟦<Sha256Digest as Fixed>⟧.bytes_of stream.now text.old text.new summary.new result }
+    ensures refused { result ≡ 2 → (committees : Schedule VouchedScheme) →
+        ¬ AreSizes epochs.now sizes.now committees }
+    ensures untouched { (result ≡ 2) ⊎ (result ≡ 3) →
+        (text.new ≡ text.old) × (summary.new ≡ summary.old) }
+{
+    answer_vouched::<Role48, 49>(alloc, epochs, sizes, stream, text, summary)
+}
+
+/// Audits a stream whose signatures have 64 bytes, as those of Ed25519, each with the caller's
+/// verdict behind it, under the committees of these sizes.
+#[unsafe(no_mangle)]
+pub extern "C" fn simplex_audit_vouched_64(
+    alloc: Global,
+    epochs: &[u64],
+    sizes: &[u32],
+    stream: &[u8],
+    text: &mut [u8],
+    summary: &mut Summary,
+) -> u32
+    ensures audited { result ≢ 2 → result ≢ 3 → (committees : Schedule VouchedScheme) ×
+        AreSizes epochs.now sizes.now committees ×
+        IsAudited (⟦<Vouched<Role64, 65> as Audited<Sha256Digest>>⟧.basis committees)
+        ⟦<Sha256Digest as Fixed>⟧.bytes_of stream.now text.old text.new summary.new result }
+    ensures refused { result ≡ 2 → (committees : Schedule VouchedScheme) →
+        ¬ AreSizes epochs.now sizes.now committees }
+    ensures untouched { (result ≡ 2) ⊎ (result ≡ 3) →
+        (text.new ≡ text.old) × (summary.new ≡ summary.old) }
+{
+    answer_vouched::<Role64, 65>(alloc, epochs, sizes, stream, text, summary)
+}
+
+/// Audits a stream whose signatures have 96 bytes, as those of BLS12-381 in G2, each with the
+/// caller's verdict behind it, under the committees of these sizes.
+#[unsafe(no_mangle)]
+pub extern "C" fn simplex_audit_vouched_96(
+    alloc: Global,
+    epochs: &[u64],
+    sizes: &[u32],
+    stream: &[u8],
+    text: &mut [u8],
+    summary: &mut Summary,
+) -> u32
+    ensures audited { result ≢ 2 → result ≢ 3 → (committees : Schedule VouchedScheme) ×
+        AreSizes epochs.now sizes.now committees ×
+        IsAudited (⟦<Vouched<Role96, 97> as Audited<Sha256Digest>>⟧.basis committees)
+        ⟦<Sha256Digest as Fixed>⟧.bytes_of stream.now text.old text.new summary.new result }
+    ensures refused { result ≡ 2 → (committees : Schedule VouchedScheme) →
+        ¬ AreSizes epochs.now sizes.now committees }
+    ensures untouched { (result ≡ 2) ⊎ (result ≡ 3) →
+        (text.new ≡ text.old) × (summary.new ≡ summary.old) }
+{
+    answer_vouched::<Role96, 97>(alloc, epochs, sizes, stream, text, summary)
+}
+
+/// Audits a stream of the plain scheme, whose signatures are hashes, under one committee for every
+/// epoch: `keys` are its keys, of 32 bytes each, in any order.
+#[unsafe(no_mangle)]
+pub extern "C" fn simplex_audit_plain(
+    alloc: Global,
+    name: &[u8],
+    keys: &[u8],
+    stream: &[u8],
+    text: &mut [u8],
+    summary: &mut Summary,
+) -> u32
+    ensures audited { result ≢ 2 → result ≢ 3 → (committees : Schedule PlainScheme) ×
+        AreOfKeys name.now keys.now committees ×
+        IsAudited (⟦<Plain as Audited<Sha256Digest>>⟧.basis committees)
+        ⟦<Sha256Digest as Fixed>⟧.bytes_of stream.now text.old text.new summary.new result }
+    ensures refused { result ≡ 2 → ¬ AreKeys keys.now }
+    ensures untouched { (result ≡ 2) ⊎ (result ≡ 3) →
+        (text.new ≡ text.old) × (summary.new ≡ summary.old) }
+{
+    answer_plain(alloc, name, keys, stream, text, summary)
 }
 
 /// How many of `n` participants may lie: the greatest f with 3f + 1 ≤ n, and 0 for none.

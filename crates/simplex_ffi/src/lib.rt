@@ -2,5 +2,9 @@
 #![tactic(auto)]
 
 pub mod answer;
+pub mod keys;
 pub mod leaders;
 pub mod numbers;
+pub mod plain;
+pub mod sizes;
+pub mod vouched;
