@@ -1,4 +1,4 @@
-.PHONY: run audit install test quick check
+.PHONY: run audit library install test quick check
 
 PREFIX ?= /usr/local
 
@@ -9,6 +9,10 @@ run:
 # Proves and builds the program, crates/audit/out/audit, and runs it on the sample stream.
 audit:
 	@.ci/built
+
+# Proves and builds the static library of bindings/, for C and Rust: bindings/out/libsimplex_audit.a.
+library:
+	@.ci/library
 
 # Copies the program that `make audit` or `make test` has built.
 install:
