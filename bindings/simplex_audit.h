@@ -40,7 +40,7 @@ extern "C" {
 #define SIMPLEX_VERSION 1u
 uint32_t simplex_version(void);
 
-/* How an audit ended. */
+/* How an audit, or a call that stores evidence, ended. */
 #define SIMPLEX_WHOLE 0u     /* All was read as messages, and the buffer is written. */
 #define SIMPLEX_FAULT 1u     /* The byte at `fault_place` starts no message. Those before it were
                                 audited, and the buffer is written. */
@@ -88,6 +88,34 @@ uint32_t simplex_audit_vouched_96(const uint64_t *epochs, size_t epochs_len, con
                                   uint8_t *text, size_t text_len, struct simplex_summary *summary);
 
 /*
+ * The evidence of `stored` and of the messages of `batch` behind it, as messages: with nothing
+ * stored that of the batch. `stored` is what an earlier call wrote, or empty; so a stream is audited
+ * batch by batch, and no handle is held meanwhile. The signers whom `stored` accuses stay accused.
+ * Votes of earlier batches that contradict nothing in their batch are not stored: a batch has to
+ * hold every vote of its rounds. What is behind a fault of the batch is ignored, so audit the batch
+ * to learn of a fault.
+ *
+ * The first `*size` bytes of `evidence` are then the messages; the bytes behind them are as before.
+ * The status is SIMPLEX_WHOLE, SIMPLEX_ARGUMENTS, SIMPLEX_MEMORY or SIMPLEX_SHORT. `evidence` may
+ * not overlap `stored`.
+ */
+SIMPLEX_NONNULL
+uint32_t simplex_store_vouched_48(const uint64_t *epochs, size_t epochs_len, const uint32_t *sizes,
+                                  size_t sizes_len, const uint8_t *stored, size_t stored_len,
+                                  const uint8_t *batch, size_t batch_len, uint8_t *evidence,
+                                  size_t evidence_len, size_t *size);
+SIMPLEX_NONNULL
+uint32_t simplex_store_vouched_64(const uint64_t *epochs, size_t epochs_len, const uint32_t *sizes,
+                                  size_t sizes_len, const uint8_t *stored, size_t stored_len,
+                                  const uint8_t *batch, size_t batch_len, uint8_t *evidence,
+                                  size_t evidence_len, size_t *size);
+SIMPLEX_NONNULL
+uint32_t simplex_store_vouched_96(const uint64_t *epochs, size_t epochs_len, const uint32_t *sizes,
+                                  size_t sizes_len, const uint8_t *stored, size_t stored_len,
+                                  const uint8_t *batch, size_t batch_len, uint8_t *evidence,
+                                  size_t evidence_len, size_t *size);
+
+/*
  * The same for the plain scheme, whose signatures are hashes that anyone can compute, under one
  * committee for every epoch. `keys` are its keys one after another, of 32 bytes each, in any order,
  * none twice; `keys_len` counts bytes. A participant's number is the place of its key in ascending
@@ -97,6 +125,11 @@ SIMPLEX_NONNULL
 uint32_t simplex_audit_plain(const uint8_t *name, size_t name_len, const uint8_t *keys,
                              size_t keys_len, const uint8_t *stream, size_t stream_len,
                              uint8_t *text, size_t text_len, struct simplex_summary *summary);
+SIMPLEX_NONNULL
+uint32_t simplex_store_plain(const uint8_t *name, size_t name_len, const uint8_t *keys,
+                             size_t keys_len, const uint8_t *stored, size_t stored_len,
+                             const uint8_t *batch, size_t batch_len, uint8_t *evidence,
+                             size_t evidence_len, size_t *size);
 
 /*
  * How many of n participants may lie, the greatest f with 3f + 1 <= n, and how many are a quorum,

@@ -93,8 +93,8 @@ struct input {
     const uint64_t *epochs;
     const uint32_t *sizes;
     size_t epochs_len, sizes_len;
-    const uint8_t *stream;
-    size_t stream_len;
+    const uint8_t *stored, *stream;
+    size_t stored_len, stream_len;
     int signature; /* 48, 64 or 96, or 0 for the plain scheme */
 };
 
@@ -117,6 +117,28 @@ static uint32_t audit(const struct input *in, uint8_t *text, size_t room,
     }
 }
 
+static uint32_t store(const struct input *in, uint8_t *evidence, size_t room, size_t *size)
+{
+    switch (in->signature) {
+    case 0:
+        return simplex_store_plain(in->name, in->name_len, in->keys, in->keys_len, in->stored,
+                                   in->stored_len, in->stream, in->stream_len, evidence, room,
+                                   size);
+    case 48:
+        return simplex_store_vouched_48(in->epochs, in->epochs_len, in->sizes, in->sizes_len,
+                                        in->stored, in->stored_len, in->stream, in->stream_len,
+                                        evidence, room, size);
+    case 64:
+        return simplex_store_vouched_64(in->epochs, in->epochs_len, in->sizes, in->sizes_len,
+                                        in->stored, in->stored_len, in->stream, in->stream_len,
+                                        evidence, room, size);
+    default:
+        return simplex_store_vouched_96(in->epochs, in->epochs_len, in->sizes, in->sizes_len,
+                                        in->stored, in->stored_len, in->stream, in->stream_len,
+                                        evidence, room, size);
+    }
+}
+
 static const struct simplex_summary untouched = {99, 99, 99, 99, 99, 99};
 
 static int is_untouched(const struct simplex_summary *summary)
@@ -128,9 +150,12 @@ static int is_untouched(const struct simplex_summary *summary)
 static void refuses(const struct input *in)
 {
     struct simplex_summary summary = untouched;
+    size_t size = 99;
     uint8_t *buffer = block(500, 7);
     CHECK(audit(in, buffer, 500, &summary) == SIMPLEX_ARGUMENTS);
     CHECK(is_untouched(&summary));
+    CHECK(store(in, buffer, 500, &size) == SIMPLEX_ARGUMENTS);
+    CHECK(size == 99);
     CHECK(all(buffer, 500, 7));
     free(buffer);
 }
@@ -170,42 +195,86 @@ static size_t audits(const struct input *in, uint32_t wanted, size_t read, size_
     return summary.evidence;
 }
 
+/* Evidence as messages, with buffers as above. What is stored has the report of the stream, and is
+ * stored again as it is. */
+static void stores(const struct input *in)
+{
+    size_t n = 99, size;
+    uint8_t *evidence = block(0, 7);
+    uint32_t status = store(in, evidence, 0, &n);
+    free(evidence);
+    CHECK(status == (n ? SIMPLEX_SHORT : SIMPLEX_WHOLE));
+    evidence = block(n, 7);
+    CHECK(store(in, evidence, n, &size) == SIMPLEX_WHOLE && size == n);
+    if (n) {
+        uint8_t *shorter = block(n - 1, 7);
+        CHECK(store(in, shorter, n - 1, &size) == SIMPLEX_SHORT && size == n);
+        CHECK(all(shorter, n - 1, 7));
+        free(shorter);
+    }
+    struct input held = *in, both = *in;
+    held.stream = held.stored = evidence;
+    held.stream_len = n;
+    held.stored_len = 0;
+    struct simplex_summary summary, other;
+    uint8_t *text = block(5000, 7), *as_well = block(5000, 7);
+    CHECK(audit(in, text, 5000, &summary) <= SIMPLEX_FAULT);
+    CHECK(audit(&held, as_well, 5000, &other) == SIMPLEX_WHOLE);
+    CHECK(summary.evidence == other.evidence && other.read == other.evidence);
+    CHECK(summary.splits || (summary.length == other.length && !memcmp(text, as_well, other.length)));
+    free(text);
+    free(as_well);
+    both.stored = evidence;
+    both.stored_len = n;
+    uint8_t *again = block(n, 7);
+    CHECK(store(&both, again, n, &size) == SIMPLEX_WHOLE && size == n && !memcmp(evidence, again, n));
+    free(again);
+    free(evidence);
+}
+
 /* With its k-th allocation and all later ones refused a call ends with SIMPLEX_MEMORY, writes
  * nothing and frees what it had, until k is more than it makes. */
 static void without_memory(const struct input *in)
 {
     long before = blocks;
-    for (long k = 1;; k++) {
-        struct simplex_summary summary = untouched;
-        uint8_t text[500];
-        memset(text, 7, sizeof text);
-        allowed = k;
-        uint32_t status = audit(in, text, sizeof text, &summary);
-        int over = allowed > 0;
-        allowed = -1;
-        CHECK(blocks == before);
-        if (over) {
-            CHECK(status <= SIMPLEX_FAULT);
-            CHECK(k > 1);
-            break;
+    for (int stored = 0; stored < 2; stored++)
+        for (long k = 1;; k++) {
+            struct simplex_summary summary = untouched;
+            size_t size = 99;
+            uint8_t buffer[500];
+            memset(buffer, 7, sizeof buffer);
+            allowed = k;
+            uint32_t status = stored ? store(in, buffer, sizeof buffer, &size)
+                                     : audit(in, buffer, sizeof buffer, &summary);
+            int over = allowed > 0;
+            allowed = -1;
+            CHECK(blocks == before);
+            if (over) {
+                CHECK(status <= SIMPLEX_FAULT);
+                CHECK(k > 1);
+                break;
+            }
+            CHECK(status == SIMPLEX_MEMORY && all(buffer, sizeof buffer, 7));
+            CHECK(size == 99 && is_untouched(&summary));
         }
-        CHECK(status == SIMPLEX_MEMORY && all(text, sizeof text, 7) && is_untouched(&summary));
-    }
 }
 
 /* The sample of crates/audit: two notarizes of participant 0, of 69 bytes each. */
 static void plain(const uint8_t *sample, size_t len)
 {
-    uint8_t *keys = block(64, 0), *name = copy("test", 4);
+    uint8_t *keys = block(64, 0), *name = copy("test", 4), *none = block(0, 0);
     struct input in = {.name = name, .name_len = 4, .keys = keys, .keys_len = 32, .stream = sample,
-                       .stream_len = len};
+                       .stream_len = len, .stored = none, .epochs = NULL, .sizes = NULL};
     CHECK(len == 138);
     CHECK(audits(&in, SIMPLEX_WHOLE, 2, 0) == 1);
+    stores(&in);
     without_memory(&in);
     in.stream_len = 137;
     CHECK(audits(&in, SIMPLEX_FAULT, 1, 69) == 0);
+    stores(&in);
     in.stream_len = 0;
     CHECK(audits(&in, SIMPLEX_WHOLE, 0, 0) == 0);
+    stores(&in);
     in.stream_len = len;
     in.name_len = 0;
     CHECK(audits(&in, SIMPLEX_WHOLE, 2, 0) == 0);
@@ -220,6 +289,7 @@ static void plain(const uint8_t *sample, size_t len)
     CHECK(audits(&in, SIMPLEX_WHOLE, 2, 0) == 1);
     keys[0] = 2; /* now the key of the sample's signer is not there */
     CHECK(audits(&in, SIMPLEX_WHOLE, 2, 0) == 0);
+    free(none);
     free(name);
     free(keys);
 }
@@ -266,16 +336,18 @@ static void refuses_sizes(struct input in, const uint64_t *epochs, size_t epochs
 
 static void vouched(int signature)
 {
-    uint8_t room[400];
+    uint8_t *none = block(0, 0), room[400];
     const uint64_t epochs[] = {3, 4, 4, 2}, *no_epochs = (const uint64_t *)copy("", 0);
     const uint32_t four[] = {4, 4, 4}, low_high[] = {1, 4}, high_low[] = {4, 1}, zero[] = {4, 0};
     size_t n = two(room, 4, 2, (size_t)signature, 1);
     uint8_t *stream = copy(room, n);
-    struct input in = {.stream = stream, .stream_len = n, .signature = signature};
+    struct input in = {.stored = none, .stream = stream, .stream_len = n, .signature = signature};
     /* which committee is that of the epoch */
     CHECK(accused(&in, no_epochs, 0, four, 1) == 1);
+    stores(&in);
     without_memory(&in);
     CHECK(accused(&in, epochs, 2, low_high, 2) == 1);
+    stores(&in);
     without_memory(&in);
     CHECK(accused(&in, epochs, 2, high_low, 2) == 0);
     CHECK(accused(&in, epochs, 1, four, 1) == 0);
@@ -301,6 +373,7 @@ static void vouched(int signature)
     CHECK(audits(&in, SIMPLEX_FAULT, 1, n / 2) == 0);
     free((void *)no_epochs);
     free(stream);
+    free(none);
 }
 
 static void numbers(void)
@@ -377,7 +450,7 @@ static void *work(void *with)
     uint8_t room[400];
     size_t n = two(room, 0, 1, (size_t)signature, 1);
     struct input in = {.epochs = epoch, .epochs_len = 1, .sizes = four, .sizes_len = 1,
-                       .stream = room, .stream_len = n, .signature = signature};
+                       .stored = room, .stream = room, .stream_len = n, .signature = signature};
     long wrong = 0;
     for (int i = 0; i < 300; i++) {
         struct simplex_summary summary;

@@ -37,6 +37,20 @@ type AuditVouched = unsafe extern "C" fn(
     summary: *mut Summary,
 ) -> u32;
 
+type StoreVouched = unsafe extern "C" fn(
+    epochs: *const u64,
+    epochs_len: usize,
+    sizes: *const u32,
+    sizes_len: usize,
+    stored: *const u8,
+    stored_len: usize,
+    batch: *const u8,
+    batch_len: usize,
+    evidence: *mut u8,
+    evidence_len: usize,
+    size: *mut usize,
+) -> u32;
+
 #[rustfmt::skip]
 extern "C" {
     fn simplex_version() -> u32;
@@ -55,6 +69,22 @@ extern "C" {
     fn simplex_audit_plain(
         name: *const u8, name_len: usize, keys: *const u8, keys_len: usize, stream: *const u8, stream_len: usize,
         text: *mut u8, text_len: usize, summary: *mut Summary,
+    ) -> u32;
+    fn simplex_store_vouched_48(
+        epochs: *const u64, epochs_len: usize, sizes: *const u32, sizes_len: usize, stored: *const u8, stored_len: usize,
+        batch: *const u8, batch_len: usize, evidence: *mut u8, evidence_len: usize, size: *mut usize,
+    ) -> u32;
+    fn simplex_store_vouched_64(
+        epochs: *const u64, epochs_len: usize, sizes: *const u32, sizes_len: usize, stored: *const u8, stored_len: usize,
+        batch: *const u8, batch_len: usize, evidence: *mut u8, evidence_len: usize, size: *mut usize,
+    ) -> u32;
+    fn simplex_store_vouched_96(
+        epochs: *const u64, epochs_len: usize, sizes: *const u32, sizes_len: usize, stored: *const u8, stored_len: usize,
+        batch: *const u8, batch_len: usize, evidence: *mut u8, evidence_len: usize, size: *mut usize,
+    ) -> u32;
+    fn simplex_store_plain(
+        name: *const u8, name_len: usize, keys: *const u8, keys_len: usize, stored: *const u8, stored_len: usize,
+        batch: *const u8, batch_len: usize, evidence: *mut u8, evidence_len: usize, size: *mut usize,
     ) -> u32;
     fn simplex_max_faults(n: u32) -> u32;
     fn simplex_quorum(n: u32) -> u32;
@@ -133,6 +163,55 @@ pub(crate) fn audit(committees: &Committees, stream: &[u8]) -> Result<(Vec<u8>, 
         (status, summary.length)
     })?;
     Ok((text, summary))
+}
+
+/// What a ledger stores that held `stored` and was fed `batch`.
+pub(crate) fn store(committees: &Committees, stored: &[u8], batch: &[u8]) -> Result<Vec<u8>, Error> {
+    filled(stored.len() + 1024, |evidence| {
+        let mut length = 0;
+        let status = match &committees.members {
+            Members::Vouched { size, epochs, sizes } => {
+                let call: StoreVouched = match size {
+                    Size::Bytes48 => simplex_store_vouched_48,
+                    Size::Bytes64 => simplex_store_vouched_64,
+                    Size::Bytes96 => simplex_store_vouched_96,
+                };
+                // SAFETY: see this module.
+                unsafe {
+                    call(
+                        epochs.as_ptr(),
+                        epochs.len(),
+                        sizes.as_ptr(),
+                        sizes.len(),
+                        stored.as_ptr(),
+                        stored.len(),
+                        batch.as_ptr(),
+                        batch.len(),
+                        evidence.as_mut_ptr(),
+                        evidence.len(),
+                        &mut length,
+                    )
+                }
+            }
+            // SAFETY: see this module.
+            Members::Plain { name, keys } => unsafe {
+                simplex_store_plain(
+                    name.as_ptr(),
+                    name.len(),
+                    keys.as_ptr(),
+                    keys.len(),
+                    stored.as_ptr(),
+                    stored.len(),
+                    batch.as_ptr(),
+                    batch.len(),
+                    evidence.as_mut_ptr(),
+                    evidence.len(),
+                    &mut length,
+                )
+            },
+        };
+        (status, length)
+    })
 }
 
 pub(crate) fn version() -> u32 {

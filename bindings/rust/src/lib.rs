@@ -21,6 +21,7 @@ mod committees;
 mod encoder;
 mod error;
 mod ffi;
+mod ledger;
 mod report;
 
 pub mod views;
@@ -28,6 +29,7 @@ pub mod views;
 pub use committees::{Committees, Size};
 pub use encoder::{Encoder, Verifier, Vote};
 pub use error::Error;
+pub use ledger::Ledger;
 pub use report::{audit, Evidence, Kind, Report, Split};
 
 /// The version of the library's calls.

@@ -1,6 +1,6 @@
 //! Streams that an `Encoder` writes, and what is refused.
 
-use simplex_audit::{audit, version, views, Committees, Encoder, Error, Kind, Size, Split, Vote};
+use simplex_audit::{audit, version, views, Committees, Encoder, Error, Kind, Ledger, Size, Split, Vote};
 
 const SIZES: [Size; 3] = [Size::Bytes48, Size::Bytes64, Size::Bytes96];
 
@@ -45,8 +45,15 @@ fn more_than_the_first_buffer() {
             stream.vote(&vote, signer, &[9; 64], &every).unwrap();
         }
     }
-    let report = audit(&Committees::every(Size::Bytes64, 100).unwrap(), stream.as_bytes()).unwrap();
+    let committees = Committees::every(Size::Bytes64, 100).unwrap();
+    let report = audit(&committees, stream.as_bytes()).unwrap();
     assert_eq!((report.evidence.len(), report.read), (100, 200));
+    let mut ledger = Ledger::resume(committees, Vec::new());
+    ledger.feed(stream.as_bytes()).unwrap();
+    assert_eq!(ledger.report().unwrap().text, report.text);
+    let stored = ledger.stored().to_vec();
+    ledger.feed(&[]).unwrap();
+    assert_eq!(ledger.stored(), stored);
 }
 
 #[test]

@@ -2,14 +2,14 @@
 //! has its contract.
 #![tactic(auto)]
 
-ghost use Rattle.std.specs.Prelude.{◌≡◌, ◌≢◌, ◌⊎◌, ◌-◌, ◌≤◌, None, Some};
+ghost use Rattle.std.specs.Prelude.{◌≡◌, ◌≢◌, ◌⊎◌, ◌-◌, ◌≤◌, ◌++◌, None, Some};
 ghost use Rattle.simplex_base.specs.Terms.{term_start};
 ghost use Rattle.simplex_scheme.specs.Committee.{faults_of, quorum_of};
 ghost use Rattle.simplex_lead.specs.Windows.{FitsWindow, IsAdmitted, IsOutbound};
 ghost use Rattle.simplex_plain.specs.Plain.{PlainScheme};
 ghost use Rattle.simplex_detector.specs.Committees.{Schedule};
 ghost use Rattle.simplex_vouched.specs.Vouched.{VouchedScheme};
-ghost use Rattle.simplex_ffi.specs.Answer.{IsAudited};
+ghost use Rattle.simplex_ffi.specs.Answer.{AreStored, IsAudited};
 ghost use Rattle.simplex_ffi.specs.Keys.{AreKeys, AreOfKeys};
 ghost use Rattle.simplex_ffi.specs.Leaders.{LeadsRound};
 ghost use Rattle.simplex_ffi.specs.Sizes.{AreSizes};
@@ -17,8 +17,8 @@ ghost use Rattle.simplex_ffi.specs.Sizes.{AreSizes};
 use simplex_audit::basis::Audited;
 use simplex_base::codec::Fixed;
 use simplex_ffi::answer::Summary;
-use simplex_ffi::plain::answer_plain;
-use simplex_ffi::vouched::{Role48, Role64, Role96, answer_vouched};
+use simplex_ffi::plain::{answer_plain, store_plain};
+use simplex_ffi::vouched::{Role48, Role64, Role96, answer_vouched, store_vouched};
 use simplex_ffi::{leaders, numbers};
 use simplex_plain::plain::Plain;
 use simplex_scheme::hash::{Hasher, Sha256, Sha256Digest};
@@ -56,6 +56,30 @@ pub extern "C" fn simplex_audit_vouched_48(
     answer_vouched::<Role48, 49>(alloc, epochs, sizes, stream, text, summary)
 }
 
+/// Stores the evidence of what was stored and of a batch behind it, whose signatures have 48 bytes
+/// and the caller's verdict, under the committees of these sizes.
+#[unsafe(no_mangle)]
+pub extern "C" fn simplex_store_vouched_48(
+    alloc: Global,
+    epochs: &[u64],
+    sizes: &[u32],
+    stored: &[u8],
+    batch: &[u8],
+    evidence: &mut [u8],
+    size: &mut usize,
+) -> u32
+    ensures stored { result ≢ 2 → result ≢ 3 → (committees : Schedule VouchedScheme) ×
+        AreSizes epochs.now sizes.now committees ×
+        AreStored (⟦<Vouched<Role48, 49> as Audited<Sha256Digest>>⟧.basis committees)
+        (stored.now ++ batch.now) evidence.old evidence.new size.new result }
+    ensures refused { result ≡ 2 → (committees : Schedule VouchedScheme) →
+        ¬ AreSizes epochs.now sizes.now committees }
+    ensures untouched { (result ≡ 2) ⊎ (result ≡ 3) →
+        (evidence.new ≡ evidence.old) × (size.new ≡ size.old) }
+{
+    store_vouched::<Role48, 49>(alloc, epochs, sizes, stored, batch, evidence, size)
+}
+
 /// Audits a stream whose signatures have 64 bytes, as those of Ed25519, each with the caller's
 /// verdict behind it, under the committees of these sizes.
 #[unsafe(no_mangle)]
@@ -77,6 +101,30 @@ pub extern "C" fn simplex_audit_vouched_64(
         (text.new ≡ text.old) × (summary.new ≡ summary.old) }
 {
     answer_vouched::<Role64, 65>(alloc, epochs, sizes, stream, text, summary)
+}
+
+/// Stores the evidence of what was stored and of a batch behind it, whose signatures have 64 bytes
+/// and the caller's verdict, under the committees of these sizes.
+#[unsafe(no_mangle)]
+pub extern "C" fn simplex_store_vouched_64(
+    alloc: Global,
+    epochs: &[u64],
+    sizes: &[u32],
+    stored: &[u8],
+    batch: &[u8],
+    evidence: &mut [u8],
+    size: &mut usize,
+) -> u32
+    ensures stored { result ≢ 2 → result ≢ 3 → (committees : Schedule VouchedScheme) ×
+        AreSizes epochs.now sizes.now committees ×
+        AreStored (⟦<Vouched<Role64, 65> as Audited<Sha256Digest>>⟧.basis committees)
+        (stored.now ++ batch.now) evidence.old evidence.new size.new result }
+    ensures refused { result ≡ 2 → (committees : Schedule VouchedScheme) →
+        ¬ AreSizes epochs.now sizes.now committees }
+    ensures untouched { (result ≡ 2) ⊎ (result ≡ 3) →
+        (evidence.new ≡ evidence.old) × (size.new ≡ size.old) }
+{
+    store_vouched::<Role64, 65>(alloc, epochs, sizes, stored, batch, evidence, size)
 }
 
 /// Audits a stream whose signatures have 96 bytes, as those of BLS12-381 in G2, each with the
@@ -102,6 +150,30 @@ pub extern "C" fn simplex_audit_vouched_96(
     answer_vouched::<Role96, 97>(alloc, epochs, sizes, stream, text, summary)
 }
 
+/// Stores the evidence of what was stored and of a batch behind it, whose signatures have 96 bytes
+/// and the caller's verdict, under the committees of these sizes.
+#[unsafe(no_mangle)]
+pub extern "C" fn simplex_store_vouched_96(
+    alloc: Global,
+    epochs: &[u64],
+    sizes: &[u32],
+    stored: &[u8],
+    batch: &[u8],
+    evidence: &mut [u8],
+    size: &mut usize,
+) -> u32
+    ensures stored { result ≢ 2 → result ≢ 3 → (committees : Schedule VouchedScheme) ×
+        AreSizes epochs.now sizes.now committees ×
+        AreStored (⟦<Vouched<Role96, 97> as Audited<Sha256Digest>>⟧.basis committees)
+        (stored.now ++ batch.now) evidence.old evidence.new size.new result }
+    ensures refused { result ≡ 2 → (committees : Schedule VouchedScheme) →
+        ¬ AreSizes epochs.now sizes.now committees }
+    ensures untouched { (result ≡ 2) ⊎ (result ≡ 3) →
+        (evidence.new ≡ evidence.old) × (size.new ≡ size.old) }
+{
+    store_vouched::<Role96, 97>(alloc, epochs, sizes, stored, batch, evidence, size)
+}
+
 /// Audits a stream of the plain scheme, whose signatures are hashes, under one committee for every
 /// epoch: `keys` are its keys, of 32 bytes each, in any order.
 #[unsafe(no_mangle)]
@@ -122,6 +194,28 @@ pub extern "C" fn simplex_audit_plain(
         (text.new ≡ text.old) × (summary.new ≡ summary.old) }
 {
     answer_plain(alloc, name, keys, stream, text, summary)
+}
+
+/// Stores the evidence of what was stored and of a batch behind it, of the plain scheme.
+#[unsafe(no_mangle)]
+pub extern "C" fn simplex_store_plain(
+    alloc: Global,
+    name: &[u8],
+    keys: &[u8],
+    stored: &[u8],
+    batch: &[u8],
+    evidence: &mut [u8],
+    size: &mut usize,
+) -> u32
+    ensures stored { result ≢ 2 → result ≢ 3 → (committees : Schedule PlainScheme) ×
+        AreOfKeys name.now keys.now committees ×
+        AreStored (⟦<Plain as Audited<Sha256Digest>>⟧.basis committees)
+        (stored.now ++ batch.now) evidence.old evidence.new size.new result }
+    ensures refused { result ≡ 2 → ¬ AreKeys keys.now }
+    ensures untouched { (result ≡ 2) ⊎ (result ≡ 3) →
+        (evidence.new ≡ evidence.old) × (size.new ≡ size.old) }
+{
+    store_plain(alloc, name, keys, stored, batch, evidence, size)
 }
 
 /// How many of `n` participants may lie: the greatest f with 3f + 1 ≤ n, and 0 for none.

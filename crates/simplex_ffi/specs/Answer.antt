@@ -3,6 +3,7 @@ use Rattle.std.specs.Prelude.{◌≡◌, ◌⊎◌, ℕ, ◌<◌, ◌≤◌, Lis
 use Rattle.simplex_audit.specs.Basis.{Basis}
 use Rattle.simplex_audit.specs.Guarantees.{IsAudit}
 use Rattle.simplex_audit.specs.Run.{report_text}
+use Rattle.simplex_clients.specs.Holding.{IsStored}
 use Rattle.simplex_audit.specs.declared.audit.Fault.{Fault}
 use Rattle.simplex_audit.specs.declared.audit.Report.{Report}
 use Rattle.simplex_ffi.specs.declared.answer.Summary.{Summary}
@@ -39,3 +40,11 @@ pub record IsAudited {S D C P G : Type 0} (basis : Basis S D C P G) (bytes_of : 
   pub audit_is : IsAudit basis stream report
   pub summary_is : IsSummary bytes_of report summary
   pub text_is : IsPut (report_text bytes_of report) before after status (ended_of report.fault)
+
+-- The evidence of the stream was stored: as messages it stands at the front of the buffer, with 0; or the buffer is too short and
+-- as before, with 4. The size is that of the messages.
+pub record AreStored {S D C P G : Type 0} (basis : Basis S D C P G) (stream before after : List ℕ) (size status : ℕ) : Type 0 where
+  pub bytes : List ℕ
+  pub stored_is : IsStored basis stream bytes
+  pub size_is : size ≡ length bytes
+  pub bytes_are : IsPut bytes before after status 0

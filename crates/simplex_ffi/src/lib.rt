@@ -7,4 +7,5 @@ pub mod leaders;
 pub mod numbers;
 pub mod plain;
 pub mod sizes;
+pub mod store;
 pub mod vouched;
