@@ -1,4 +1,4 @@
-.PHONY: run audit audit_stored inspect install test quick check
+.PHONY: run audit audit_stored inspect library install test quick check
 
 PREFIX ?= /usr/local
 
@@ -17,6 +17,10 @@ audit_stored:
 # Proves and builds the program that shows what is in a stream, crates/inspect/out/inspect, and runs it on the same stream.
 inspect:
 	@.ci/built inspect
+
+# Proves and builds the static library of bindings/, for C and Rust: bindings/out/libsimplex_audit.a.
+library:
+	@.ci/library
 
 # Copies those of the programs that were built, by a target above or by `make test`.
 install:

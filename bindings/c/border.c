@@ -1,0 +1,496 @@
+/*
+ * Tries what the contracts of the calls say of buffers and refusals, from C: buffers that fit, that
+ * are a byte too short or empty, empty slices, arguments that are no committees, verdicts, calls at
+ * once in several threads, and each allocation failing in turn. Every buffer is a block of its own,
+ * so that AddressSanitizer and valgrind see an access outside.
+ *
+ *     border < STREAM             STREAM: the sample of crates/audit
+ *     border --limit < STREAM     also what needs more memory than the process may have
+ *
+ * Linked with -Wl,--wrap=malloc,--wrap=realloc,--wrap=free.
+ */
+#include "../simplex_audit.h"
+#include <pthread.h>
+#include <stdio.h>
+#include <stdlib.h>
+#include <string.h>
+#include <sys/resource.h>
+
+static int checks, failed;
+
+#define CHECK(test)                                                                                \
+    do {                                                                                           \
+        checks++;                                                                                  \
+        if (!(test)) {                                                                             \
+            failed++;                                                                              \
+            fprintf(stderr, "border.c:%d: %s\n", __LINE__, #test);                                 \
+        }                                                                                          \
+    } while (0)
+
+/* Allocations: how many may still succeed (-1: all), and how many blocks the library holds. */
+static _Thread_local long allowed = -1, blocks;
+
+void *__real_malloc(size_t n);
+void *__real_realloc(void *p, size_t n);
+void __real_free(void *p);
+
+static int refused(void)
+{
+    if (allowed > 0)
+        allowed--;
+    return allowed == 0;
+}
+
+void *__wrap_malloc(size_t n)
+{
+    void *p = refused() ? NULL : __real_malloc(n);
+    blocks += p != NULL;
+    return p;
+}
+
+void *__wrap_realloc(void *p, size_t n)
+{
+    void *moved = refused() ? NULL : __real_realloc(p, n);
+    blocks += p == NULL && moved != NULL;
+    return moved;
+}
+
+void __wrap_free(void *p)
+{
+    blocks -= p != NULL;
+    __real_free(p);
+}
+
+/* A block of n bytes, each of them `filler`; for n = 0 too it is not NULL. */
+static uint8_t *block(size_t n, uint8_t filler)
+{
+    uint8_t *p = malloc(n ? n : 1);
+    if (!p)
+        abort();
+    memset(p, filler, n);
+    return p;
+}
+
+static uint8_t *copy(const void *from, size_t n)
+{
+    uint8_t *p = block(n, 0);
+    memcpy(p, from, n);
+    return p;
+}
+
+static int all(const uint8_t *p, size_t n, uint8_t filler)
+{
+    for (size_t i = 0; i < n; i++)
+        if (p[i] != filler)
+            return 0;
+    return 1;
+}
+
+/* The arguments of a call but for its buffer. The three sizes of signatures have one interface. */
+struct input {
+    const uint8_t *name, *keys;
+    size_t name_len, keys_len;
+    const uint64_t *epochs;
+    const uint32_t *sizes;
+    size_t epochs_len, sizes_len;
+    const uint8_t *stored, *stream;
+    size_t stored_len, stream_len;
+    int signature; /* 48, 64 or 96, or 0 for the plain scheme */
+};
+
+static uint32_t audit(const struct input *in, uint8_t *text, size_t room,
+                      struct simplex_summary *summary)
+{
+    switch (in->signature) {
+    case 0:
+        return simplex_audit_plain(in->name, in->name_len, in->keys, in->keys_len, in->stream,
+                                   in->stream_len, text, room, summary);
+    case 48:
+        return simplex_audit_vouched_48(in->epochs, in->epochs_len, in->sizes, in->sizes_len,
+                                        in->stream, in->stream_len, text, room, summary);
+    case 64:
+        return simplex_audit_vouched_64(in->epochs, in->epochs_len, in->sizes, in->sizes_len,
+                                        in->stream, in->stream_len, text, room, summary);
+    default:
+        return simplex_audit_vouched_96(in->epochs, in->epochs_len, in->sizes, in->sizes_len,
+                                        in->stream, in->stream_len, text, room, summary);
+    }
+}
+
+static uint32_t store(const struct input *in, uint8_t *evidence, size_t room, size_t *size)
+{
+    switch (in->signature) {
+    case 0:
+        return simplex_store_plain(in->name, in->name_len, in->keys, in->keys_len, in->stored,
+                                   in->stored_len, in->stream, in->stream_len, evidence, room,
+                                   size);
+    case 48:
+        return simplex_store_vouched_48(in->epochs, in->epochs_len, in->sizes, in->sizes_len,
+                                        in->stored, in->stored_len, in->stream, in->stream_len,
+                                        evidence, room, size);
+    case 64:
+        return simplex_store_vouched_64(in->epochs, in->epochs_len, in->sizes, in->sizes_len,
+                                        in->stored, in->stored_len, in->stream, in->stream_len,
+                                        evidence, room, size);
+    default:
+        return simplex_store_vouched_96(in->epochs, in->epochs_len, in->sizes, in->sizes_len,
+                                        in->stored, in->stored_len, in->stream, in->stream_len,
+                                        evidence, room, size);
+    }
+}
+
+static const struct simplex_summary untouched = {99, 99, 99, 99, 99, 99};
+
+static int is_untouched(const struct simplex_summary *summary)
+{
+    return !memcmp(summary, &untouched, sizeof untouched);
+}
+
+/* The arguments are refused, and nothing is written. */
+static void refuses(const struct input *in)
+{
+    struct simplex_summary summary = untouched;
+    size_t size = 99;
+    uint8_t *buffer = block(500, 7);
+    CHECK(audit(in, buffer, 500, &summary) == SIMPLEX_ARGUMENTS);
+    CHECK(is_untouched(&summary));
+    CHECK(store(in, buffer, 500, &size) == SIMPLEX_ARGUMENTS);
+    CHECK(size == 99);
+    CHECK(all(buffer, 500, 7));
+    free(buffer);
+}
+
+/* An audit with buffers that fit, have a byte too many, and are too short. Returns the number of
+ * lines of evidence. */
+static size_t audits(const struct input *in, uint32_t wanted, size_t read, size_t place)
+{
+    struct simplex_summary summary = untouched, again;
+    uint8_t *text = block(0, 7);
+    uint32_t status = audit(in, text, 0, &summary);
+    size_t n = summary.length;
+    free(text);
+    CHECK(status == (n ? SIMPLEX_SHORT : wanted));
+    CHECK(summary.read == read && summary.fault_place == place);
+    CHECK(summary.faulted == (wanted == SIMPLEX_FAULT));
+    text = block(n, 7);
+    again = untouched;
+    CHECK(audit(in, text, n, &again) == wanted);
+    CHECK(!memcmp(&summary, &again, sizeof summary));
+    size_t lines = 0;
+    for (size_t i = 0; i < n; i++)
+        lines += text[i] == '\n';
+    CHECK(lines == summary.evidence + summary.splits && (!n || text[n - 1] == '\n'));
+    uint8_t *longer = block(n + 9, 7);
+    CHECK(audit(in, longer, n + 9, &again) == wanted);
+    CHECK(!memcmp(text, longer, n) && all(longer + n, 9, 7));
+    free(longer);
+    free(text);
+    if (n) {
+        text = block(n - 1, 7);
+        again = untouched;
+        CHECK(audit(in, text, n - 1, &again) == SIMPLEX_SHORT);
+        CHECK(!memcmp(&summary, &again, sizeof summary) && all(text, n - 1, 7));
+        free(text);
+    }
+    return summary.evidence;
+}
+
+/* Evidence as messages, with buffers as above. What is stored has the report of the stream, and is
+ * stored again as it is. */
+static void stores(const struct input *in)
+{
+    size_t n = 99, size;
+    uint8_t *evidence = block(0, 7);
+    uint32_t status = store(in, evidence, 0, &n);
+    free(evidence);
+    CHECK(status == (n ? SIMPLEX_SHORT : SIMPLEX_WHOLE));
+    evidence = block(n, 7);
+    CHECK(store(in, evidence, n, &size) == SIMPLEX_WHOLE && size == n);
+    if (n) {
+        uint8_t *shorter = block(n - 1, 7);
+        CHECK(store(in, shorter, n - 1, &size) == SIMPLEX_SHORT && size == n);
+        CHECK(all(shorter, n - 1, 7));
+        free(shorter);
+    }
+    struct input held = *in, both = *in;
+    held.stream = held.stored = evidence;
+    held.stream_len = n;
+    held.stored_len = 0;
+    struct simplex_summary summary, other;
+    uint8_t *text = block(5000, 7), *as_well = block(5000, 7);
+    CHECK(audit(in, text, 5000, &summary) <= SIMPLEX_FAULT);
+    CHECK(audit(&held, as_well, 5000, &other) == SIMPLEX_WHOLE);
+    CHECK(summary.evidence == other.evidence && other.read == other.evidence);
+    CHECK(summary.splits || (summary.length == other.length && !memcmp(text, as_well, other.length)));
+    free(text);
+    free(as_well);
+    both.stored = evidence;
+    both.stored_len = n;
+    uint8_t *again = block(n, 7);
+    CHECK(store(&both, again, n, &size) == SIMPLEX_WHOLE && size == n && !memcmp(evidence, again, n));
+    free(again);
+    free(evidence);
+}
+
+/* With its k-th allocation and all later ones refused a call ends with SIMPLEX_MEMORY, writes
+ * nothing and frees what it had, until k is more than it makes. */
+static void without_memory(const struct input *in)
+{
+    long before = blocks;
+    for (int stored = 0; stored < 2; stored++)
+        for (long k = 1;; k++) {
+            struct simplex_summary summary = untouched;
+            size_t size = 99;
+            uint8_t buffer[500];
+            memset(buffer, 7, sizeof buffer);
+            allowed = k;
+            uint32_t status = stored ? store(in, buffer, sizeof buffer, &size)
+                                     : audit(in, buffer, sizeof buffer, &summary);
+            int over = allowed > 0;
+            allowed = -1;
+            CHECK(blocks == before);
+            if (over) {
+                CHECK(status <= SIMPLEX_FAULT);
+                CHECK(k > 1);
+                break;
+            }
+            CHECK(status == SIMPLEX_MEMORY && all(buffer, sizeof buffer, 7));
+            CHECK(size == 99 && is_untouched(&summary));
+        }
+}
+
+/* The sample of crates/audit: two notarizes of participant 0, of 69 bytes each. */
+static void plain(const uint8_t *sample, size_t len)
+{
+    uint8_t *keys = block(64, 0), *name = copy("test", 4), *none = block(0, 0);
+    struct input in = {.name = name, .name_len = 4, .keys = keys, .keys_len = 32, .stream = sample,
+                       .stream_len = len, .stored = none, .epochs = NULL, .sizes = NULL};
+    CHECK(len == 138);
+    CHECK(audits(&in, SIMPLEX_WHOLE, 2, 0) == 1);
+    stores(&in);
+    without_memory(&in);
+    in.stream_len = 137;
+    CHECK(audits(&in, SIMPLEX_FAULT, 1, 69) == 0);
+    stores(&in);
+    in.stream_len = 0;
+    CHECK(audits(&in, SIMPLEX_WHOLE, 0, 0) == 0);
+    stores(&in);
+    in.stream_len = len;
+    in.name_len = 0;
+    CHECK(audits(&in, SIMPLEX_WHOLE, 2, 0) == 0);
+    in.name_len = 4;
+    for (size_t n = 0; n <= 64; n++)
+        if (n != 32) {
+            in.keys_len = n;
+            refuses(&in); /* 64: one key twice */
+        }
+    in.keys_len = 64;
+    keys[32] = 1;
+    CHECK(audits(&in, SIMPLEX_WHOLE, 2, 0) == 1);
+    keys[0] = 2; /* now the key of the sample's signer is not there */
+    CHECK(audits(&in, SIMPLEX_WHOLE, 2, 0) == 0);
+    free(none);
+    free(name);
+    free(keys);
+}
+
+/* A notarize in view 10 of an epoch, with a signature of this size and a verdict. */
+static uint8_t *put_notarize(uint8_t *at, uint8_t epoch, uint8_t signer, uint8_t payload,
+                             size_t signature, uint8_t verdict)
+{
+    const uint8_t head[] = {0, epoch, 10, 5};
+    memcpy(at, head, 4);
+    memset(at + 4, payload, 32);
+    at[36] = signer;
+    memset(at + 37, 0xee, signature);
+    at[37 + signature] = verdict;
+    return at + 38 + signature;
+}
+
+/* Two notarizes that contradict, the second with this verdict. */
+static size_t two(uint8_t *stream, uint8_t epoch, uint8_t signer, size_t signature, uint8_t verdict)
+{
+    uint8_t *end = put_notarize(stream, epoch, signer, 6, signature, 1);
+    return (size_t)(put_notarize(end, epoch, signer, 7, signature, verdict) - stream);
+}
+
+static size_t accused(struct input *in, const uint64_t *epochs, size_t epochs_len,
+                      const uint32_t *sizes, size_t sizes_len)
+{
+    in->epochs = epochs;
+    in->epochs_len = epochs_len;
+    in->sizes = sizes;
+    in->sizes_len = sizes_len;
+    return audits(in, SIMPLEX_WHOLE, 2, 0);
+}
+
+static void refuses_sizes(struct input in, const uint64_t *epochs, size_t epochs_len,
+                          const uint32_t *sizes, size_t sizes_len)
+{
+    in.epochs = epochs;
+    in.epochs_len = epochs_len;
+    in.sizes = sizes;
+    in.sizes_len = sizes_len;
+    refuses(&in);
+}
+
+static void vouched(int signature)
+{
+    uint8_t *none = block(0, 0), room[400];
+    const uint64_t epochs[] = {3, 4, 4, 2}, *no_epochs = (const uint64_t *)copy("", 0);
+    const uint32_t four[] = {4, 4, 4}, low_high[] = {1, 4}, high_low[] = {4, 1}, zero[] = {4, 0};
+    size_t n = two(room, 4, 2, (size_t)signature, 1);
+    uint8_t *stream = copy(room, n);
+    struct input in = {.stored = none, .stream = stream, .stream_len = n, .signature = signature};
+    /* which committee is that of the epoch */
+    CHECK(accused(&in, no_epochs, 0, four, 1) == 1);
+    stores(&in);
+    without_memory(&in);
+    CHECK(accused(&in, epochs, 2, low_high, 2) == 1);
+    stores(&in);
+    without_memory(&in);
+    CHECK(accused(&in, epochs, 2, high_low, 2) == 0);
+    CHECK(accused(&in, epochs, 1, four, 1) == 0);
+    CHECK(accused(&in, no_epochs, 0, low_high, 1) == 0);
+    /* what is no committees */
+    refuses_sizes(in, no_epochs, 0, four, 0);
+    refuses_sizes(in, no_epochs, 0, four, 2);
+    refuses_sizes(in, no_epochs, 0, zero + 1, 1);
+    refuses_sizes(in, epochs, 1, four, 0);
+    refuses_sizes(in, epochs, 1, four, 2);
+    refuses_sizes(in, epochs, 2, four, 1);
+    refuses_sizes(in, epochs, 2, zero, 2);
+    refuses_sizes(in, epochs, 3, four, 3);
+    refuses_sizes(in, epochs + 2, 2, four, 2);
+    /* only 01 is the verdict of a valid signature */
+    for (int verdict = 0; verdict < 256; verdict++) {
+        stream[n - 1] = (uint8_t)verdict;
+        CHECK(accused(&in, no_epochs, 0, four, 1) == (verdict == 1));
+    }
+    stream[n - 1] = 1;
+    in.stream_len = n - 1;
+    in.sizes_len = 1;
+    CHECK(audits(&in, SIMPLEX_FAULT, 1, n / 2) == 0);
+    free((void *)no_epochs);
+    free(stream);
+    free(none);
+}
+
+static void numbers(void)
+{
+    CHECK(simplex_version() == SIMPLEX_VERSION);
+    CHECK(simplex_max_faults(0) == 0 && simplex_quorum(0) == 0);
+    CHECK(simplex_max_faults(1) == 0 && simplex_quorum(1) == 1);
+    CHECK(simplex_max_faults(4) == 1 && simplex_quorum(4) == 3);
+    CHECK(simplex_max_faults(UINT32_MAX) == 1431655764 && simplex_quorum(UINT32_MAX) == 2863311531);
+    CHECK(simplex_admits(0, 0, 1, 1) == SIMPLEX_NONE);
+    CHECK(simplex_admits_outbound(0, 0, 1, 1) == SIMPLEX_NONE);
+    CHECK(simplex_admits(1, 0, UINT64_MAX, 1) == SIMPLEX_NONE);
+    CHECK(simplex_admits_outbound(1, 0, UINT64_MAX, 1) == SIMPLEX_NONE);
+    CHECK(simplex_admits(1, 0, 10, 11) == SIMPLEX_YES);
+    CHECK(simplex_admits(1, 0, 10, 14) == SIMPLEX_NO);
+    uint64_t floor = 99;
+    CHECK(simplex_issuance_floor(0, 2, 13, &floor) == SIMPLEX_NONE && floor == 99);
+    CHECK(simplex_issuance_floor(5, 0, 13, &floor) == SIMPLEX_NO && floor == 99);
+    CHECK(simplex_issuance_floor(5, 2, 13, &floor) == SIMPLEX_YES && floor == 10);
+    uint32_t number = 99;
+    uint8_t *seed = block(0, 0);
+    CHECK(simplex_leader(0, 1, 3, 10, &number) == SIMPLEX_ARGUMENTS && number == 99);
+    CHECK(simplex_leader(4, 0, 3, 10, &number) == SIMPLEX_ARGUMENTS && number == 99);
+    CHECK(simplex_leader_shuffled(seed, 0, 0, 1, 3, 10, &number) == SIMPLEX_ARGUMENTS && number == 99);
+    CHECK(simplex_leader(4, 1, 3, 10, &number) == SIMPLEX_WHOLE);
+    /* terms of one view: each leads once in four views */
+    unsigned led = 0, led_by_seed = 0;
+    for (uint64_t view = 10; view < 14; view++) {
+        CHECK(simplex_leader(4, 1, 3, view, &number) == SIMPLEX_WHOLE && number < 4);
+        led |= 1u << number;
+        CHECK(simplex_leader_shuffled(seed, 0, 4, 1, 3, view, &number) == SIMPLEX_WHOLE && number < 4);
+        led_by_seed |= 1u << number;
+    }
+    CHECK(led == 15 && led_by_seed == 15);
+    long before = blocks;
+    for (long k = 1;; k++) {
+        number = 99;
+        allowed = k;
+        uint32_t status = simplex_leader_shuffled((const uint8_t *)"seed", 4, 4, 1, 3, 10, &number);
+        int over = allowed > 0;
+        allowed = -1;
+        CHECK(blocks == before);
+        if (over)
+            break;
+        CHECK(status == SIMPLEX_MEMORY && number == 99);
+    }
+    free(seed);
+}
+
+/* What needs more memory than there is. */
+static void limited(const uint8_t *sample, size_t len)
+{
+    const struct rlimit gigabyte = {1 << 30, 1 << 30};
+    const uint32_t most[] = {UINT32_MAX};
+    const uint64_t epoch[] = {0};
+    CHECK(setrlimit(RLIMIT_AS, &gigabyte) == 0);
+    for (size_t epochs = 0; epochs < 2; epochs++) {
+        struct simplex_summary summary = untouched;
+        uint8_t text[9] = {7, 7, 7, 7, 7, 7, 7, 7, 7};
+        uint32_t status = simplex_audit_vouched_64(epoch, epochs, most, 1, sample, len, text,
+                                                   sizeof text, &summary);
+        CHECK(status == SIMPLEX_MEMORY && is_untouched(&summary) && all(text, sizeof text, 7));
+    }
+    uint32_t number = 99;
+    CHECK(simplex_leader(UINT32_MAX, 1, 3, 10, &number) == SIMPLEX_MEMORY && number == 99);
+}
+
+/* Many audits of a thread's own. */
+static void *work(void *with)
+{
+    int signature = *(int *)with;
+    const uint32_t four[] = {4};
+    const uint64_t epoch[] = {0};
+    uint8_t room[400];
+    size_t n = two(room, 0, 1, (size_t)signature, 1);
+    struct input in = {.epochs = epoch, .epochs_len = 1, .sizes = four, .sizes_len = 1,
+                       .stored = room, .stream = room, .stream_len = n, .signature = signature};
+    long wrong = 0;
+    for (int i = 0; i < 300; i++) {
+        struct simplex_summary summary;
+        uint8_t text[300];
+        wrong += audit(&in, text, sizeof text, &summary) != SIMPLEX_WHOLE || summary.evidence != 1;
+    }
+    return (void *)wrong;
+}
+
+/* Four threads, with stacks of 64 kilobytes. */
+static void threads(void)
+{
+    static int signatures[] = {48, 64, 96, 64};
+    pthread_t running[4];
+    pthread_attr_t attributes;
+    CHECK(pthread_attr_init(&attributes) == 0);
+    CHECK(pthread_attr_setstacksize(&attributes, 65536) == 0);
+    for (int i = 0; i < 4; i++)
+        CHECK(pthread_create(&running[i], &attributes, work, &signatures[i]) == 0);
+    CHECK(pthread_attr_destroy(&attributes) == 0);
+    for (int i = 0; i < 4; i++) {
+        void *wrong;
+        CHECK(pthread_join(running[i], &wrong) == 0 && wrong == NULL);
+    }
+}
+
+int main(int argc, char **argv)
+{
+    uint8_t room[200];
+    size_t len = fread(room, 1, sizeof room, stdin);
+    uint8_t *sample = copy(room, len);
+    plain(sample, len);
+    vouched(48);
+    vouched(64);
+    vouched(96);
+    numbers();
+    threads();
+    if (argc > 1 && !strcmp(argv[1], "--limit"))
+        limited(sample, len);
+    free(sample);
+    printf("%d of %d checks of the border hold\n", checks - failed, checks);
+    return failed != 0;
+}

@@ -1,0 +1,106 @@
+//! Four participants sign votes by Ed25519. One notarizes two payloads, one nullifies a round and finalizes in it, and one forges a
+//! vote of another. Signatures are made and verified by OpenSSL's libcrypto.
+
+use simplex_audit::{audit, Committees, Encoder, Error, Size, Verifier, Vote};
+use std::ffi::{c_int, c_void};
+use std::ptr::{null, null_mut};
+
+const EVP_PKEY_ED25519: c_int = 1087;
+
+#[rustfmt::skip]
+#[link(name = "crypto")]
+extern "C" {
+    fn EVP_PKEY_new_raw_private_key(kind: c_int, engine: *mut c_void, key: *const u8, len: usize) -> *mut c_void;
+    fn EVP_PKEY_free(key: *mut c_void);
+    fn EVP_MD_CTX_new() -> *mut c_void;
+    fn EVP_MD_CTX_free(context: *mut c_void);
+    fn EVP_DigestSignInit(
+        context: *mut c_void, inner: *mut *mut c_void, hash: *const c_void, engine: *mut c_void, key: *mut c_void,
+    ) -> c_int;
+    fn EVP_DigestSign(context: *mut c_void, signature: *mut u8, signature_len: *mut usize, m: *const u8, len: usize) -> c_int;
+    fn EVP_DigestVerifyInit(
+        context: *mut c_void, inner: *mut *mut c_void, hash: *const c_void, engine: *mut c_void, key: *mut c_void,
+    ) -> c_int;
+    fn EVP_DigestVerify(context: *mut c_void, signature: *const u8, signature_len: usize, m: *const u8, len: usize) -> c_int;
+}
+
+/// A key of Ed25519.
+struct Key(*mut c_void);
+
+impl Key {
+    fn of_seed(seed: [u8; 32]) -> Key {
+        // SAFETY: the seed has 32 bytes.
+        let key = unsafe { EVP_PKEY_new_raw_private_key(EVP_PKEY_ED25519, null_mut(), seed.as_ptr(), 32) };
+        assert!(!key.is_null());
+        Key(key)
+    }
+
+    fn sign(&self, message: &[u8]) -> [u8; 64] {
+        let mut signature = [0; 64];
+        let mut len = 64;
+        // SAFETY: the context is made here, the key lives, and the signature has room for 64 bytes.
+        let signed = unsafe {
+            let context = EVP_MD_CTX_new();
+            let signed = EVP_DigestSignInit(context, null_mut(), null(), null_mut(), self.0) == 1
+                && EVP_DigestSign(context, signature.as_mut_ptr(), &mut len, message.as_ptr(), message.len()) == 1;
+            EVP_MD_CTX_free(context);
+            signed
+        };
+        assert!(signed && len == 64);
+        signature
+    }
+
+    fn verifies(&self, message: &[u8], signature: &[u8]) -> bool {
+        // SAFETY: the context is made here, and the key lives.
+        unsafe {
+            let context = EVP_MD_CTX_new();
+            let verified = EVP_DigestVerifyInit(context, null_mut(), null(), null_mut(), self.0) == 1
+                && EVP_DigestVerify(context, signature.as_ptr(), signature.len(), message.as_ptr(), message.len()) == 1;
+            EVP_MD_CTX_free(context);
+            verified
+        }
+    }
+}
+
+impl Drop for Key {
+    fn drop(&mut self) {
+        // SAFETY: the key was made by `of_seed`, and is freed once.
+        unsafe { EVP_PKEY_free(self.0) }
+    }
+}
+
+/// The participants of a committee, who sign under the base `demo`.
+struct Network(Vec<Key>);
+
+impl Verifier for Network {
+    fn verify(&self, vote: &Vote, signer: u32, signature: &[u8]) -> bool {
+        self.0.get(signer as usize).is_some_and(|key| key.verifies(&vote.signed_bytes(b"demo"), signature))
+    }
+}
+
+fn main() -> Result<(), Error> {
+    let network = Network((0..4).map(|i| Key::of_seed([[i, 42].as_slice(), &[0; 30]].concat().try_into().unwrap())).collect());
+    let notarize = |payload: u8| Vote::Notarize { epoch: 3, view: 10, parent: 5, payload: [payload; 32] };
+    let finalize = Vote::Finalize { epoch: 3, view: 10, parent: 5, payload: [0xaa; 32] };
+    // A vote, whose it is said to be, and who signed it.
+    let votes = [
+        (notarize(0xaa), 0, 0),
+        (notarize(0xaa), 1, 1),
+        (notarize(0xaa), 2, 2),
+        (notarize(0xaa), 3, 3),
+        (notarize(0xbb), 0, 0),                       // participant 0 votes for another payload
+        (notarize(0xbb), 3, 1),                       // participant 1 forges a vote of participant 3
+        (Vote::Nullify { epoch: 3, view: 10 }, 2, 2), // participant 2 nullifies the round
+        (finalize, 2, 2),                             // and finalizes in it
+        (finalize, 1, 1),
+    ];
+    let mut stream = Encoder::new(Size::Bytes64);
+    for (vote, signer, with) in votes {
+        let signature = network.0[with].sign(&vote.signed_bytes(b"demo"));
+        stream.vote(&vote, signer, &signature, &network)?;
+    }
+    let report = audit(&Committees::listed(Size::Bytes64, &[(3, 4)])?, stream.as_bytes())?;
+    println!("{} messages, {} equivocators", report.read, report.evidence.len());
+    print!("{}", report.text);
+    Ok(())
+}

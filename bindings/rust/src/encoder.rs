@@ -1,0 +1,151 @@
+use crate::{Error, Size};
+
+/// A vote, without its signer and signature.
+#[derive(Clone, Copy, Debug, PartialEq, Eq)]
+pub enum Vote {
+    /// A vote for a proposal.
+    Notarize { epoch: u64, view: u64, parent: u64, payload: [u8; 32] },
+    /// A vote to skip a round.
+    Nullify { epoch: u64, view: u64 },
+    /// A vote to finalize a proposal.
+    Finalize { epoch: u64, view: u64, parent: u64, payload: [u8; 32] },
+}
+
+impl Vote {
+    /// The bytes that are signed: the length of the namespace as a number, the namespace, and the vote's message. The namespace is
+    /// the base and behind it `_NOTARIZE`, `_NULLIFY` or `_FINALIZE`.
+    pub fn signed_bytes(&self, base: &[u8]) -> Vec<u8> {
+        let kind: &[u8] = match self {
+            Vote::Notarize { .. } => b"_NOTARIZE",
+            Vote::Nullify { .. } => b"_NULLIFY",
+            Vote::Finalize { .. } => b"_FINALIZE",
+        };
+        let mut bytes = Vec::new();
+        put_number(&mut bytes, (base.len() + kind.len()) as u64);
+        bytes.extend_from_slice(base);
+        bytes.extend_from_slice(kind);
+        self.put_message(&mut bytes);
+        bytes
+    }
+
+    /// Appends the proposal, or the round of a nullify.
+    fn put_message(&self, bytes: &mut Vec<u8>) {
+        match *self {
+            Vote::Nullify { epoch, view } => {
+                put_number(bytes, epoch);
+                put_number(bytes, view);
+            }
+            Vote::Notarize { epoch, view, parent, payload } | Vote::Finalize { epoch, view, parent, payload } => {
+                put_number(bytes, epoch);
+                put_number(bytes, view);
+                put_number(bytes, parent);
+                bytes.extend_from_slice(&payload);
+            }
+        }
+    }
+
+    /// The tag of a vote of this kind.
+    fn tag(&self) -> u8 {
+        match self {
+            Vote::Notarize { .. } => 0,
+            Vote::Nullify { .. } => 3,
+            Vote::Finalize { .. } => 5,
+        }
+    }
+}
+
+/// Verifies signatures. A closure is one.
+pub trait Verifier {
+    /// Whether the signature is one of this signer, by its key in the committee of the vote's epoch, over the vote.
+    fn verify(&self, vote: &Vote, signer: u32, signature: &[u8]) -> bool;
+}
+
+impl<F: Fn(&Vote, u32, &[u8]) -> bool> Verifier for F {
+    fn verify(&self, vote: &Vote, signer: u32, signature: &[u8]) -> bool {
+        self(vote, signer, signature)
+    }
+}
+
+/// Writes messages as a stream. Each signature is verified, and the verdict written behind it.
+#[derive(Clone, Debug)]
+pub struct Encoder {
+    size: Size,
+    bytes: Vec<u8>,
+}
+
+impl Encoder {
+    /// An encoder of signatures of this size, that has written nothing.
+    pub fn new(size: Size) -> Self {
+        Encoder { size, bytes: Vec::new() }
+    }
+
+    /// Appends a vote. `Error::Arguments` where the signature has another size; nothing is written then.
+    pub fn vote(&mut self, vote: &Vote, signer: u32, signature: &[u8], verifier: &dyn Verifier) -> Result<(), Error> {
+        self.check(signature)?;
+        self.bytes.push(vote.tag());
+        vote.put_message(&mut self.bytes);
+        self.attestation(vote, signer, signature, verifier);
+        Ok(())
+    }
+
+    /// Appends a certificate that lists these signers, in ascending order, with the signatures. `Error::Arguments` where there is no
+    /// signer, they do not ascend, or a signature has another size; nothing is written then.
+    pub fn certificate(&mut self, vote: &Vote, listed: &[(u32, &[u8])], verifier: &dyn Verifier) -> Result<(), Error> {
+        let ascending = listed.windows(2).all(|pair| pair[0].0 < pair[1].0);
+        if listed.is_empty() || !ascending {
+            return Err(Error::Arguments);
+        }
+        for (_, signature) in listed {
+            self.check(signature)?;
+        }
+        self.bytes.push(certificate_tag(vote));
+        vote.put_message(&mut self.bytes);
+        put_number(&mut self.bytes, listed.len() as u64);
+        for (signer, signature) in listed {
+            self.attestation(vote, *signer, signature, verifier);
+        }
+        Ok(())
+    }
+
+    /// The size of its signatures.
+    pub fn size(&self) -> Size {
+        self.size
+    }
+
+    /// All that it wrote.
+    pub fn as_bytes(&self) -> &[u8] {
+        &self.bytes
+    }
+
+    fn check(&self, signature: &[u8]) -> Result<(), Error> {
+        if signature.len() == self.size.bytes() {
+            Ok(())
+        } else {
+            Err(Error::Arguments)
+        }
+    }
+
+    fn attestation(&mut self, vote: &Vote, signer: u32, signature: &[u8], verifier: &dyn Verifier) {
+        put_number(&mut self.bytes, u64::from(signer));
+        self.bytes.extend_from_slice(signature);
+        self.bytes.push(u8::from(verifier.verify(vote, signer, signature)));
+    }
+}
+
+/// The tag of a certificate for such votes.
+fn certificate_tag(vote: &Vote) -> u8 {
+    match vote {
+        Vote::Notarize { .. } => 1,
+        Vote::Nullify { .. } => 4,
+        Vote::Finalize { .. } => 6,
+    }
+}
+
+/// Appends a number: seven bits a byte, the least significant first, each byte but the last with its top bit set.
+fn put_number(bytes: &mut Vec<u8>, mut number: u64) {
+    while number >= 128 {
+        bytes.push(number as u8 | 128);
+        number >>= 7;
+    }
+    bytes.push(number as u8);
+}

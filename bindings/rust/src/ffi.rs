@@ -1,0 +1,272 @@
+//! The calls of the C library (bindings/simplex_audit.h), over slices.
+//!
+//! Each pointer that is passed is that of a slice or a value that lives through the call, with the slice's length beside it; such
+//! a pointer is never null. What is written is borrowed by nothing else.
+
+use crate::committees::{Committees, Members, Size};
+use crate::Error;
+
+const WHOLE: u32 = 0;
+const FAULT: u32 = 1;
+const MEMORY: u32 = 3;
+const SHORT: u32 = 4;
+const NO: u32 = 0;
+const YES: u32 = 1;
+
+/// `struct simplex_summary`.
+#[repr(C)]
+#[derive(Default)]
+pub(crate) struct Summary {
+    pub read: usize,
+    pub evidence: usize,
+    pub splits: usize,
+    pub faulted: usize,
+    pub fault_place: usize,
+    pub length: usize,
+}
+
+type AuditVouched = unsafe extern "C" fn(
+    epochs: *const u64,
+    epochs_len: usize,
+    sizes: *const u32,
+    sizes_len: usize,
+    stream: *const u8,
+    stream_len: usize,
+    text: *mut u8,
+    text_len: usize,
+    summary: *mut Summary,
+) -> u32;
+
+type StoreVouched = unsafe extern "C" fn(
+    epochs: *const u64,
+    epochs_len: usize,
+    sizes: *const u32,
+    sizes_len: usize,
+    stored: *const u8,
+    stored_len: usize,
+    batch: *const u8,
+    batch_len: usize,
+    evidence: *mut u8,
+    evidence_len: usize,
+    size: *mut usize,
+) -> u32;
+
+#[rustfmt::skip]
+extern "C" {
+    fn simplex_version() -> u32;
+    fn simplex_audit_vouched_48(
+        epochs: *const u64, epochs_len: usize, sizes: *const u32, sizes_len: usize, stream: *const u8, stream_len: usize,
+        text: *mut u8, text_len: usize, summary: *mut Summary,
+    ) -> u32;
+    fn simplex_audit_vouched_64(
+        epochs: *const u64, epochs_len: usize, sizes: *const u32, sizes_len: usize, stream: *const u8, stream_len: usize,
+        text: *mut u8, text_len: usize, summary: *mut Summary,
+    ) -> u32;
+    fn simplex_audit_vouched_96(
+        epochs: *const u64, epochs_len: usize, sizes: *const u32, sizes_len: usize, stream: *const u8, stream_len: usize,
+        text: *mut u8, text_len: usize, summary: *mut Summary,
+    ) -> u32;
+    fn simplex_audit_plain(
+        name: *const u8, name_len: usize, keys: *const u8, keys_len: usize, stream: *const u8, stream_len: usize,
+        text: *mut u8, text_len: usize, summary: *mut Summary,
+    ) -> u32;
+    fn simplex_store_vouched_48(
+        epochs: *const u64, epochs_len: usize, sizes: *const u32, sizes_len: usize, stored: *const u8, stored_len: usize,
+        batch: *const u8, batch_len: usize, evidence: *mut u8, evidence_len: usize, size: *mut usize,
+    ) -> u32;
+    fn simplex_store_vouched_64(
+        epochs: *const u64, epochs_len: usize, sizes: *const u32, sizes_len: usize, stored: *const u8, stored_len: usize,
+        batch: *const u8, batch_len: usize, evidence: *mut u8, evidence_len: usize, size: *mut usize,
+    ) -> u32;
+    fn simplex_store_vouched_96(
+        epochs: *const u64, epochs_len: usize, sizes: *const u32, sizes_len: usize, stored: *const u8, stored_len: usize,
+        batch: *const u8, batch_len: usize, evidence: *mut u8, evidence_len: usize, size: *mut usize,
+    ) -> u32;
+    fn simplex_store_plain(
+        name: *const u8, name_len: usize, keys: *const u8, keys_len: usize, stored: *const u8, stored_len: usize,
+        batch: *const u8, batch_len: usize, evidence: *mut u8, evidence_len: usize, size: *mut usize,
+    ) -> u32;
+    fn simplex_max_faults(n: u32) -> u32;
+    fn simplex_quorum(n: u32) -> u32;
+    fn simplex_admits(term_length: u32, optimistic_views: u64, current: u64, pending: u64) -> u32;
+    fn simplex_admits_outbound(term_length: u32, optimistic_views: u64, current: u64, pending: u64) -> u32;
+    fn simplex_issuance_floor(term_length: u32, optimistic_views: u64, view: u64, floor: *mut u64) -> u32;
+    fn simplex_leader(participants: u32, term_length: u32, epoch: u64, view: u64, number: *mut u32) -> u32;
+    fn simplex_leader_shuffled(
+        seed: *const u8, seed_len: usize, participants: u32, term_length: u32, epoch: u64, view: u64, number: *mut u32,
+    ) -> u32;
+}
+
+/// Calls with a buffer, and once more with a longer one where the call asks for it. What the call returns beside its status is how
+/// many bytes it wrote, or needs.
+fn filled(first: usize, mut call: impl FnMut(&mut [u8]) -> (u32, usize)) -> Result<Vec<u8>, Error> {
+    let mut buffer = vec![0; first];
+    loop {
+        let (status, length) = call(&mut buffer);
+        match status {
+            WHOLE | FAULT => {
+                buffer.truncate(length);
+                return Ok(buffer);
+            }
+            SHORT => {
+                let more = length.saturating_sub(buffer.len());
+                buffer.try_reserve_exact(more).map_err(|_| Error::OutOfMemory)?;
+                buffer.resize(length, 0);
+            }
+            MEMORY => return Err(Error::OutOfMemory),
+            _ => return Err(Error::Arguments),
+        }
+    }
+}
+
+/// The text of a stream's report, and its numbers.
+pub(crate) fn audit(committees: &Committees, stream: &[u8]) -> Result<(Vec<u8>, Summary), Error> {
+    let mut summary = Summary::default();
+    let text = filled(4096, |text| {
+        let status = match &committees.members {
+            Members::Vouched { size, epochs, sizes } => {
+                let call: AuditVouched = match size {
+                    Size::Bytes48 => simplex_audit_vouched_48,
+                    Size::Bytes64 => simplex_audit_vouched_64,
+                    Size::Bytes96 => simplex_audit_vouched_96,
+                };
+                // SAFETY: see this module.
+                unsafe {
+                    call(
+                        epochs.as_ptr(),
+                        epochs.len(),
+                        sizes.as_ptr(),
+                        sizes.len(),
+                        stream.as_ptr(),
+                        stream.len(),
+                        text.as_mut_ptr(),
+                        text.len(),
+                        &mut summary,
+                    )
+                }
+            }
+            // SAFETY: see this module.
+            Members::Plain { name, keys } => unsafe {
+                simplex_audit_plain(
+                    name.as_ptr(),
+                    name.len(),
+                    keys.as_ptr(),
+                    keys.len(),
+                    stream.as_ptr(),
+                    stream.len(),
+                    text.as_mut_ptr(),
+                    text.len(),
+                    &mut summary,
+                )
+            },
+        };
+        (status, summary.length)
+    })?;
+    Ok((text, summary))
+}
+
+/// What a ledger stores that held `stored` and was fed `batch`.
+pub(crate) fn store(committees: &Committees, stored: &[u8], batch: &[u8]) -> Result<Vec<u8>, Error> {
+    filled(stored.len() + 1024, |evidence| {
+        let mut length = 0;
+        let status = match &committees.members {
+            Members::Vouched { size, epochs, sizes } => {
+                let call: StoreVouched = match size {
+                    Size::Bytes48 => simplex_store_vouched_48,
+                    Size::Bytes64 => simplex_store_vouched_64,
+                    Size::Bytes96 => simplex_store_vouched_96,
+                };
+                // SAFETY: see this module.
+                unsafe {
+                    call(
+                        epochs.as_ptr(),
+                        epochs.len(),
+                        sizes.as_ptr(),
+                        sizes.len(),
+                        stored.as_ptr(),
+                        stored.len(),
+                        batch.as_ptr(),
+                        batch.len(),
+                        evidence.as_mut_ptr(),
+                        evidence.len(),
+                        &mut length,
+                    )
+                }
+            }
+            // SAFETY: see this module.
+            Members::Plain { name, keys } => unsafe {
+                simplex_store_plain(
+                    name.as_ptr(),
+                    name.len(),
+                    keys.as_ptr(),
+                    keys.len(),
+                    stored.as_ptr(),
+                    stored.len(),
+                    batch.as_ptr(),
+                    batch.len(),
+                    evidence.as_mut_ptr(),
+                    evidence.len(),
+                    &mut length,
+                )
+            },
+        };
+        (status, length)
+    })
+}
+
+pub(crate) fn version() -> u32 {
+    // SAFETY: nothing is passed.
+    unsafe { simplex_version() }
+}
+
+pub(crate) fn max_faults(n: u32) -> u32 {
+    // SAFETY: only numbers are passed.
+    unsafe { simplex_max_faults(n) }
+}
+
+pub(crate) fn quorum(n: u32) -> u32 {
+    // SAFETY: only numbers are passed.
+    unsafe { simplex_quorum(n) }
+}
+
+/// Yes, no, or no answer.
+fn answer(status: u32) -> Result<bool, Error> {
+    match status {
+        NO => Ok(false),
+        YES => Ok(true),
+        _ => Err(Error::Arguments),
+    }
+}
+
+pub(crate) fn admits(term_length: u32, optimistic_views: u64, current: u64, pending: u64) -> Result<bool, Error> {
+    // SAFETY: only numbers are passed.
+    answer(unsafe { simplex_admits(term_length, optimistic_views, current, pending) })
+}
+
+pub(crate) fn admits_outbound(term_length: u32, optimistic_views: u64, current: u64, pending: u64) -> Result<bool, Error> {
+    // SAFETY: only numbers are passed.
+    answer(unsafe { simplex_admits_outbound(term_length, optimistic_views, current, pending) })
+}
+
+pub(crate) fn issuance_floor(term_length: u32, optimistic_views: u64, view: u64) -> Result<Option<u64>, Error> {
+    let mut floor = 0;
+    // SAFETY: see this module.
+    let bounded = answer(unsafe { simplex_issuance_floor(term_length, optimistic_views, view, &mut floor) })?;
+    Ok(bounded.then_some(floor))
+}
+
+pub(crate) fn leader(seed: Option<&[u8]>, participants: u32, term_length: u32, epoch: u64, view: u64) -> Result<u32, Error> {
+    let mut number = 0;
+    // SAFETY: see this module.
+    let status = unsafe {
+        match seed {
+            None => simplex_leader(participants, term_length, epoch, view, &mut number),
+            Some(seed) => simplex_leader_shuffled(seed.as_ptr(), seed.len(), participants, term_length, epoch, view, &mut number),
+        }
+    };
+    match status {
+        WHOLE => Ok(number),
+        MEMORY => Err(Error::OutOfMemory),
+        _ => Err(Error::Arguments),
+    }
+}

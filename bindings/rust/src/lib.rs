@@ -1,0 +1,38 @@
+//! The proved auditor of `simplex_messages`: it reads a stream of consensus messages and reports exactly the participants who
+//! signed two contradictory votes. The caller verifies signatures by a library of its own ([`Verifier`]).
+//!
+//! ```
+//! use simplex_audit::{audit, Committees, Encoder, Size, Vote};
+//!
+//! let mut stream = Encoder::new(Size::Bytes64);
+//! // Participant 2 votes for two payloads in one round. Here every signature is taken to be valid.
+//! for payload in [[6; 32], [7; 32]] {
+//!     let vote = Vote::Notarize { epoch: 3, view: 10, parent: 5, payload };
+//!     stream.vote(&vote, 2, &[0; 64], &|_: &Vote, _: u32, _: &[u8]| true)?;
+//! }
+//! let report = audit(&Committees::every(Size::Bytes64, 4)?, stream.as_bytes())?;
+//! assert_eq!(report.evidence.len(), 1);
+//! assert_eq!((report.evidence[0].view, report.evidence[0].signer), (10, 2));
+//! assert_eq!(report.fault, None);
+//! # Ok::<(), simplex_audit::Error>(())
+//! ```
+
+mod committees;
+mod encoder;
+mod error;
+mod ffi;
+mod ledger;
+mod report;
+
+pub mod views;
+
+pub use committees::{Committees, Size};
+pub use encoder::{Encoder, Verifier, Vote};
+pub use error::Error;
+pub use ledger::Ledger;
+pub use report::{audit, Evidence, Kind, Report, Split};
+
+/// The version of the library's calls.
+pub fn version() -> u32 {
+    ffi::version()
+}

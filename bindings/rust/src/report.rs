@@ -1,0 +1,100 @@
+use crate::{ffi, Committees, Error};
+
+/// How two votes of one signer contradict.
+#[derive(Clone, Copy, Debug, PartialEq, Eq)]
+pub enum Kind {
+    /// Two notarizes for different proposals.
+    ConflictingNotarize,
+    /// Two finalizes for different proposals.
+    ConflictingFinalize,
+    /// A nullify and a finalize.
+    NullifyFinalize,
+}
+
+/// A participant who signed two contradictory votes in a round.
+#[derive(Clone, Debug, PartialEq, Eq)]
+pub struct Evidence {
+    /// The epoch of the round.
+    pub epoch: u64,
+    /// The view of the round.
+    pub view: u64,
+    /// The participant's number.
+    pub signer: u32,
+    /// How the votes contradict.
+    pub kind: Kind,
+    /// The line of the report, with the two votes.
+    pub line: String,
+}
+
+/// A round with two certified messages that contradict.
+#[derive(Clone, Debug, PartialEq, Eq)]
+pub struct Split {
+    /// The epoch of the round.
+    pub epoch: u64,
+    /// The view of the round.
+    pub view: u64,
+    /// How many participants evidence accuses in the round.
+    pub accused: u64,
+    /// f + 1, the least number that it has to accuse.
+    pub enough: u64,
+}
+
+/// What an audit found.
+#[derive(Clone, Debug, PartialEq, Eq)]
+pub struct Report {
+    /// In the order of rounds, signers and kinds.
+    pub evidence: Vec<Evidence>,
+    /// In the order of rounds.
+    pub splits: Vec<Split>,
+    /// The number of messages.
+    pub read: usize,
+    /// The offset of the first byte that does not start a valid message, if there is one.
+    pub fault: Option<usize>,
+    /// The lines of evidence, then those of splits.
+    pub text: String,
+}
+
+/// Audits a stream. Where the caller verifies signatures, it is one that an [`Encoder`](crate::Encoder) writes.
+///
+/// ```
+/// use simplex_audit::{audit, Committees};
+/// let committees = Committees::plain(b"test", &[[0; 32]])?;
+/// assert_eq!(audit(&committees, &[0xff])?.fault, Some(0));
+/// # Ok::<(), simplex_audit::Error>(())
+/// ```
+pub fn audit(committees: &Committees, stream: &[u8]) -> Result<Report, Error> {
+    let (text, summary) = ffi::audit(committees, stream)?;
+    let text = String::from_utf8_lossy(&text).into_owned();
+    let evidence = text.lines().take(summary.evidence).filter_map(evidence).collect();
+    let splits = text.lines().skip(summary.evidence).filter_map(split).collect();
+    let fault = (summary.faulted != 0).then_some(summary.fault_place);
+    Ok(Report { evidence, splits, read: summary.read, fault, text })
+}
+
+/// The evidence of a line: an epoch, a view, a signer, a kind, and the votes.
+fn evidence(line: &str) -> Option<Evidence> {
+    let mut words = line.split(' ');
+    Some(Evidence {
+        epoch: words.next()?.parse().ok()?,
+        view: words.next()?.parse().ok()?,
+        signer: words.next()?.parse().ok()?,
+        kind: match words.next()? {
+            "conflicting-notarize" => Kind::ConflictingNotarize,
+            "conflicting-finalize" => Kind::ConflictingFinalize,
+            "nullify-finalize" => Kind::NullifyFinalize,
+            _ => return None,
+        },
+        line: line.to_owned(),
+    })
+}
+
+/// The split of a line: an epoch, a view, the word `split`, and two numbers.
+fn split(line: &str) -> Option<Split> {
+    let mut words = line.split(' ');
+    Some(Split {
+        epoch: words.next()?.parse().ok()?,
+        view: words.next()?.parse().ok()?,
+        accused: words.nth(1)?.parse().ok()?,
+        enough: words.next()?.parse().ok()?,
+    })
+}

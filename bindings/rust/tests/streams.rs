@@ -1,0 +1,91 @@
+//! Streams that an `Encoder` writes, and what is refused.
+
+use simplex_audit::{audit, version, views, Committees, Encoder, Error, Kind, Ledger, Size, Split, Vote};
+
+const SIZES: [Size; 3] = [Size::Bytes48, Size::Bytes64, Size::Bytes96];
+
+fn every(_: &Vote, _: u32, _: &[u8]) -> bool {
+    true
+}
+
+/// A stream with two certificates of the signers 0 to 2 that contradict.
+fn fork(size: Size, verifier: &dyn simplex_audit::Verifier) -> Encoder {
+    let signature = vec![9; size.bytes()];
+    let listed: Vec<(u32, &[u8])> = (0..3).map(|signer| (signer, signature.as_slice())).collect();
+    let mut stream = Encoder::new(size);
+    let payload = [6; 32];
+    stream.certificate(&Vote::Nullify { epoch: 300, view: 10 }, &listed, verifier).unwrap();
+    stream.certificate(&Vote::Finalize { epoch: 300, view: 10, parent: 5, payload }, &listed, verifier).unwrap();
+    stream
+}
+
+#[test]
+fn certificates_that_contradict() {
+    for size in SIZES {
+        let committees = Committees::listed(size, &[(7, 9), (300, 4)]).unwrap();
+        let report = audit(&committees, fork(size, &every).as_bytes()).unwrap();
+        assert_eq!(report.splits, [Split { epoch: 300, view: 10, accused: 3, enough: 2 }]);
+        assert!(report.evidence.iter().all(|one| one.kind == Kind::NullifyFinalize && one.epoch == 300 && one.view == 10));
+        assert_eq!(report.evidence.iter().map(|one| one.signer).collect::<Vec<_>>(), [0, 1, 2]);
+        assert_eq!((report.read, report.fault, report.text.lines().count()), (2, None, 4));
+        // of another committee a quorum is more, and without a valid signature there is nothing
+        let larger = Committees::every(size, 7).unwrap();
+        assert!(audit(&larger, fork(size, &every).as_bytes()).unwrap().splits.is_empty());
+        let none = audit(&committees, fork(size, &|_: &Vote, _: u32, _: &[u8]| false).as_bytes()).unwrap();
+        assert_eq!((none.read, none.evidence.len(), none.splits.len()), (2, 0, 0));
+    }
+}
+
+#[test]
+fn more_than_the_first_buffer() {
+    let mut stream = Encoder::new(Size::Bytes64);
+    for signer in 0..100 {
+        for payload in [[6; 32], [7; 32]] {
+            let vote = Vote::Notarize { epoch: u64::MAX, view: u64::MAX, parent: 5, payload };
+            stream.vote(&vote, signer, &[9; 64], &every).unwrap();
+        }
+    }
+    let committees = Committees::every(Size::Bytes64, 100).unwrap();
+    let report = audit(&committees, stream.as_bytes()).unwrap();
+    assert_eq!((report.evidence.len(), report.read), (100, 200));
+    let mut ledger = Ledger::resume(committees, Vec::new());
+    ledger.feed(stream.as_bytes()).unwrap();
+    assert_eq!(ledger.report().unwrap().text, report.text);
+    let stored = ledger.stored().to_vec();
+    ledger.feed(&[]).unwrap();
+    assert_eq!(ledger.stored(), stored);
+}
+
+#[test]
+fn what_is_refused() {
+    assert_eq!(Committees::every(Size::Bytes64, 0), Err(Error::Arguments));
+    assert_eq!(Committees::listed(Size::Bytes64, &[]), Err(Error::Arguments));
+    assert_eq!(Committees::listed(Size::Bytes64, &[(2, 1), (2, 1)]), Err(Error::Arguments));
+    assert_eq!(Committees::listed(Size::Bytes64, &[(2, 1), (3, 0)]), Err(Error::Arguments));
+    assert_eq!(Committees::plain(b"", &[]), Err(Error::Arguments));
+    assert_eq!(Committees::plain(b"", &[[1; 32], [0; 32], [1; 32]]), Err(Error::Arguments));
+    let vote = Vote::Nullify { epoch: 0, view: 1 };
+    let mut stream = Encoder::new(Size::Bytes48);
+    assert_eq!(stream.vote(&vote, 0, &[0; 47], &every), Err(Error::Arguments));
+    assert_eq!(stream.certificate(&vote, &[], &every), Err(Error::Arguments));
+    assert_eq!(stream.certificate(&vote, &[(1, &[0; 48]), (1, &[0; 48])], &every), Err(Error::Arguments));
+    assert_eq!(stream.certificate(&vote, &[(1, &[0; 48]), (2, &[0; 49])], &every), Err(Error::Arguments));
+    assert!(stream.as_bytes().is_empty());
+}
+
+#[test]
+fn numbers() {
+    assert_eq!(version(), 1);
+    assert_eq!((views::max_faults(0), views::quorum(0)), (0, 0));
+    assert_eq!(views::admits_outbound(1, 0, 10, 12), Ok(false));
+    assert_eq!(views::admits(0, 0, 10, 11), Err(Error::Arguments));
+    assert_eq!(views::issuance_floor(5, 2, 13), Ok(Some(10)));
+    assert_eq!(views::issuance_floor(5, 0, 13), Ok(None));
+    assert_eq!(views::issuance_floor(0, 0, 13), Err(Error::Arguments));
+    for seed in [None, Some(b"seed".as_slice()), Some(&[])] {
+        let mut leaders: Vec<_> = (1..5).map(|view| views::leader(seed, 4, 1, 0, view).unwrap()).collect();
+        leaders.sort_unstable();
+        assert_eq!(leaders, [0, 1, 2, 3]);
+        assert_eq!(views::leader(seed, 0, 1, 0, 1), Err(Error::Arguments));
+    }
+}

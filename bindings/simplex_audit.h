@@ -1,0 +1,185 @@
+/*
+ * The auditor of simplex_messages for callers that speak the C ABI. It reads a stream of consensus
+ * messages (docs/FORMAT.md) and reports exactly the participants who signed two contradictory
+ * votes, each once for each round and kind.
+ *
+ * Link libsimplex_c.a, and the toolchain's liblibc_c.a behind it (docs/BINDINGS.md).
+ *
+ * Ownership: every buffer is the caller's. No call keeps a pointer, and none returns memory that
+ *   has to be freed.
+ * Pointers: none may be NULL, not even that of an empty slice, and each has the alignment of its
+ *   type. What is written (text, evidence, summary, size, floor, number) overlaps nothing else that
+ *   is passed. Nothing checks this at run time; GCC and Clang warn of a NULL that they can see.
+ * Lengths: the length of a slice counts its elements: bytes, epochs, sizes. A slice may be empty.
+ * Threads: the library has no state. Calls may run in several threads at once if no buffer that is
+ *   written is shared, but not in a signal handler, nor in the forked child of a process with
+ *   threads.
+ * Memory: malloc, realloc and free of the process. The library never aborts, never unwinds, and
+ *   does no input or output.
+ */
+#ifndef SIMPLEX_AUDIT_H
+#define SIMPLEX_AUDIT_H
+
+#include <stddef.h>
+#include <stdint.h>
+
+#if defined(__GNUC__) || defined(__clang__)
+#define SIMPLEX_NONNULL __attribute__((nonnull))
+#else
+#define SIMPLEX_NONNULL
+#endif
+
+#ifdef __cplusplus
+extern "C" {
+#endif
+
+/*
+ * The version of these calls. A later version may add calls, and never changes what one of these
+ * returns.
+ */
+#define SIMPLEX_VERSION 1u
+uint32_t simplex_version(void);
+
+/* How an audit, or a call that stores evidence, ended. */
+#define SIMPLEX_WHOLE 0u     /* All was read as messages, and the buffer is written. */
+#define SIMPLEX_FAULT 1u     /* The byte at `fault_place` starts no message. Those before it were
+                                audited, and the buffer is written. */
+#define SIMPLEX_ARGUMENTS 2u /* The arguments are no committees. Nothing was written. */
+#define SIMPLEX_MEMORY 3u    /* An allocation failed. Nothing was written. */
+#define SIMPLEX_SHORT 4u     /* The buffer is too short, and as before. The length that is needed is
+                                written: call again. */
+
+/* The numbers of a report. */
+struct simplex_summary {
+    size_t read;        /* messages */
+    size_t evidence;    /* lines of evidence */
+    size_t splits;      /* lines of splits */
+    size_t faulted;     /* 1 where the stream has a fault, else 0 */
+    size_t fault_place; /* the 0-based offset of the first byte that starts no message, or 0 */
+    size_t length;      /* bytes of the text */
+};
+
+/*
+ * Audits a stream whose signatures the caller verified (docs/SIGNATURES.md). In the stream each
+ * signature has 48, 64 or 96 bytes (BLS12-381 in G1, Ed25519, BLS12-381 in G2) and one byte more,
+ * the caller's verdict: 01 where the caller verified the signature as one of this signer over this
+ * vote, and 00 where it did not. With any other byte the signature is not valid. Payloads have 32
+ * bytes.
+ *
+ * `sizes` are the numbers of participants of the committees, each at least 1. With no epochs there
+ * is one size, that of the committee for every epoch; else the epochs rise strictly, and each has
+ * the size at its place. Other epochs have no committee, and nothing is valid in them.
+ *
+ * The first `summary->length` bytes of `text` are then the lines of the report (docs/FORMAT.md),
+ * with no zero byte behind them; the bytes behind them are as before. A committee takes 4 bytes of
+ * memory for each participant.
+ */
+SIMPLEX_NONNULL
+uint32_t simplex_audit_vouched_48(const uint64_t *epochs, size_t epochs_len, const uint32_t *sizes,
+                                  size_t sizes_len, const uint8_t *stream, size_t stream_len,
+                                  uint8_t *text, size_t text_len, struct simplex_summary *summary);
+SIMPLEX_NONNULL
+uint32_t simplex_audit_vouched_64(const uint64_t *epochs, size_t epochs_len, const uint32_t *sizes,
+                                  size_t sizes_len, const uint8_t *stream, size_t stream_len,
+                                  uint8_t *text, size_t text_len, struct simplex_summary *summary);
+SIMPLEX_NONNULL
+uint32_t simplex_audit_vouched_96(const uint64_t *epochs, size_t epochs_len, const uint32_t *sizes,
+                                  size_t sizes_len, const uint8_t *stream, size_t stream_len,
+                                  uint8_t *text, size_t text_len, struct simplex_summary *summary);
+
+/*
+ * The evidence of `stored` and of the messages of `batch` behind it, as messages: with nothing
+ * stored that of the batch. `stored` is what an earlier call wrote, or empty; so a stream is audited
+ * batch by batch, and no handle is held meanwhile. The signers whom `stored` accuses stay accused.
+ * Votes of earlier batches that contradict nothing in their batch are not stored: a batch has to
+ * hold every vote of its rounds. What is behind a fault of the batch is ignored, so audit the batch
+ * to learn of a fault.
+ *
+ * The first `*size` bytes of `evidence` are then the messages; the bytes behind them are as before.
+ * The status is SIMPLEX_WHOLE, SIMPLEX_ARGUMENTS, SIMPLEX_MEMORY or SIMPLEX_SHORT. `evidence` may
+ * not overlap `stored`.
+ */
+SIMPLEX_NONNULL
+uint32_t simplex_store_vouched_48(const uint64_t *epochs, size_t epochs_len, const uint32_t *sizes,
+                                  size_t sizes_len, const uint8_t *stored, size_t stored_len,
+                                  const uint8_t *batch, size_t batch_len, uint8_t *evidence,
+                                  size_t evidence_len, size_t *size);
+SIMPLEX_NONNULL
+uint32_t simplex_store_vouched_64(const uint64_t *epochs, size_t epochs_len, const uint32_t *sizes,
+                                  size_t sizes_len, const uint8_t *stored, size_t stored_len,
+                                  const uint8_t *batch, size_t batch_len, uint8_t *evidence,
+                                  size_t evidence_len, size_t *size);
+SIMPLEX_NONNULL
+uint32_t simplex_store_vouched_96(const uint64_t *epochs, size_t epochs_len, const uint32_t *sizes,
+                                  size_t sizes_len, const uint8_t *stored, size_t stored_len,
+                                  const uint8_t *batch, size_t batch_len, uint8_t *evidence,
+                                  size_t evidence_len, size_t *size);
+
+/*
+ * The same for the plain scheme, whose signatures are hashes that anyone can compute, under one
+ * committee for every epoch. `keys` are its keys one after another, of 32 bytes each, in any order,
+ * none twice; `keys_len` counts bytes. A participant's number is the place of its key in ascending
+ * order. `name` is the base of the namespaces of votes.
+ */
+SIMPLEX_NONNULL
+uint32_t simplex_audit_plain(const uint8_t *name, size_t name_len, const uint8_t *keys,
+                             size_t keys_len, const uint8_t *stream, size_t stream_len,
+                             uint8_t *text, size_t text_len, struct simplex_summary *summary);
+SIMPLEX_NONNULL
+uint32_t simplex_store_plain(const uint8_t *name, size_t name_len, const uint8_t *keys,
+                             size_t keys_len, const uint8_t *stored, size_t stored_len,
+                             const uint8_t *batch, size_t batch_len, uint8_t *evidence,
+                             size_t evidence_len, size_t *size);
+
+/*
+ * How many of n participants may lie, the greatest f with 3f + 1 <= n, and how many are a quorum,
+ * n - f. Both are 0 for none.
+ */
+uint32_t simplex_max_faults(uint32_t n);
+uint32_t simplex_quorum(uint32_t n);
+
+/* How a question about views is answered. */
+#define SIMPLEX_NO 0u
+#define SIMPLEX_YES 1u
+#define SIMPLEX_NONE 2u /* Terms have no views; or, where a call says so, views are no 64-bit
+                           numbers. */
+
+/*
+ * Whether a node in view `current` takes votes of the view `pending`, and whether it sends messages
+ * of it. SIMPLEX_NONE also where the next term's start plus the term length plus 1 is above
+ * 2^64 - 1.
+ */
+uint32_t simplex_admits(uint32_t term_length, uint64_t optimistic_views, uint64_t current,
+                        uint64_t pending);
+uint32_t simplex_admits_outbound(uint32_t term_length, uint64_t optimistic_views, uint64_t current,
+                                 uint64_t pending);
+
+/*
+ * The earliest view from which messages of a view may be issued. SIMPLEX_YES: it is written to
+ * `floor`. SIMPLEX_NO: no lookahead bounds it. SIMPLEX_NONE: terms have no views. In the last two
+ * `floor` is as before.
+ */
+SIMPLEX_NONNULL
+uint32_t simplex_issuance_floor(uint32_t term_length, uint64_t optimistic_views, uint64_t view,
+                                uint64_t *floor);
+
+/*
+ * The number of the participant who leads a view of an epoch, in terms of `term_length` views: in
+ * the order of the numbers, or in the order that a seed gives. SIMPLEX_WHOLE: it is written to
+ * `number`. SIMPLEX_ARGUMENTS: there is no participant, or terms have no views. SIMPLEX_MEMORY: an
+ * allocation failed. In the last two `number` is as before. A call takes memory and time for each
+ * participant.
+ */
+SIMPLEX_NONNULL
+uint32_t simplex_leader(uint32_t participants, uint32_t term_length, uint64_t epoch, uint64_t view,
+                        uint32_t *number);
+SIMPLEX_NONNULL
+uint32_t simplex_leader_shuffled(const uint8_t *seed, size_t seed_len, uint32_t participants,
+                                 uint32_t term_length, uint64_t epoch, uint64_t view,
+                                 uint32_t *number);
+
+#ifdef __cplusplus
+}
+#endif
+
+#endif

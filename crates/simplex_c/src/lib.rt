@@ -1,0 +1,339 @@
+//! The auditor for callers that speak the C ABI (bindings/simplex_audit.h). Each export calls a function of `simplex_ffi` and
+//! has its contract.
+#![tactic(auto)]
+
+ghost use Rattle.std.specs.Prelude.{◌≡◌, ◌≢◌, ◌⊎◌, ◌-◌, ◌≤◌, ◌++◌, None, Some};
+ghost use Rattle.simplex_base.specs.Terms.{term_start};
+ghost use Rattle.simplex_scheme.specs.Committee.{faults_of, quorum_of};
+ghost use Rattle.simplex_lead.specs.Windows.{FitsWindow, IsAdmitted, IsOutbound};
+ghost use Rattle.simplex_plain.specs.Plain.{PlainScheme};
+ghost use Rattle.simplex_detector.specs.Committees.{Schedule};
+ghost use Rattle.simplex_vouched.specs.Vouched.{VouchedScheme};
+ghost use Rattle.simplex_ffi.specs.Answer.{AreStored, IsAudited};
+ghost use Rattle.simplex_ffi.specs.Keys.{AreKeys, AreOfKeys};
+ghost use Rattle.simplex_ffi.specs.Leaders.{LeadsRound};
+ghost use Rattle.simplex_ffi.specs.Sizes.{AreSizes};
+
+use simplex_audit::basis::Audited;
+use simplex_base::codec::Fixed;
+use simplex_ffi::answer::Summary;
+use simplex_ffi::plain::{answer_plain, store_plain};
+use simplex_ffi::vouched::{Role48, Role64, Role96, answer_vouched, store_vouched};
+use simplex_ffi::{leaders, numbers};
+use simplex_plain::plain::Plain;
+use simplex_scheme::hash::{Hasher, Sha256, Sha256Digest};
+use simplex_vouched::vouched::Vouched;
+use std::alloc::Global;
+
+/// The version of these calls: 1.
+#[unsafe(no_mangle)]
+pub extern "C" fn simplex_version() -> u32
+    ensures { result ≡ 1 }
+{
+    1
+}
+
+/// Audits a stream whose signatures have 48 bytes, as those of BLS12-381 in G1, each with the
+/// caller's verdict behind it, under the committees of these sizes.
+#[unsafe(no_mangle)]
+pub extern "C" fn simplex_audit_vouched_48(
+    alloc: Global,
+    epochs: &[u64],
+    sizes: &[u32],
+    stream: &[u8],
+    text: &mut [u8],
+    summary: &mut Summary,
+) -> u32
+    ensures audited { result ≢ 2 → result ≢ 3 → (committees : Schedule VouchedScheme) ×
+        AreSizes epochs.now sizes.now committees ×
+        IsAudited (⟦<Vouched<Role48, 49> as Audited<Sha256Digest>>⟧.basis committees)
+        ⟦<Sha256Digest as Fixed>⟧.bytes_of stream.now text.old text.new summary.new result }
+    ensures refused { result ≡ 2 → (committees : Schedule VouchedScheme) →
+        ¬ AreSizes epochs.now sizes.now committees }
+    ensures untouched { (result ≡ 2) ⊎ (result ≡ 3) →
+        (text.new ≡ text.old) × (summary.new ≡ summary.old) }
+{
+    answer_vouched::<Role48, 49>(alloc, epochs, sizes, stream, text, summary)
+}
+
+/// Stores the evidence of what was stored and of a batch behind it, whose signatures have 48 bytes
+/// and the caller's verdict, under the committees of these sizes.
+#[unsafe(no_mangle)]
+pub extern "C" fn simplex_store_vouched_48(
+    alloc: Global,
+    epochs: &[u64],
+    sizes: &[u32],
+    stored: &[u8],
+    batch: &[u8],
+    evidence: &mut [u8],
+    size: &mut usize,
+) -> u32
+    ensures stored { result ≢ 2 → result ≢ 3 → (committees : Schedule VouchedScheme) ×
+        AreSizes epochs.now sizes.now committees ×
+        AreStored (⟦<Vouched<Role48, 49> as Audited<Sha256Digest>>⟧.basis committees)
+        (stored.now ++ batch.now) evidence.old evidence.new size.new result }
+    ensures refused { result ≡ 2 → (committees : Schedule VouchedScheme) →
+        ¬ AreSizes epochs.now sizes.now committees }
+    ensures untouched { (result ≡ 2) ⊎ (result ≡ 3) →
+        (evidence.new ≡ evidence.old) × (size.new ≡ size.old) }
+{
+    store_vouched::<Role48, 49>(alloc, epochs, sizes, stored, batch, evidence, size)
+}
+
+/// Audits a stream whose signatures have 64 bytes, as those of Ed25519, each with the caller's
+/// verdict behind it, under the committees of these sizes.
+#[unsafe(no_mangle)]
+pub extern "C" fn simplex_audit_vouched_64(
+    alloc: Global,
+    epochs: &[u64],
+    sizes: &[u32],
+    stream: &[u8],
+    text: &mut [u8],
+    summary: &mut Summary,
+) -> u32
+    ensures audited { result ≢ 2 → result ≢ 3 → (committees : Schedule VouchedScheme) ×
+        AreSizes epochs.now sizes.now committees ×
+        IsAudited (⟦<Vouched<Role64, 65> as Audited<Sha256Digest>>⟧.basis committees)
+        ⟦<Sha256Digest as Fixed>⟧.bytes_of stream.now text.old text.new summary.new result }
+    ensures refused { result ≡ 2 → (committees : Schedule VouchedScheme) →
+        ¬ AreSizes epochs.now sizes.now committees }
+    ensures untouched { (result ≡ 2) ⊎ (result ≡ 3) →
+        (text.new ≡ text.old) × (summary.new ≡ summary.old) }
+{
+    answer_vouched::<Role64, 65>(alloc, epochs, sizes, stream, text, summary)
+}
+
+/// Stores the evidence of what was stored and of a batch behind it, whose signatures have 64 bytes
+/// and the caller's verdict, under the committees of these sizes.
+#[unsafe(no_mangle)]
+pub extern "C" fn simplex_store_vouched_64(
+    alloc: Global,
+    epochs: &[u64],
+    sizes: &[u32],
+    stored: &[u8],
+    batch: &[u8],
+    evidence: &mut [u8],
+    size: &mut usize,
+) -> u32
+    ensures stored { result ≢ 2 → result ≢ 3 → (committees : Schedule VouchedScheme) ×
+        AreSizes epochs.now sizes.now committees ×
+        AreStored (⟦<Vouched<Role64, 65> as Audited<Sha256Digest>>⟧.basis committees)
+        (stored.now ++ batch.now) evidence.old evidence.new size.new result }
+    ensures refused { result ≡ 2 → (committees : Schedule VouchedScheme) →
+        ¬ AreSizes epochs.now sizes.now committees }
+    ensures untouched { (result ≡ 2) ⊎ (result ≡ 3) →
+        (evidence.new ≡ evidence.old) × (size.new ≡ size.old) }
+{
+    store_vouched::<Role64, 65>(alloc, epochs, sizes, stored, batch, evidence, size)
+}
+
+/// Audits a stream whose signatures have 96 bytes, as those of BLS12-381 in G2, each with the
+/// caller's verdict behind it, under the committees of these sizes.
+#[unsafe(no_mangle)]
+pub extern "C" fn simplex_audit_vouched_96(
+    alloc: Global,
+    epochs: &[u64],
+    sizes: &[u32],
+    stream: &[u8],
+    text: &mut [u8],
+    summary: &mut Summary,
+) -> u32
+    ensures audited { result ≢ 2 → result ≢ 3 → (committees : Schedule VouchedScheme) ×
+        AreSizes epochs.now sizes.now committees ×
+        IsAudited (⟦<Vouched<Role96, 97> as Audited<Sha256Digest>>⟧.basis committees)
+        ⟦<Sha256Digest as Fixed>⟧.bytes_of stream.now text.old text.new summary.new result }
+    ensures refused { result ≡ 2 → (committees : Schedule VouchedScheme) →
+        ¬ AreSizes epochs.now sizes.now committees }
+    ensures untouched { (result ≡ 2) ⊎ (result ≡ 3) →
+        (text.new ≡ text.old) × (summary.new ≡ summary.old) }
+{
+    answer_vouched::<Role96, 97>(alloc, epochs, sizes, stream, text, summary)
+}
+
+/// Stores the evidence of what was stored and of a batch behind it, whose signatures have 96 bytes
+/// and the caller's verdict, under the committees of these sizes.
+#[unsafe(no_mangle)]
+pub extern "C" fn simplex_store_vouched_96(
+    alloc: Global,
+    epochs: &[u64],
+    sizes: &[u32],
+    stored: &[u8],
+    batch: &[u8],
+    evidence: &mut [u8],
+    size: &mut usize,
+) -> u32
+    ensures stored { result ≢ 2 → result ≢ 3 → (committees : Schedule VouchedScheme) ×
+        AreSizes epochs.now sizes.now committees ×
+        AreStored (⟦<Vouched<Role96, 97> as Audited<Sha256Digest>>⟧.basis committees)
+        (stored.now ++ batch.now) evidence.old evidence.new size.new result }
+    ensures refused { result ≡ 2 → (committees : Schedule VouchedScheme) →
+        ¬ AreSizes epochs.now sizes.now committees }
+    ensures untouched { (result ≡ 2) ⊎ (result ≡ 3) →
+        (evidence.new ≡ evidence.old) × (size.new ≡ size.old) }
+{
+    store_vouched::<Role96, 97>(alloc, epochs, sizes, stored, batch, evidence, size)
+}
+
+/// Audits a stream of the plain scheme, whose signatures are hashes, under one committee for every
+/// epoch: `keys` are its keys, of 32 bytes each, in any order.
+#[unsafe(no_mangle)]
+pub extern "C" fn simplex_audit_plain(
+    alloc: Global,
+    name: &[u8],
+    keys: &[u8],
+    stream: &[u8],
+    text: &mut [u8],
+    summary: &mut Summary,
+) -> u32
+    ensures audited { result ≢ 2 → result ≢ 3 → (committees : Schedule PlainScheme) ×
+        AreOfKeys name.now keys.now committees ×
+        IsAudited (⟦<Plain as Audited<Sha256Digest>>⟧.basis committees)
+        ⟦<Sha256Digest as Fixed>⟧.bytes_of stream.now text.old text.new summary.new result }
+    ensures refused { result ≡ 2 → ¬ AreKeys keys.now }
+    ensures untouched { (result ≡ 2) ⊎ (result ≡ 3) →
+        (text.new ≡ text.old) × (summary.new ≡ summary.old) }
+{
+    answer_plain(alloc, name, keys, stream, text, summary)
+}
+
+/// Stores the evidence of what was stored and of a batch behind it, of the plain scheme.
+#[unsafe(no_mangle)]
+pub extern "C" fn simplex_store_plain(
+    alloc: Global,
+    name: &[u8],
+    keys: &[u8],
+    stored: &[u8],
+    batch: &[u8],
+    evidence: &mut [u8],
+    size: &mut usize,
+) -> u32
+    ensures stored { result ≢ 2 → result ≢ 3 → (committees : Schedule PlainScheme) ×
+        AreOfKeys name.now keys.now committees ×
+        AreStored (⟦<Plain as Audited<Sha256Digest>>⟧.basis committees)
+        (stored.now ++ batch.now) evidence.old evidence.new size.new result }
+    ensures refused { result ≡ 2 → ¬ AreKeys keys.now }
+    ensures untouched { (result ≡ 2) ⊎ (result ≡ 3) →
+        (evidence.new ≡ evidence.old) × (size.new ≡ size.old) }
+{
+    store_plain(alloc, name, keys, stored, batch, evidence, size)
+}
+
+/// How many of `n` participants may lie: the greatest f with 3f + 1 ≤ n, and 0 for none.
+#[unsafe(no_mangle)]
+pub extern "C" fn simplex_max_faults(n: u32) -> u32
+    ensures { result ≡ faults_of n }
+{
+    numbers::max_faults(n)
+}
+
+/// How many of `n` participants are a quorum, and 0 for none.
+#[unsafe(no_mangle)]
+pub extern "C" fn simplex_quorum(n: u32) -> u32
+    ensures { result ≡ quorum_of n }
+{
+    numbers::quorum(n)
+}
+
+/// Whether a node in view `current` takes votes of the view `pending`.
+#[unsafe(no_mangle)]
+pub extern "C" fn simplex_admits(
+    term_length: u32,
+    optimistic_views: u64,
+    current: u64,
+    pending: u64,
+) -> u32
+    ensures yes { result ≡ 1 → (1 ≤ term_length) × FitsWindow term_length current ×
+        IsAdmitted term_length optimistic_views current pending }
+    ensures no { result ≡ 0 → (1 ≤ term_length) × FitsWindow term_length current ×
+        ¬ IsAdmitted term_length optimistic_views current pending }
+    ensures none { result ≡ 2 → ¬ ((1 ≤ term_length) × FitsWindow term_length current) }
+    ensures answers { result ≤ 2 }
+{
+    numbers::admits(term_length, optimistic_views, current, pending)
+}
+
+/// Whether a node in view `current` sends messages of the view `pending`.
+#[unsafe(no_mangle)]
+pub extern "C" fn simplex_admits_outbound(
+    term_length: u32,
+    optimistic_views: u64,
+    current: u64,
+    pending: u64,
+) -> u32
+    ensures yes { result ≡ 1 → (1 ≤ term_length) × FitsWindow term_length current ×
+        IsOutbound term_length optimistic_views current pending }
+    ensures no { result ≡ 0 → (1 ≤ term_length) × FitsWindow term_length current ×
+        ¬ IsOutbound term_length optimistic_views current pending }
+    ensures none { result ≡ 2 → ¬ ((1 ≤ term_length) × FitsWindow term_length current) }
+    ensures answers { result ≤ 2 }
+{
+    numbers::admits_outbound(term_length, optimistic_views, current, pending)
+}
+
+/// The earliest view from which messages of a view may be issued, written to `floor` where there is one.
+#[unsafe(no_mangle)]
+pub extern "C" fn simplex_issuance_floor(
+    term_length: u32,
+    optimistic_views: u64,
+    view: u64,
+    floor: &mut u64,
+) -> u32
+    ensures yes { result ≡ 1 → (1 ≤ term_length) × (floor.new ≡ view - optimistic_views - 1) ×
+        ¬ (optimistic_views ≡ 0) × ¬ (view ≡ term_start term_length view) }
+    ensures no { result ≡ 0 → (1 ≤ term_length) ×
+        ((optimistic_views ≡ 0) ⊎ (view ≡ term_start term_length view)) }
+    ensures none { result ≡ 2 → term_length ≡ 0 }
+    ensures untouched { (result ≡ 0) ⊎ (result ≡ 2) → floor.new ≡ floor.old }
+    ensures answers { result ≤ 2 }
+{
+    numbers::issuance_floor(term_length, optimistic_views, view, floor)
+}
+
+/// The participant who leads a view of an epoch, in the order of the numbers.
+#[unsafe(no_mangle)]
+pub extern "C" fn simplex_leader(
+    alloc: Global,
+    participants: u32,
+    term_length: u32,
+    epoch: u64,
+    view: u64,
+    number: &mut u32,
+) -> u32
+    ensures leads { result ≡ 0 →
+        LeadsRound ⟦<Sha256Digest as Ord>⟧.cmp ⟦<Sha256 as Hasher>⟧.digest_of None
+        participants term_length epoch view number.new }
+    ensures arguments { result ≡ 2 → (participants ≡ 0) ⊎ (term_length ≡ 0) }
+    ensures untouched { result ≢ 0 → number.new ≡ number.old }
+    ensures status { (result ≡ 0) ⊎ (result ≡ 2) ⊎ (result ≡ 3) }
+{
+    leaders::leader(alloc, None, participants, term_length, epoch, view, number)
+}
+
+/// The participant who leads a view of an epoch, in the order by the seed.
+#[unsafe(no_mangle)]
+pub extern "C" fn simplex_leader_shuffled(
+    alloc: Global,
+    seed: &[u8],
+    participants: u32,
+    term_length: u32,
+    epoch: u64,
+    view: u64,
+    number: &mut u32,
+) -> u32
+    ensures leads { result ≡ 0 →
+        LeadsRound ⟦<Sha256Digest as Ord>⟧.cmp ⟦<Sha256 as Hasher>⟧.digest_of (Some seed.now)
+        participants term_length epoch view number.new }
+    ensures arguments { result ≡ 2 → (participants ≡ 0) ⊎ (term_length ≡ 0) }
+    ensures untouched { result ≢ 0 → number.new ≡ number.old }
+    ensures status { (result ≡ 0) ⊎ (result ≡ 2) ⊎ (result ≡ 3) }
+{
+    leaders::leader(
+        alloc,
+        Some(seed),
+        participants,
+        term_length,
+        epoch,
+        view,
+        number,
+    )
+}

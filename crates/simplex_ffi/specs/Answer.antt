@@ -1,0 +1,50 @@
+-- What an audit returns to a caller that is not Rattle.
+use Rattle.std.specs.Prelude.{◌≡◌, ◌⊎◌, ℕ, ◌<◌, ◌≤◌, List, ◌++◌, Option, Some, None, length, drop}
+use Rattle.simplex_audit.specs.Basis.{Basis}
+use Rattle.simplex_audit.specs.Guarantees.{IsAudit}
+use Rattle.simplex_audit.specs.Run.{report_text}
+use Rattle.simplex_clients.specs.Holding.{IsStored}
+use Rattle.simplex_audit.specs.declared.audit.Fault.{Fault}
+use Rattle.simplex_audit.specs.declared.audit.Report.{Report}
+use Rattle.simplex_ffi.specs.declared.answer.Summary.{Summary}
+
+-- the number of a stream that was read whole, or that has a fault
+abbrev pub ended_of : Option Fault → ℕ
+ended_of None = 0
+ended_of (Some fault) = 1
+
+-- where the fault is
+abbrev pub place_of : Option Fault → ℕ
+place_of None = 0
+place_of (Some fault) = fault.place
+
+-- The numbers are those of a report, and of its text.
+pub record IsSummary {S D P G : Type 0} (bytes_of : D → List ℕ) (report : Report S D P G) (summary : Summary) : Type 0 where
+  pub read_is : summary.read ≡ report.read
+  pub evidence_is : summary.evidence ≡ length report.evidence.items
+  pub splits_are : summary.splits ≡ length report.splits.items
+  pub faulted_is : summary.faulted ≡ ended_of report.fault
+  pub place_is : summary.fault_place ≡ place_of report.fault
+  pub length_is : summary.length ≡ length (report_text bytes_of report)
+
+-- A text is put at the front of a buffer, and what is behind it stays; or it has no room there, and the buffer is as before.
+abbrev pub IsPut : List ℕ → List ℕ → List ℕ → ℕ → ℕ → Type 0
+IsPut text before after status ended =
+    ((length text ≤ length before) × (status ≡ ended) × (after ≡ text ++ drop (length text) before))
+    ⊎ ((length before < length text) × (status ≡ 4) × (after ≡ before))
+
+-- The stream was audited: the summary is that of its report, and the text of the report stands at the front of the buffer,
+-- with 0 where the stream was read whole and 1 where it has a fault; or the buffer is too short and as before, with 4.
+pub record IsAudited {S D C P G : Type 0} (basis : Basis S D C P G) (bytes_of : D → List ℕ) (stream before after : List ℕ) (summary : Summary) (status : ℕ) : Type 0 where
+  pub report : Report S D P G
+  pub audit_is : IsAudit basis stream report
+  pub summary_is : IsSummary bytes_of report summary
+  pub text_is : IsPut (report_text bytes_of report) before after status (ended_of report.fault)
+
+-- The evidence of the stream was stored: as messages it stands at the front of the buffer, with 0; or the buffer is too short and
+-- as before, with 4. The size is that of the messages.
+pub record AreStored {S D C P G : Type 0} (basis : Basis S D C P G) (stream before after : List ℕ) (size status : ℕ) : Type 0 where
+  pub bytes : List ℕ
+  pub stored_is : IsStored basis stream bytes
+  pub size_is : size ≡ length bytes
+  pub bytes_are : IsPut bytes before after status 0

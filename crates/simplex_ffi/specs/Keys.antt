@@ -1,0 +1,38 @@
+-- Keys of a committee of the plain scheme, one after the other.
+use Rattle.std.specs.Cmp.Lexicographic.{slice_cmp}
+use Rattle.std.specs.List.{range_with_len}
+use Rattle.std.specs.List.Sorted.{IsStrictlySortedBy}
+use Rattle.std.specs.Ordering.{nat_cmp}
+use Rattle.std.specs.Prelude.{◌≡◌, ◌≢◌, ℕ, ◌*◌, ◌/◌, ◌%◌, ◌<◌, ◌≤◌, ◌^◌, List, length, map, take, drop, None, AllPairs, IsPermutation}
+use Rattle.simplex_scheme.specs.Namespace.{names_of}
+use Rattle.simplex_plain.specs.Plain.{PlainScheme}
+use Rattle.simplex_detector.specs.Committees.{Schedule, Every, Listed}
+
+-- the key at a place: the 32 bytes from 32 times the place on
+abbrev pub key_at : List ℕ → ℕ → List ℕ
+key_at bytes place = take 32 (drop (32 * place) bytes)
+
+-- as many keys as there are 32 bytes for
+abbrev pub keys_in : List ℕ → List (List ℕ)
+keys_in bytes = map (key_at bytes) (range_with_len 0 (length bytes / 32))
+
+-- The bytes are keys of a committee, of 32 bytes each: at least one, fewer than 2^32, and none twice.
+pub record AreKeys (bytes : List ℕ) : Type 0 where
+  pub whole : length bytes % 32 ≡ 0
+  pub some : 1 ≤ length bytes / 32
+  pub few : length bytes / 32 < 2 ^ 32
+  pub distinct : AllPairs (λ a b. a ≢ b) (keys_in bytes)
+
+-- The scheme verifies for the committee of the keys. In any order of them, a participant's number is the place of its key among
+-- them in ascending order.
+pub record IsCommitteeOf (namespace bytes : List ℕ) (scheme : PlainScheme) : Type 0 where
+  pub keys : AreKeys bytes
+  pub participants : List (List ℕ)
+  pub same : IsPermutation (keys_in bytes) participants
+  pub ascending : IsStrictlySortedBy (slice_cmp nat_cmp) participants
+  pub verifies : scheme ≡ record { names = names_of namespace; keys = participants; me = None }
+
+-- one committee for every epoch, that of the keys
+abbrev pub AreOfKeys : List ℕ → List ℕ → Schedule PlainScheme → Type 0
+AreOfKeys namespace bytes (Every committee) = IsCommitteeOf namespace bytes committee
+AreOfKeys namespace bytes (Listed pairs) = ⊥

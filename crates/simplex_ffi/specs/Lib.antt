@@ -1,0 +1,4 @@
+pub mod Answer
+pub mod Keys
+pub mod Leaders
+pub mod Sizes

@@ -1,0 +1,21 @@
+-- Committees by their sizes.
+use Rattle.std.specs.Prelude.{◌≡◌, ◌≢◌, ℕ, ◌≤◌, List, [], ◌∷◌, All, length}
+use Rattle.simplex_detector.specs.Committees.{Schedule, Every, Listed, AreRising}
+use Rattle.simplex_plain.specs.Marked.{numbered}
+use Rattle.simplex_vouched.specs.Vouched.{VouchedScheme}
+
+-- the committee of so many participants
+abbrev pub of_size : ℕ → VouchedScheme
+of_size n = record { keys = numbered n }
+
+-- each epoch with the committee of its size
+abbrev pub pairs_of : List ℕ → List ℕ → List (ℕ × VouchedScheme)
+pairs_of [] sizes = []
+pairs_of (epoch ∷ epochs) [] = []
+pairs_of (epoch ∷ epochs) (size ∷ sizes) = (epoch, of_size size) ∷ pairs_of epochs sizes
+
+-- The committees are those of the sizes: with no epochs one of the one size for every epoch, else for each epoch, which rise
+-- strictly, one of the size at its place. Each has a participant.
+abbrev pub AreSizes : List ℕ → List ℕ → Schedule VouchedScheme → Type 0
+AreSizes epochs sizes (Every committee) = (epochs ≡ []) × ((n : ℕ) × (sizes ≡ n ∷ []) × (1 ≤ n) × (committee ≡ of_size n))
+AreSizes epochs sizes (Listed pairs) = (epochs ≢ []) × (length epochs ≡ length sizes) × All (λ n. 1 ≤ n) sizes × AreRising pairs × (pairs ≡ pairs_of epochs sizes)

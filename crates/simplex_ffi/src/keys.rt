@@ -1,0 +1,81 @@
+//! Committees of the plain scheme by their keys, one after the other.
+
+ghost use Rattle.std.specs.Prelude.{◌≡◌, ◌+◌, ◌*◌, ◌/◌, ◌%◌, ◌↔◌, ◌<◌, ◌≤◌, ◌^◌, None, Ok, IsTrue, IfOk, IfSome, IsPermutation, length};
+ghost use Rattle.std.specs.List.Sorted.{IsStrictlySortedBy};
+ghost use Rattle.simplex_ffi.specs.Keys.{AreKeys, AreOfKeys, key_at, keys_in};
+
+use simplex_base::codec::Fixed;
+use simplex_detector::committees::Committees;
+use simplex_plain::plain::{Plain, PlainKey};
+use simplex_scheme::set::Set;
+use std::alloc::{AllocError, Global};
+
+/// How many keys a committee has at most.
+const MOST_KEYS: usize = 4_294_967_295;
+
+/// The key at a place.
+fn key_at(bytes: &[u8], place: usize) -> PlainKey
+    requires { 32 * place + 32 ≤ length bytes.now }
+    ensures { result ≡ key_at bytes.now place }
+{
+    let start = 32 * place;
+    PlainKey::from_bytes(&bytes[start..start + 32])
+}
+
+/// Whether so many bytes are those of keys of a committee: of at least one, and of fewer than 2^32.
+fn have_keys(size: usize) -> bool
+    ensures { IsTrue result ↔ ((size % 32 ≡ 0) × (1 ≤ size / 32) × (size / 32 < 2 ^ 32)) }
+{
+    size % 32 == 0 && size >= 32 && size / 32 <= MOST_KEYS
+}
+
+/// As many keys as there are 32 bytes for.
+fn read_keys(alloc: Global, bytes: &[u8]) -> Result<Vec<PlainKey>, AllocError>
+    ensures { IfOk result (λ keys. keys.items ≡ keys_in bytes.now) }
+{
+    let count = bytes.len() / 32;
+    let mut keys = Vec::with_capacity(alloc, count)?;
+    'keys: for place in 0..count {
+        keys.push(key_at(bytes, place))?;
+    }
+    Ok(keys)
+}
+
+/// The keys as a set. `None` comes where they are no keys of a committee.
+fn read_set(alloc: Global, bytes: &[u8]) -> Result<Option<Set<PlainKey>>, AllocError>
+    ensures keys { IfOk result (λ answer. IfSome answer (λ set. AreKeys bytes.now)) }
+    ensures same { IfOk result (λ answer. IfSome answer (λ set.
+        IsPermutation (keys_in bytes.now) set)) }
+    ensures ascending { IfOk result (λ answer. IfSome answer (λ set.
+        IsStrictlySortedBy ⟦<PlainKey as Ord>⟧.cmp set)) }
+    ensures size { IfOk result (λ answer. IfSome answer (λ set.
+        (1 ≤ length set) × (length set < 2 ^ 32))) }
+    ensures none { result ≡ Ok None → ¬ AreKeys bytes.now }
+{
+    if !have_keys(bytes.len()) {
+        return Ok(None);
+    }
+    let keys = read_keys(alloc, bytes)?;
+    match Set::try_from_vec(keys) {
+        Ok(set) => Ok(Some(set)),
+        Err(_) => Ok(None),
+    }
+}
+
+/// The committee of these keys, of 32 bytes each and in any order, under this namespace, for every
+/// epoch. `None` comes where they are no keys of a committee: a committee has a key, and no key
+/// twice.
+pub fn committees(
+    alloc: Global,
+    namespace: &[u8],
+    keys: &[u8],
+) -> Result<Option<Committees<Plain>>, AllocError>
+    ensures some { IfOk result (λ answer. IfSome answer (AreOfKeys namespace.now keys.now)) }
+    ensures none { result ≡ Ok None → ¬ AreKeys keys.now }
+{
+    let Some(participants) = read_set(alloc, keys)? else {
+        return Ok(None);
+    };
+    let committee = Plain::verifier(alloc, namespace, participants)?;
+    Ok(Some(Committees::every(committee)))
+}

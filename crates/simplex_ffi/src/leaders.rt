@@ -1,0 +1,96 @@
+//! Who leads a round, as a function of numbers.
+
+ghost use Rattle.std.specs.Prelude.{◌≡◌, ◌≢◌, ◌⊎◌, ◌≤◌, IfOk};
+ghost use Rattle.std.specs.Option.{option_copied};
+ghost use Rattle.simplex_ffi.specs.Leaders.{LeadsRound};
+
+use crate::answer::{ARGUMENTS, MEMORY, WHOLE};
+use simplex_base::positions::{Epoch, Round, TermLength, View, ViewDelta};
+use simplex_lead::elector::{Config, Elector, RoundRobin, can_be_stable};
+use simplex_plain::marked::Marked;
+use simplex_scheme::hash::{Hasher, Sha256, Sha256Digest};
+use simplex_scheme::scheme::CertificateScheme;
+use std::alloc::{AllocError, Global};
+use std::time::Duration;
+
+/// The rotation by a seed, if there is one.
+fn rotation(alloc: Global, seed: Option<&[u8]>) -> Result<RoundRobin<Sha256>, AllocError>
+    ensures seed { IfOk result (λ rotation. rotation.seed ≡ option_copied seed.entry) }
+    ensures terms { IfOk result (λ rotation. rotation.terms.term_length ≡ 1) }
+{
+    match seed {
+        Some(seed) => RoundRobin::shuffled(alloc, seed),
+        None => Ok(RoundRobin::default()),
+    }
+}
+
+/// The rotation by a seed, if there is one, in terms of so many views.
+fn rotation_of(
+    alloc: Global,
+    seed: Option<&[u8]>,
+    length: TermLength,
+) -> Result<RoundRobin<Sha256>, AllocError>
+    ensures seed { IfOk result (λ rotation. rotation.seed ≡ option_copied seed.entry) }
+    ensures terms { IfOk result (λ rotation. rotation.terms.term_length ≡ length) }
+{
+    let rotation = rotation(alloc, seed)?;
+    // How long a view may stall, and how far ahead nodes look, say nothing of who leads.
+    let timeout = Duration::from_secs(1);
+    if can_be_stable(length, timeout) {
+        return Ok(rotation.with_term(length, timeout, ViewDelta::new(0)));
+    }
+    Ok(rotation)
+}
+
+/// The leader of a view in an epoch.
+fn elected(
+    alloc: Global,
+    seed: Option<&[u8]>,
+    participants: u32,
+    term_length: u32,
+    round: Round,
+) -> Result<u32, AllocError>
+    requires some { 1 ≤ participants }
+    requires length { 1 ≤ term_length }
+    ensures { IfOk result (LeadsRound ⟦<Sha256Digest as Ord>⟧.cmp ⟦<Sha256 as Hasher>⟧.digest_of
+        (option_copied seed.entry) participants term_length round.epoch round.view) }
+{
+    let rotation = rotation_of(alloc, seed, TermLength::new(term_length))?;
+    let committee = Marked::new(alloc, participants, None)?;
+    let elector = Config::<Marked>::build(rotation, alloc, committee.participants())?;
+    Ok(Elector::<Marked>::elect(&elector, round, None).get())
+}
+
+/// The number of the participant who leads a view of an epoch, written to `number`: of so many
+/// participants, in their order by the seed, if there is one, and in terms of so many views. The
+/// status is [`WHOLE`]; [`ARGUMENTS`] where there is no participant or a term has no view; or
+/// [`MEMORY`], as the order of the participants takes 8 bytes of memory for each and with a seed
+/// more. Where it is not [`WHOLE`] nothing is written.
+pub fn leader(
+    alloc: Global,
+    seed: Option<&[u8]>,
+    participants: u32,
+    term_length: u32,
+    epoch: u64,
+    view: u64,
+    number: &mut u32,
+) -> u32
+    ensures leads { result ≡ 0 →
+        LeadsRound ⟦<Sha256Digest as Ord>⟧.cmp ⟦<Sha256 as Hasher>⟧.digest_of
+        (option_copied seed.entry) participants term_length epoch view number.new }
+    ensures arguments { result ≡ 2 → (participants ≡ 0) ⊎ (term_length ≡ 0) }
+    ensures untouched { result ≢ 0 → number.new ≡ number.old }
+    ensures status { (result ≡ 0) ⊎ (result ≡ 2) ⊎ (result ≡ 3) }
+{
+    if participants == 0 || term_length == 0 {
+        return ARGUMENTS;
+    }
+    let round = Round::new(Epoch::new(epoch), View::new(view));
+    match elected(alloc, seed, participants, term_length, round) {
+        Ok(elected) => {
+            *number = elected;
+            WHOLE
+        }
+        Err(_) => MEMORY,
+    }
+}

@@ -1,0 +1,11 @@
+//! Audits over slices and numbers, as a caller that is not Rattle has them.
+#![tactic(auto)]
+
+pub mod answer;
+pub mod keys;
+pub mod leaders;
+pub mod numbers;
+pub mod plain;
+pub mod sizes;
+pub mod store;
+pub mod vouched;

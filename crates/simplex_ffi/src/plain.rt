@@ -1,0 +1,72 @@
+//! Audits of streams of the plain scheme.
+
+ghost use Rattle.std.specs.Prelude.{◌≡◌, ◌≢◌, ◌⊎◌, ◌++◌};
+ghost use Rattle.simplex_plain.specs.Plain.{PlainScheme};
+ghost use Rattle.simplex_detector.specs.Committees.{Schedule};
+ghost use Rattle.simplex_ffi.specs.Answer.{AreStored, IsAudited};
+ghost use Rattle.simplex_ffi.specs.Keys.{AreKeys, AreOfKeys};
+
+use crate::answer::{ARGUMENTS, MEMORY, Summary, answer};
+use crate::keys::committees;
+use crate::store::store;
+use simplex_audit::basis::Audited;
+use simplex_base::codec::Fixed;
+use simplex_plain::plain::Plain;
+use simplex_scheme::hash::Sha256Digest;
+use std::alloc::Global;
+
+/// Audits a stream under the committee of these keys, for every epoch. The status is that of
+/// [`answer`], or [`ARGUMENTS`] where they are no keys of a committee, and then nothing is written.
+pub fn answer_plain(
+    alloc: Global,
+    namespace: &[u8],
+    keys: &[u8],
+    stream: &[u8],
+    buffer: &mut [u8],
+    summary: &mut Summary,
+) -> u32
+    ensures audited { result ≢ 2 → result ≢ 3 → (committees : Schedule PlainScheme) ×
+        AreOfKeys namespace.now keys.now committees ×
+        IsAudited (⟦<Plain as Audited<Sha256Digest>>⟧.basis committees)
+        ⟦<Sha256Digest as Fixed>⟧.bytes_of stream.now buffer.old buffer.new summary.new result }
+    ensures refused { result ≡ 2 → ¬ AreKeys keys.now }
+    ensures untouched { (result ≡ 2) ⊎ (result ≡ 3) →
+        (buffer.new ≡ buffer.old) × (summary.new ≡ summary.old) }
+{
+    match committees(alloc, namespace, keys) {
+        Ok(Some(committees)) => {
+            answer::<Plain, Sha256Digest>(alloc, &committees, stream, buffer, summary)
+        }
+        Ok(None) => ARGUMENTS,
+        Err(_) => MEMORY,
+    }
+}
+
+/// Stores the evidence of what was stored and of a batch behind it, under the committee of these
+/// keys. The status is that of [`store`], or [`ARGUMENTS`] where they are no keys of a committee,
+/// and then nothing is written.
+pub fn store_plain(
+    alloc: Global,
+    namespace: &[u8],
+    keys: &[u8],
+    stored: &[u8],
+    batch: &[u8],
+    buffer: &mut [u8],
+    size: &mut usize,
+) -> u32
+    ensures stored { result ≢ 2 → result ≢ 3 → (committees : Schedule PlainScheme) ×
+        AreOfKeys namespace.now keys.now committees ×
+        AreStored (⟦<Plain as Audited<Sha256Digest>>⟧.basis committees) (stored.now ++ batch.now)
+        buffer.old buffer.new size.new result }
+    ensures refused { result ≡ 2 → ¬ AreKeys keys.now }
+    ensures untouched { (result ≡ 2) ⊎ (result ≡ 3) →
+        (buffer.new ≡ buffer.old) × (size.new ≡ size.old) }
+{
+    match committees(alloc, namespace, keys) {
+        Ok(Some(committees)) => {
+            store::<Plain, Sha256Digest>(alloc, &committees, stored, batch, buffer, size)
+        }
+        Ok(None) => ARGUMENTS,
+        Err(_) => MEMORY,
+    }
+}
