@@ -20,7 +20,7 @@ fn value<T: Read + Drop>(alloc: Global, cfg: &T::Cfg, encoding: &str) -> Option<
 
 /// The values with these encodings in hexadecimal.
 fn listed<T: Read + Drop>(alloc: Global, cfg: &T::Cfg, encodings: &[&str]) -> Option<Vec<T>> {
-    let mut values = Vec::new(alloc);
+    let mut values = Vec::with_capacity(alloc, encodings.len()).ok()?;
     for encoding in encodings {
         values.push(value(alloc, cfg, encoding)?).ok()?;
     }
@@ -47,9 +47,12 @@ fn is_refused<S: CertificateVerifier<D>, D: Digest>(
         };
         (subject, certificate)
     });
-    let Ok(pairs) = items.collect::<Vec<_>>(rt.alloc()) else {
+    let Ok(mut pairs) = Vec::with_capacity(rt.alloc(), encodings.len()) else {
         return true;
     };
+    if pairs.extend(items).is_err() {
+        return true;
+    }
     is_answer_refused(rt, scheme, pairs.as_slice(), wanted)
 }
 
