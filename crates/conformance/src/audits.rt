@@ -4,7 +4,7 @@ use conformance_messages::refusals::name;
 use conformance_messages::vectors::{Unanswered, bytes, committee, epoch};
 use faulty_io::{Source, Trouble};
 use simplex_audit::audit::{
-    Auditor, Committees, Evidence, Fault, Report, RunError, Watched, audit, run,
+    Auditor, Committees, Evidence, Fault, Report, RunError, Watched, audit, audit_deferred, run,
 };
 use simplex_base::positions::Epoch;
 use simplex_plain::marked::Marked;
@@ -32,7 +32,8 @@ fn pair(alloc: Global, word: &str) -> Result<(Epoch, Marked), Unanswered> {
     }
 }
 
-/// The answer to an audit of a stream: that of `audit` and of two runs, one of which reads a byte a call, where all agree.
+/// The answer to an audit of a stream: that of `audit`, of `audit_deferred` and of two runs, one of which reads a byte a call,
+/// where all agree.
 pub(crate) fn audit_vector<S: Listing<D>, D: Digest>(
     alloc: Global,
     committees: &Committees<S>,
@@ -40,6 +41,10 @@ pub(crate) fn audit_vector<S: Listing<D>, D: Digest>(
 ) -> Result<String, Unanswered> {
     let report = audit::<S, D>(alloc, committees, stream)?;
     let answer = told(alloc, &report)?;
+    let deferred = audit_deferred::<S, D>(alloc, committees, stream)?;
+    if told(alloc, &deferred)? != answer {
+        return Ok("the audits differ".to_string(alloc)?);
+    }
     for step in [usize::MAX, 1] {
         if ran(alloc, committees, stream, step)? != answer {
             return Ok("the runs differ".to_string(alloc)?);
