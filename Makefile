@@ -18,7 +18,7 @@ audit_stored:
 inspect:
 	@.ci/built inspect
 
-# Proves and builds the static library of bindings/, for C and Rust: bindings/out/libsimplex_audit.a.
+# Proves and builds the library of bindings/, for C and Rust bindings/out/libsimplex_audit.a, and for Python simplex_audit.so there.
 library:
 	@.ci/library
 

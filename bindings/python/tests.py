@@ -1,0 +1,90 @@
+"""Tests of the Python module."""
+import doctest
+import unittest
+
+import simplex_audit
+from simplex_audit import Committees, Encoder, Vote, audit, store
+
+
+def valid(vote, signer, signature):
+    return True
+
+
+def two_votes(view, signer=2, size=64, verify=valid):
+    stream = Encoder(size)
+    for payload in (b"\6" * 32, b"\7" * 32):
+        stream.vote(Vote("notarize", 3, view, 5, payload), signer, bytes(size), verify)
+    return stream.encoded()
+
+
+class Tests(unittest.TestCase):
+    def test_sizes(self):
+        for size in (48, 64, 96):
+            report = audit(Committees.every(size, 4), two_votes(10, size=size))
+            self.assertEqual([(it.epoch, it.view, it.signer, it.kind) for it in report.evidence], [(3, 10, 2, "conflicting-notarize")])
+
+    def test_what_is_not_verified_accuses_nobody(self):
+        report = audit(Committees.every(64, 4), two_votes(10, verify=lambda vote, signer, signature: False))
+        self.assertEqual((report.read, report.evidence), (2, []))
+        self.assertEqual(audit(Committees.every(64, 2), two_votes(10)).evidence, [])
+        self.assertEqual(audit(Committees.listed(64, {2: 4, 5: 4}), two_votes(10)).evidence, [])
+
+    def test_a_fork_splits(self):
+        stream = Encoder(64)
+        for payload, signers in ((b"\6" * 32, (0, 1, 2)), (b"\7" * 32, (1, 2, 3))):
+            stream.certificate(Vote("notarize", 3, 10, 5, payload), [(it, bytes(64)) for it in signers], valid)
+        report = audit(Committees.listed(64, {3: 4}), stream.encoded())
+        self.assertEqual([it.signer for it in report.evidence], [1, 2])
+        self.assertEqual(report.splits, [(3, 10, 2, 2)])
+
+    def test_a_long_report(self):
+        stream = b"".join(two_votes(view) for view in range(1, 1001))
+        report = audit(Committees.every(64, 4), stream)
+        self.assertEqual([it.view for it in report.evidence], list(range(1, 1001)))
+        self.assertGreater(len(report.text), 65536)
+        self.assertEqual(audit(Committees.every(64, 4), store(Committees.every(64, 4), b"", stream)).evidence, report.evidence)
+
+    def test_faults(self):
+        for stream, fault in ((b"", None), (b"\xff", 0), (two_votes(10) + b"\0", len(two_votes(10)))):
+            self.assertEqual(audit(Committees.every(64, 4), stream).fault, fault)
+
+    def test_batches(self):
+        committees = Committees.every(64, 4)
+        stored = store(committees, store(committees, b"", two_votes(10)), two_votes(11, signer=1))
+        self.assertEqual([(it.view, it.signer) for it in audit(committees, stored).evidence], [(10, 2), (11, 1)])
+
+    def test_refusals(self):
+        for refused in (
+            lambda: audit(Committees.every(64, 0), b""),
+            lambda: Committees.every(65, 4),
+            lambda: Committees.every(64, 1 << 32),
+            lambda: Committees.listed(64, {}),
+            lambda: audit(Committees.listed(64, {1: 4, 2: 0}), b""),
+            lambda: audit(Committees.plain(b"test", []), b""),
+            lambda: audit(Committees.plain(b"test", [bytes(32)] * 2), b""),
+            lambda: Committees.plain(b"test", [bytes(31)]),
+            lambda: Encoder(64).vote(Vote("nullify", 3, 10), 0, bytes(63), valid),
+            lambda: Encoder(64).vote(Vote("nullify", 3, 10), 1 << 32, bytes(64), valid),
+            lambda: Encoder(64).certificate(Vote("nullify", 3, 10), [], valid),
+            lambda: Encoder(64).certificate(Vote("nullify", 3, 10), [(1, bytes(64)), (0, bytes(64))], valid),
+            lambda: simplex_audit.admits(0, 0, 10, 11),
+            lambda: simplex_audit.leader(0, 1, 3, 10),
+        ):
+            self.assertRaises(ValueError, refused)
+
+    def test_views(self):
+        self.assertEqual((simplex_audit.max_faults(4), simplex_audit.quorum(4), simplex_audit.version()), (1, 3, 1))
+        self.assertEqual([simplex_audit.admits(1, 0, 10, it) for it in (11, 14)], [True, False])
+        self.assertTrue(simplex_audit.admits_outbound(1, 0, 10, 10))
+        self.assertEqual(simplex_audit.leader(4, 1, 3, 10), 1)
+        self.assertIn(simplex_audit.leader(4, 1, 3, 10, seed=b"seed"), range(4))
+        self.assertIn(simplex_audit.issuance_floor(1, 0, 10), (None, *range(11)))
+
+
+def load_tests(loader, tests, pattern):
+    tests.addTests(doctest.DocTestSuite(simplex_audit))
+    return tests
+
+
+if __name__ == "__main__":
+    unittest.main()
