@@ -18,7 +18,7 @@ const ROUND_CONSTANTS: [u32; 64] = [
 ];
 
 /// SHA-256 of some bytes (FIPS 180-4).
-fn sha256(bytes: &[u8]) -> [u8; 32] {
+pub fn sha256(bytes: &[u8]) -> [u8; 32] {
     let mut state: [u32; 8] = [
         0x6a09e667, 0xbb67ae85, 0x3c6ef372, 0xa54ff53a, 0x510e527f, 0x9b05688c, 0x1f83d9ab, 0x5be0cd19,
     ];
@@ -488,6 +488,16 @@ fn committees(arguments: &[String]) -> Option<Committees> {
         texts = &behind[count..];
     }
     Some(Committees::Listed(listed))
+}
+
+/// The text of a whole stream, and the offset of its fault, for `bench/fuzz.rs`.
+#[allow(dead_code)]
+pub fn audit(base: &str, keys: &[String], stream: &[u8]) -> (String, Option<usize>) {
+    let committees = Committees::Every(committee(base, keys).unwrap());
+    let bound = committees.bound();
+    let mut auditor = Auditor { committees, bound, rounds: BTreeMap::new(), hashed: Vec::new() };
+    let place = auditor.messages(stream);
+    (auditor.text(), (place < stream.len()).then_some(place))
 }
 
 /// Ends with a status, and says why.

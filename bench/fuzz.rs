@@ -1,0 +1,241 @@
+//! Compares the static library with the auditor by hand, on random and mutated streams: `fuzz SECONDS THREADS SEED`. A stream is some
+//! messages of a committee of four, of all ten kinds and of few rounds, with good and bad signatures, and then some of its bytes are
+//! changed. Both have to return the same lines and the same fault, and what the library stores of a stream has to give the same
+//! evidence again. It ends with status 1 at the first stream on which they do not, and prints it.
+
+#[allow(dead_code)]
+#[path = "by_hand.rs"]
+mod by_hand;
+
+use std::sync::atomic::{AtomicBool, AtomicU64, Ordering};
+use std::time::{Duration, Instant};
+
+const BASE: &str = "fuzz";
+const MEMBERS: u64 = 4;
+
+#[repr(C)]
+#[derive(Default)]
+struct Summary {
+    read: usize,
+    evidence: usize,
+    splits: usize,
+    faulted: usize,
+    fault_place: usize,
+    length: usize,
+}
+
+unsafe extern "C" {
+    fn simplex_audit_plain(
+        name: *const u8, name_len: usize, keys: *const u8, keys_len: usize, stream: *const u8, stream_len: usize,
+        text: *mut u8, text_len: usize, summary: *mut Summary,
+    ) -> u32;
+    fn simplex_store_plain(
+        name: *const u8, name_len: usize, keys: *const u8, keys_len: usize, stored: *const u8, stored_len: usize,
+        batch: *const u8, batch_len: usize, evidence: *mut u8, evidence_len: usize, size: *mut usize,
+    ) -> u32;
+}
+
+/// SplitMix64.
+struct Random(u64);
+
+impl Random {
+    fn next(&mut self) -> u64 {
+        self.0 = self.0.wrapping_add(0x9e3779b97f4a7c15);
+        let mut z = self.0;
+        z = (z ^ (z >> 30)).wrapping_mul(0xbf58476d1ce4e5b9);
+        z = (z ^ (z >> 27)).wrapping_mul(0x94d049bb133111eb);
+        z ^ (z >> 31)
+    }
+
+    fn below(&mut self, bound: u64) -> u64 {
+        self.next() % bound
+    }
+
+    fn one_in(&mut self, number: u64) -> bool {
+        self.below(number) == 0
+    }
+}
+
+fn key(signer: u64) -> [u8; 32] {
+    let mut key = [0; 32];
+    key[31] = signer as u8;
+    key
+}
+
+fn put_number(bytes: &mut Vec<u8>, mut number: u64) {
+    while number >= 128 {
+        bytes.push(number as u8 | 0x80);
+        number >>= 7;
+    }
+    bytes.push(number as u8);
+}
+
+/// The encoding of a proposal, or of the round of a nullify.
+fn subject(random: &mut Random, sort: usize, round: (u64, u64)) -> Vec<u8> {
+    let mut bytes = Vec::new();
+    put_number(&mut bytes, round.0);
+    put_number(&mut bytes, round.1);
+    if sort != 1 {
+        put_number(&mut bytes, 5 + u64::from(random.one_in(8)));
+        bytes.extend([random.below(2) as u8; 32]);
+    }
+    bytes
+}
+
+fn attestation(random: &mut Random, sort: usize, signer: u64, subject: &[u8]) -> Vec<u8> {
+    let name = [BASE, ["_NOTARIZE", "_NULLIFY", "_FINALIZE"][sort]].concat();
+    let mut signed = Vec::new();
+    put_number(&mut signed, name.len() as u64);
+    signed.extend(name.as_bytes());
+    signed.extend(key(signer));
+    signed.extend(subject);
+    let mut bytes = Vec::new();
+    put_number(&mut bytes, signer);
+    bytes.extend(if random.one_in(8) { [0; 32] } else { by_hand::sha256(&signed) });
+    bytes
+}
+
+fn vote(random: &mut Random, sort: usize, signer: u64, round: (u64, u64)) -> Vec<u8> {
+    let mut bytes = subject(random, sort, round);
+    let signed = attestation(random, sort, signer, &bytes);
+    bytes.extend(signed);
+    bytes
+}
+
+fn certificate(random: &mut Random, sort: usize, round: (u64, u64)) -> Vec<u8> {
+    let subject = subject(random, sort, round);
+    let signers: Vec<u64> = (0..MEMBERS).filter(|_| !random.one_in(4)).collect();
+    let mut bytes = subject.clone();
+    put_number(&mut bytes, signers.len() as u64);
+    for signer in signers {
+        bytes.extend(attestation(random, sort, signer, &subject));
+    }
+    bytes
+}
+
+fn message(random: &mut Random) -> Vec<u8> {
+    let round = (random.below(2), 10 + random.below(2));
+    // (one more than the committee has)
+    let (tag, signer) = (random.below(10), random.below(MEMBERS + 1));
+    let mut bytes = vec![tag as u8];
+    bytes.extend(match tag {
+        0 => vote(random, 0, signer, round),
+        3 => vote(random, 1, signer, round),
+        5 => vote(random, 2, signer, round),
+        1 | 2 => certificate(random, 0, round),
+        4 => certificate(random, 1, round),
+        6 => certificate(random, 2, round),
+        7 => [vote(random, 0, signer, round), vote(random, 0, signer, round)].concat(),
+        8 => [vote(random, 2, signer, round), vote(random, 2, signer, round)].concat(),
+        _ => [vote(random, 1, signer, round), vote(random, 2, signer, round)].concat(),
+    });
+    bytes
+}
+
+fn mutate(random: &mut Random, bytes: &mut Vec<u8>) {
+    if bytes.is_empty() {
+        return;
+    }
+    let place = random.below(bytes.len() as u64) as usize;
+    match random.below(7) {
+        0 => bytes[place] ^= 1 << random.below(8),
+        1 => bytes[place] = [0, 1, 0x7f, 0x80, 0xff][random.below(5) as usize],
+        2 => bytes.insert(place, random.next() as u8),
+        3 => drop(bytes.remove(place)),
+        4 => bytes.truncate(place),
+        5 => {
+            let end = bytes.len().min(place + 1 + random.below(80) as usize);
+            let copied = bytes[place..end].to_vec();
+            let to = random.below(bytes.len() as u64 + 1) as usize;
+            drop(bytes.splice(to..to, copied));
+        }
+        _ => {
+            let end = bytes.len().min(place + 1 + random.below(80) as usize);
+            drop(bytes.drain(place..end));
+        }
+    }
+}
+
+fn stream(random: &mut Random) -> Vec<u8> {
+    let mut bytes = Vec::new();
+    for _ in 0..random.below(9) {
+        bytes.extend(message(random));
+    }
+    for _ in 0..[0, 0, 1, 1, 2, 4][random.below(6) as usize] {
+        mutate(random, &mut bytes);
+    }
+    bytes
+}
+
+/// The text of the library, its lines of evidence, and the offset of the fault.
+fn audit(keys: &[u8], stream: &[u8], text: &mut [u8]) -> (String, usize, Option<usize>) {
+    let mut summary = Summary::default();
+    let status = unsafe {
+        simplex_audit_plain(
+            BASE.as_ptr(), BASE.len(), keys.as_ptr(), keys.len(), stream.as_ptr(), stream.len(), text.as_mut_ptr(), text.len(), &mut summary,
+        )
+    };
+    assert!(status == summary.faulted as u32 && status < 2, "status {status}");
+    let text = std::str::from_utf8(&text[..summary.length]).unwrap();
+    assert_eq!(text.lines().count(), summary.evidence + summary.splits);
+    (text.to_owned(), summary.evidence, (status == 1).then_some(summary.fault_place))
+}
+
+fn stored(keys: &[u8], stream: &[u8], evidence: &mut [u8]) -> Vec<u8> {
+    let mut size = 0;
+    let status = unsafe {
+        simplex_store_plain(
+            BASE.as_ptr(), BASE.len(), keys.as_ptr(), keys.len(), keys.as_ptr(), 0, stream.as_ptr(), stream.len(),
+            evidence.as_mut_ptr(), evidence.len(), &mut size,
+        )
+    };
+    assert_eq!(status, 0);
+    evidence[..size].to_vec()
+}
+
+/// Whether both say the same of a stream.
+fn agree(keys: &[u8], texts: &[String], stream: &[u8], room: &mut [u8]) -> bool {
+    let (text, evidence, fault) = audit(keys, stream, room);
+    if (text.clone(), fault) != by_hand::audit(BASE, texts, stream) {
+        return false;
+    }
+    let kept = stored(keys, stream, room);
+    let (again, number, none) = audit(keys, &kept, room);
+    let lines = |text: &str, count: usize| text.lines().take(count).map(str::to_owned).collect::<Vec<_>>();
+    none.is_none() && lines(&again, number) == lines(&text, evidence)
+}
+
+fn main() {
+    let words: Vec<u64> = std::env::args().skip(1).map(|word| word.parse().unwrap()).collect();
+    let [seconds, threads, seed] = words[..] else { panic!("fuzz SECONDS THREADS SEED") };
+    let keys: Vec<u8> = (0..MEMBERS).flat_map(key).collect();
+    let texts: Vec<String> = (0..MEMBERS).map(|signer| format!("{signer:064x}")).collect();
+    let (runs, with_lines, with_faults, is_over) = (AtomicU64::new(0), AtomicU64::new(0), AtomicU64::new(0), AtomicBool::new(false));
+    let end = Instant::now() + Duration::from_secs(seconds);
+    std::thread::scope(|scope| {
+        for thread in 0..threads {
+            let (keys, texts, runs, with_lines, with_faults, is_over) = (&keys, &texts, &runs, &with_lines, &with_faults, &is_over);
+            scope.spawn(move || {
+                let mut random = Random(seed.wrapping_mul(0x100000001b3).wrapping_add(thread));
+                let mut room = vec![0; 1 << 20];
+                while !is_over.load(Ordering::Relaxed) && Instant::now() < end {
+                    for _ in 0..256 {
+                        let stream = stream(&mut random);
+                        let (text, _, fault) = audit(keys, &stream, &mut room);
+                        with_lines.fetch_add(u64::from(!text.is_empty()), Ordering::Relaxed);
+                        with_faults.fetch_add(u64::from(fault.is_some()), Ordering::Relaxed);
+                        if !agree(keys, texts, &stream, &mut room) {
+                            println!("they differ on {}", stream.iter().map(|byte| format!("{byte:02x}")).collect::<String>());
+                            is_over.store(true, Ordering::Relaxed);
+                            return;
+                        }
+                    }
+                    runs.fetch_add(256, Ordering::Relaxed);
+                }
+            });
+        }
+    });
+    let count = |number: &AtomicU64| number.load(Ordering::Relaxed);
+    println!("{} streams, of which {} have lines and {} a fault", count(&runs), count(&with_lines), count(&with_faults));
+    std::process::exit(i32::from(is_over.load(Ordering::Relaxed)));
+}
