@@ -7,7 +7,7 @@ ghost use Rattle.std.specs.Prelude.{ℕ, List, IfOk, string_bytes};
 ghost use Rattle.simplex_audit.specs.Run.{IsAccount};
 
 use audit_cli::arguments::parse;
-use audit_cli::status::Failure;
+use audit_cli::status::{Failure, complaint};
 use simplex_audit::audit::{Committees, Fault, Summary, audit_deferred};
 use simplex_audit::basis::Audited;
 use simplex_audit::text::text;
@@ -92,7 +92,10 @@ fn run(rt: &HostRuntime) -> Result<Option<Fault>, Failure> {
 fn main(rt: HostRuntime) -> ExitCode {
     match run(&rt) {
         Ok(None) => ExitCode::from(0),
-        Ok(Some(_)) => ExitCode::from(1),
+        Ok(Some(fault)) => {
+            let _ = rt.stderr().write_all(complaint(fault.place).as_bytes());
+            ExitCode::from(1)
+        }
         Err(failure) => {
             let _ = rt.stderr().write_all(failure.complaint().as_bytes());
             ExitCode::from(failure.status().number())
