@@ -16,6 +16,12 @@ def main():
     except (IndexError, ValueError):
         print("usage: audit NAMESPACE KEY...", file=sys.stderr)
         return 2
+    except OSError:
+        print("audit: read failed", file=sys.stderr)
+        return 3
+    except MemoryError:
+        print("audit: out of memory", file=sys.stderr)
+        return 3
     print(report.text, end="")
     if report.fault is not None:
         print(f"audit: fault at byte {report.fault}", file=sys.stderr)

@@ -94,11 +94,11 @@ class Committees:
     def plain(namespace, keys):
         """One committee for every epoch, under the plain scheme, by its keys of 32 bytes in any order. A participant's number is
         the place of its key in ascending order."""
-        keys = list(keys)
+        namespace, keys = bytes(namespace), [bytes(key) for key in keys]
         if not all(len(key) == 32 for key in keys):
             raise ValueError("a key has 32 bytes")
         keys = b"".join(keys)
-        return Committees("plain", [bytes(namespace), len(namespace), keys, len(keys)])
+        return Committees("plain", [namespace, len(namespace), keys, len(keys)])
 
     @staticmethod
     def _vouched(size, epochs, sizes):
@@ -109,7 +109,7 @@ class Committees:
     def _put(self, call, given, room, written, needed):
         """Makes a call that puts something into a buffer, again with a longer buffer if the first is too short."""
         function = getattr(_library, f"simplex_{call}_{self._suffix}")
-        given = [part for data in given for part in (bytes(data), len(data))]
+        given = [part for data in map(bytes, given) for part in (data, len(data))]
         while True:
             buffer = ctypes.create_string_buffer(room)
             status = function(*self._arguments, *given, buffer, room, ctypes.byref(written))
@@ -150,8 +150,11 @@ def _split(line):
 
 
 def store(committees, stored, batch):
-    """The evidence of what was stored and of a batch behind it, as messages. A batch has to hold every vote of its rounds."""
-    size = ctypes.c_size_t()
+    """The evidence of what was stored and of a batch behind it, as messages. A batch has to hold every vote of its rounds.
+    `ValueError` where what was stored has a fault: nothing behind that would be read."""
+    size, stored = ctypes.c_size_t(), bytes(stored)
+    if audit(committees, stored).fault is not None:
+        raise ValueError("what was stored is damaged")
     return committees._put("store", [stored, batch], len(stored) + 65536, size, lambda it: it.value)
 
 
@@ -160,8 +163,12 @@ class Vote(collections.namedtuple("Vote", "kind epoch view parent payload", defa
 
     def message(self):
         """The encoding of the proposal, or of the round."""
+        if self.kind not in Encoder._VOTES:
+            raise ValueError("no such kind of vote")
+        if self.kind != "nullify" and len(bytes(self.payload)) != 32:
+            raise ValueError("a payload has 32 bytes")
         round_ = _varint(self.epoch) + _varint(self.view)
-        return round_ if self.kind == "nullify" else round_ + _varint(self.parent) + self.payload
+        return round_ if self.kind == "nullify" else round_ + _varint(self.parent) + bytes(self.payload)
 
     def signed_bytes(self, base):
         """What a signature is over: the length of the namespace, the namespace, and the message."""
@@ -180,7 +187,8 @@ class Encoder:
 
     def vote(self, vote, signer, signature, verify):
         """Appends a vote."""
-        self._bytes += bytes([self._VOTES[vote.kind]]) + vote.message() + self._attestation(vote, signer, signature, verify)
+        message = vote.message()
+        self._bytes += bytes([self._VOTES[vote.kind]]) + message + self._attestation(vote, signer, signature, verify)
 
     def certificate(self, vote, listed, verify):
         """Appends a certificate that lists these pairs of a signer and a signature, signers ascending."""
@@ -188,13 +196,15 @@ class Encoder:
         signers = [signer for signer, _ in listed]
         if not listed or signers != sorted(set(signers)):
             raise ValueError("signers have to ascend, and there has to be one")
+        message = vote.message()
         attestations = b"".join(self._attestation(vote, signer, signature, verify) for signer, signature in listed)
-        self._bytes += bytes([self._VOTES[vote.kind] + 1]) + vote.message() + _varint(len(listed)) + attestations
+        self._bytes += bytes([self._VOTES[vote.kind] + 1]) + message + _varint(len(listed)) + attestations
 
     def _attestation(self, vote, signer, signature, verify):
+        signature = bytes(signature)
         if len(signature) != self._size:
             raise ValueError(f"a signature has {self._size} bytes")
-        return _varint(_checked(signer, 32, "a signer")) + bytes(signature) + bytes([bool(verify(vote, signer, signature))])
+        return _varint(_checked(signer, 32, "a signer")) + signature + bytes([bool(verify(vote, signer, signature))])
 
     def encoded(self):
         """All that it wrote."""
@@ -261,7 +271,8 @@ def leader(participants, term_length, epoch, view, seed=None):
     if seed is None:
         status = _library.simplex_leader(*terms, *place, ctypes.byref(number))
     else:
-        status = _library.simplex_leader_shuffled(bytes(seed), len(seed), *terms, *place, ctypes.byref(number))
+        seed = bytes(seed)
+        status = _library.simplex_leader_shuffled(seed, len(seed), *terms, *place, ctypes.byref(number))
     if status == _ARGUMENTS:
         raise ValueError("no participant, or terms have no views")
     _refused(status)

@@ -1,5 +1,7 @@
 """Tests of the Python module."""
+import array
 import doctest
+import hashlib
 import unittest
 
 import simplex_audit
@@ -37,6 +39,23 @@ class Tests(unittest.TestCase):
         self.assertEqual([it.signer for it in report.evidence], [1, 2])
         self.assertEqual(report.splits, [(3, 10, 2, 2)])
 
+    def test_what_is_signed_is_what_the_plain_scheme_verifies(self):
+        for one, other in (("notarize", "notarize"), ("nullify", "finalize"), ("finalize", "finalize")):
+            votes = [Vote(one, 3, 10) if one == "nullify" else Vote(one, 3, 10, 5, b"\6" * 32), Vote(other, 3, 10, 5, b"\7" * 32)]
+            stream = b""
+            for vote in votes:
+                signed = vote.signed_bytes(b"test")
+                name = signed[: 1 + signed[0]]
+                signature = hashlib.sha256(name + bytes(32) + signed[len(name) :]).digest()
+                stream += bytes([Encoder._VOTES[vote.kind]]) + vote.message() + b"\0" + signature
+            report = audit(Committees.plain(b"test", [bytes(32)]), stream)
+            self.assertEqual((report.read, len(report.evidence)), (2, 1))
+
+    def test_elements_of_more_than_a_byte(self):
+        stream = two_votes(10)
+        longer = array.array("H", stream + (b"" if len(stream) % 2 == 0 else b"\0"))
+        self.assertEqual(len(audit(Committees.every(64, 4), longer).evidence), 1)
+
     def test_a_long_report(self):
         stream = b"".join(two_votes(view) for view in range(1, 1001))
         report = audit(Committees.every(64, 4), stream)
@@ -67,6 +86,11 @@ class Tests(unittest.TestCase):
             lambda: Encoder(64).vote(Vote("nullify", 3, 10), 1 << 32, bytes(64), valid),
             lambda: Encoder(64).certificate(Vote("nullify", 3, 10), [], valid),
             lambda: Encoder(64).certificate(Vote("nullify", 3, 10), [(1, bytes(64)), (0, bytes(64))], valid),
+            lambda: Encoder(64).vote(Vote("notarise", 3, 10, 5, bytes(32)), 0, bytes(64), valid),
+            lambda: Encoder(64).vote(Vote("notarize", 3, 10, 5, bytes(31)), 0, bytes(64), valid),
+            lambda: Encoder(64).vote(Vote("finalize", 3, 10, 5, bytes(106)), 0, bytes(64), valid),
+            lambda: Encoder(64).vote(Vote("nullify", 3, 10), 0, array.array("I", bytes(256)), valid),
+            lambda: store(Committees.every(64, 4), b"\xff", two_votes(10)),
             lambda: simplex_audit.admits(0, 0, 10, 11),
             lambda: simplex_audit.leader(0, 1, 3, 10),
         ):

@@ -82,9 +82,10 @@ impl Encoder {
     /// Appends a vote. `Error::Arguments` where the signature has another size; nothing is written then.
     pub fn vote(&mut self, vote: &Vote, signer: u32, signature: &[u8], verifier: &dyn Verifier) -> Result<(), Error> {
         self.check(signature)?;
-        self.bytes.push(vote.tag());
-        vote.put_message(&mut self.bytes);
-        self.attestation(vote, signer, signature, verifier);
+        let mut message = vec![vote.tag()];
+        vote.put_message(&mut message);
+        put_attestation(&mut message, vote, signer, signature, verifier);
+        self.bytes.append(&mut message);
         Ok(())
     }
 
@@ -98,12 +99,13 @@ impl Encoder {
         for (_, signature) in listed {
             self.check(signature)?;
         }
-        self.bytes.push(certificate_tag(vote));
-        vote.put_message(&mut self.bytes);
-        put_number(&mut self.bytes, listed.len() as u64);
+        let mut message = vec![certificate_tag(vote)];
+        vote.put_message(&mut message);
+        put_number(&mut message, listed.len() as u64);
         for (signer, signature) in listed {
-            self.attestation(vote, *signer, signature, verifier);
+            put_attestation(&mut message, vote, *signer, signature, verifier);
         }
+        self.bytes.append(&mut message);
         Ok(())
     }
 
@@ -124,12 +126,13 @@ impl Encoder {
             Err(Error::Arguments)
         }
     }
+}
 
-    fn attestation(&mut self, vote: &Vote, signer: u32, signature: &[u8], verifier: &dyn Verifier) {
-        put_number(&mut self.bytes, u64::from(signer));
-        self.bytes.extend_from_slice(signature);
-        self.bytes.push(u8::from(verifier.verify(vote, signer, signature)));
-    }
+/// Appends a signer, its signature and the verdict.
+fn put_attestation(bytes: &mut Vec<u8>, vote: &Vote, signer: u32, signature: &[u8], verifier: &dyn Verifier) {
+    put_number(bytes, u64::from(signer));
+    bytes.extend_from_slice(signature);
+    bytes.push(u8::from(verifier.verify(vote, signer, signature)));
 }
 
 /// The tag of a certificate for such votes.

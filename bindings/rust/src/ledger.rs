@@ -6,7 +6,7 @@ use crate::{audit, ffi, Committees, Error, Report};
 /// use simplex_audit::{Committees, Encoder, Ledger, Size, Vote};
 ///
 /// let committees = Committees::every(Size::Bytes64, 4)?;
-/// let mut ledger = Ledger::resume(committees.clone(), Vec::new());
+/// let mut ledger = Ledger::resume(committees.clone(), Vec::new())?;
 /// for view in [10, 11] {
 ///     let mut batch = Encoder::new(Size::Bytes64);
 ///     for payload in [[6; 32], [7; 32]] {
@@ -16,7 +16,7 @@ use crate::{audit, ffi, Committees, Error, Report};
 ///     ledger.feed(batch.as_bytes())?;
 /// }
 /// // What is stored survives a restart.
-/// let again = Ledger::resume(committees, ledger.stored().to_vec());
+/// let again = Ledger::resume(committees, ledger.stored().to_vec())?;
 /// assert_eq!(again.report()?.evidence.len(), 2);
 /// # Ok::<(), simplex_audit::Error>(())
 /// ```
@@ -27,9 +27,13 @@ pub struct Ledger {
 }
 
 impl Ledger {
-    /// A ledger that begins with what an earlier one stored, or with no bytes.
-    pub fn resume(committees: Committees, stored: Vec<u8>) -> Self {
-        Ledger { committees, stored }
+    /// A ledger that begins with what an earlier one stored, or with no bytes. `Error::Arguments` where these bytes have a fault,
+    /// behind which nothing would be read.
+    pub fn resume(committees: Committees, stored: Vec<u8>) -> Result<Self, Error> {
+        match audit(&committees, &stored)?.fault {
+            None => Ok(Ledger { committees, stored }),
+            Some(_) => Err(Error::Arguments),
+        }
     }
 
     /// Adds the evidence of a batch. What is behind a fault of the batch is ignored. After an error all is as before.

@@ -48,7 +48,7 @@ fn more_than_the_first_buffer() {
     let committees = Committees::every(Size::Bytes64, 100).unwrap();
     let report = audit(&committees, stream.as_bytes()).unwrap();
     assert_eq!((report.evidence.len(), report.read), (100, 200));
-    let mut ledger = Ledger::resume(committees, Vec::new());
+    let mut ledger = Ledger::resume(committees, Vec::new()).unwrap();
     ledger.feed(stream.as_bytes()).unwrap();
     assert_eq!(ledger.report().unwrap().text, report.text);
     let stored = ledger.stored().to_vec();

@@ -7,6 +7,7 @@ ghost use Rattle.std.specs.Prelude.{ℕ, List, IfOk, string_bytes};
 ghost use Rattle.simplex_audit.specs.Run.{IsAccount};
 
 use audit_cli::arguments::parse;
+use audit_cli::start::{no_arguments, without_name};
 use audit_cli::status::{Failure, complaint};
 use simplex_audit::audit::{Committees, Fault, Summary, audit_deferred};
 use simplex_audit::basis::Audited;
@@ -70,12 +71,10 @@ fn read_failure(error: &io::Error) -> Failure {
 
 /// The arguments behind the program's name.
 fn words(alloc: Global, rt: &HostRuntime) -> Result<Vec<String>, Failure> {
-    let Ok(given) = env::args(rt) else {
-        return Err(Failure::Usage);
-    };
-    let mut words = Vec::with_capacity(alloc, given.len())?;
-    words.extend(given.skip(1))?;
-    Ok(words)
+    match env::args(rt) {
+        Ok(given) => Ok(without_name(alloc, given)?),
+        Err(error) => Err(no_arguments(&error)),
+    }
 }
 
 /// Runs the program, and returns the fault of its input.
