@@ -1,7 +1,8 @@
 /*
  * Four participants sign votes by Ed25519. One notarizes two payloads, one nullifies a round and
  * finalizes in it, and one forges a vote of another. The caller verifies each vote by libcrypto,
- * writes the stream with its verdicts, and asks who equivocated.
+ * writes the stream with its verdicts, and asks who equivocated. With an argument the program prints
+ * the stream alone.
  */
 #include "../simplex_audit.h"
 #include <openssl/evp.h>
@@ -113,8 +114,9 @@ static struct vote vote(EVP_PKEY **keys, enum kind kind, uint32_t signer, uint32
     return v;
 }
 
-int main(void)
+int main(int argc, char **argv)
 {
+    (void)argv;
     EVP_PKEY *secrets[MEMBERS], *publics[MEMBERS];
     for (int i = 0; i < MEMBERS; i++) {
         uint8_t seed[32] = {(uint8_t)i, 42}, key[32];
@@ -142,6 +144,9 @@ int main(void)
         const struct vote *v = &votes[i];
         put_message(&stream, v, v->signer < MEMBERS && verifies(publics[v->signer], v));
     }
+
+    if (argc > 1)
+        return fwrite(stream.at, 1, stream.len, stdout) != stream.len;
 
     /* Of epoch 3 the committee has four participants. */
     const uint64_t epochs[] = {3};

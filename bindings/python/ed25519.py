@@ -1,7 +1,9 @@
 """Four participants sign votes by Ed25519 of OpenSSL's libcrypto. One notarizes two payloads, one nullifies a round and finalizes in
-it, and one forges a vote of another. The caller verifies each vote, writes the stream with its verdicts, and asks who equivocated."""
+it, and one forges a vote of another. The caller verifies each vote, writes the stream with its verdicts, and asks who equivocated.
+With an argument the program prints the stream alone."""
 import ctypes
 import ctypes.util
+import sys
 
 from simplex_audit import Committees, Encoder, Vote, audit
 
@@ -72,6 +74,9 @@ def main():
     stream = Encoder(64)
     for vote, signer, by in votes:
         stream.vote(vote, signer, sign(secrets[by], vote.signed_bytes(base)), verify)
+    if sys.argv[1:]:
+        sys.stdout.buffer.write(stream.encoded())
+        return
     report = audit(Committees.listed(64, {3: len(keys)}), stream.encoded())
     print(f"{report.read} messages, {len({one.signer for one in report.evidence})} equivocators")
     print(report.text, end="")

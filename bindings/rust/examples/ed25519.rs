@@ -1,8 +1,10 @@
 //! Four participants sign votes by Ed25519. One notarizes two payloads, one nullifies a round and finalizes in it, and one forges a
-//! vote of another. Signatures are made and verified by OpenSSL's libcrypto.
+//! vote of another. Signatures are made and verified by OpenSSL's libcrypto. With an argument the program prints the stream alone.
 
-use simplex_audit::{audit, Committees, Encoder, Error, Size, Verifier, Vote};
+use simplex_audit::{audit, Committees, Encoder, Size, Verifier, Vote};
+use std::error::Error;
 use std::ffi::{c_int, c_void};
+use std::io::{self, Write};
 use std::ptr::{null, null_mut};
 
 const EVP_PKEY_ED25519: c_int = 1087;
@@ -78,7 +80,7 @@ impl Verifier for Network {
     }
 }
 
-fn main() -> Result<(), Error> {
+fn main() -> Result<(), Box<dyn Error>> {
     let network = Network((0..4).map(|i| Key::of_seed([[i, 42].as_slice(), &[0; 30]].concat().try_into().unwrap())).collect());
     let notarize = |payload: u8| Vote::Notarize { epoch: 3, view: 10, parent: 5, payload: [payload; 32] };
     let finalize = Vote::Finalize { epoch: 3, view: 10, parent: 5, payload: [0xaa; 32] };
@@ -98,6 +100,9 @@ fn main() -> Result<(), Error> {
     for (vote, signer, with) in votes {
         let signature = network.0[with].sign(&vote.signed_bytes(b"demo"));
         stream.vote(&vote, signer, &signature, &network)?;
+    }
+    if std::env::args().nth(1).is_some() {
+        return Ok(io::stdout().write_all(stream.as_bytes())?);
     }
     let report = audit(&Committees::listed(Size::Bytes64, &[(3, 4)])?, stream.as_bytes())?;
     println!("{} messages, {} equivocators", report.read, report.evidence.len());

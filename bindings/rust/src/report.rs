@@ -65,8 +65,9 @@ pub struct Report {
 pub fn audit(committees: &Committees, stream: &[u8]) -> Result<Report, Error> {
     let (text, summary) = ffi::audit(committees, stream)?;
     let text = String::from_utf8_lossy(&text).into_owned();
-    let evidence = text.lines().take(summary.evidence).filter_map(evidence).collect();
-    let splits = text.lines().skip(summary.evidence).filter_map(split).collect();
+    let mut lines = text.lines();
+    let evidence = lines.by_ref().take(summary.evidence).map(|line| evidence(line).expect("a line of evidence")).collect();
+    let splits = lines.map(|line| split(line).expect("a line of a split")).collect();
     let fault = (summary.faulted != 0).then_some(summary.fault_place);
     Ok(Report { evidence, splits, read: summary.read, fault, text })
 }

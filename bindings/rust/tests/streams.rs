@@ -37,6 +37,24 @@ fn certificates_that_contradict() {
 }
 
 #[test]
+fn what_is_signed() {
+    let payload = [6; 32];
+    let proposal = [&[0xac, 2, 10, 5][..], &payload].concat();
+    let votes = [
+        (Vote::Notarize { epoch: 300, view: 10, parent: 5, payload }, &b"\x0dtest_NOTARIZE"[..], &proposal[..]),
+        (Vote::Nullify { epoch: 300, view: 10 }, b"\x0ctest_NULLIFY", &[0xac, 2, 10]),
+        (Vote::Finalize { epoch: 300, view: 10, parent: 5, payload }, b"\x0dtest_FINALIZE", &proposal),
+    ];
+    for (vote, name, message) in votes {
+        assert_eq!(vote.signed_bytes(b"test"), [name, message].concat());
+    }
+    // a namespace of more than 127 bytes
+    let base = [b'n'; 120];
+    let vote = Vote::Nullify { epoch: 3, view: 10 };
+    assert_eq!(vote.signed_bytes(&base), [&[0x80, 1][..], &base, b"_NULLIFY", &[3, 10]].concat());
+}
+
+#[test]
 fn more_than_the_first_buffer() {
     let mut stream = Encoder::new(Size::Bytes64);
     for signer in 0..100 {
