@@ -70,7 +70,8 @@ pub fn say<E: Write>(errors: &mut E, text: &[u8])
 /// Says on standard error how a run ended, and gives its status. That it can't be said changes nothing.
 pub(crate) fn conclude<E: Write>(errors: &mut E, ended: Result<Option<Fault>, Failure>) -> Status
     ensures status { result ≡ status_of ended }
-    ensures said { AppendsBeginning (E.contents errors.old) (E.contents errors.new) (said_of ended) }
+    ensures said { AppendsBeginning (E.contents errors.old) (E.contents errors.new)
+        (said_of ended) }
 {
     match ended {
         Ok(None) => Status::Whole,
@@ -115,9 +116,11 @@ pub fn command<R: Read, W: Write, E: Write>(
         ending }
     // Where a device failed the status tells it, and nothing else is said.
     ensures read_failed { IsTrue (has_failed input.new) → (result ≡ Status.Failed)
-        × AppendsBeginning (E.contents errors.old) (E.contents errors.new) (complaint_of Failure.Read) }
+        × AppendsBeginning (E.contents errors.old) (E.contents errors.new)
+        (complaint_of Failure.Read) }
     ensures write_failed { IsTrue (has_failed output.new) → (result ≡ Status.Failed)
-        × AppendsBeginning (E.contents errors.old) (E.contents errors.new) (complaint_of Failure.Write) }
+        × AppendsBeginning (E.contents errors.old) (E.contents errors.new)
+        (complaint_of Failure.Write) }
     ensures refused { AreNoArguments (map string_bytes arguments.now) → (result ≡ Status.Usage) ⊎
         (result ≡ Status.Failed) }
     ensures untouched { AreNoArguments (map string_bytes arguments.now) → (input.new ≡ input.old) ×

@@ -76,9 +76,11 @@ pub fn start<R: Read, W: Write, E: Write>(
     ensures untouched { IfOk given (λ given. AreNoArguments (words_of (into_iter_items given)) →
         (input.new ≡ input.old) × (output.new ≡ output.old)) }
     ensures memory { IfErr given (λ error. error_kind error ≡ ErrorKind.OutOfMemory → (result ≡ 3)
-        × AppendsBeginning (E.contents errors.old) (E.contents errors.new) (complaint_of Failure.OutOfMemory)) }
+        × AppendsBeginning (E.contents errors.old) (E.contents errors.new)
+        (complaint_of Failure.OutOfMemory)) }
     ensures usage { IfErr given (λ error. error_kind error ≢ ErrorKind.OutOfMemory → (result ≡ 2)
-        × AppendsBeginning (E.contents errors.old) (E.contents errors.new) (complaint_of Failure.Usage)) }
+        × AppendsBeginning (E.contents errors.old) (E.contents errors.new)
+        (complaint_of Failure.Usage)) }
     ensures unused { OnErr given ((input.new ≡ input.old) × (output.new ≡ output.old)) }
 {
     let given = match given {

@@ -28,7 +28,8 @@ fn account<S: Listing<D>, D: Digest>(
     stream: &[u8],
 ) -> Result<(Summary, String), AllocError>
     ensures { IfOk result (λ (summary, text).
-        IsAccount (⟦<S as Audited<D>>⟧.basis committees.now) D.bytes_of stream.now summary (string_bytes text)) }
+        IsAccount (⟦<S as Audited<D>>⟧.basis committees.now) D.bytes_of stream.now summary
+        (string_bytes text)) }
 {
     let report = audit_deferred::<S, D>(alloc, committees, stream)?;
     let text = text(alloc, report.evidence.as_slice(), report.splits.as_slice())?;

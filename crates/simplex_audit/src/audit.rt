@@ -95,7 +95,8 @@ pub fn audit<S: Listing<D>, D: Digest>(
     ensures splits { IfOk result (λ report.
         ShowsForks (⟦<S as Audited<D>>⟧.basis committees.now) stream.now report) }
     // Every signer of both certificates is named.
-    ensures accountable { SignersOfBothAreNamed (⟦<S as Audited<D>>⟧.basis committees.now) stream.now }
+    ensures accountable { SignersOfBothAreNamed (⟦<S as Audited<D>>⟧.basis committees.now)
+        stream.now }
     // The evidence is enough: encoded as messages and audited again, it gives itself in the same order.
     ensures again { IfOk result (λ report.
         ReadsAgain (⟦<S as Audited<D>>⟧.basis committees.now) report) }

@@ -292,15 +292,18 @@ impl<'a, S: Listing<D>, D: Digest> Auditor<'a, S, D> {
             (messages : List (Activity S D S.Certificate S.PublicKey S.Signature)) (rest : List ℕ) →
             Stands ⟦<S as Audited<D>>⟧.basis committees self.now stream →
             AreMessages (⟦<S as Audited<D>>⟧.basis committees).format stream messages rest →
-            result ≡ votes_recorded D.eq (valid_votes (⟦<S as Audited<D>>⟧.basis committees).rules messages) }
+            result ≡ votes_recorded D.eq
+            (valid_votes (⟦<S as Audited<D>>⟧.basis committees).rules messages) }
         // They are the earliest of each sort and the earliest with another proposal,
         ensures slots { (committees : Schedule S)
             (messages : List (Activity S D S.Certificate S.PublicKey S.Signature)) →
-            RecordedAreSlots D.eq (valid_votes (⟦<S as Audited<D>>⟧.basis committees).rules messages) }
+            RecordedAreSlots D.eq (valid_votes (⟦<S as Audited<D>>⟧.basis committees).rules
+            messages) }
         // of a signer in a round at most five.
         ensures few { (committees : Schedule S)
             (messages : List (Activity S D S.Certificate S.PublicKey S.Signature)) →
-            FewAreRecorded D.eq (valid_votes (⟦<S as Audited<D>>⟧.basis committees).rules messages) }
+            FewAreRecorded D.eq (valid_votes (⟦<S as Audited<D>>⟧.basis committees).rules
+            messages) }
     {
         few_votes_are_recorded::<S, D>();
         recorded_votes_have_room::<S, D>();

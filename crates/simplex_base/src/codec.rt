@@ -93,7 +93,8 @@ pub trait Read: Encoding {
     /// Reads the value at the front of the input and moves the slice past it. After an error the slice
     /// is as before.
     fn read_cfg(alloc: Global, input: &mut &[u8], cfg: &Self::Cfg) -> Result<Self, Error>
-        ensures { Gives takes_memory result input.old.now input.new.now (reading cfg.now input.old.now) };
+        ensures { Gives takes_memory result input.old.now input.new.now
+            (reading cfg.now input.old.now) };
 
     /// Reading gives the value whose encoding begins the input, with any bytes behind it, and only that.
     ghost lawful: { (cfg : Self.Cfg) → Lawful (fits cfg) Self.encoding (reading cfg) };
@@ -182,7 +183,8 @@ pub fn read_value<T: ReadExt>(alloc: Global, input: &mut &[u8]) -> Result<T, Err
     ensures again { (x : T) (rest : List ℕ) → T.is_value x → input.old.now ≡ T.encoding x ++ rest →
         Gives T.takes_memory result input.old.now input.new.now (Ok (x, rest)) }
     // Which refusal it is.
-    ensures refusal { Gives T.takes_memory result input.old.now input.new.now (T.reading tt input.old.now) }
+    ensures refusal { Gives T.takes_memory result input.old.now input.new.now
+        (T.reading tt input.old.now) }
 {
     let _bytes = known_bytes(*input);
     T::read_cfg(alloc, input, &())

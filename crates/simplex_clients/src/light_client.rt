@@ -84,13 +84,15 @@ impl<'a, S: Listing<D>, D: Digest> LightClient<'a, S, D> {
         ensures follows { IfOk result (λ answer.
             (f : finalizations.Finalization S D S.Certificate S.PublicKey S.Signature) ×
             (bytes.now ≡ ⟦<Finalization<S, D> as Read>⟧.encoding f) ×
-            IsFinalization (format_of ⟦<D as Read>⟧) (S.Certificate.fits (bound_of S.keys self.old.committees)) f ×
+            IsFinalization (format_of ⟦<D as Read>⟧)
+            (S.Certificate.fits (bound_of S.keys self.old.committees)) f ×
             Follows (⟦<S as Audited<D>>⟧.basis self.old.committees).rules self.old.latest f answer ×
             (self.new ≡ record self.old { latest = latest_after self.old.latest f answer })) }
         ensures refused { OnErr result (self.new ≡ self.old) }
         ensures error { IfErr result (λ e. (e ≡ errors.OutOfMemory) ⊎
             Fails S.Certificate.takes_memory e
-            (all_of (⟦<Finalization<S, D> as Read>⟧.reading (bound_of S.keys self.old.committees)) bytes.now)) }
+            (all_of (⟦<Finalization<S, D> as Read>⟧.reading (bound_of S.keys self.old.committees))
+            bytes.now)) }
     {
         let finalization = read(alloc, self.committees, bytes)?;
         let followed = judge(alloc, self.committees, self.latest.as_ref(), &finalization)?;
@@ -110,9 +112,11 @@ fn read<S: Listing<D>, D: Digest>(
     ensures encoded { IfOk result (λ f. bytes.now ≡ ⟦<Finalization<S, D> as Read>⟧.encoding f) }
     ensures error { IfErr result (λ e.
         Fails S.Certificate.takes_memory e
-        (all_of (⟦<Finalization<S, D> as Read>⟧.reading (bound_of S.keys committees.now)) bytes.now)) }
+        (all_of (⟦<Finalization<S, D> as Read>⟧.reading (bound_of S.keys committees.now))
+        bytes.now)) }
     ensures value { IfOk result
-        (IsFinalization (format_of ⟦<D as Read>⟧) (S.Certificate.fits (bound_of S.keys committees.now))) }
+        (IsFinalization (format_of ⟦<D as Read>⟧)
+        (S.Certificate.fits (bound_of S.keys committees.now))) }
 {
     decode_cfg(alloc, bytes, &committees.bound())
 }
@@ -125,11 +129,13 @@ fn judge<S: Listing<D>, D: Digest>(
     finalization: &Finalization<S, D>,
 ) -> Result<Followed<S, D>, Error>
     requires followed { MatchOption (option_copied latest) ⊤
-        (IsFollowed (format_of ⟦<D as Read>⟧) S.Certificate.fits S.keys S.certified committees.now) }
+        (IsFollowed (format_of ⟦<D as Read>⟧) S.Certificate.fits S.keys S.certified
+        committees.now) }
     requires value { IsFinalization (format_of ⟦<D as Read>⟧)
         (S.Certificate.fits (bound_of S.keys committees.now)) finalization.now }
     ensures follows { IfOk result
-        (Follows (⟦<S as Audited<D>>⟧.basis committees.now).rules (option_copied latest.entry) finalization.now) }
+        (Follows (⟦<S as Audited<D>>⟧.basis committees.now).rules (option_copied latest.entry)
+        finalization.now) }
     ensures error { IfErr result (λ e. e ≡ errors.OutOfMemory) }
 {
     if !is_final(committees, finalization) {
@@ -201,12 +207,14 @@ fn blame<S: Listing<D>, D: Digest>(
     one: &Finalization<S, D>,
     other: &Finalization<S, D>,
 ) -> Result<Vec<Evidence<S, D>>, AllocError>
-    requires one { IsFollowed (format_of ⟦<D as Read>⟧) S.Certificate.fits S.keys S.certified committees.now one.now }
+    requires one { IsFollowed (format_of ⟦<D as Read>⟧) S.Certificate.fits S.keys S.certified
+        committees.now one.now }
     requires other { IsFollowed (format_of ⟦<D as Read>⟧) S.Certificate.fits S.keys S.certified
         committees.now other.now }
     requires fork { is_fork D.eq one.now other.now ≡ true }
     ensures enough { IfOk result (λ evidence.
-        BlamesEnough ((⟦<S as Audited<D>>⟧.basis committees.now).rules.size one.now.proposal.round.epoch)
+        BlamesEnough ((⟦<S as Audited<D>>⟧.basis committees.now).rules.size
+        one.now.proposal.round.epoch)
         one.now.proposal.round (map evidence_value evidence.items)) }
     ensures evidence { IfOk result (λ evidence.
         IsEvidenceOfBoth (⟦<S as Audited<D>>⟧.basis committees.now).rules one.now other.now

@@ -78,7 +78,8 @@ impl<D: Digest> CertifiedSubjects<D> {
 
     /// Whether a certified subject of the round would change what is recorded.
     fn is_news(&self, subject: &Subject<'_, D>) -> bool
-        ensures { result ≡ changes_firsts D.eq (firsts_of self.now) self.now.split (subject_value subject.now) }
+        ensures { result ≡ changes_firsts D.eq (firsts_of self.now) self.now.split
+            (subject_value subject.now) }
     {
         !self.split && (!self.has_first(subject) || self.excludes(subject))
     }
@@ -114,7 +115,8 @@ impl<D: Digest> CertifiedSubjects<D> {
             firsts_of self.new sort ≡
             first_with (subject_value subject.now) sort (firsts_of self.old sort) }
         ensures split { self.new.split ≡
-            (self.old.split || excludes_some D.eq (firsts_of self.old) (subject_value subject.now)) }
+            (self.old.split || excludes_some D.eq (firsts_of self.old)
+            (subject_value subject.now)) }
     {
         self.split = self.split || self.excludes(subject);
         if self.has_first(subject) {

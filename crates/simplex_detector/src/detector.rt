@@ -85,7 +85,8 @@ impl<S: Listing<D>, D: Digest> Detector<S, D> {
             messages) (map evidence_value found.items)) }
         // Each can be encoded as a message.
         ensures encoded { IfOk result (λ found.
-            All (IsEncoded D.eq (format_of ⟦<D as Read>⟧) (format_of ⟦<S::Signature as Read>⟧)) found.items) }
+            All (IsEncoded D.eq (format_of ⟦<D as Read>⟧) (format_of ⟦<S::Signature as Read>⟧))
+            found.items) }
     {
         let found = self.walk(alloc)?;
         are_encoded(&found);

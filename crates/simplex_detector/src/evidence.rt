@@ -60,7 +60,8 @@ impl<S: SchemeTypes, D: Digest> Evidence<S, D> {
         ensures size { result ≡ length
             (activity_encoding {C = ⊤} D.eq (format_of ⟦<D as Read>⟧) (λ _. [])
             (format_of ⟦<S::Signature as Read>⟧) (message_of self.now)) }
-        ensures encoded { IsEncoded D.eq (format_of ⟦<D as Read>⟧) (format_of ⟦<S::Signature as Read>⟧) self.now }
+        ensures encoded { IsEncoded D.eq (format_of ⟦<D as Read>⟧)
+            (format_of ⟦<S::Signature as Read>⟧) self.now }
     {
         match self {
             Evidence::ConflictingNotarize(conflict) => 1 + conflict.encode_size(),
@@ -102,7 +103,8 @@ impl<S: SchemeTypes, D: Digest> EqByParts for Evidence<S, D> {
 
 /// Each of these can be encoded as a message: the walk gives callers that fact, and its size is what shows it.
 pub(crate) fn are_encoded<S: SchemeTypes, D: Digest>(evidence: &[Evidence<S, D>])
-    ensures { All (IsEncoded D.eq (format_of ⟦<D as Read>⟧) (format_of ⟦<S::Signature as Read>⟧)) evidence.now }
+    ensures { All (IsEncoded D.eq (format_of ⟦<D as Read>⟧) (format_of ⟦<S::Signature as Read>⟧))
+        evidence.now }
 {
     'items: for item in evidence {
         item.encode_size();

@@ -82,10 +82,12 @@ pub fn certificates_are_accountable<S: CertificateScheme, D: Digest>()
 /// Messages have one list of splits, and each split names enough.
 pub fn splits_are_determined<S: CertificateScheme, D: Digest>()
     ensures only { (rules : Rules S D S.Certificate S.PublicKey S.Signature)
-        (messages : List (Activity S D S.Certificate S.PublicKey S.Signature)) (splits : List Split) →
+        (messages : List (Activity S D S.Certificate S.PublicKey S.Signature))
+        (splits : List Split) →
         AreSplits rules messages splits → SplitsAreUnique rules messages splits }
     ensures names { (rules : Rules S D S.Certificate S.PublicKey S.Signature)
-        (messages : List (Activity S D S.Certificate S.PublicKey S.Signature)) (splits : List Split) →
+        (messages : List (Activity S D S.Certificate S.PublicKey S.Signature))
+        (splits : List Split) →
         AreLawful rules → AreSplits rules messages splits → SplitsHaveNames splits }
 {}
 
@@ -101,8 +103,10 @@ pub fn few_votes_are_recorded<S: CertificateScheme, D: Digest>()
 pub fn recorded_votes_have_room<S: Listing<D>, D: Digest>()
     ensures { ((certificate : S.Certificate) →
         length (S.listed certificate) ≤ length (S.Certificate.encoding certificate)) →
-        (schedule : Schedule S) (messages : List (Activity S D S.Certificate S.PublicKey S.Signature)) →
-        votes_recorded D.eq (valid_votes (rules_of D.eq S.keys S.good S.certified S.listed schedule) messages) ≤
+        (schedule : Schedule S) (messages : List
+        (Activity S D S.Certificate S.PublicKey S.Signature)) →
+        votes_recorded D.eq (valid_votes (rules_of D.eq S.keys S.good S.certified S.listed schedule)
+        messages) ≤
         length (flat_map (activity_encoding D.eq (format_of ⟦<D as Read>⟧) S.Certificate.encoding
         (format_of ⟦<S::Signature as Read>⟧)) messages) }
 {}

@@ -226,7 +226,8 @@ impl<S: Listing<D>, D: Digest> RoundState<S, D> {
             (judging : judgings.Judging)
             (messages : List (Activity S D S.Certificate S.PublicKey S.Signature)) →
             AreLawful (rules_under D.eq S.keys S.good S.certified S.listed judging committees.now) →
-            RecallsRound (rules_under D.eq S.keys S.good S.certified S.listed judging committees.now)
+            RecallsRound (rules_under D.eq S.keys S.good S.certified S.listed judging
+            committees.now)
             messages round self.now → split ≡ split_of
             (rules_under D.eq S.keys S.good S.certified S.listed judging committees.now)
             messages round) }

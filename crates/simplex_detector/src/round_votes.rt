@@ -67,7 +67,8 @@ impl<S: SchemeTypes, D: Digest> RoundVotes<S, D> {
     fn is_news(&self, subject: &Subject<'_, D>, signer: Participant) -> bool
         ensures { result ≡ changes D.eq
             (slots self.now signer (sort_of (subject_value subject.now))).earliest
-            (slots self.now signer (sort_of (subject_value subject.now))).other (subject_value subject.now) }
+            (slots self.now signer (sort_of (subject_value subject.now))).other
+            (subject_value subject.now) }
     {
         match subject {
             Subject::Notarize { proposal } => match self.notarizes.first(signer) {
@@ -92,7 +93,8 @@ impl<S: SchemeTypes, D: Digest> RoundVotes<S, D> {
         subject: &Subject<'_, D>,
         attestation: Attestation<S>,
     ) -> Result<(), AllocError>
-        ensures { OnOk result (TakesVote D.eq (vote_on (subject_value subject.now) attestation) self.old self.new) }
+        ensures { OnOk result (TakesVote D.eq (vote_on (subject_value subject.now) attestation)
+            self.old self.new) }
     {
         match subject {
             Subject::Notarize { proposal } => self.notarizes.insert(Notarize {
@@ -127,7 +129,8 @@ impl<S: SchemeTypes, D: Digest> RoundVotes<S, D> {
             valid_under S.keys S.good judging.now scheme.now (subject_value subject.now)
             attestation.now.signer attestation.now.signature ≡ true }
         ensures { OnOk result ((vs : List (SignedVote D S.Signature)) →
-            HoldsRound D.eq (length (S.keys scheme.now)) vs (round_of (subject_value subject.now)) self.old →
+            HoldsRound D.eq (length (S.keys scheme.now)) vs (round_of (subject_value subject.now))
+            self.old →
             HoldsRound D.eq (length (S.keys scheme.now))
             (vs ++ filter (λ v. valid_under S.keys S.good judging.now scheme.now
             v.subject v.signer v.signature)
@@ -160,7 +163,8 @@ impl<S: SchemeTypes, D: Digest> RoundVotes<S, D> {
             All (λ a. valid_under S.keys S.good judging.now scheme.now (subject_value subject.now)
             a.signer a.signature ≡ true) attestations.now }
         ensures { OnOk result ((vs : List (SignedVote D S.Signature)) →
-            HoldsRound D.eq (length (S.keys scheme.now)) vs (round_of (subject_value subject.now)) self.old →
+            HoldsRound D.eq (length (S.keys scheme.now)) vs (round_of (subject_value subject.now))
+            self.old →
             HoldsRound D.eq (length (S.keys scheme.now))
             (vs ++ filter (λ v. valid_under S.keys S.good judging.now scheme.now
             v.subject v.signer v.signature)

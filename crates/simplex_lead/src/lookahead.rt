@@ -79,7 +79,8 @@ impl Lookahead {
             IsAdmitted self.now.term_length self.now.optimistic_views current pending }
         // So many later views are admitted, and no more.
         ensures number { NumberExactly
-            (λ q. (current < q) × IsAdmitted self.now.term_length self.now.optimistic_views current q)
+            (λ q. (current < q) × IsAdmitted self.now.term_length self.now.optimistic_views current
+            q)
             (admitted_above self.now.term_length self.now.optimistic_views current) }
         // All of them are 64-bit numbers.
         ensures views { (q : ℕ) →

@@ -45,10 +45,12 @@ impl Viewport {
         requires { FitsWindow self.now.lookahead.term_length self.now.current }
         ensures taken { IsTrue result ↔
             (IsRetained self.now.finalized self.now.view_retention pending ×
-            IsAdmitted self.now.lookahead.term_length self.now.lookahead.optimistic_views self.now.current pending) }
+            IsAdmitted self.now.lookahead.term_length self.now.lookahead.optimistic_views
+            self.now.current pending) }
         // A retained view is admitted where a view that a correct peer may be in leads to it.
         ensures lead { (p : ℕ) → IsRetained self.now.finalized self.now.view_retention pending →
-            Leads self.now.lookahead.term_length self.now.lookahead.optimistic_views self.now.current p pending →
+            Leads self.now.lookahead.term_length self.now.lookahead.optimistic_views
+            self.now.current p pending →
             IsTrue result }
     {
         self.lookahead.admits(self.current, pending) && self.retains(pending)

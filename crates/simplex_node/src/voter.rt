@@ -24,7 +24,8 @@ pub fn takes(viewport: &Viewport, view: View) -> bool
     // Of the views later than its own it takes votes of this many at most, whatever is sent.
     ensures held { NumberExactly
         (λ q. (viewport.now.current < q) ×
-        IsAdmitted viewport.now.lookahead.term_length viewport.now.lookahead.optimistic_views viewport.now.current q)
+        IsAdmitted viewport.now.lookahead.term_length viewport.now.lookahead.optimistic_views
+        viewport.now.current q)
         (admitted_above viewport.now.lookahead.term_length viewport.now.lookahead.optimistic_views
         viewport.now.current) }
 {

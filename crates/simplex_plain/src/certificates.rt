@@ -51,7 +51,8 @@ pub fn are_certified<'a, D: Digest, S: AttestationVerifier<D>>(
     items: &[(Subject<'a, D>, &'a Listed<S>)],
 ) -> bool
     ensures { result ≡ list_all (λ item.
-        is_quorum (length (S.keys scheme.now)) (S.accepted scheme.now (subject_value item.0)) item.1.now) items.now }
+        is_quorum (length (S.keys scheme.now)) (S.accepted scheme.now (subject_value item.0))
+        item.1.now) items.now }
 {
     for item in items {
         if !is_certified(scheme, &item.0, item.1) {

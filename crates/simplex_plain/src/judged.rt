@@ -190,7 +190,8 @@ impl<D: Digest> CertificateVerifier<D> for Judged {
 
     fn verify_certificate(&self, subject: Subject<'_, D>, certificate: &Listed<Judged>) -> bool
         ensures { result ≡ is_quorum (length self.now.keys)
-            (judged_good (format_of ⟦<D as Read>⟧) self.now (subject_value subject.entry)) certificate.now }
+            (judged_good (format_of ⟦<D as Read>⟧) self.now (subject_value subject.entry))
+            certificate.now }
     {
         // The prover knows a subject that came by value only by its kinds.
         let subject = match subject {
@@ -271,7 +272,8 @@ impl<D: Digest> Listing<D> for Judged {
     }
 
     ghost lists_quorums = { λ scheme subject certificate.
-        (quorum_meaning (length scheme.keys) (judged_good (format_of ⟦<D as Read>⟧) scheme subject) certificate).0 };
+        (quorum_meaning (length scheme.keys) (judged_good (format_of ⟦<D as Read>⟧) scheme subject)
+        certificate).0 };
 
     ghost lists_given = { λ given certificate made. made };
 }

@@ -129,7 +129,8 @@ impl<S: SchemeTypes> EncodeSize for Listed<S> {
 /// A certificate lists no more attestations than its encoding has bytes.
 pub fn lists_within<S: SchemeTypes>()
     ensures { (certificate : List (Attestation S S.PublicKey S.Signature)) →
-        length certificate ≤ length (listed_encoding (format_of ⟦<S::Signature as Read>⟧) certificate) }
+        length certificate ≤ length
+        (listed_encoding (format_of ⟦<S::Signature as Read>⟧) certificate) }
 {}
 
 /// A certificate is read under a bound, the number of participants. `Invalid` comes at once where the count is 0 or

@@ -211,7 +211,8 @@ impl<D: Digest> Scheme<D> for Marked {
         ensures none { self.now.me ≡ None → result ≡ Ok None }
         ensures signed { IfOk result (λ signed. MatchOption signed (self.now.me ≡ None) (λ a.
             (self.now.me ≡ Some a.signer) ×
-            (marked_good (length self.now.keys) (subject_value _subject.entry) a.signer a.signature ≡ true))) }
+            (marked_good (length self.now.keys) (subject_value _subject.entry) a.signer
+            a.signature ≡ true))) }
         // No memory is taken.
         ensures ample { IsOk result }
     {
@@ -247,7 +248,8 @@ impl<D: Digest> Scheme<D> for Marked {
         ensures certified { IfOk result (λ certificate. (subject : SubjectValue D) →
             All (λ a. marked_good (length self.now.keys) subject a.signer a.signature ≡
             true) attestations.items →
-            is_quorum (length self.now.keys) (marked_good (length self.now.keys) subject) certificate ≡ true) }
+            is_quorum (length self.now.keys) (marked_good (length self.now.keys) subject)
+            certificate ≡ true) }
     {
         assembled(self, attestations)
     }
@@ -264,7 +266,8 @@ impl<D: Digest> Listing<D> for Marked {
     }
 
     ghost lists_quorums = { λ scheme subject certificate.
-        (quorum_meaning (length scheme.keys) (marked_good (length scheme.keys) subject) certificate).0 };
+        (quorum_meaning (length scheme.keys) (marked_good (length scheme.keys) subject)
+        certificate).0 };
 
     ghost lists_given = { λ given certificate made. made };
 }

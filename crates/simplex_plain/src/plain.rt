@@ -282,11 +282,13 @@ impl<D: Digest> CertificateVerifier<D> for Plain {
     fn verify_certificate(&self, subject: Subject<'_, D>, certificate: &Listed<Plain>) -> bool
         ensures certified { result ≡
             is_quorum (length self.now.keys)
-            (plain_good (format_of ⟦<D as Read>⟧) self.now (subject_value subject.entry)) certificate.now }
+            (plain_good (format_of ⟦<D as Read>⟧) self.now (subject_value subject.entry))
+            certificate.now }
         // The test says exactly this.
         ensures exactly { IsTrue result ↔
             IsQuorum (length self.now.keys)
-            (plain_good (format_of ⟦<D as Read>⟧) self.now (subject_value subject.entry)) certificate.now }
+            (plain_good (format_of ⟦<D as Read>⟧) self.now (subject_value subject.entry))
+            certificate.now }
     {
         // The prover knows a subject that came by value only by its kinds.
         let subject = match subject {
@@ -389,7 +391,8 @@ impl<D: Digest> Listing<D> for Plain {
     }
 
     ghost lists_quorums = { λ scheme subject certificate.
-        (quorum_meaning (length scheme.keys) (plain_good (format_of ⟦<D as Read>⟧) scheme subject) certificate).0 };
+        (quorum_meaning (length scheme.keys) (plain_good (format_of ⟦<D as Read>⟧) scheme subject)
+        certificate).0 };
 
     ghost lists_given = { λ given certificate made. made };
 }

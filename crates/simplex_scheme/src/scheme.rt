@@ -229,7 +229,8 @@ pub trait Scheme<D: Digest>: CertificateVerifier<D> {
             Self.certified self.now subject certificate ≡ true) };
 
     /// Whose signature is valid is in the committee.
-    ghost members: { (scheme : Self) (subject : SubjectValue D) (signer : ℕ) (signature : Self.Signature) →
+    ghost members: { (scheme : Self) (subject : SubjectValue D) (signer : ℕ)
+        (signature : Self.Signature) →
         good scheme subject signer signature ≡ true → signer < length (Self.keys scheme) };
 }
 
@@ -247,7 +248,8 @@ pub trait Listing<D: Digest>: Scheme<D> {
         ensures { result.now ≡ listed certificate.now };
 
     /// A certificate that certifies a subject lists a quorum of distinct signers, each signature valid for it.
-    ghost lists_quorums: { (scheme : Self) (subject : SubjectValue D) (certificate : Self.Certificate) →
+    ghost lists_quorums: { (scheme : Self) (subject : SubjectValue D)
+        (certificate : Self.Certificate) →
         Self.certified scheme subject certificate ≡ true →
         IsQuorum (length (Self.keys scheme)) (Self.good scheme subject) (listed certificate) };
 
@@ -288,9 +290,11 @@ impl<S: SchemeTypes> MaxEncodeSize for Attestation<S> {
         Participant::max_encode_size() + S::Signature::SIZE
     }
 
-    ghost within = { attestation_within (format_of ⟦<S::Signature as Read>⟧) S.Signature.SIZE S.Signature.within };
+    ghost within = { attestation_within (format_of ⟦<S::Signature as Read>⟧) S.Signature.SIZE
+        S.Signature.within };
 
-    ghost reached = { attestation_longest (format_of ⟦<S::Signature as Read>⟧) S.Signature.SIZE S.Signature.longest };
+    ghost reached = { attestation_longest (format_of ⟦<S::Signature as Read>⟧) S.Signature.SIZE
+        S.Signature.longest };
 }
 
 impl<S: SchemeTypes> Read for Attestation<S> {
@@ -311,7 +315,8 @@ impl<S: SchemeTypes> Read for Attestation<S> {
         }
     }
 
-    ghost lawful = { λ _. attestation_lawful (format_of ⟦<S::Signature as Read>⟧) S.Signature.lawful };
+    ghost lawful = { λ _. attestation_lawful (format_of ⟦<S::Signature as Read>⟧)
+        S.Signature.lawful };
 }
 
 impl<S: SchemeTypes> ReadExt for Attestation<S> {

@@ -62,7 +62,8 @@ impl<R: Role<N>, const N: usize> Vouched<R, N> {
     /// Whether the signer is in the committee and the verdict is `01`.
     fn is_valid(&self, attestation: &Attestation<Self>) -> bool
         ensures { result ≡
-            (nat_lt attestation.now.signer (length self.now.keys) && is_vouched attestation.now.signature) }
+            (nat_lt attestation.now.signer (length self.now.keys) && is_vouched
+            attestation.now.signature) }
     {
         (attestation.signer.get() as usize) < self.committee.participants().len()
             && attestation.signature.as_bytes().ends_with(&[1])
@@ -161,7 +162,8 @@ impl<D: Digest, R: Role<N>, const N: usize> Scheme<D> for Vouched<R, N> {
         ensures none { nobody ≡ None → result ≡ Ok None }
         ensures signed { IfOk result (λ signed. MatchOption signed (nobody ≡ None) (λ a.
             (nobody ≡ Some a.signer)
-            × (vouched_valid self.now.keys (subject_value _subject.entry) a.signer a.signature ≡ true))) }
+            × (vouched_valid self.now.keys (subject_value _subject.entry) a.signer a.signature ≡
+            true))) }
     {
         Ok(None)
     }
@@ -187,8 +189,10 @@ impl<D: Digest, R: Role<N>, const N: usize> Scheme<D> for Vouched<R, N> {
             IfErr result (λ error. error ≡ AssemblyError.OutOfMemory) }
         ensures made { IfOk result (λ certificate. IsInOrder attestations.items certificate) }
         ensures certified { IfOk result (λ certificate. (subject : SubjectValue D) →
-            All (λ a. vouched_valid self.now.keys subject a.signer a.signature ≡ true) attestations.items →
-            is_quorum (length self.now.keys) (vouched_valid self.now.keys subject) certificate ≡ true) }
+            All (λ a. vouched_valid self.now.keys subject a.signer a.signature ≡ true)
+            attestations.items →
+            is_quorum (length self.now.keys) (vouched_valid self.now.keys subject) certificate ≡
+            true) }
     {
         assembled(self, attestations)
     }

@@ -34,13 +34,15 @@ pub trait Tagged {
     /// Reads what comes after this tag and moves the slice past it. A tag that the union lacks is refused by
     /// `Invalid`. After an error the slice is as before.
     fn read_body(alloc: Global, tag: u8, input: &mut &[u8], cfg: &Self::Cfg) -> Result<Self, Error>
-        ensures { Gives takes_memory result input.old.now input.new.now (branches cfg.now tag input.old.now) };
+        ensures { Gives takes_memory result input.old.now input.new.now
+            (branches cfg.now tag input.old.now) };
 }
 
 /// Reads a tag, and then what comes after it, and moves the slice past both. `EndOfBuffer` comes where there is no
 /// tag. After an error the slice is as before.
 pub fn read_tagged<T: Tagged>(alloc: Global, input: &mut &[u8], cfg: &T::Cfg) -> Result<T, Error>
-    ensures { Gives T.takes_memory result input.old.now input.new.now (union_at (T.branches cfg.now) input.old.now) }
+    ensures { Gives T.takes_memory result input.old.now input.new.now
+        (union_at (T.branches cfg.now) input.old.now) }
 {
     let bytes: &[u8] = *input;
     let [tag, body @ ..] = bytes else {

@@ -47,7 +47,8 @@ fn groups_of(bytes: &[u8], more: u8, top: u8) -> Result<(u64, &[u8]), Error>
 fn read_number(input: &mut &[u8], more: u8, top: u8) -> Result<u64, Error>
     requires size { top * 128 ^ more ≤ 2 ^ 64 }
     requires some { (1 ≤ more) × (1 ≤ top) }
-    ensures gives { Gives false result input.old.now input.new.now (number_at more top input.old.now) }
+    ensures gives { Gives false result input.old.now input.new.now
+        (number_at more top input.old.now) }
     ensures range { IfOk result (λ n. n < top * 128 ^ more) }
     ensures bytes { IsBytes input.old.now }
 {
@@ -73,7 +74,8 @@ fn read_number(input: &mut &[u8], more: u8, top: u8) -> Result<u64, Error>
 /// `InvalidVarint` where the input neither begins with such an encoding nor is a beginning of one.
 pub fn read_u64(input: &mut &[u8]) -> Result<u64, Error>
     ensures reads { ReadsNumber (2 ^ 64) result input.old.now input.new.now }
-    ensures gives { Gives false result input.old.now input.new.now (number_64.reading input.old.now) }
+    ensures gives { Gives false result input.old.now input.new.now
+        (number_64.reading input.old.now) }
 {
     read_number(input, 9, 2)
 }
@@ -81,7 +83,8 @@ pub fn read_u64(input: &mut &[u8]) -> Result<u64, Error>
 /// Reads a 32-bit number of 1 to 5 bytes, as [`read_u64`] reads one of 64 bits.
 pub fn read_u32(input: &mut &[u8]) -> Result<u32, Error>
     ensures reads { ReadsNumber (2 ^ 32) result input.old.now input.new.now }
-    ensures gives { Gives false result input.old.now input.new.now (number_32.reading input.old.now) }
+    ensures gives { Gives false result input.old.now input.new.now
+        (number_32.reading input.old.now) }
 {
     match read_number(input, 4, 16) {
         Ok(number) => Ok(number as u32),

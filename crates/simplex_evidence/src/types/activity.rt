@@ -214,11 +214,13 @@ impl<S: CertificateScheme, D: Digest> Read for Activity<S, D> {
     type Cfg = u32;
 
     ghost fits = { λ bound. (activity_format D.eq (format_of ⟦<D as Read>⟧)
-        (format_under ⟦<S::Certificate as Read>⟧ bound) (format_of ⟦<S::Signature as Read>⟧)).is_value };
+        (format_under ⟦<S::Certificate as Read>⟧ bound)
+        (format_of ⟦<S::Signature as Read>⟧)).is_value };
 
     ghost reading = { λ bound.
         (activity_format D.eq (format_of ⟦<D as Read>⟧)
-        (format_under ⟦<S::Certificate as Read>⟧ bound) (format_of ⟦<S::Signature as Read>⟧)).reading };
+        (format_under ⟦<S::Certificate as Read>⟧ bound)
+        (format_of ⟦<S::Signature as Read>⟧)).reading };
 
     ghost takes_memory = { S.Certificate.takes_memory };
 

@@ -76,7 +76,8 @@ impl<S: SchemeTypes, D: Digest> ConflictingFinalize<S, D> {
     pub fn finalize_1(&self) -> &Finalize<S, D>
         ensures finalize { result.now ≡ self.now.first }
         ensures contradicts { IsTrue
-            (contradicts D.eq Conflicting_finalize (finalize_vote self.now.first) (finalize_vote self.now.second)) }
+            (contradicts D.eq Conflicting_finalize (finalize_vote self.now.first)
+            (finalize_vote self.now.second)) }
     {
         &self.finalize_1
     }
@@ -85,7 +86,8 @@ impl<S: SchemeTypes, D: Digest> ConflictingFinalize<S, D> {
     pub fn finalize_2(&self) -> &Finalize<S, D>
         ensures finalize { result.now ≡ self.now.second }
         ensures contradicts { IsTrue
-            (contradicts D.eq Conflicting_finalize (finalize_vote self.now.first) (finalize_vote self.now.second)) }
+            (contradicts D.eq Conflicting_finalize (finalize_vote self.now.first)
+            (finalize_vote self.now.second)) }
     {
         &self.finalize_2
     }
@@ -180,7 +182,8 @@ impl<S: SchemeTypes, D: Digest> Conflict for ConflictingFinalize<S, D> {
     ghost made = { λ votes. record { first = votes.0; second = votes.1 } };
 
     ghost holds = { λ conflict.
-        contradicts D.eq Conflicting_finalize (finalize_vote conflict.first) (finalize_vote conflict.second) };
+        contradicts D.eq Conflicting_finalize (finalize_vote conflict.first)
+        (finalize_vote conflict.second) };
 
     ghost refusal = { invalid (codes "consensus::simplex::ConflictingFinalize")
         (codes "invalid conflicting finalize") };

@@ -76,7 +76,8 @@ impl<S: SchemeTypes, D: Digest> ConflictingNotarize<S, D> {
     pub fn notarize_1(&self) -> &Notarize<S, D>
         ensures notarize { result.now ≡ self.now.first }
         ensures contradicts { IsTrue
-            (contradicts D.eq Conflicting_notarize (notarize_vote self.now.first) (notarize_vote self.now.second)) }
+            (contradicts D.eq Conflicting_notarize (notarize_vote self.now.first)
+            (notarize_vote self.now.second)) }
     {
         &self.notarize_1
     }
@@ -85,7 +86,8 @@ impl<S: SchemeTypes, D: Digest> ConflictingNotarize<S, D> {
     pub fn notarize_2(&self) -> &Notarize<S, D>
         ensures notarize { result.now ≡ self.now.second }
         ensures contradicts { IsTrue
-            (contradicts D.eq Conflicting_notarize (notarize_vote self.now.first) (notarize_vote self.now.second)) }
+            (contradicts D.eq Conflicting_notarize (notarize_vote self.now.first)
+            (notarize_vote self.now.second)) }
     {
         &self.notarize_2
     }
@@ -180,7 +182,8 @@ impl<S: SchemeTypes, D: Digest> Conflict for ConflictingNotarize<S, D> {
     ghost made = { λ votes. record { first = votes.0; second = votes.1 } };
 
     ghost holds = { λ conflict.
-        contradicts D.eq Conflicting_notarize (notarize_vote conflict.first) (notarize_vote conflict.second) };
+        contradicts D.eq Conflicting_notarize (notarize_vote conflict.first)
+        (notarize_vote conflict.second) };
 
     ghost refusal = { invalid (codes "consensus::simplex::ConflictingNotarize")
         (codes "invalid conflicting notarize") };

@@ -48,7 +48,8 @@ impl<S: SchemeTypes, D: Digest> Model for NullifyFinalize<S, D> {
 impl<S: SchemeTypes, D: Digest> NullifyFinalize<S, D> {
     /// Whether a nullify and a finalize contradict: they have one round and one signer.
     pub fn conflicts(nullify: &Nullify<S>, finalize: &Finalize<S, D>) -> bool
-        ensures { result ≡ contradicts D.eq Nullify_finalize (nullify_vote nullify.now) (finalize_vote finalize.now) }
+        ensures { result ≡ contradicts D.eq Nullify_finalize (nullify_vote nullify.now)
+            (finalize_vote finalize.now) }
     {
         finalize.proposal.round == nullify.round
             && finalize.attestation.signer == nullify.attestation.signer
@@ -56,7 +57,8 @@ impl<S: SchemeTypes, D: Digest> NullifyFinalize<S, D> {
 
     /// The evidence of a nullify and a finalize that contradict, as [`conflicts`](NullifyFinalize::conflicts) tells.
     pub fn new(nullify: Nullify<S>, finalize: Finalize<S, D>) -> Self
-        requires { IsTrue (contradicts D.eq Nullify_finalize (nullify_vote nullify) (finalize_vote finalize)) }
+        requires { IsTrue (contradicts D.eq Nullify_finalize (nullify_vote nullify)
+            (finalize_vote finalize)) }
         ensures { result ≡ record { first = nullify; second = finalize } }
     {
         NullifyFinalize { nullify, finalize }
@@ -66,7 +68,8 @@ impl<S: SchemeTypes, D: Digest> NullifyFinalize<S, D> {
     pub fn nullify(&self) -> &Nullify<S>
         ensures vote { result.now ≡ self.now.first }
         ensures contradicts { IsTrue
-            (contradicts D.eq Nullify_finalize (nullify_vote self.now.first) (finalize_vote self.now.second)) }
+            (contradicts D.eq Nullify_finalize (nullify_vote self.now.first)
+            (finalize_vote self.now.second)) }
     {
         &self.nullify
     }
@@ -75,7 +78,8 @@ impl<S: SchemeTypes, D: Digest> NullifyFinalize<S, D> {
     pub fn finalize(&self) -> &Finalize<S, D>
         ensures vote { result.now ≡ self.now.second }
         ensures contradicts { IsTrue
-            (contradicts D.eq Nullify_finalize (nullify_vote self.now.first) (finalize_vote self.now.second)) }
+            (contradicts D.eq Nullify_finalize (nullify_vote self.now.first)
+            (finalize_vote self.now.second)) }
     {
         &self.finalize
     }
@@ -170,9 +174,11 @@ impl<S: SchemeTypes, D: Digest> Conflict for NullifyFinalize<S, D> {
     ghost made = { λ votes. record { first = votes.0; second = votes.1 } };
 
     ghost holds = { λ conflict.
-        contradicts D.eq Nullify_finalize (nullify_vote conflict.first) (finalize_vote conflict.second) };
+        contradicts D.eq Nullify_finalize (nullify_vote conflict.first)
+        (finalize_vote conflict.second) };
 
-    ghost refusal = { invalid (codes "consensus::simplex::NullifyFinalize") (codes "mismatched signatures") };
+    ghost refusal = { invalid (codes "consensus::simplex::NullifyFinalize")
+        (codes "mismatched signatures") };
 
     fn are_in_conflict(first: &Nullify<S>, second: &Finalize<S, D>) -> bool {
         Self::conflicts(first, second)

@@ -199,7 +199,8 @@ impl<S: CertificateScheme, H: Hasher> Config<S> for RoundRobin<H> {
     }
 
     ghost agree = { λ settings keys one other is_one is_other. one_alike _ _ _ _ one other
-        (one_rotation H.Digest.cmp H.digest_of H.Digest.total settings (length keys) one other is_one is_other) };
+        (one_rotation H.Digest.cmp H.digest_of H.Digest.total settings (length keys) one other
+        is_one is_other) };
 
     ghost clones = { λ settings copy keys elector same.
         same_rotations H.Digest.cmp H.digest_of settings copy (length keys) elector same };

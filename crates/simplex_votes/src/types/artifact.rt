@@ -187,7 +187,8 @@ impl<S: CertificateScheme, D: Digest> Read for Artifact<S, D> {
     type Cfg = u32;
 
     ghost fits = { λ bound. (artifact_format (format_of ⟦<D as Read>⟧)
-        (format_under ⟦<S::Certificate as Read>⟧ bound) (format_of ⟦<S::Signature as Read>⟧)).is_value };
+        (format_under ⟦<S::Certificate as Read>⟧ bound)
+        (format_of ⟦<S::Signature as Read>⟧)).is_value };
 
     ghost reading = { λ bound.
         (artifact_format (format_of ⟦<D as Read>⟧) (format_under ⟦<S::Certificate as Read>⟧ bound)

@@ -131,7 +131,8 @@ impl<S: CertificateVerifier<D>, D: Digest> Certificate<S, D> {
 
     /// Whether the certificate certifies what the message says.
     pub fn verify(&self, scheme: &S) -> bool
-        ensures { result ≡ S.certified scheme.now (certificate_subject self.now) (certificate_in self.now) }
+        ensures { result ≡ S.certified scheme.now (certificate_subject self.now)
+            (certificate_in self.now) }
     {
         match self {
             Certificate::Notarization(message) => message.verify(scheme),
@@ -209,7 +210,8 @@ impl<S: CertificateScheme, D: Digest> Read for Certificate<S, D> {
         (format_under ⟦<S::Certificate as Read>⟧ bound)).is_value };
 
     ghost reading = { λ bound.
-        (certificate_format (format_of ⟦<D as Read>⟧) (format_under ⟦<S::Certificate as Read>⟧ bound)).reading };
+        (certificate_format (format_of ⟦<D as Read>⟧)
+        (format_under ⟦<S::Certificate as Read>⟧ bound)).reading };
 
     ghost takes_memory = { S.Certificate.takes_memory };
 
@@ -226,7 +228,8 @@ impl<S: CertificateScheme, D: Digest> Tagged for Certificate<S, D> {
     type Cfg = u32;
 
     ghost branches = { λ bound.
-        certificate_branches (format_of ⟦<D as Read>⟧) (format_under ⟦<S::Certificate as Read>⟧ bound) };
+        certificate_branches (format_of ⟦<D as Read>⟧)
+        (format_under ⟦<S::Certificate as Read>⟧ bound) };
 
     ghost takes_memory = { S.Certificate.takes_memory };
 

@@ -58,9 +58,11 @@ impl<D, P> Roundable for Context<D, P> {
 impl<D: Digest, P: PublicKey> Encoding for Context<D, P> {
     ghost use Rattle.simplex_votes.specs.Context.{context_format};
 
-    ghost is_value = { (context_format (format_of ⟦<D as Read>⟧) (format_of ⟦<P as Read>⟧)).is_value };
+    ghost is_value = { (context_format (format_of ⟦<D as Read>⟧)
+        (format_of ⟦<P as Read>⟧)).is_value };
 
-    ghost encoding = { (context_format (format_of ⟦<D as Read>⟧) (format_of ⟦<P as Read>⟧)).encoding };
+    ghost encoding = { (context_format (format_of ⟦<D as Read>⟧)
+        (format_of ⟦<P as Read>⟧)).encoding };
 }
 
 impl<D: Digest, P: PublicKey> Write for Context<D, P> {
@@ -99,9 +101,11 @@ impl<D: Digest, P: PublicKey> Read for Context<D, P> {
 
     type Cfg = ();
 
-    ghost fits = { λ _. (context_format (format_of ⟦<D as Read>⟧) (format_of ⟦<P as Read>⟧)).is_value };
+    ghost fits = { λ _. (context_format (format_of ⟦<D as Read>⟧)
+        (format_of ⟦<P as Read>⟧)).is_value };
 
-    ghost reading = { λ _. (context_format (format_of ⟦<D as Read>⟧) (format_of ⟦<P as Read>⟧)).reading };
+    ghost reading = { λ _. (context_format (format_of ⟦<D as Read>⟧)
+        (format_of ⟦<P as Read>⟧)).reading };
 
     ghost takes_memory = { false };
 

@@ -64,7 +64,8 @@ impl<S: CertificateScheme, D: Digest> Finalization<S, D> {
 impl<S: CertificateVerifier<D>, D: Digest> Finalization<S, D> {
     /// Whether the certificate certifies that the proposal is finalized.
     pub fn verify(&self, scheme: &S) -> bool
-        ensures { result ≡ S.certified scheme.now (Finalizes self.now.proposal) self.now.certificate }
+        ensures { result ≡ S.certified scheme.now (Finalizes self.now.proposal)
+            self.now.certificate }
     {
         let subject = Subject::Finalize {
             proposal: &self.proposal,
@@ -193,7 +194,8 @@ impl<S: CertificateScheme, D: Digest> Read for Finalization<S, D> {
         (format_under ⟦<S::Certificate as Read>⟧ bound)).is_value };
 
     ghost reading = { λ bound.
-        (finalization_format (format_of ⟦<D as Read>⟧) (format_under ⟦<S::Certificate as Read>⟧ bound)).reading };
+        (finalization_format (format_of ⟦<D as Read>⟧)
+        (format_under ⟦<S::Certificate as Read>⟧ bound)).reading };
 
     ghost takes_memory = { S.Certificate.takes_memory };
 

@@ -61,7 +61,8 @@ impl<S: Scheme<D>, D: Digest> Notarize<S, D> {
         ensures signed { IfOk result (λ signed.
             MatchOption signed (S.own scheme.now ≡ None) (λ vote.
             (vote.proposal ≡ proposal) × (S.own scheme.now ≡ Some vote.attestation.signer) ×
-            (S.good scheme.now (Notarizes proposal) vote.attestation.signer vote.attestation.signature ≡ true))) }
+            (S.good scheme.now (Notarizes proposal) vote.attestation.signer
+            vote.attestation.signature ≡ true))) }
     {
         let to_sign = Subject::Notarize {
             proposal: &proposal,
@@ -117,9 +118,11 @@ impl<S: SchemeTypes, D: Digest> Roundable for Notarize<S, D> {
 impl<S: SchemeTypes, D: Digest> Encoding for Notarize<S, D> {
     ghost use Rattle.simplex_votes.specs.Encodings.{notarize_format};
 
-    ghost is_value = { (notarize_format (format_of ⟦<D as Read>⟧) (format_of ⟦<S::Signature as Read>⟧)).is_value };
+    ghost is_value = { (notarize_format (format_of ⟦<D as Read>⟧)
+        (format_of ⟦<S::Signature as Read>⟧)).is_value };
 
-    ghost encoding = { (notarize_format (format_of ⟦<D as Read>⟧) (format_of ⟦<S::Signature as Read>⟧)).encoding };
+    ghost encoding = { (notarize_format (format_of ⟦<D as Read>⟧)
+        (format_of ⟦<S::Signature as Read>⟧)).encoding };
 }
 
 impl<S: SchemeTypes, D: Digest> Write for Notarize<S, D> {
@@ -149,7 +152,8 @@ impl<S: SchemeTypes, D: Digest> MaxEncodeSize for Notarize<S, D> {
         D.SIZE S.Signature.SIZE D.within S.Signature.within };
 
     ghost reached = { notarize_longest (format_of ⟦<D as Read>⟧)
-        (format_of ⟦<S::Signature as Read>⟧) D.SIZE S.Signature.SIZE D.longest S.Signature.longest };
+        (format_of ⟦<S::Signature as Read>⟧) D.SIZE S.Signature.SIZE D.longest
+        S.Signature.longest };
 }
 
 impl<S: SchemeTypes, D: Digest> Read for Notarize<S, D> {
@@ -157,9 +161,11 @@ impl<S: SchemeTypes, D: Digest> Read for Notarize<S, D> {
 
     type Cfg = ();
 
-    ghost fits = { λ _. (notarize_format (format_of ⟦<D as Read>⟧) (format_of ⟦<S::Signature as Read>⟧)).is_value };
+    ghost fits = { λ _. (notarize_format (format_of ⟦<D as Read>⟧)
+        (format_of ⟦<S::Signature as Read>⟧)).is_value };
 
-    ghost reading = { λ _. (notarize_format (format_of ⟦<D as Read>⟧) (format_of ⟦<S::Signature as Read>⟧)).reading };
+    ghost reading = { λ _. (notarize_format (format_of ⟦<D as Read>⟧)
+        (format_of ⟦<S::Signature as Read>⟧)).reading };
 
     ghost takes_memory = { false };
 

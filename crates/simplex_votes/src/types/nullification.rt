@@ -187,7 +187,8 @@ impl<S: CertificateScheme> Read for Nullification<S> {
 
     type Cfg = u32;
 
-    ghost fits = { λ bound. (nullification_format (format_under ⟦<S::Certificate as Read>⟧ bound)).is_value };
+    ghost fits = { λ bound. (nullification_format
+        (format_under ⟦<S::Certificate as Read>⟧ bound)).is_value };
 
     ghost reading = { λ bound.
         (nullification_format (format_under ⟦<S::Certificate as Read>⟧ bound)).reading };

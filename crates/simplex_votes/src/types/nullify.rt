@@ -50,7 +50,8 @@ impl<S: SchemeTypes> Nullify<S> {
         ensures signed { IfOk result (λ signed.
             MatchOption signed (S.own scheme.now ≡ None) (λ vote.
             (vote.round ≡ round) × (S.own scheme.now ≡ Some vote.attestation.signer) ×
-            (S.good scheme.now (Nullifies round) vote.attestation.signer vote.attestation.signature ≡ true))) }
+            (S.good scheme.now (Nullifies round) vote.attestation.signer
+            vote.attestation.signature ≡ true))) }
     {
         let subject: Subject<'a, D> = Subject::Nullify { round };
         match scheme.sign(alloc, subject)? {
@@ -139,9 +140,11 @@ impl<S: SchemeTypes> MaxEncodeSize for Nullify<S> {
         Round::max_encode_size() + Attestation::<S>::max_encode_size()
     }
 
-    ghost within = { nullify_within (format_of ⟦<S::Signature as Read>⟧) S.Signature.SIZE S.Signature.within };
+    ghost within = { nullify_within (format_of ⟦<S::Signature as Read>⟧) S.Signature.SIZE
+        S.Signature.within };
 
-    ghost reached = { nullify_longest (format_of ⟦<S::Signature as Read>⟧) S.Signature.SIZE S.Signature.longest };
+    ghost reached = { nullify_longest (format_of ⟦<S::Signature as Read>⟧) S.Signature.SIZE
+        S.Signature.longest };
 }
 
 impl<S: SchemeTypes> Read for Nullify<S> {

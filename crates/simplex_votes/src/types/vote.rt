@@ -93,9 +93,11 @@ impl<S: SchemeTypes, D: Digest> Roundable for Vote<S, D> {
 impl<S: SchemeTypes, D: Digest> Encoding for Vote<S, D> {
     ghost use Rattle.simplex_votes.specs.Unions.{vote_format};
 
-    ghost is_value = { (vote_format (format_of ⟦<D as Read>⟧) (format_of ⟦<S::Signature as Read>⟧)).is_value };
+    ghost is_value = { (vote_format (format_of ⟦<D as Read>⟧)
+        (format_of ⟦<S::Signature as Read>⟧)).is_value };
 
-    ghost encoding = { (vote_format (format_of ⟦<D as Read>⟧) (format_of ⟦<S::Signature as Read>⟧)).encoding };
+    ghost encoding = { (vote_format (format_of ⟦<D as Read>⟧)
+        (format_of ⟦<S::Signature as Read>⟧)).encoding };
 }
 
 impl<S: SchemeTypes, D: Digest> Write for Vote<S, D> {
@@ -141,9 +143,11 @@ impl<S: SchemeTypes, D: Digest> Read for Vote<S, D> {
 
     type Cfg = ();
 
-    ghost fits = { λ _. (vote_format (format_of ⟦<D as Read>⟧) (format_of ⟦<S::Signature as Read>⟧)).is_value };
+    ghost fits = { λ _. (vote_format (format_of ⟦<D as Read>⟧)
+        (format_of ⟦<S::Signature as Read>⟧)).is_value };
 
-    ghost reading = { λ _. (vote_format (format_of ⟦<D as Read>⟧) (format_of ⟦<S::Signature as Read>⟧)).reading };
+    ghost reading = { λ _. (vote_format (format_of ⟦<D as Read>⟧)
+        (format_of ⟦<S::Signature as Read>⟧)).reading };
 
     ghost takes_memory = { false };
 
@@ -163,7 +167,8 @@ impl<S: SchemeTypes, D: Digest> Tagged for Vote<S, D> {
 
     type Cfg = ();
 
-    ghost branches = { λ _. vote_branches (format_of ⟦<D as Read>⟧) (format_of ⟦<S::Signature as Read>⟧) };
+    ghost branches = { λ _. vote_branches (format_of ⟦<D as Read>⟧)
+        (format_of ⟦<S::Signature as Read>⟧) };
 
     ghost takes_memory = { false };
 
