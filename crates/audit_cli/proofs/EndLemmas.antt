@@ -40,7 +40,7 @@ ends-given_up basis words reader writer committees errors.TooLong named failed l
 ends-given_up basis words reader writer committees errors.OutOfMemory named failed long keeps written = keeps (λ e. absurd cc)
 ends-given_up basis words reader writer committees errors.Write named failed long keeps written = written refl
 
--- arguments that are none end in the usage or for want of memory
+-- arguments that are none end in the usage or in an allocation failure
 pub ends-refused : (basis : Bases) (words : List (List ℕ)) (reader : ReaderUse) (writer : WriterUse) (ending : Ending)
     → AreNoArguments words → Ends basis words reader writer ending
     → (ending ≡ Err failures.Usage) ⊎ (ending ≡ Err failures.OutOfMemory)

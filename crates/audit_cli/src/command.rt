@@ -89,7 +89,7 @@ pub(crate) fn conclude<E: Write>(errors: &mut E, ended: Result<Option<Fault>, Fa
 /// Runs the program over its arguments, without the program's name, and its three streams.
 ///
 /// The arguments are judged before anything is read, and nothing is written before the whole input is read
-/// and all memory is had. What can't be said on `errors` leaves the status.
+/// and all memory is allocated. What cannot be said on `errors` leaves the status.
 pub fn command<R: Read, W: Write, E: Write>(
     alloc: Global,
     arguments: &[String],

@@ -30,7 +30,7 @@ pub fn without_name(alloc: Global, given: Args) -> Result<Vec<String>, AllocErro
     Ok(words)
 }
 
-/// Why arguments can't be had: for want of memory, or because one of them is not UTF-8.
+/// Why arguments can't be read: an allocation failed, or one of them is not UTF-8.
 pub fn no_arguments(error: &io::Error) -> Failure
     ensures memory { error_kind error.now ≡ ErrorKind.OutOfMemory → result ≡ Failure.OutOfMemory }
     ensures usage { error_kind error.now ≢ ErrorKind.OutOfMemory → result ≡ Failure.Usage }

@@ -41,7 +41,7 @@ ends_given_up lines words reader writer errors.TooLong failed long wrote begun =
 ends_given_up lines words reader writer errors.OutOfMemory failed long wrote begun = inr begun
 ends_given_up lines words reader writer errors.Write failed long wrote begun = (wrote refl, begun)
 
--- words that are refused end in the usage or for want of memory
+-- words that are refused end in the usage or in an allocation failure
 pub ends_refused : (lines : LinesUnder) (words : List (List ℕ)) (reader : ReaderUse) (writer : WriterUse) (ending : Ending)
     → AreNotGiven words → Ends lines words reader writer ending
     → (ending ≡ Err failures.Usage) ⊎ (ending ≡ Err failures.OutOfMemory)

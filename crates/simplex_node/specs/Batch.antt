@@ -23,7 +23,7 @@ pub record AreForProposal {S D P G : Type 0} (good : SubjectValue D → ℕ → 
   pub same : All (λ v. v.proposal ≡ proposal) votes
   pub each_good : All (λ v. good (Notarizes v.proposal) v.attestation.signer v.attestation.signature ≡ true) votes
 
--- `eq` compares payloads, `keys` gives a scheme's keys, and `good` tells whose signatures are valid
+-- `eq` compares payloads, `keys` gives a scheme's keys, and `good` says which signatures are valid
 module _ {S D P G : Type 0} (eq : D → D → Bool) (keys : S → List P) (good : S → SubjectValue D → ℕ → G → Bool) where
   -- whether a vote is for the proposal, and valid
   abbrev pub is_wanted : Batch S D P G → Notarize S D P G → Bool
