@@ -12,6 +12,7 @@ use simplex_base::codec::{EncodeSize, Encoding, Fixed, Read, Write};
 use simplex_base::positions::{Round, Roundable};
 use simplex_base::values::EqByParts;
 use simplex_scheme::scheme::{CertificateScheme, Digest, Scheme};
+use simplex_votes::map_ok;
 use simplex_votes::types::{
     Finalization, Finalize, Notarization, Notarize, Nullification, Nullify,
 };
@@ -71,19 +72,24 @@ impl<S: CertificateScheme, D: Digest> Activity<S, D> {
     {
         match self {
             Activity::Notarize(vote) => Ok(Activity::Notarize(vote.copy())),
-            Activity::Notarization(message) => Ok(Activity::Notarization(message.clone()?)),
-            Activity::Certification(message) => Ok(Activity::Certification(message.clone()?)),
+            Activity::Notarization(message) => map_ok!(message.clone(), Activity::Notarization),
+            Activity::Certification(message) => map_ok!(message.clone(), Activity::Certification),
             Activity::Nullify(vote) => Ok(Activity::Nullify(vote.copy())),
-            Activity::Nullification(message) => Ok(Activity::Nullification(message.clone()?)),
+            Activity::Nullification(message) => map_ok!(message.clone(), Activity::Nullification),
             Activity::Finalize(vote) => Ok(Activity::Finalize(vote.copy())),
-            Activity::Finalization(message) => Ok(Activity::Finalization(message.clone()?)),
-            Activity::ConflictingNotarize(evidence) => Ok(Activity::ConflictingNotarize(
-                evidence.clone()?,
-            )),
-            Activity::ConflictingFinalize(evidence) => Ok(Activity::ConflictingFinalize(
-                evidence.clone()?,
-            )),
-            Activity::NullifyFinalize(evidence) => Ok(Activity::NullifyFinalize(evidence.clone()?)),
+            Activity::Finalization(message) => map_ok!(message.clone(), Activity::Finalization),
+            Activity::ConflictingNotarize(evidence) => map_ok!(
+                evidence.clone(),
+                Activity::ConflictingNotarize
+            ),
+            Activity::ConflictingFinalize(evidence) => map_ok!(
+                evidence.clone(),
+                Activity::ConflictingFinalize
+            ),
+            Activity::NullifyFinalize(evidence) => map_ok!(
+                evidence.clone(),
+                Activity::NullifyFinalize
+            ),
         }
     }
 }
@@ -244,18 +250,39 @@ impl<S: CertificateScheme, D: Digest> Tagged for Activity<S, D> {
     ghost takes_memory = { S.Certificate.takes_memory };
 
     fn read_body(alloc: Global, tag: u8, input: &mut &[u8], bound: &u32) -> Result<Self, Error> {
-        Ok(match tag {
-            0 => Activity::Notarize(Notarize::read_cfg(alloc, input, &())?),
-            1 => Activity::Notarization(Notarization::read_cfg(alloc, input, bound)?),
-            2 => Activity::Certification(Notarization::read_cfg(alloc, input, bound)?),
-            3 => Activity::Nullify(Nullify::read_cfg(alloc, input, &())?),
-            4 => Activity::Nullification(Nullification::read_cfg(alloc, input, bound)?),
-            5 => Activity::Finalize(Finalize::read_cfg(alloc, input, &())?),
-            6 => Activity::Finalization(Finalization::read_cfg(alloc, input, bound)?),
-            7 => Activity::ConflictingNotarize(ConflictingNotarize::read_cfg(alloc, input, &())?),
-            8 => Activity::ConflictingFinalize(ConflictingFinalize::read_cfg(alloc, input, &())?),
-            9 => Activity::NullifyFinalize(NullifyFinalize::read_cfg(alloc, input, &())?),
-            _ => return Err(Error::Invalid("consensus::simplex::Activity", "Invalid type")),
-        })
+        match tag {
+            0 => map_ok!(Notarize::read_cfg(alloc, input, &()), Activity::Notarize),
+            1 => map_ok!(
+                Notarization::read_cfg(alloc, input, bound),
+                Activity::Notarization
+            ),
+            2 => map_ok!(
+                Notarization::read_cfg(alloc, input, bound),
+                Activity::Certification
+            ),
+            3 => map_ok!(Nullify::read_cfg(alloc, input, &()), Activity::Nullify),
+            4 => map_ok!(
+                Nullification::read_cfg(alloc, input, bound),
+                Activity::Nullification
+            ),
+            5 => map_ok!(Finalize::read_cfg(alloc, input, &()), Activity::Finalize),
+            6 => map_ok!(
+                Finalization::read_cfg(alloc, input, bound),
+                Activity::Finalization
+            ),
+            7 => map_ok!(
+                ConflictingNotarize::read_cfg(alloc, input, &()),
+                Activity::ConflictingNotarize
+            ),
+            8 => map_ok!(
+                ConflictingFinalize::read_cfg(alloc, input, &()),
+                Activity::ConflictingFinalize
+            ),
+            9 => map_ok!(
+                NullifyFinalize::read_cfg(alloc, input, &()),
+                Activity::NullifyFinalize
+            ),
+            _ => Err(Error::Invalid("consensus::simplex::Activity", "Invalid type")),
+        }
     }
 }

@@ -3,6 +3,7 @@
 ghost use Rattle.std.specs.Prelude.{◌≡◌, ◌+◌, ◌^◌, IfOk, IfErr, IsTrue};
 ghost use Rattle.simplex_base.specs.Readable.{format_of, format_under};
 
+use crate::map_ok;
 use crate::types::certificate::Certificate;
 use crate::types::finalization::Finalization;
 use crate::types::finalize::Finalize;
@@ -53,14 +54,14 @@ impl<S: CertificateScheme, D: Digest> Artifact<S, D> {
     {
         match self {
             Artifact::Notarize(vote) => Ok(Artifact::Notarize(vote.copy())),
-            Artifact::Notarization(message) => Ok(Artifact::Notarization(message.clone()?)),
+            Artifact::Notarization(message) => map_ok!(message.clone(), Artifact::Notarization),
             Artifact::Certification(round, certified) => {
                 Ok(Artifact::Certification(*round, *certified))
             }
             Artifact::Nullify(vote) => Ok(Artifact::Nullify(vote.copy())),
-            Artifact::Nullification(message) => Ok(Artifact::Nullification(message.clone()?)),
+            Artifact::Nullification(message) => map_ok!(message.clone(), Artifact::Nullification),
             Artifact::Finalize(vote) => Ok(Artifact::Finalize(vote.copy())),
-            Artifact::Finalization(message) => Ok(Artifact::Finalization(message.clone()?)),
+            Artifact::Finalization(message) => map_ok!(message.clone(), Artifact::Finalization),
         }
     }
 }
@@ -216,18 +217,27 @@ impl<S: CertificateScheme, D: Digest> Tagged for Artifact<S, D> {
     ghost takes_memory = { S.Certificate.takes_memory };
 
     fn read_body(alloc: Global, tag: u8, input: &mut &[u8], bound: &u32) -> Result<Self, Error> {
-        Ok(match tag {
-            0 => Artifact::Notarize(Notarize::read_cfg(alloc, input, &())?),
-            1 => Artifact::Notarization(Notarization::read_cfg(alloc, input, bound)?),
+        match tag {
+            0 => map_ok!(Notarize::read_cfg(alloc, input, &()), Artifact::Notarize),
+            1 => map_ok!(
+                Notarization::read_cfg(alloc, input, bound),
+                Artifact::Notarization
+            ),
             2 => match <(Round, bool)>::read_cfg(alloc, input, &()) {
-                Ok((round, certified)) => Artifact::Certification(round, certified),
-                Err(error) => return Err(error),
+                Ok((round, certified)) => Ok(Artifact::Certification(round, certified)),
+                Err(error) => Err(error),
             },
-            3 => Artifact::Nullify(Nullify::read_cfg(alloc, input, &())?),
-            4 => Artifact::Nullification(Nullification::read_cfg(alloc, input, bound)?),
-            5 => Artifact::Finalize(Finalize::read_cfg(alloc, input, &())?),
-            6 => Artifact::Finalization(Finalization::read_cfg(alloc, input, bound)?),
-            _ => return Err(Error::Invalid("consensus::simplex::Artifact", "Invalid type")),
-        })
+            3 => map_ok!(Nullify::read_cfg(alloc, input, &()), Artifact::Nullify),
+            4 => map_ok!(
+                Nullification::read_cfg(alloc, input, bound),
+                Artifact::Nullification
+            ),
+            5 => map_ok!(Finalize::read_cfg(alloc, input, &()), Artifact::Finalize),
+            6 => map_ok!(
+                Finalization::read_cfg(alloc, input, bound),
+                Artifact::Finalization
+            ),
+            _ => Err(Error::Invalid("consensus::simplex::Artifact", "Invalid type")),
+        }
     }
 }

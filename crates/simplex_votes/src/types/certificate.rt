@@ -3,6 +3,7 @@
 ghost use Rattle.std.specs.Prelude.{◌≡◌, ◌+◌, ◌≤◌, ◌^◌, IfOk, Some, length};
 ghost use Rattle.simplex_base.specs.Readable.{format_of, format_under};
 
+use crate::map_ok;
 use crate::types::finalization::Finalization;
 use crate::types::notarization::Notarization;
 use crate::types::nullification::Nullification;
@@ -106,9 +107,18 @@ impl<S: CertificateScheme, D: Digest> Certificate<S, D> {
             IfOk result (λ copy. copy ≡ self.now) }
     {
         match self {
-            Certificate::Notarization(message) => Ok(Certificate::Notarization(message.clone()?)),
-            Certificate::Nullification(message) => Ok(Certificate::Nullification(message.clone()?)),
-            Certificate::Finalization(message) => Ok(Certificate::Finalization(message.clone()?)),
+            Certificate::Notarization(message) => map_ok!(
+                message.clone(),
+                Certificate::Notarization
+            ),
+            Certificate::Nullification(message) => map_ok!(
+                message.clone(),
+                Certificate::Nullification
+            ),
+            Certificate::Finalization(message) => map_ok!(
+                message.clone(),
+                Certificate::Finalization
+            ),
         }
     }
 
@@ -234,11 +244,20 @@ impl<S: CertificateScheme, D: Digest> Tagged for Certificate<S, D> {
     ghost takes_memory = { S.Certificate.takes_memory };
 
     fn read_body(alloc: Global, tag: u8, input: &mut &[u8], bound: &u32) -> Result<Self, Error> {
-        Ok(match tag {
-            0 => Certificate::Notarization(Notarization::read_cfg(alloc, input, bound)?),
-            1 => Certificate::Nullification(Nullification::read_cfg(alloc, input, bound)?),
-            2 => Certificate::Finalization(Finalization::read_cfg(alloc, input, bound)?),
-            _ => return Err(Error::Invalid("consensus::simplex::Certificate", "Invalid type")),
-        })
+        match tag {
+            0 => map_ok!(
+                Notarization::read_cfg(alloc, input, bound),
+                Certificate::Notarization
+            ),
+            1 => map_ok!(
+                Nullification::read_cfg(alloc, input, bound),
+                Certificate::Nullification
+            ),
+            2 => map_ok!(
+                Finalization::read_cfg(alloc, input, bound),
+                Certificate::Finalization
+            ),
+            _ => Err(Error::Invalid("consensus::simplex::Certificate", "Invalid type")),
+        }
     }
 }

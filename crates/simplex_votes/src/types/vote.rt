@@ -3,6 +3,7 @@
 ghost use Rattle.std.specs.Prelude.{◌≡◌, ⊤, ◌+◌, false};
 ghost use Rattle.simplex_base.specs.Readable.{format_of};
 
+use crate::map_ok;
 use crate::types::attributable::Attributable;
 use crate::types::finalize::Finalize;
 use crate::types::notarize::Notarize;
@@ -173,11 +174,11 @@ impl<S: SchemeTypes, D: Digest> Tagged for Vote<S, D> {
     ghost takes_memory = { false };
 
     fn read_body(alloc: Global, tag: u8, input: &mut &[u8], _cfg: &()) -> Result<Self, Error> {
-        Ok(match tag {
-            0 => Vote::Notarize(Notarize::read_cfg(alloc, input, &())?),
-            1 => Vote::Nullify(Nullify::read_cfg(alloc, input, &())?),
-            2 => Vote::Finalize(Finalize::read_cfg(alloc, input, &())?),
-            _ => return Err(Error::Invalid("consensus::simplex::Vote", "Invalid type")),
-        })
+        match tag {
+            0 => map_ok!(Notarize::read_cfg(alloc, input, &()), Vote::Notarize),
+            1 => map_ok!(Nullify::read_cfg(alloc, input, &()), Vote::Nullify),
+            2 => map_ok!(Finalize::read_cfg(alloc, input, &()), Vote::Finalize),
+            _ => Err(Error::Invalid("consensus::simplex::Vote", "Invalid type")),
+        }
     }
 }
