@@ -53,13 +53,13 @@ impl<S: Listing<D>, D: Digest> Detector<S, D> {
         alloc: Global,
         committees: &Committees<S>,
         judging: &Judging,
-        message: Activity<S, D>,
+        message: &Activity<S, D>,
     ) -> Result<(), AllocError>
         ensures { OnOk result (RecallsMore
             (rules_under D.eq S.keys S.good S.certified S.listed judging.now committees.now)
-            (message ∷ []) self.old self.new) }
+            (message.now ∷ []) self.old self.new) }
     {
-        let round = message_round(&message);
+        let round = message_round(message);
         let Some(committee) = committees.get(round.epoch()) else {
             return Ok(());
         };

@@ -71,20 +71,20 @@ impl<S: Listing<D>, D: Digest> RoundState<S, D> {
         &mut self,
         committee: &S,
         judging: &Judging,
-        message: Activity<S, D>,
+        message: &Activity<S, D>,
     ) -> Result<(), AllocError>
         ensures { OnOk result (TakesMessage
             (rules_under D.eq S.keys S.good S.certified S.listed judging.now) committee.now
-            S.listed message self.old self.new) }
+            S.listed message.now self.old self.new) }
     {
         match message {
-            Activity::Notarize(vote) => self.observe_notarize(committee, judging, &vote),
+            Activity::Notarize(vote) => self.observe_notarize(committee, judging, vote),
             Activity::Notarization(message) | Activity::Certification(message) => {
                 let proposal = &message.proposal;
                 let subject = Subject::Notarize { proposal };
                 self.observe_certificate(committee, judging, &subject, &message.certificate)
             }
-            Activity::Nullify(vote) => self.observe_nullify(committee, judging, &vote),
+            Activity::Nullify(vote) => self.observe_nullify(committee, judging, vote),
             Activity::Nullification(message) => {
                 let round = message.round;
                 self.observe_certificate(
@@ -94,7 +94,7 @@ impl<S: Listing<D>, D: Digest> RoundState<S, D> {
                     &message.certificate,
                 )
             }
-            Activity::Finalize(vote) => self.observe_finalize(committee, judging, &vote),
+            Activity::Finalize(vote) => self.observe_finalize(committee, judging, vote),
             Activity::Finalization(message) => {
                 let proposal = &message.proposal;
                 let subject = Subject::Finalize { proposal };

@@ -23,13 +23,13 @@ rules g = rules_under g.D.PartialEq.eq g.S.CertificateScheme.keys g.S.Scheme.goo
 pub returns-in_default : goal.returns-in_default
 returns-in_default g c messages holds round =
     let none = c.in_default.ensures ∙ ap (committee_of c.args.committees.now) (c.epoch.ensures ∙ ap (λ r. r.epoch) c.message_round-round.ensures.message) in
-    recalls_no_committee g.D.PartialEq.eq g.S.CertificateScheme.keys (valid_under g.S.CertificateScheme.keys g.S.Scheme.good c.args.judging.now) (certified_under g.S.CertificateVerifier.certified c.args.judging.now) g.S.Listing.listed c.args.committees.now messages c.args.message c.message_round-round.ensures.votes none round (get round_cmp c.args.self.now.rounds round) (holds round)
+    recalls_no_committee g.D.PartialEq.eq g.S.CertificateScheme.keys (valid_under g.S.CertificateScheme.keys g.S.Scheme.good c.args.judging.now) (certified_under g.S.CertificateVerifier.certified c.args.judging.now) g.S.Listing.listed c.args.committees.now messages c.args.message.now c.message_round-round.ensures.votes none round (get round_cmp c.args.self.now.rounds round) (holds round)
 
 -- something was recorded of its round
 pub returns-in-Some-get_mut : goal.returns-in-Some-get_mut
 returns-in-Some-get_mut g c =
     let all = rules g c.args.judging.now c.args.committees.now in
-    let m = c.args.message in
+    let m = c.args.message.now in
     let at = c.message_round-round.ensures.message in
     let judge = sym (c.in-Some.ensures ∙ ap (committee_of c.args.committees.now) (c.epoch.ensures ∙ ap (λ r. r.epoch) at)) in
     let found = c.in-Some-get_mut.ensures.value in
@@ -45,7 +45,7 @@ returns-in-Some-get_mut g c =
 pub returns-in_ok-insert : goal.returns-in_ok-insert
 returns-in_ok-insert g c messages holds =
     let all = rules g c.args.judging.now c.args.committees.now in
-    let m = c.args.message in
+    let m = c.args.message.now in
     let at = c.message_round-round.ensures.message in
     let judge = sym (c.in-Some.ensures ∙ ap (committee_of c.args.committees.now) (c.epoch.ensures ∙ ap (λ r. r.epoch) at)) in
     let none = c.in_default-get_mut.ensures.value in
@@ -61,7 +61,7 @@ returns-in_ok-insert g c messages holds =
 pub returns-else-not-is_empty : goal.returns-else-not-is_empty
 returns-else-not-is_empty g c messages holds =
     let all = rules g c.args.judging.now c.args.committees.now in
-    let m = c.args.message in
+    let m = c.args.message.now in
     let at = c.message_round-round.ensures.message in
     let judge = sym (c.in-Some.ensures ∙ ap (committee_of c.args.committees.now) (c.epoch.ensures ∙ ap (λ r. r.epoch) at)) in
     let none = c.in_default-get_mut.ensures.value in
