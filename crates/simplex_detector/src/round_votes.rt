@@ -111,7 +111,7 @@ impl<S: SchemeTypes, D: Digest> RoundVotes<S, D> {
         }
     }
 
-    /// Records a vote if it is valid and news. One that would change nothing is not verified, nor one that is
+    /// Records a vote if it is valid and news. One that would change nothing is not verified, nor one whose signature is
     /// known to be valid, and only what is recorded is copied.
     pub fn observe(
         &mut self,
@@ -123,8 +123,7 @@ impl<S: SchemeTypes, D: Digest> RoundVotes<S, D> {
     ) -> Result<(), AllocError>
     where
         S: Scheme<D>,
-        requires { IsTrue known →
-            valid_under S.keys S.good judging.now scheme.now (subject_value subject.now)
+        requires { IsTrue known → S.good scheme.now (subject_value subject.now)
             attestation.now.signer attestation.now.signature ≡ true }
         ensures { OnOk result ((vs : List (SignedVote D S.Signature)) →
             HoldsRound D.eq (length (S.keys scheme.now)) vs (round_of (subject_value subject.now)) self.old →
@@ -144,8 +143,8 @@ impl<S: SchemeTypes, D: Digest> RoundVotes<S, D> {
         self.add(subject, Attestation { signer, signature })
     }
 
-    /// Records those that are valid and news among votes on one subject. Each is judged by itself, unless all are
-    /// known to be valid.
+    /// Records those that are valid and news among votes on one subject. Each is verified by itself, unless the signatures of
+    /// all are known to be valid.
     pub fn observe_all(
         &mut self,
         scheme: &S,
@@ -156,8 +155,7 @@ impl<S: SchemeTypes, D: Digest> RoundVotes<S, D> {
     ) -> Result<(), AllocError>
     where
         S: Scheme<D>,
-        requires { IsTrue known →
-            All (λ a. valid_under S.keys S.good judging.now scheme.now (subject_value subject.now)
+        requires { IsTrue known → All (λ a. S.good scheme.now (subject_value subject.now)
             a.signer a.signature ≡ true) attestations.now }
         ensures { OnOk result ((vs : List (SignedVote D S.Signature)) →
             HoldsRound D.eq (length (S.keys scheme.now)) vs (round_of (subject_value subject.now)) self.old →
@@ -258,7 +256,7 @@ impl<S: SchemeTypes, D: Digest> RoundVotes<S, D> {
     }
 }
 
-/// Whether an attestation is valid. One that is known to be is not verified.
+/// Whether an attestation is valid. One whose signature is known to be is not verified.
 fn is_valid<S: Scheme<D>, D: Digest>(
     scheme: &S,
     subject: &Subject<'_, D>,
@@ -266,13 +264,15 @@ fn is_valid<S: Scheme<D>, D: Digest>(
     judging: &Judging,
     known: bool,
 ) -> bool
-    requires { IsTrue known →
-        valid_under S.keys S.good judging.now scheme.now (subject_value subject.now)
+    requires { IsTrue known → S.good scheme.now (subject_value subject.now)
         attestation.now.signer attestation.now.signature ≡ true }
     ensures { result ≡ valid_under S.keys S.good judging.now scheme.now
         (subject_value subject.now) attestation.now.signer attestation.now.signature }
 {
-    known || judging.accepts(scheme, subject, attestation)
+    if known {
+        return judging.accepts_known(scheme, subject, attestation);
+    }
+    judging.accepts(scheme, subject, attestation)
 }
 
 /// Appends an evidence, if there is one.
