@@ -7,7 +7,7 @@ use Rattle.simplex_base.specs.Format.{Format}
 use Rattle.simplex_base.specs.declared.codec.error.Error.{Error}
 use Rattle.simplex_evidence.specs.declared.types.activity.Activity.{Activity}
 use Rattle.simplex_detector.specs.Committees.{Schedule}
-use Rattle.simplex_detector.specs.Rules.{Rules, AreLawful}
+use Rattle.simplex_detector.specs.Rules.{Rules, HaveCommittees}
 use Rattle.simplex_detector.specs.Detector.{Recalls, RecallsMore}
 use Rattle.simplex_detector.specs.declared.detector.Detector.{Detector}
 use Rattle.simplex_audit.specs.Auditor.{Stands, Holds}
@@ -140,12 +140,12 @@ front_dropped all front left n whole len =
 -- the report of the state is the report of each stream that the auditor stands for
 pub stands_reported : {S D C P G : Type 0} (basis : Schedule S → Basis S D C P G) (auditor : Auditor S D P G) (place : ℕ) (report : Report S D P G) →
     place + length auditor.taken.rest.items ≡ auditor.taken.fed →
-    ((stream rest : List ℕ) → AreLawful (basis auditor.committees.now).rules → place + length rest ≡ length stream → IsProgress (basis auditor.committees.now).format (λ ms. Recalls (basis auditor.committees.now).rules ms auditor.detector) stream rest auditor.taken.read auditor.taken.stop → IsReport (basis auditor.committees.now) stream report) →
+    ((stream rest : List ℕ) → HaveCommittees (basis auditor.committees.now).rules → place + length rest ≡ length stream → IsProgress (basis auditor.committees.now).format (λ ms. Recalls (basis auditor.committees.now).rules ms auditor.detector) stream rest auditor.taken.read auditor.taken.stop → IsReport (basis auditor.committees.now) stream report) →
     (committees : Schedule S) (stream : List ℕ) → Stands basis committees auditor stream → IsReport (basis committees) stream report
 stands_reported {S} basis auditor place report at is committees stream h =
-    let reported : Schedule S → Type 0 = λ s. AreLawful (basis s).rules → IsProgress (basis s).format (λ ms. Recalls (basis s).rules ms auditor.detector) stream auditor.taken.rest.items auditor.taken.read auditor.taken.stop → IsReport (basis s) stream report in
-    let here : reported auditor.committees.now = λ lawful read. is stream auditor.taken.rest.items lawful (at ∙ h.fed.fed_is) read in
-    subst reported h.fed.committees_are here h.fed.lawful h.progress
+    let reported : Schedule S → Type 0 = λ s. HaveCommittees (basis s).rules → IsProgress (basis s).format (λ ms. Recalls (basis s).rules ms auditor.detector) stream auditor.taken.rest.items auditor.taken.read auditor.taken.stop → IsReport (basis s) stream report in
+    let here : reported auditor.committees.now = λ some read. is stream auditor.taken.rest.items some (at ∙ h.fed.fed_is) read in
+    subst reported h.fed.committees_are here (record { members = h.fed.lawful.members; someone = h.fed.lawful.someone }) h.progress
 
 -- and all that an audit says holds of it, where its evidence can be encoded
 pub stands_audited : {S D C P G : Type 0} (basis : Schedule S → Basis S D C P G) (auditor : Auditor S D P G) (report : Report S D P G) →

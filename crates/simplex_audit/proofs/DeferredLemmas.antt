@@ -42,7 +42,7 @@ module _ {S D C P G : Type 0} (bound : ℕ) (format : Format (Activity S D C P G
         splits_are = both.1;
       }
 
-  -- the report of suspect rounds is that of the stream
+  -- the report of suspects is that of the stream
   pub suspects_reported : IsLawful format → (rules claims others : Rules S D C P G) (stream : List ℕ) (claim report : Report S D P G) → IsReport (by claims) stream claim →
       ((messages : List (Activity S D C P G)) (es : List (Evidence D G)) (splits : List Split) → IsEvidence claims.eq (valid_votes claims messages) (evidence_in claim) → IsEvidence others.eq (valid_votes others messages) es → AreSplits others messages splits → IsEvidence rules.eq (valid_votes rules messages) es × AreSplits rules messages splits) →
       IsReport (by others) stream report → IsReport (by rules) stream report
@@ -58,7 +58,7 @@ module _ {S D C P G : Type 0} (bound : ℕ) (format : Format (Activity S D C P G
         splits_are = both.1;
       }
 
--- a report has no part of what is signed outside suspect rounds
+-- a report has no part of what is signed by others than suspects
 pub needs_suspects : {S D C P G : Type 0} (basis : Basis S D C P G) → IsLawful basis.format → ((messages : List (Activity S D C P G)) → SuspectsSuffice basis.rules messages) →
     (stream : List ℕ) (report : Report S D P G) → IsReport basis stream report → NeedsSuspectsAlone basis stream report
 needs_suspects basis law suffice stream report is messages rest are good certified alike =

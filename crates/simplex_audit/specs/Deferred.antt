@@ -21,8 +21,8 @@ basis_under message eq keys good certified listed judging committees = record {
   rules = rules_under eq keys good certified listed judging committees;
 }
 
--- No signature outside suspect rounds has a part in the report: it is the same, no matter which votes and certificates are
--- valid there.
+-- No vote of a signer who is not suspect in its round has a part in the report, and no certificate of a round in which nobody is:
+-- the report is the same, no matter which of these are valid.
 abbrev pub NeedsSuspectsAlone : {S D C P G : Type 0} → Basis S D C P G → List ℕ → Report S D P G → Type 0
 NeedsSuspectsAlone {S} {D} {C} {P} {G} basis stream report = OfMessages basis stream (λ messages. (good : SubjectValue D → ℕ → G → Bool) (certified : SubjectValue D → C → Bool) →
     JudgeAlike basis.rules messages good certified → IsReport (record basis { rules = judged_by basis.rules good certified }) stream report)

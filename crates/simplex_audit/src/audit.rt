@@ -18,7 +18,7 @@ use simplex_base::values::{EqByParts, ExactClone};
 pub use simplex_detector::committees::{Committees, CommitteesError};
 use simplex_detector::detector::Detector;
 pub use simplex_detector::evidence::Evidence;
-use simplex_detector::judging::{Judging, rounds_of};
+use simplex_detector::judging::{Judging, suspects_of};
 use simplex_detector::laws::{
     certificates_are_accountable, evidence_is_determined, names_stay, splits_are_determined,
     suspects_suffice, suspects_tell_all,
@@ -109,12 +109,13 @@ pub fn audit<S: Listing<D>, D: Digest>(
     audit_stream(alloc, committees, &Judging::Verified, stream)
 }
 
-/// Returns the report that [`audit`] returns, with fewer signatures verified: only those of votes and certificates of suspect
-/// rounds. A round is suspect where two votes contradict that claim one signer of its committee. Where no round is
-/// suspect, the stream is read once and nothing is verified; otherwise it is read twice. The first reading records votes
-/// with invalid signatures too, so memory is bounded by the stream and not by the committees alone. That suits a stored
-/// stream or a batch of bounded size; for an endless stream of strangers there is [`Auditor`]. `AllocError` comes where memory is
-/// refused, and then there is no report.
+/// Returns the report that [`audit`] returns, with fewer signatures verified. A signer of a committee is suspect in a round where
+/// two votes contradict that claim to be that signer's. A vote outside certificates is verified only where its signer is suspect in
+/// its round, and a certificate only where somebody is suspect in its round; a vote that such a certificate lists is verified
+/// where its signer is suspect and the certificate was not found to certify. Where nobody is suspect, the stream is read once and
+/// nothing is verified; otherwise it is read twice. The first reading records votes with invalid signatures too, so memory is
+/// bounded by the stream and not by the committees alone. That suits a stored stream or a batch of bounded size; for an endless
+/// stream of strangers there is [`Auditor`]. `AllocError` comes where memory is refused, and then there is no report.
 pub fn audit_deferred<S: Listing<D>, D: Digest>(
     alloc: Global,
     committees: &Committees<S>,
@@ -123,7 +124,7 @@ pub fn audit_deferred<S: Listing<D>, D: Digest>(
     // All that `audit` says of a stream and of its report.
     ensures audit { IfOk result (λ report.
         IsAudit (⟦<S as Audited<D>>⟧.basis committees.now) stream.now report) }
-    // No signature outside suspect rounds has a part in it.
+    // No vote of a signer who is not suspect in its round has a part in it, and no certificate outside suspect rounds.
     ensures suspects { IfOk result (λ report.
         NeedsSuspectsAlone (⟦<S as Audited<D>>⟧.basis committees.now) stream.now report) }
     // Each stream has one list of messages.
@@ -139,7 +140,7 @@ pub fn audit_deferred<S: Listing<D>, D: Digest>(
     audit_suspects(alloc, committees, stream)
 }
 
-/// The report of a stream, of which only suspect rounds are verified.
+/// The report of a stream, of which only the votes of suspects and the certificates of their rounds are verified.
 fn audit_suspects<S: Listing<D>, D: Digest>(
     alloc: Global,
     committees: &Committees<S>,
@@ -157,8 +158,8 @@ fn audit_suspects<S: Listing<D>, D: Digest>(
     if claims.evidence.is_empty() {
         return Ok(claims);
     }
-    let rounds = rounds_of(alloc, &claims.evidence)?;
-    let judging = Judging::Suspects(rounds);
+    let suspects = suspects_of(alloc, &claims.evidence)?;
+    let judging = Judging::Suspects(suspects);
     let report = audit_stream(alloc, committees, &judging, stream)?;
     Ok(report)
 }

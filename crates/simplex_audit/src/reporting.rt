@@ -3,7 +3,7 @@
 ghost use Rattle.std.specs.Prelude.{◌≡◌, ◌+◌, ℕ, List, All, length, IfOk};
 ghost use Rattle.simplex_audit.specs.Progress.{IsProgress, fault_of};
 ghost use Rattle.simplex_audit.specs.Report.{IsReport, as_messages};
-ghost use Rattle.simplex_detector.specs.Rules.{AreLawful};
+ghost use Rattle.simplex_detector.specs.Rules.{HaveCommittees};
 ghost use Rattle.simplex_detector.specs.declared.judging.Judging.{Judging};
 ghost use Rattle.simplex_detector.specs.Detector.{Recalls};
 
@@ -25,7 +25,7 @@ pub fn make_report<S: Listing<D>, D: Digest>(
     stop: Option<Error>,
 ) -> Result<Report<S, D>, AllocError>
     ensures report { IfOk result (λ report. (judging : Judging) (stream rest : List ℕ) →
-        AreLawful (⟦<S as Audited<D>>⟧.basis_under judging committees.now).rules →
+        HaveCommittees (⟦<S as Audited<D>>⟧.basis_under judging committees.now).rules →
         place + length rest ≡ length stream →
         IsProgress (⟦<S as Audited<D>>⟧.basis committees.now).format (λ messages.
         Recalls (⟦<S as Audited<D>>⟧.basis_under judging committees.now).rules messages

@@ -1,5 +1,6 @@
 //! How many attestations an audit has verified: a vote that changes nothing is not verified, nor is one again whose certificate
-//! was found to certify. A deferred audit verifies those alone of rounds in which votes claim to contradict.
+//! was found to certify. A deferred audit verifies those alone of signers that are claimed to contradict in a round, and of the
+//! certificates of that round.
 
 use crate::counted::Counted;
 use simplex_audit::audit::{Committees, audit, audit_deferred};
@@ -33,6 +34,12 @@ const EVIDENCE: &[u8] = &[9, 0, 10, 1, 0xaa, 0, 10, 5, 6, 1, 0xaa];
 
 /// A notarize of participant 1 for another proposal of view 10, whose signature is invalid.
 const UNSIGNED: &[u8] = &[0, 0, 10, 5, 7, 1, 0];
+
+/// A notarize of participant 2 in view 10.
+const OTHER: &[u8] = &[0, 0, 10, 5, 6, 2, 0xaa];
+
+/// A nullification of view 10 in which the signature of participant 0 is invalid.
+const FORGED: &[u8] = &[4, 0, 10, 3, 0, 0, 1, 0xaa, 2, 0xaa];
 
 /// Messages of participants 0 and 1 in view 11, which contradict nothing.
 const VIEW_11: [&[u8]; 2] = [
@@ -75,7 +82,7 @@ fn counts(rt: &impl Abort, alloc: Global, messages: &[&[u8]]) -> Result<(usize, 
 fn ample_nothing_is_verified_twice(rt: HostRuntime) -> Result<(), Fail> {
     let [first, second, third] = NOTARIZES;
     let [vote, certificate] = VIEW_11;
-    let cases: [(&[&[u8]], (usize, usize)); 11] = [
+    let cases: [(&[&[u8]], (usize, usize)); 14] = [
         (&[first, first, first], (1, 0)),
         (&[first, second, first, second, third], (2, 2)),
         (&[NULLIFY, NULLIFY], (1, 0)),
@@ -87,10 +94,14 @@ fn ample_nothing_is_verified_twice(rt: HostRuntime) -> Result<(), Fail> {
             (6, 6),
         ),
         (&[NOTARIZATION, second, third], (4, 4)),
-        // What claims to contradict is verified, and nothing of another round.
+        // What claims to contradict is verified, and nothing of another round or signer.
         (&[first, UNSIGNED], (2, 2)),
         (&[vote, certificate, first, second], (6, 2)),
         (&[vote, first, certificate, UNSIGNED], (6, 2)),
+        (&[OTHER, first, UNSIGNED, OTHER], (3, 2)),
+        (&[OTHER, first, NOTARIZATION, second], (6, 5)),
+        // Of the votes that a certificate lists which does not certify only those of suspects are verified.
+        (&[first, second, FORGED], (6, 4)),
     ];
     for (messages, verified) in cases {
         assert_eq!(rt;
@@ -124,10 +135,10 @@ fn ample_nothing_of_an_honest_stream_is_verified(rt: HostRuntime) -> Result<(), 
     let report = audit_deferred::<Counted, MarkedDigest>(alloc, &committees, stream.as_slice())?;
     assert_eq!(rt; (report.read, report.evidence.len()), (12_500, 0));
     assert_eq!(rt; verified(&committees)?, 0);
-    // One vote that contradicts costs what its own round has.
+    // One vote that contradicts costs its signer's votes and the certificate of its own round.
     stream.extend_from_slice(&[0, 0, 128, 1, 5, 7, 3, 0xaa])?;
     let report = audit_deferred::<Counted, MarkedDigest>(alloc, &committees, stream.as_slice())?;
     assert_eq!(rt; (report.read, report.evidence.len()), (12_501, 1));
-    assert_eq!(rt; verified(&committees)?, 8);
+    assert_eq!(rt; verified(&committees)?, 5);
     Ok(())
 }

@@ -96,8 +96,9 @@ impl<'a, S: Listing<D>, D: Digest> Ledger<'a, S, D> {
     }
 }
 
-/// What a ledger stores that was fed what an earlier one stored, or nothing, and then a batch of messages. Only suspect rounds
-/// are verified, as by [`audit_deferred`], and the memory taken is bounded by the stored bytes and the batch.
+/// What a ledger stores that was fed what an earlier one stored, or nothing, and then a batch of messages. Only the votes of
+/// suspects and the certificates of their rounds are verified, as by [`audit_deferred`], and the memory taken is bounded by the
+/// stored bytes and the batch.
 pub fn store_batch<S: Listing<D>, D: Digest>(
     alloc: Global,
     committees: &Committees<S>,

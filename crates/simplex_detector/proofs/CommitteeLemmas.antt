@@ -15,7 +15,7 @@ use Rattle.simplex_scheme.specs.Committee.{IsQuorum}
 use Rattle.simplex_scheme.specs.Subject.{SubjectValue, round_of}
 use Rattle.simplex_scheme.specs.declared.scheme.Attestation.{Attestation}
 use Rattle.simplex_detector.specs.Committees.{Schedule, Every, Listed, AreRising, IsSchedule, committee_of, size_by, greatest, bound_of, valid_by, certified_by, rules_of}
-use Rattle.simplex_detector.specs.Rules.{AreLawful}
+use Rattle.simplex_detector.specs.Rules.{AreLawful, HaveCommittees}
 use Rattle.simplex_detector.proofs.Lists.{find-Contains, some_same}
 use Rattle.std.proofs.lemmas.List.Elements.{All-contains, All-append, All-cons, All-nil}
 
@@ -164,22 +164,30 @@ manned {S} keys (Listed ps) is epoch c h = by (entry_of ps epoch) refl h
 
 -- ---- the rules are lawful
 
+-- whose signature is valid is in the committee
+rules_members : {S D P G : Type 0} (keys : S → List P) (good : S → SubjectValue D → ℕ → G → Bool) → ((s : S) (x : SubjectValue D) (signer : ℕ) (signature : G) → good s x signer signature ≡ true → signer < length (keys s)) → (o : Option S) (x : SubjectValue D) (signer : ℕ) (signature : G) → valid_by good o x signer signature ≡ true → signer < size_by keys o
+rules_members keys good members None x signer signature h = absurd (false≢true h)
+rules_members keys good members (Some s) x signer signature h = members s x signer signature h
+
+-- what certifies has a committee with participants
+rules_someone : {S D C P : Type 0} (keys : S → List P) (certified : S → SubjectValue D → C → Bool) (o : Option S) (x : SubjectValue D) (c : C) → ((s : S) → o ≡ Some s → 1 ≤ length (keys s)) → certified_by certified o x c ≡ true → 1 ≤ size_by keys o
+rules_someone keys certified None x c one h = absurd (false≢true h)
+rules_someone keys certified (Some s) x c one h = one s refl
+
+pub rules_committees : {S D C P G : Type 0} (eq : D → D → Bool) (keys : S → List P) (good : S → SubjectValue D → ℕ → G → Bool) (certified : S → SubjectValue D → C → Bool) (listed : C → List (Attestation S P G)) (schedule : Schedule S) → ((s : S) (x : SubjectValue D) (signer : ℕ) (signature : G) → good s x signer signature ≡ true → signer < length (keys s)) → ((epoch : ℕ) (s : S) → committee_of schedule epoch ≡ Some s → 1 ≤ length (keys s)) → HaveCommittees (rules_of eq keys good certified listed schedule)
+rules_committees eq keys good certified listed schedule members someone = record {
+  members = λ x signer signature. rules_members keys good members (committee_of schedule (round_of x).epoch) x signer signature;
+  someone = λ x c. rules_someone keys certified (committee_of schedule (round_of x).epoch) x c (someone (round_of x).epoch);
+}
+
 pub rules_lawful : {S D C P G : Type 0} (eq : D → D → Bool) (keys : S → List P) (good : S → SubjectValue D → ℕ → G → Bool) (certified : S → SubjectValue D → C → Bool) (listed : C → List (Attestation S P G)) (schedule : Schedule S) → IsEquivalence eq → ((s : S) (x : SubjectValue D) (signer : ℕ) (signature : G) → good s x signer signature ≡ true → signer < length (keys s)) → ((epoch : ℕ) (s : S) → committee_of schedule epoch ≡ Some s → 1 ≤ length (keys s)) → ((s : S) (x : SubjectValue D) (c : C) → certified s x c ≡ true → IsQuorum (length (keys s)) (good s x) (listed c)) → AreLawful (rules_of eq keys good certified listed schedule)
 rules_lawful {S} {D} {C} {P} {G} eq keys good certified listed schedule payloads members someone quorums = record {
   payloads = payloads;
-  members = λ x signer signature. member (committee_of schedule (round_of x).epoch) x signer signature;
-  someone = λ x c. some (committee_of schedule (round_of x).epoch) x c (someone (round_of x).epoch);
+  members = λ x signer signature. rules_members keys good members (committee_of schedule (round_of x).epoch) x signer signature;
+  someone = λ x c. rules_someone keys certified (committee_of schedule (round_of x).epoch) x c (someone (round_of x).epoch);
   quorums = λ x c. quorum (committee_of schedule (round_of x).epoch) x c;
 }
   where
-    member : (o : Option S) (x : SubjectValue D) (signer : ℕ) (signature : G) → valid_by good o x signer signature ≡ true → signer < size_by keys o
-    member None x signer signature h = absurd (false≢true h)
-    member (Some s) x signer signature h = members s x signer signature h
-
-    some : (o : Option S) (x : SubjectValue D) (c : C) → ((s : S) → o ≡ Some s → 1 ≤ length (keys s)) → certified_by certified o x c ≡ true → 1 ≤ size_by keys o
-    some None x c one h = absurd (false≢true h)
-    some (Some s) x c one h = one s refl
-
     quorum : (o : Option S) (x : SubjectValue D) (c : C) → certified_by certified o x c ≡ true → IsQuorum (size_by keys o) (valid_by good o x) (listed c)
     quorum None x c h = absurd (false≢true h)
     quorum (Some s) x c h = let q = quorums s x c h in record { distinct = q.distinct; enough = q.enough; each_good = q.each_good }

@@ -1,34 +1,22 @@
--- However strictly committees judge, they judge lawfully.
+-- However strictly committees judge, what is valid is in a committee.
 use Rattle.std.proofs.Common.{◌≡◌, ℕ, ◌<◌, Bool, true, List, length}
-use Rattle.std.specs.Prelude.{◌&&◌}
 use Rattle.std.specs.BTreeSet.{contains}
-use Rattle.std.proofs.lemmas.Bool.{false≢true, and_parts, and_from, ltb-true}
-use Rattle.std.proofs.lemmas.List.Elements.{All-weaker}
-use Rattle.simplex_scheme.specs.Committee.{IsQuorum}
+use Rattle.std.proofs.lemmas.Bool.{false≢true, and_parts, ltb-true}
 use Rattle.simplex_scheme.specs.Subject.{SubjectValue, round_of}
-use Rattle.simplex_scheme.specs.declared.scheme.Attestation.{Attestation}
-use Rattle.simplex_detector.specs.Judging.{valid_under, certified_under}
+use Rattle.simplex_detector.specs.Judging.{signer_cmp, valid_under, certified_under}
 use Rattle.simplex_detector.specs.Named.{round_cmp}
 use Rattle.simplex_detector.specs.declared.judging.Judging.{Judging}
 use Rattle.simplex_detector.specs.declared.judging.Judging.TheVariants.{Verified, Claimed, Suspects}
 
--- whose vote is good is in the committee
+-- the signer of a valid vote is in the committee
 pub members_under : {S D P G : Type 0} (keys : S → List P) (good : S → SubjectValue D → ℕ → G → Bool) → ((s : S) (x : SubjectValue D) (signer : ℕ) (signature : G) → good s x signer signature ≡ true → signer < length (keys s)) →
     (judging : Judging) (s : S) (x : SubjectValue D) (signer : ℕ) (signature : G) → valid_under keys good judging s x signer signature ≡ true → signer < length (keys s)
 members_under keys good members Verified s x signer signature h = members s x signer signature h
 members_under keys good members Claimed s x signer signature h = ltb-true _ _ h
-members_under keys good members (Suspects rounds) s x signer signature h = members s x signer signature (and_parts (contains round_cmp rounds (round_of x)) (good s x signer signature) h).1
+members_under keys good members (Suspects suspects) s x signer signature h = members s x signer signature (and_parts (contains signer_cmp suspects.signers (round_of x, signer)) (good s x signer signature) h).1
 
--- what certifies lists a quorum
-pub quorums_under : {S D C P G : Type 0} (keys : S → List P) (good : S → SubjectValue D → ℕ → G → Bool) (certified : S → SubjectValue D → C → Bool) (listed : C → List (Attestation S P G)) → ((s : S) (x : SubjectValue D) (certificate : C) → certified s x certificate ≡ true → IsQuorum (length (keys s)) (good s x) (listed certificate)) →
-    (judging : Judging) (s : S) (x : SubjectValue D) (certificate : C) → certified_under certified judging s x certificate ≡ true → IsQuorum (length (keys s)) (valid_under keys good judging s x) (listed certificate)
-quorums_under keys good certified listed quorums Verified s x certificate h = quorums s x certificate h
-quorums_under keys good certified listed quorums Claimed s x certificate h = absurd (false≢true h)
-quorums_under keys good certified listed quorums (Suspects rounds) s x certificate h =
-    let parts = and_parts (contains round_cmp rounds (round_of x)) (certified s x certificate) h in
-    let own = quorums s x certificate parts.1 in
-    record {
-      distinct = own.distinct;
-      enough = own.enough;
-      each_good = All-weaker (λ a. good s x a.signer a.signature ≡ true) (λ a. (contains round_cmp rounds (round_of x) && good s x a.signer a.signature) ≡ true) (λ a good. and_from _ _ parts.0 good) (listed certificate) own.each_good;
-    }
+-- what certifies is verified
+pub certified_by_scheme : {S D C : Type 0} (certified : S → SubjectValue D → C → Bool) (judging : Judging) (s : S) (x : SubjectValue D) (certificate : C) → certified_under certified judging s x certificate ≡ true → certified s x certificate ≡ true
+certified_by_scheme certified Verified s x certificate h = h
+certified_by_scheme certified Claimed s x certificate h = absurd (false≢true h)
+certified_by_scheme certified (Suspects suspects) s x certificate h = (and_parts (contains round_cmp suspects.rounds (round_of x)) (certified s x certificate) h).1

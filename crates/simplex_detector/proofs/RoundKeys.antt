@@ -1,5 +1,5 @@
--- Rounds as keys.
-use Rattle.std.proofs.Common.{◌≡◌, true, false, Ordering, Less, Equal, Greater, sym, refl, ap, ◌∙◌, subst, inl, inr}
+-- Rounds, and signers of rounds, as keys.
+use Rattle.std.proofs.Common.{◌≡◌, ℕ, true, false, Ordering, Less, Equal, Greater, sym, refl, ap, ◌∙◌, subst, inl, inr}
 use Rattle.std.specs.BTreeMap.{is_at as is_key}
 use Rattle.std.specs.Cmp.{IsTotalOrder}
 use Rattle.std.specs.Ordering.{nat_cmp, is_eq}
@@ -7,6 +7,7 @@ use Rattle.std.proofs.lemmas.Bool.{false≢true, cases_Bool}
 use Rattle.std.proofs.lemmas.Cmp.{tied_itself, nat_cmp_total, on_total, then_total}
 use Rattle.std.proofs.lemmas.Map.Lookups.{CmpEqualImpliesEq, exact_pairs, exact_unsigned}
 use Rattle.simplex_base.specs.Positions.{Round, same_round}
+use Rattle.simplex_detector.specs.Judging.{signer_cmp}
 use Rattle.simplex_detector.specs.Named.{round_cmp}
 use Rattle.simplex_detector.proofs.Places.{same_round-true}
 
@@ -17,6 +18,14 @@ round_cmp_total = then_total (on_total (λ (r : Round). r.epoch) nat_cmp_total) 
 -- rounds that the order ties are one
 pub exact_rounds : CmpEqualImpliesEq round_cmp
 exact_rounds a b h = ap (λ (p : _). record { epoch = p.0; view = p.1 }) (exact_pairs nat_cmp nat_cmp exact_unsigned exact_unsigned (a.epoch, a.view) (b.epoch, b.view) h)
+
+-- the order of signers of rounds is total
+pub signer_cmp_total : IsTotalOrder signer_cmp
+signer_cmp_total = then_total (on_total (λ (s : Round × ℕ). s.0) round_cmp_total) (on_total (λ (s : Round × ℕ). s.1) nat_cmp_total)
+
+-- those that the order ties are one
+pub exact_signers : CmpEqualImpliesEq signer_cmp
+exact_signers = exact_pairs round_cmp nat_cmp exact_rounds exact_unsigned
 
 -- a round that is found is the one that was sought
 pub key_tells : (p q : Round) → is_key (round_cmp p) q ≡ true → p ≡ q

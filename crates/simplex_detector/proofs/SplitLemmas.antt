@@ -11,7 +11,7 @@ use Rattle.simplex_scheme.specs.Subject.{SubjectValue, round_of}
 use Rattle.simplex_evidence.specs.Activity.{activity_round}
 use Rattle.simplex_evidence.specs.declared.types.activity.Activity.{Activity}
 use Rattle.simplex_detector.specs.Named.{round_cmp}
-use Rattle.simplex_detector.specs.Rules.{Rules, AreLawful, valid_votes}
+use Rattle.simplex_detector.specs.Rules.{Rules, AreLawful, HaveCommittees, valid_votes}
 use Rattle.simplex_detector.specs.Certificates.{certificate_in, excludes, certificates_contradict, messages_contradict}
 use Rattle.simplex_detector.specs.Splits.{certified_in, is_certified, is_split, named_count, split_of, AreSplits}
 use Rattle.simplex_detector.specs.FirstCertified.{certified_subjects, are_split}
@@ -113,7 +113,7 @@ enough_in_split rules l messages round h =
     enough_for rules l messages round o.x o.y (certifies_from rules messages m o.x m_in m_is) (certifies_from rules messages k o.y k_in k_is) o.x_here o.y_here o.against
 
 -- the committee of a split round has a participant
-pub someone_in_split : {S D C P G : Type 0} (rules : Rules S D C P G) → AreLawful rules → (messages : List (Activity S D C P G)) (round : Round) → is_split rules messages round ≡ true → 1 ≤ rules.size round.epoch
+pub someone_in_split : {S D C P G : Type 0} (rules : Rules S D C P G) → HaveCommittees rules → (messages : List (Activity S D C P G)) (round : Round) → is_split rules messages round ≡ true → 1 ≤ rules.size round.epoch
 someone_in_split rules l messages round h =
     let o = split_to_subjects rules messages round h in
     let (m, m_in, m_is) = Contains-from_filter_map (certified_in rules) messages o.x o.x_in in

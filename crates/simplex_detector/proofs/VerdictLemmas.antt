@@ -21,7 +21,7 @@ use Rattle.simplex_evidence.specs.Contradiction.{Evidence}
 use Rattle.simplex_evidence.specs.declared.types.activity.Activity.{Activity}
 use Rattle.simplex_detector.specs.Named.{Named, is_named, named_by, kind_rank, named_cmp, round_cmp}
 use Rattle.simplex_detector.specs.Evidence.{evidence_of}
-use Rattle.simplex_detector.specs.Rules.{Rules, is_valid, AreLawful, valid_votes}
+use Rattle.simplex_detector.specs.Rules.{Rules, is_valid, HaveCommittees, valid_votes}
 use Rattle.simplex_detector.specs.Splits.{is_split, is_named_in, named_count, split_of, AreSplits}
 use Rattle.simplex_detector.specs.FirstCertified.{certified_subjects, RecordsFirsts}
 use Rattle.simplex_detector.specs.Detector.{RecallsRound, RecallsAt, Recalls}
@@ -63,7 +63,7 @@ counted_in {D} {G} eq vs round es is =
         named_in eq vs round q f.kind (sym (λ i. is_named eq vs (record { round = here i; signer = f_is i; kind = f.kind })) ∙ named)
 
 -- who is named is in the committee
-named_below : {S D C P G : Type 0} (rules : Rules S D C P G) → AreLawful rules → (messages : List (Activity S D C P G)) (round : Round) (q : ℕ) → is_named_in rules.eq (valid_votes rules messages) round q ≡ true → q < rules.size round.epoch
+named_below : {S D C P G : Type 0} (rules : Rules S D C P G) → HaveCommittees rules → (messages : List (Activity S D C P G)) (round : Round) (q : ℕ) → is_named_in rules.eq (valid_votes rules messages) round q ≡ true → q < rules.size round.epoch
 named_below {S} {D} {C} {P} {G} rules l messages round q h =
     let (kind, e) = kind_from_named_in rules.eq (valid_votes rules messages) round q h in
     let (v, w, v_in, w_in, of_v, against) = votes_from_named rules.eq (valid_votes rules messages) (record { round = round; signer = q; kind = kind }) e in
@@ -73,7 +73,7 @@ named_below {S} {D} {C} {P} {G} rules l messages round q h =
     subst (λ s. s < rules.size round.epoch) at.1 (subst (λ r. v.signer < rules.size r.epoch) at.0 below)
 
 -- so no more are named than it has participants
-pub count_within : {S D C P G : Type 0} (rules : Rules S D C P G) → AreLawful rules → (messages : List (Activity S D C P G)) (round : Round) → named_count rules.eq (valid_votes rules messages) round ≤ rules.size round.epoch
+pub count_within : {S D C P G : Type 0} (rules : Rules S D C P G) → HaveCommittees rules → (messages : List (Activity S D C P G)) (round : Round) → named_count rules.eq (valid_votes rules messages) round ≤ rules.size round.epoch
 count_within rules l messages round =
     let named = is_named_in rules.eq (valid_votes rules messages) round in
     let signers = filter named (map (λ v. v.signer) (valid_votes rules messages)) in
@@ -126,7 +126,7 @@ pub no_split : {S D C P G : Type 0} (rules : Rules S D C P G) (messages : List (
 no_split rules messages round recorded records whole = cond-false (is_split rules messages round) _ None (from_subjects rules messages round ∙ sym records.split ∙ whole)
 
 -- nor has one without a committee
-pub no_committee : {S D C P G : Type 0} (rules : Rules S D C P G) → AreLawful rules → (messages : List (Activity S D C P G)) (round : Round) → rules.size round.epoch ≡ 0 → split_of rules messages round ≡ None
+pub no_committee : {S D C P G : Type 0} (rules : Rules S D C P G) → HaveCommittees rules → (messages : List (Activity S D C P G)) (round : Round) → rules.size round.epoch ≡ 0 → split_of rules messages round ≡ None
 no_committee rules l messages round none =
     elim (cases_Bool (is_split rules messages round)) [
       | inl e ↦ absurd (omega (arith, none, someone_in_split rules l messages round e))
@@ -134,7 +134,7 @@ no_committee rules l messages round none =
     ]
 
 -- one that is has that of its evidence and its committee
-pub split_found : {S D C P G : Type 0} (rules : Rules S D C P G) → AreLawful rules → (messages : List (Activity S D C P G)) (round : Round) (recorded : CertifiedSubjects D) → RecordsFirsts rules.eq (certified_subjects rules messages) round recorded → recorded.split ≡ true → (es : List (Evidence D G)) → IsEvidenceIn rules.eq (valid_votes rules messages) round es → (n : ℕ) → rules.size round.epoch ≡ n → n < 2 ^ 32 → (named least : ℕ) → (IsNonDecreasing (map (λ e. e.first.signer) es) → named ≡ min (distinct_count nat_eq (map (λ e. e.first.signer) es)) (2 ^ 32 - 1)) → least ≡ faults_of n + 1 → Some (record { round = round; named = named; least = least }) ≡ split_of rules messages round
+pub split_found : {S D C P G : Type 0} (rules : Rules S D C P G) → HaveCommittees rules → (messages : List (Activity S D C P G)) (round : Round) (recorded : CertifiedSubjects D) → RecordsFirsts rules.eq (certified_subjects rules messages) round recorded → recorded.split ≡ true → (es : List (Evidence D G)) → IsEvidenceIn rules.eq (valid_votes rules messages) round es → (n : ℕ) → rules.size round.epoch ≡ n → n < 2 ^ 32 → (named least : ℕ) → (IsNonDecreasing (map (λ e. e.first.signer) es) → named ≡ min (distinct_count nat_eq (map (λ e. e.first.signer) es)) (2 ^ 32 - 1)) → least ≡ faults_of n + 1 → Some (record { round = round; named = named; least = least }) ≡ split_of rules messages round
 split_found rules l messages round recorded records split es is n size small named least counted least_is =
     let count = counted_in rules.eq (valid_votes rules messages) round es is in
     let within = count_within rules l messages round in

@@ -1,6 +1,8 @@
 -- How strictly votes and certificates are judged.
 use Rattle.std.specs.Prelude.{ℕ, Bool, true, false, ◌&&◌, List, length, nat_lt}
 use Rattle.std.specs.BTreeSet.{contains}
+use Rattle.std.specs.Ordering.{ordering_then, nat_cmp}
+use Rattle.std.specs.declared.cmp.Ordering.{Ordering}
 use Rattle.simplex_base.specs.Positions.{Round}
 use Rattle.simplex_scheme.specs.Subject.{SubjectValue, round_of}
 use Rattle.simplex_scheme.specs.declared.scheme.Attestation.{Attestation}
@@ -10,23 +12,33 @@ use Rattle.simplex_detector.specs.Rules.{Rules}
 use Rattle.simplex_detector.specs.declared.judging.Judging.{Judging}
 use Rattle.simplex_detector.specs.declared.judging.Judging.TheVariants.{Verified, Claimed, Suspects}
 
--- whether the signatures of a round are verified
-abbrev pub is_verified : Judging → Round → Bool
-is_verified Verified round = true
-is_verified Claimed round = false
-is_verified (Suspects rounds) round = contains round_cmp rounds round
+-- signers of rounds are ordered by round, and then by signer
+abbrev pub signer_cmp : Round × ℕ → Round × ℕ → Ordering
+signer_cmp a b = ordering_then (round_cmp a.0 b.0) (nat_cmp a.1 b.1)
+
+-- whether a signer's votes in a round are verified
+abbrev pub is_verified : Judging → Round → ℕ → Bool
+is_verified Verified round signer = true
+is_verified Claimed round signer = false
+is_verified (Suspects suspects) round signer = contains signer_cmp suspects.signers (round, signer)
+
+-- whether a round's certificates are verified
+abbrev pub are_verified : Judging → Round → Bool
+are_verified Verified round = true
+are_verified Claimed round = false
+are_verified (Suspects suspects) round = contains round_cmp suspects.rounds round
 
 -- whose signatures are valid by a committee that judges so
 abbrev pub valid_under : {S D P G : Type 0} → (S → List P) → (S → SubjectValue D → ℕ → G → Bool) → Judging → S → SubjectValue D → ℕ → G → Bool
 valid_under keys good Verified = good
 valid_under keys good Claimed = λ committee x signer signature. nat_lt signer (length (keys committee))
-valid_under keys good (Suspects rounds) = λ committee x signer signature. contains round_cmp rounds (round_of x) && good committee x signer signature
+valid_under keys good (Suspects suspects) = λ committee x signer signature. contains signer_cmp suspects.signers (round_of x, signer) && good committee x signer signature
 
 -- which certificates certify by it
 abbrev pub certified_under : {S D C : Type 0} → (S → SubjectValue D → C → Bool) → Judging → S → SubjectValue D → C → Bool
 certified_under certified Verified = certified
 certified_under certified Claimed = λ committee x certificate. false
-certified_under certified (Suspects rounds) = λ committee x certificate. contains round_cmp rounds (round_of x) && certified committee x certificate
+certified_under certified (Suspects suspects) = λ committee x certificate. contains round_cmp suspects.rounds (round_of x) && certified committee x certificate
 
 -- each vote and each certificate is judged so by the committee of its round's epoch
 abbrev pub rules_under : {S D C P G : Type 0} → (D → D → Bool) → (S → List P) → (S → SubjectValue D → ℕ → G → Bool) → (S → SubjectValue D → C → Bool) → (C → List (Attestation S P G)) → Judging → Schedule S → Rules S D C P G

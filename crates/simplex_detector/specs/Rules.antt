@@ -42,3 +42,9 @@ pub record AreLawful {S D C P G : Type 0} (rules : Rules S D C P G) : Type 0 whe
   pub members : (x : SubjectValue D) (signer : ℕ) (signature : G) → rules.good x signer signature ≡ true → signer < rules.size (round_of x).epoch
   pub someone : (x : SubjectValue D) (certificate : C) → rules.certified x certificate ≡ true → 1 ≤ rules.size (round_of x).epoch
   pub quorums : (x : SubjectValue D) (certificate : C) → rules.certified x certificate ≡ true → IsQuorum (rules.size (round_of x).epoch) (rules.good x) (rules.listed certificate)
+
+-- Whose signature is valid is in the committee of the subject's epoch, and what certifies a subject has a committee there. This
+-- much of `AreLawful` holds however strictly votes and certificates are judged.
+pub record HaveCommittees {S D C P G : Type 0} (rules : Rules S D C P G) : Type 0 where
+  pub members : (x : SubjectValue D) (signer : ℕ) (signature : G) → rules.good x signer signature ≡ true → signer < rules.size (round_of x).epoch
+  pub someone : (x : SubjectValue D) (certificate : C) → rules.certified x certificate ≡ true → 1 ≤ rules.size (round_of x).epoch

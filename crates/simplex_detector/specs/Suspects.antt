@@ -1,4 +1,4 @@
--- What votes claim, before any signature is verified, and rules that judge suspect rounds alone.
+-- What votes claim, before any signature is verified, and rules that judge suspects alone.
 use Rattle.std.specs.Prelude.{◌≡◌, ℕ, ◌&&◌, ◌↔◌, Bool, false, List, nat_lt, Contains, IsTrue}
 use Rattle.std.specs.List.{list_any}
 use Rattle.simplex_base.specs.Positions.{Round}
@@ -21,47 +21,61 @@ claimed rules = record {
   size = rules.size;
 }
 
--- the same, but that nothing is valid or certified in a round that is not suspect
-abbrev pub among : {S D C P G : Type 0} → (Round → Bool) → Rules S D C P G → Rules S D C P G
-among is_suspect rules = record {
+-- which signers are suspect in a round, and which rounds are
+pub record Suspected : Type 0 where
+  pub signers : Round → ℕ → Bool
+  pub rounds : Round → Bool
+
+-- the same, but that no vote is valid of a signer who is not suspect in its round, and nothing is certified in a round that
+-- is not suspect
+abbrev pub among : {S D C P G : Type 0} → Suspected → Rules S D C P G → Rules S D C P G
+among suspected rules = record {
   eq = rules.eq;
-  good = λ x signer signature. is_suspect (round_of x) && rules.good x signer signature;
-  certified = λ x certificate. is_suspect (round_of x) && rules.certified x certificate;
+  good = λ x signer signature. suspected.signers (round_of x) signer && rules.good x signer signature;
+  certified = λ x certificate. suspected.rounds (round_of x) && rules.certified x certificate;
   listed = rules.listed;
   size = rules.size;
 }
 
--- whoever is named is named in a suspect round
-abbrev pub AreSuspect : {S D C P G : Type 0} → Rules S D C P G → List (Activity S D C P G) → (Round → Bool) → Type 0
-AreSuspect rules messages is_suspect = (n : Named) → IsTrue (is_named rules.eq (valid_votes rules messages) n) → IsTrue (is_suspect n.round)
+-- each signer who is named is suspect in its round, and the round is suspect
+abbrev pub AreSuspect : {S D C P G : Type 0} → Rules S D C P G → List (Activity S D C P G) → Suspected → Type 0
+AreSuspect rules messages suspected = (n : Named) → IsTrue (is_named rules.eq (valid_votes rules messages) n) → IsTrue (suspected.signers n.round n.signer) × IsTrue (suspected.rounds n.round)
 
--- the rounds of what the votes claim are suspect
-abbrev pub HasRounds : {D G : Type 0} → List (Evidence D G) → (Round → Bool) → Type 0
-HasRounds {D} {G} claims is_suspect = (e : Evidence D G) → Contains claims e → IsTrue (is_suspect (round_of e.first.subject))
+-- the round and the signer of an evidence
+abbrev pub suspect_of : {D G : Type 0} → Evidence D G → Round × ℕ
+suspect_of e = (round_of e.first.subject, e.first.signer)
 
--- Where whoever is named is named in a suspect round, the suspect rounds alone have the evidence and the splits of all
--- messages.
-pub record TellAll {S D C P G : Type 0} (rules : Rules S D C P G) (messages : List (Activity S D C P G)) (is_suspect : Round → Bool) : Type 0 where
-  pub evidence : (es : List (Evidence D G)) → IsEvidence rules.eq (valid_votes (among is_suspect rules) messages) es ↔ IsEvidence rules.eq (valid_votes rules messages) es
-  pub splits : (splits : List Split) → AreSplits (among is_suspect rules) messages splits ↔ AreSplits rules messages splits
+-- the signers whom the votes claim to contradict are suspect, and so are their rounds
+abbrev pub HasSuspects : {D G : Type 0} → List (Evidence D G) → Suspected → Type 0
+HasSuspects {D} {G} claims suspected =
+    (e : Evidence D G) → Contains claims e → IsTrue (suspected.signers (round_of e.first.subject) e.first.signer) × IsTrue (suspected.rounds (round_of e.first.subject))
 
--- whether a round is suspect: two votes contradict that claim one signer of its committee
-abbrev pub is_suspect : {S D C P G : Type 0} → Rules S D C P G → List (Activity S D C P G) → Round → Bool
-is_suspect rules messages round =
-    list_any (λ v. is_named_in rules.eq (valid_votes (claimed rules) messages) round v.signer) (valid_votes (claimed rules) messages)
+-- Where each signer who is named is suspect in its round, the suspects alone have the evidence and the splits of all messages.
+pub record TellAll {S D C P G : Type 0} (rules : Rules S D C P G) (messages : List (Activity S D C P G)) (suspected : Suspected) : Type 0 where
+  pub evidence : (es : List (Evidence D G)) → IsEvidence rules.eq (valid_votes (among suspected rules) messages) es ↔ IsEvidence rules.eq (valid_votes rules messages) es
+  pub splits : (splits : List Split) → AreSplits (among suspected rules) messages splits ↔ AreSplits rules messages splits
+
+-- whether a signer is suspect in a round: two votes contradict there that claim to be that signer's, and the signer is in the
+-- committee
+abbrev pub is_suspect : {S D C P G : Type 0} → Rules S D C P G → List (Activity S D C P G) → Round → ℕ → Bool
+is_suspect rules messages round signer = is_named_in rules.eq (valid_votes (claimed rules) messages) round signer
+
+-- whether a round is suspect: some signer is suspect there
+abbrev pub is_suspect_round : {S D C P G : Type 0} → Rules S D C P G → List (Activity S D C P G) → Round → Bool
+is_suspect_round rules messages round = list_any (λ v. is_suspect rules messages round v.signer) (valid_votes (claimed rules) messages)
 
 -- the same, but that these judge which votes are valid and which certificates certify
 abbrev pub judged_by : {S D C P G : Type 0} → Rules S D C P G → (SubjectValue D → ℕ → G → Bool) → (SubjectValue D → C → Bool) → Rules S D C P G
 judged_by rules good certified = record { eq = rules.eq; good = good; certified = certified; listed = rules.listed; size = rules.size }
 
--- these judge the votes and certificates of suspect rounds as the rules do, and lawfully
+-- these judge the votes of suspects and the certificates of suspect rounds as the rules do, and lawfully
 pub record JudgeAlike {S D C P G : Type 0} (rules : Rules S D C P G) (messages : List (Activity S D C P G)) (good : SubjectValue D → ℕ → G → Bool) (certified : SubjectValue D → C → Bool) : Type 0 where
   pub lawful : AreLawful (judged_by rules good certified)
-  pub votes : (x : SubjectValue D) (signer : ℕ) (signature : G) → IsTrue (is_suspect rules messages (round_of x)) → good x signer signature ≡ rules.good x signer signature
-  pub certificates : (x : SubjectValue D) (certificate : C) → IsTrue (is_suspect rules messages (round_of x)) → certified x certificate ≡ rules.certified x certificate
+  pub votes : (x : SubjectValue D) (signer : ℕ) (signature : G) → IsTrue (is_suspect rules messages (round_of x) signer) → good x signer signature ≡ rules.good x signer signature
+  pub certificates : (x : SubjectValue D) (certificate : C) → IsTrue (is_suspect_round rules messages (round_of x)) → certified x certificate ≡ rules.certified x certificate
 
--- No signature outside suspect rounds has a part in the evidence and the splits: they are the same, no matter which votes and
--- certificates are valid there.
+-- No vote of a signer who is not suspect in its round, and no certificate of a round that is not suspect, has a part in the
+-- evidence and the splits: they are the same, no matter which of these are valid.
 pub record SuspectsSuffice {S D C P G : Type 0} (rules : Rules S D C P G) (messages : List (Activity S D C P G)) : Type 0 where
   pub evidence : (good : SubjectValue D → ℕ → G → Bool) (certified : SubjectValue D → C → Bool) → JudgeAlike rules messages good certified →
       (es : List (Evidence D G)) → IsEvidence rules.eq (valid_votes rules messages) es → IsEvidence rules.eq (valid_votes (judged_by rules good certified) messages) es

@@ -11,7 +11,7 @@ ghost use Rattle.simplex_detector.specs.Judging.{rules_under};
 ghost use Rattle.simplex_detector.specs.declared.judging.Judging as judgings;
 ghost use Rattle.simplex_detector.specs.Evidence.{IsEvidence};
 ghost use Rattle.simplex_detector.specs.Recorded.{votes_recorded};
-ghost use Rattle.simplex_detector.specs.Rules.{AreLawful, valid_votes};
+ghost use Rattle.simplex_detector.specs.Rules.{HaveCommittees, valid_votes};
 ghost use Rattle.simplex_detector.specs.Detector.{Recalls, RecallsMore};
 ghost use Rattle.simplex_detector.specs.Splits.{AreSplits};
 ghost use Rattle.simplex_detector.specs.EncodedEvidence.{IsEncoded};
@@ -119,7 +119,7 @@ impl<S: Listing<D>, D: Digest> Detector<S, D> {
         ensures { IfOk result (λ splits.
             (judging : judgings.Judging)
             (messages : List (Activity S D S.Certificate S.PublicKey S.Signature)) →
-            AreLawful (rules_under D.eq S.keys S.good S.certified S.listed judging committees.now) →
+            HaveCommittees (rules_under D.eq S.keys S.good S.certified S.listed judging committees.now) →
             Recalls (rules_under D.eq S.keys S.good S.certified S.listed judging committees.now)
             messages self.now →
             AreSplits (rules_under D.eq S.keys S.good S.certified S.listed judging committees.now)

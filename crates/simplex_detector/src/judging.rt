@@ -1,29 +1,40 @@
 //! How strictly votes and certificates are judged.
 
-ghost use Rattle.std.specs.Prelude.{◌≡◌, All, Contains, IfOk, IsTrue, map};
+ghost use Rattle.std.specs.Prelude.{◌≡◌, ℕ, true, All, Contains, IfOk, IsTrue, map};
 ghost use Rattle.std.specs.BTreeSet.{contains, IsFromIterResult};
 ghost use Rattle.simplex_base.specs.Positions as positions;
 ghost use Rattle.simplex_scheme.specs.Subject.{subject_value, round_of};
-ghost use Rattle.simplex_detector.specs.Judging.{is_verified, valid_under, certified_under};
+ghost use Rattle.simplex_detector.specs.Judging.{signer_cmp, is_verified, are_verified, valid_under, certified_under};
 ghost use Rattle.simplex_detector.specs.Named.{round_cmp};
+ghost use Rattle.simplex_detector.specs.Suspects.{suspect_of};
 ghost use Rattle.simplex_detector.specs.Values.{evidence_value};
 
 use crate::evidence::Evidence;
-use simplex_base::positions::{Round, Roundable};
+use simplex_base::positions::{Participant, Round, Roundable};
 use simplex_scheme::scheme::{Attestation, CertificateVerifier, Digest, Scheme, SchemeTypes};
 use simplex_scheme::subject::Subject;
 use std::alloc::{AllocError, Global};
 use std::collections::BTreeSet;
 
-/// How strictly votes and certificates are judged. The scheme is asked to verify one only in a round that is verified.
+/// The signers that are claimed to contradict, and the rounds in which they are.
+#[derive(Drop)]
+pub struct SuspectSigners {
+    /// The rounds, whose certificates are verified.
+    pub rounds: BTreeSet<Round>,
+    /// Each signer with its round, in which its votes are verified.
+    pub signers: BTreeSet<(Round, Participant)>,
+}
+
+/// How strictly votes and certificates are judged. The scheme is asked to verify only what this says is verified.
 #[derive(Drop)]
 pub enum Judging {
-    /// Every round is verified.
+    /// Every vote and every certificate is verified.
     Verified,
-    /// No round is verified: a vote is valid where its signer is in the committee, and no certificate certifies.
+    /// Nothing is verified: a vote is valid where its signer is in the committee, and no certificate certifies.
     Claimed,
-    /// These rounds are verified, and in every other no vote is valid and no certificate certifies.
-    Suspects(BTreeSet<Round>),
+    /// The votes of these signers in their rounds are verified, and the certificates of these rounds. No other vote is valid,
+    /// and no other certificate certifies.
+    Suspects(SuspectSigners),
 }
 
 impl Judging {
@@ -42,10 +53,31 @@ impl Judging {
             Judging::Claimed => {
                 (attestation.signer.get() as usize) < committee.participants().len()
             }
-            Judging::Suspects(rounds) => {
-                rounds.contains(&subject.round())
+            Judging::Suspects(suspects) => {
+                suspects.has(subject, attestation.signer)
                     && self.verify_attestation(committee, subject, attestation)
             }
+        }
+    }
+
+    /// Whether an attestation is valid whose signature is known to be, so that nothing is verified.
+    pub fn accepts_known<S: Scheme<D>, D: Digest>(
+        &self,
+        committee: &S,
+        subject: &Subject<'_, D>,
+        attestation: &Attestation<S>,
+    ) -> bool
+        requires { S.good committee.now (subject_value subject.now)
+            attestation.now.signer attestation.now.signature ≡ true }
+        ensures { result ≡ valid_under S.keys S.good self.now committee.now
+            (subject_value subject.now) attestation.now.signer attestation.now.signature }
+    {
+        match self {
+            Judging::Verified => true,
+            Judging::Claimed => {
+                (attestation.signer.get() as usize) < committee.participants().len()
+            }
+            Judging::Suspects(suspects) => suspects.has(subject, attestation.signer),
         }
     }
 
@@ -62,57 +94,78 @@ impl Judging {
         match self {
             Judging::Verified => self.verify_certificate(committee, subject, certificate),
             Judging::Claimed => false,
-            Judging::Suspects(rounds) => {
-                rounds.contains(&subject.round())
+            Judging::Suspects(suspects) => {
+                suspects.rounds.contains(&subject.round())
                     && self.verify_certificate(committee, subject, certificate)
             }
         }
     }
 
-    /// Has the scheme verify an attestation, of a round that is verified. Nothing else here has it verify one.
+    /// Has the scheme verify an attestation, of a signer whose votes in the round are verified. Nothing else here has it verify
+    /// one.
     fn verify_attestation<S: Scheme<D>, D: Digest>(
         &self,
         committee: &S,
         subject: &Subject<'_, D>,
         attestation: &Attestation<S>,
     ) -> bool
-        requires { IsTrue (is_verified self.now (round_of (subject_value subject.now))) }
+        requires { IsTrue (is_verified self.now (round_of (subject_value subject.now))
+            attestation.now.signer) }
         ensures { result ≡ S.good committee.now (subject_value subject.now)
             attestation.now.signer attestation.now.signature }
     {
         committee.verify_attestation(subject.reborrow(), attestation)
     }
 
-    /// Has the scheme verify a certificate, of a round that is verified. Nothing else here has it verify one.
+    /// Has the scheme verify a certificate, of a round whose certificates are verified. Nothing else here has it verify one.
     fn verify_certificate<S: CertificateVerifier<D>, D: Digest>(
         &self,
         committee: &S,
         subject: &Subject<'_, D>,
         certificate: &S::Certificate,
     ) -> bool
-        requires { IsTrue (is_verified self.now (round_of (subject_value subject.now))) }
+        requires { IsTrue (are_verified self.now (round_of (subject_value subject.now))) }
         ensures { result ≡ S.certified committee.now (subject_value subject.now) certificate.now }
     {
         committee.verify_certificate(subject.reborrow(), certificate)
     }
 }
 
-/// The rounds of some evidence.
-pub fn rounds_of<S: SchemeTypes, D: Digest>(
+impl SuspectSigners {
+    /// Whether a signer is suspect in the round of a subject.
+    fn has<D: Digest>(&self, subject: &Subject<'_, D>, signer: Participant) -> bool
+        ensures { result ≡ contains signer_cmp self.now.signers
+            (round_of (subject_value subject.now), signer) }
+    {
+        self.signers.contains(&(subject.round(), signer))
+    }
+}
+
+/// The signers and rounds of some evidence.
+pub fn suspects_of<S: SchemeTypes, D: Digest>(
     alloc: Global,
     evidence: &[Evidence<S, D>],
-) -> Result<BTreeSet<Round>, AllocError>
-    ensures all { IfOk result (λ rounds. All (λ round. IsTrue (contains round_cmp rounds round))
+) -> Result<SuspectSigners, AllocError>
+    ensures rounds { IfOk result (λ suspects.
+        All (λ round. IsTrue (contains round_cmp suspects.rounds round))
         (map (λ e. round_of (evidence_value e).first.subject) evidence.now)) }
-    ensures only { IfOk result (λ rounds. (round : positions.Round) →
-        IsTrue (contains round_cmp rounds round) →
+    ensures signers { IfOk result (λ suspects.
+        All (λ suspect. IsTrue (contains signer_cmp suspects.signers suspect))
+        (map (λ e. suspect_of (evidence_value e)) evidence.now)) }
+    ensures only_rounds { IfOk result (λ suspects. (round : positions.Round) →
+        IsTrue (contains round_cmp suspects.rounds round) →
         Contains (map (λ e. round_of (evidence_value e).first.subject) evidence.now) round) }
+    ensures only_signers { IfOk result (λ suspects. (round : positions.Round) (signer : ℕ) →
+        IsTrue (contains signer_cmp suspects.signers (round, signer)) →
+        Contains (map (λ e. suspect_of (evidence_value e)) evidence.now) (round, signer)) }
 {
-    collected(alloc, evidence)
+    let rounds = rounds_of(alloc, evidence)?;
+    let signers = signers_of(alloc, evidence)?;
+    Ok(SuspectSigners { rounds, signers })
 }
 
 /// The set of their rounds.
-fn collected<S: SchemeTypes, D: Digest>(
+fn rounds_of<S: SchemeTypes, D: Digest>(
     alloc: Global,
     evidence: &[Evidence<S, D>],
 ) -> Result<BTreeSet<Round>, AllocError>
@@ -120,4 +173,18 @@ fn collected<S: SchemeTypes, D: Digest>(
         (map (λ e. round_of (evidence_value e).first.subject) evidence.now) rounds) }
 {
     evidence.iter().map(|item| item.round()).collect(alloc)
+}
+
+/// The set of their signers, each with its round.
+fn signers_of<S: SchemeTypes, D: Digest>(
+    alloc: Global,
+    evidence: &[Evidence<S, D>],
+) -> Result<BTreeSet<(Round, Participant)>, AllocError>
+    ensures { IfOk result (λ signers. IsFromIterResult signer_cmp
+        (map (λ e. suspect_of (evidence_value e)) evidence.now) signers) }
+{
+    evidence
+        .iter()
+        .map(|item| (item.round(), item.signer()))
+        .collect(alloc)
 }

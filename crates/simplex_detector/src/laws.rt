@@ -2,7 +2,7 @@
 //! another crate, what the clauses state.
 
 ghost use Rattle.std.specs.Prelude.{◌≡◌, ◌≤◌, ◌↔◌, ℕ, List, [], Some, All, Contains, length, map, IsTrue};
-ghost use Rattle.std.specs.BTreeSet.{BTreeSet, contains};
+ghost use Rattle.std.specs.BTreeSet.{contains};
 ghost use Rattle.std.specs.List.{flat_map};
 ghost use Rattle.simplex_base.specs.Positions.{Round};
 ghost use Rattle.simplex_base.specs.Readable.{format_of};
@@ -12,16 +12,17 @@ ghost use Rattle.simplex_evidence.specs.Activity.{activity_encoding};
 ghost use Rattle.simplex_evidence.specs.Contradiction as contradiction;
 ghost use Rattle.simplex_evidence.specs.declared.types.activity.Activity.{Activity};
 ghost use Rattle.simplex_detector.specs.Committees.{Schedule, committee_of, rules_of};
-ghost use Rattle.simplex_detector.specs.Judging.{rules_under};
+ghost use Rattle.simplex_detector.specs.Judging.{signer_cmp, rules_under};
 ghost use Rattle.simplex_detector.specs.declared.judging.Judging.{Judging};
 ghost use Rattle.simplex_detector.specs.declared.judging.Judging.TheVariants.{Claimed, Suspects};
+ghost use Rattle.simplex_detector.specs.declared.judging.SuspectSigners.{SuspectSigners};
 ghost use Rattle.simplex_detector.specs.Named.{round_cmp};
 ghost use Rattle.simplex_detector.specs.Evidence.{IsEvidence, IsEquivocation};
 ghost use Rattle.simplex_detector.specs.Recorded.{RecordedAreSlots, FewAreRecorded, votes_recorded};
 ghost use Rattle.simplex_detector.specs.Laws.{EvidenceIsUnique, NamesExactly, NamedInAnyOrder, NamesStay, IsEvidenceAgain};
-ghost use Rattle.simplex_detector.specs.Rules.{Rules, AreLawful, valid_votes};
+ghost use Rattle.simplex_detector.specs.Rules.{Rules, AreLawful, HaveCommittees, valid_votes};
 ghost use Rattle.simplex_detector.specs.Splits.{AreSplits};
-ghost use Rattle.simplex_detector.specs.Suspects.{claimed, is_suspect, SuspectsSuffice};
+ghost use Rattle.simplex_detector.specs.Suspects.{claimed, suspect_of, is_suspect, is_suspect_round, SuspectsSuffice};
 ghost use Rattle.simplex_detector.specs.SplitLaws.{EnoughAreNamed, SignersAreAccountable, SplitsAreUnique, SplitsHaveNames};
 ghost use Rattle.simplex_detector.specs.Values.{evidence_value};
 ghost use Rattle.simplex_detector.specs.declared.evidence.Evidence.{Evidence};
@@ -31,12 +32,16 @@ use simplex_base::codec::Read;
 use simplex_scheme::scheme::{CertificateScheme, Digest, Listing};
 
 /// Committees with participants judge lawfully: whose signature is valid is in the committee of the epoch, and what
-/// certifies a subject lists a quorum of it.
+/// certifies a subject lists a quorum of it. Of an epoch without a committee nothing is valid, however strictly it is judged.
 pub fn committees_are_lawful<S: Listing<D>, D: Digest>()
-    ensures { (judging : Judging) (schedule : Schedule S) →
+    ensures lawful { (schedule : Schedule S) →
         ((epoch : ℕ) (committee : S) → committee_of schedule epoch ≡ Some committee →
         1 ≤ length (S.keys committee)) →
-        AreLawful (rules_under D.eq S.keys S.good S.certified S.listed judging schedule) }
+        AreLawful (rules_of D.eq S.keys S.good S.certified S.listed schedule) }
+    ensures committees { (judging : Judging) (schedule : Schedule S) →
+        ((epoch : ℕ) (committee : S) → committee_of schedule epoch ≡ Some committee →
+        1 ≤ length (S.keys committee)) →
+        HaveCommittees (rules_under D.eq S.keys S.good S.certified S.listed judging schedule) }
 {}
 
 /// Who is named does not depend on the order of the messages, and stays named.
@@ -111,9 +116,9 @@ pub fn recorded_votes_have_room<S: Listing<D>, D: Digest>()
         (format_of ⟦<S::Signature as Read>⟧)) messages) }
 {}
 
-/// What votes claim, before any signature is verified, decides which rounds are suspect: those in which votes that claim one
-/// signer contradict. Suspect rounds alone have the evidence and the splits of all messages. Where no round is suspect there
-/// are none.
+/// What votes claim, before any signature is verified, decides which signers are suspect in a round: those of whom two votes
+/// contradict there. The votes of suspects and the certificates of their rounds have the evidence and the splits of all
+/// messages. Where nobody is suspect there are none.
 pub fn suspects_tell_all<S: Listing<D>, D: Digest>()
     ensures nobody { (schedule : Schedule S)
         (messages : List (Activity S D S.Certificate S.PublicKey S.Signature))
@@ -127,24 +132,26 @@ pub fn suspects_tell_all<S: Listing<D>, D: Digest>()
         AreSplits (rules_of D.eq S.keys S.good S.certified S.listed schedule) messages splits }
     ensures suspects { (schedule : Schedule S)
         (messages : List (Activity S D S.Certificate S.PublicKey S.Signature))
-        (claims : List (contradiction.Evidence D S.Signature)) (rounds : BTreeSet Round) →
+        (claims : List (contradiction.Evidence D S.Signature)) (suspects : SuspectSigners) →
         AreLawful (rules_of D.eq S.keys S.good S.certified S.listed schedule) →
         IsEvidence D.eq (valid_votes
         (rules_under D.eq S.keys S.good S.certified S.listed Claimed schedule) messages) claims →
-        All (λ round. IsTrue (contains round_cmp rounds round))
+        All (λ round. IsTrue (contains round_cmp suspects.rounds round))
         (map (λ e. round_of e.first.subject) claims) →
+        All (λ suspect. IsTrue (contains signer_cmp suspects.signers suspect))
+        (map suspect_of claims) →
         (es : List (contradiction.Evidence D S.Signature)) (splits : List Split) →
         IsEvidence D.eq (valid_votes (rules_under D.eq S.keys S.good S.certified S.listed
-        (Suspects rounds) schedule) messages) es →
+        (Suspects suspects) schedule) messages) es →
         AreSplits (rules_under D.eq S.keys S.good S.certified S.listed
-        (Suspects rounds) schedule) messages splits →
+        (Suspects suspects) schedule) messages splits →
         IsEvidence D.eq (valid_votes
         (rules_of D.eq S.keys S.good S.certified S.listed schedule) messages) es ×
         AreSplits (rules_of D.eq S.keys S.good S.certified S.listed schedule) messages splits }
 {}
 
-/// The evidence and the splits of messages depend on no signature outside suspect rounds. These are the rounds of what votes
-/// claim.
+/// The evidence and the splits of messages depend on no signature but those of suspects in their rounds and of the
+/// certificates of these rounds. The suspects are the signers of what votes claim, each in its round.
 pub fn suspects_suffice<S: CertificateScheme, D: Digest>()
     ensures suffice { (rules : Rules S D S.Certificate S.PublicKey S.Signature)
         (messages : List (Activity S D S.Certificate S.PublicKey S.Signature)) →
@@ -154,5 +161,11 @@ pub fn suspects_suffice<S: CertificateScheme, D: Digest>()
         (claims : List (contradiction.Evidence D S.Signature)) → AreLawful rules →
         IsEvidence rules.eq (valid_votes (claimed rules) messages) claims → (round : Round) →
         Contains (map (λ e. round_of e.first.subject) claims) round ↔
-        IsTrue (is_suspect rules messages round) }
+        IsTrue (is_suspect_round rules messages round) }
+    ensures signers { (rules : Rules S D S.Certificate S.PublicKey S.Signature)
+        (messages : List (Activity S D S.Certificate S.PublicKey S.Signature))
+        (claims : List (contradiction.Evidence D S.Signature)) → AreLawful rules →
+        IsEvidence rules.eq (valid_votes (claimed rules) messages) claims →
+        (round : Round) (signer : ℕ) → Contains (map suspect_of claims) (round, signer) ↔
+        IsTrue (is_suspect rules messages round signer) }
 {}

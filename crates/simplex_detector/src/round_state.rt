@@ -7,7 +7,7 @@ ghost use Rattle.std.specs.Set.{distinct_count};
 ghost use Rattle.simplex_scheme.specs.Subject.{subject_value, round_of};
 ghost use Rattle.simplex_votes.specs.Votes.{Sort, notarize_vote, nullify_vote, finalize_vote};
 ghost use Rattle.simplex_evidence.specs.declared.types.activity.Activity.{Activity};
-ghost use Rattle.simplex_detector.specs.Rules.{vote_on, AreLawful};
+ghost use Rattle.simplex_detector.specs.Rules.{vote_on, HaveCommittees};
 ghost use Rattle.simplex_detector.specs.Judging.{rules_under};
 ghost use Rattle.simplex_detector.specs.declared.judging.Judging as judgings;
 ghost use Rattle.simplex_detector.specs.Rounds.{round_count, IsSized, slots, no_slot};
@@ -193,7 +193,7 @@ impl<S: Listing<D>, D: Digest> RoundState<S, D> {
     }
 
     /// Takes in a certificate of the round and the votes that it lists. Where it is found to certify the subject all of
-    /// them are valid; else each is judged by itself.
+    /// their signatures are valid; else each is verified by itself.
     fn observe_certificate(
         &mut self,
         committee: &S,
@@ -225,7 +225,8 @@ impl<S: Listing<D>, D: Digest> RoundState<S, D> {
         ensures { IfOk result (λ split.
             (judging : judgings.Judging)
             (messages : List (Activity S D S.Certificate S.PublicKey S.Signature)) →
-            AreLawful (rules_under D.eq S.keys S.good S.certified S.listed judging committees.now) →
+            HaveCommittees
+            (rules_under D.eq S.keys S.good S.certified S.listed judging committees.now) →
             RecallsRound (rules_under D.eq S.keys S.good S.certified S.listed judging
             committees.now)
             messages round self.now → split ≡ split_of

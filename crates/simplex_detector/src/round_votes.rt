@@ -113,7 +113,7 @@ impl<S: SchemeTypes, D: Digest> RoundVotes<S, D> {
         }
     }
 
-    /// Records a vote if it is valid and news. One that would change nothing is not verified, nor one that is
+    /// Records a vote if it is valid and news. One that would change nothing is not verified, nor one whose signature is
     /// known to be valid, and only what is recorded is copied.
     pub fn observe(
         &mut self,
@@ -125,8 +125,7 @@ impl<S: SchemeTypes, D: Digest> RoundVotes<S, D> {
     ) -> Result<(), AllocError>
     where
         S: Scheme<D>,
-        requires { IsTrue known →
-            valid_under S.keys S.good judging.now scheme.now (subject_value subject.now)
+        requires { IsTrue known → S.good scheme.now (subject_value subject.now)
             attestation.now.signer attestation.now.signature ≡ true }
         ensures { OnOk result ((vs : List (SignedVote D S.Signature)) →
             HoldsRound D.eq (length (S.keys scheme.now)) vs (round_of (subject_value subject.now))
@@ -147,8 +146,8 @@ impl<S: SchemeTypes, D: Digest> RoundVotes<S, D> {
         self.add(subject, Attestation { signer, signature })
     }
 
-    /// Records those that are valid and news among votes on one subject. Each is judged by itself, unless all are
-    /// known to be valid.
+    /// Records those that are valid and news among votes on one subject. Each is verified by itself, unless the signatures of
+    /// all are known to be valid.
     pub fn observe_all(
         &mut self,
         scheme: &S,
@@ -159,8 +158,7 @@ impl<S: SchemeTypes, D: Digest> RoundVotes<S, D> {
     ) -> Result<(), AllocError>
     where
         S: Scheme<D>,
-        requires { IsTrue known →
-            All (λ a. valid_under S.keys S.good judging.now scheme.now (subject_value subject.now)
+        requires { IsTrue known → All (λ a. S.good scheme.now (subject_value subject.now)
             a.signer a.signature ≡ true) attestations.now }
         ensures { OnOk result ((vs : List (SignedVote D S.Signature)) →
             HoldsRound D.eq (length (S.keys scheme.now)) vs (round_of (subject_value subject.now))
@@ -262,7 +260,7 @@ impl<S: SchemeTypes, D: Digest> RoundVotes<S, D> {
     }
 }
 
-/// Whether an attestation is valid. One that is known to be is not verified.
+/// Whether an attestation is valid. One whose signature is known to be is not verified.
 fn is_valid<S: Scheme<D>, D: Digest>(
     scheme: &S,
     subject: &Subject<'_, D>,
@@ -270,13 +268,15 @@ fn is_valid<S: Scheme<D>, D: Digest>(
     judging: &Judging,
     known: bool,
 ) -> bool
-    requires { IsTrue known →
-        valid_under S.keys S.good judging.now scheme.now (subject_value subject.now)
+    requires { IsTrue known → S.good scheme.now (subject_value subject.now)
         attestation.now.signer attestation.now.signature ≡ true }
     ensures { result ≡ valid_under S.keys S.good judging.now scheme.now
         (subject_value subject.now) attestation.now.signer attestation.now.signature }
 {
-    known || judging.accepts(scheme, subject, attestation)
+    if known {
+        return judging.accepts_known(scheme, subject, attestation);
+    }
+    judging.accepts(scheme, subject, attestation)
 }
 
 /// Appends an evidence, if there is one.

@@ -7,6 +7,6 @@ pub returns-clause-report : goal.returns-clause-report
 returns-clause-report g c =
     let p = c.in_ok-progress.progress in
     let room = c.in_ok-progress.ensures.room in
-    if_ok _ _ (λ report is. is c.args.judging.now c.args.stream.now p.rest.now (c.reading_bound-bound.ensures.lawful_under c.args.judging.now) (omega arith)
+    if_ok _ _ (λ report is. is c.args.judging.now c.args.stream.now p.rest.now (c.reading_bound-bound.ensures.committees_under c.args.judging.now) (omega arith)
     (read_at_once _ _ c.args.stream.now p.rest.now p.read p.stop c.new-detector.result c.read_messages.new.detector (c.new-detector.ensures c.args.judging.now c.args.committees.now) (c.in_ok-progress.ensures.progress c.reading_bound-bound.ensures.value)))
     c.make_report.result c.make_report.ensures.report

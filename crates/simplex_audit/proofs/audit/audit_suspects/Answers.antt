@@ -4,7 +4,9 @@ use Rattle.std.specs.BTreeSet.{contains}
 use Rattle.std.proofs.lemmas.Bool.{eqb-true}
 use Rattle.std.proofs.lemmas.Simd.{map-map}
 use Rattle.simplex_scheme.specs.Subject.{round_of}
+use Rattle.simplex_detector.specs.Judging.{signer_cmp}
 use Rattle.simplex_detector.specs.Named.{round_cmp}
+use Rattle.simplex_detector.specs.Suspects.{suspect_of}
 use Rattle.simplex_detector.specs.Values.{evidence_value}
 use Rattle.simplex_audit.specs.Report.{evidence_in}
 use Rattle.simplex_audit.proofs.DeferredLemmas.{nobody_reported, suspects_reported}
@@ -20,13 +22,15 @@ returns-then-is_empty-clause-report g c =
     (λ messages splits. c.suspects_tell_all.ensures.nobody c.args.committees.now messages splits c.in_ok-claims.ensures.lawful)
     c.in_ok-claims.ensures.report
 
--- the suspect rounds tell all
+-- the suspects tell all
 pub returns-clause-report : goal.returns-clause-report
 returns-clause-report g c =
     let claims = c.in_ok-claims.claims in
-    let rounds = c.in_ok-rounds.rounds in
-    let has = subst (All (λ round. IsTrue (contains round_cmp rounds round)))
-    (ap (map (λ e. round_of (evidence_value e).first.subject)) c.deref.ensures.value ∙ sym (map-map (λ e. round_of e.first.subject) evidence_value claims.evidence.items)) c.in_ok-rounds.ensures.all in
+    let suspects = c.in_ok-suspects.suspects in
+    let has_rounds = subst (All (λ round. IsTrue (contains round_cmp suspects.rounds round)))
+    (ap (map (λ e. round_of (evidence_value e).first.subject)) c.deref.ensures.value ∙ sym (map-map (λ e. round_of e.first.subject) evidence_value claims.evidence.items)) c.in_ok-suspects.ensures.rounds in
+    let has_signers = subst (All (λ suspect. IsTrue (contains signer_cmp suspects.signers suspect)))
+    (ap (map (λ e. suspect_of (evidence_value e))) c.deref.ensures.value ∙ sym (map-map suspect_of evidence_value claims.evidence.items)) c.in_ok-suspects.ensures.signers in
     suspects_reported _ _ c.in_ok-claims.ensures.readable _ _ _ c.args.stream.now claims c.in_ok-report.report c.in_ok-claims.ensures.report
-    (λ messages es splits claimed judged are. c.suspects_tell_all.ensures.suspects c.args.committees.now messages (evidence_in claims) rounds c.in_ok-claims.ensures.lawful claimed has es splits judged are)
+    (λ messages es splits claimed judged are. c.suspects_tell_all.ensures.suspects c.args.committees.now messages (evidence_in claims) suspects c.in_ok-claims.ensures.lawful claimed has_rounds has_signers es splits judged are)
     c.in_ok-report.ensures.report

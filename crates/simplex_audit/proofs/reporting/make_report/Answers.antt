@@ -4,14 +4,14 @@ use Rattle.simplex_audit.proofs.ReportLemmas.{fault_is, are_messages}
 use Rattle.simplex_audit.proofs.reporting.make_report.Goals as goal
 
 pub returns-clause-report : goal.returns-clause-report
-returns-clause-report g c = λ judging stream rest lawful at read. record {
+returns-clause-report g c = λ judging stream rest committees at read. record {
   messages = read.messages;
   rest = rest;
   are_messages = read.are_messages;
   read_is = read.read_is;
   fault_is = fault_is _ stream rest read.messages c.args.place c.args.stop _ read.are_messages at read.stop_is c.fault_at-fault.ensures;
   evidence_is = c.in_ok-evidence.ensures.evidence judging c.args.committees.now read.messages read.recorded;
-  splits_are = c.in_ok-splits.ensures judging read.messages lawful read.recorded;
+  splits_are = c.in_ok-splits.ensures judging read.messages committees read.recorded;
 }
 
 pub returns-clause-encoded : goal.returns-clause-encoded

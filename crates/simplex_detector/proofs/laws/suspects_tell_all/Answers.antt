@@ -6,5 +6,5 @@ returns-clause-nobody g c schedule messages splits l is are =
     nobody_claimed g.D.PartialEq.eq g.S.CertificateScheme.keys g.S.Scheme.good g.S.CertificateVerifier.certified g.S.Listing.listed schedule l messages splits is are
 
 pub returns-clause-suspects : goal.returns-clause-suspects
-returns-clause-suspects g c schedule messages claims rounds l is has es splits es_are splits_are =
-    suspects_found g.D.PartialEq.eq g.S.CertificateScheme.keys g.S.Scheme.good g.S.CertificateVerifier.certified g.S.Listing.listed schedule l messages claims rounds is has es splits es_are splits_are
+returns-clause-suspects g c schedule messages claims suspects l is has_rounds has_signers es splits es_are splits_are =
+    suspects_found g.D.PartialEq.eq g.S.CertificateScheme.keys g.S.Scheme.good g.S.CertificateVerifier.certified g.S.Listing.listed schedule l messages claims suspects is has_rounds has_signers es splits es_are splits_are

@@ -2,7 +2,7 @@ use Rattle.std.proofs.Common.{◌≡◌, ◌++◌, List, map}
 use Rattle.std.specs.List.{filter_map, AllByRecursion}
 use Rattle.simplex_evidence.specs.declared.types.activity.Activity.{Activity}
 use Rattle.simplex_detector.specs.Judging.{rules_under}
-use Rattle.simplex_detector.specs.Rules.{AreLawful}
+use Rattle.simplex_detector.specs.Rules.{HaveCommittees}
 use Rattle.simplex_detector.specs.Detector.{RecallsRound}
 use Rattle.simplex_detector.specs.Splits.{split_of}
 use Rattle.simplex_detector.specs.declared.judging.Judging.{Judging}
@@ -14,6 +14,6 @@ invariant-rounds g l =
     (judging : Judging) →
     let rules = rules_under g.D.PartialEq.eq g.S.CertificateScheme.keys g.S.Scheme.good g.S.CertificateVerifier.certified g.S.Listing.listed judging l.committees in
     (messages : List (Activity g.row.S.Denot g.row.D.Denot g.row.S-Certificate.Denot g.row.S-PublicKey.Denot g.row.S-Signature.Denot)) →
-    AreLawful rules → AllByRecursion (λ e. RecallsRound rules messages e.0 e.1) l.self.rounds.entries →
+    HaveCommittees rules → AllByRecursion (λ e. RecallsRound rules messages e.0 e.1) l.self.rounds.entries →
     AllByRecursion (λ e. RecallsRound rules messages e.0 e.1) l.round-iterator ×
     (l.splits.items ++ filter_map (split_of rules messages) (map (λ e. e.0) l.round-iterator) ≡ filter_map (split_of rules messages) (map (λ e. e.0) l.self.rounds.entries))

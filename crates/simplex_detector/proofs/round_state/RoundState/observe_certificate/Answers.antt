@@ -3,17 +3,18 @@ use Rattle.std.specs.Prelude.{All}
 use Rattle.std.proofs.lemmas.Bool.{and_parts}
 use Rattle.simplex_scheme.specs.Subject.{subject_value}
 use Rattle.simplex_detector.specs.Judging.{valid_under, certified_under}
-use Rattle.simplex_detector.proofs.JudgingLemmas.{quorums_under}
+use Rattle.simplex_detector.proofs.JudgingLemmas.{certified_by_scheme}
 use Rattle.simplex_detector.proofs.Results.{on_ok}
 use Rattle.simplex_detector.proofs.RoundStateLemmas.{takes_certificate, RecordsValid}
 use Rattle.simplex_detector.proofs.round_state.RoundState.observe_certificate.Goals as goal
 
--- the votes that a certificate lists are valid where it certifies
+-- the signatures of the votes that a certificate lists are valid where it certifies
 pub observe_all-requires : goal.observe_all-requires
 observe_all-requires g c = λ certifies.
     let x = subject_value c.args.subject.now in
-    subst (All (λ a. valid_under g.S.CertificateScheme.keys g.S.Scheme.good c.args.judging.now c.args.committee.now x a.signer a.signature ≡ true)) (sym c.attestations-attestations.ensures)
-    (quorums_under g.S.CertificateScheme.keys g.S.Scheme.good g.S.CertificateVerifier.certified g.S.Listing.listed g.met.S.Listing.lists_quorums c.args.judging.now c.args.committee.now x c.args.certificate.now (and_parts _ _ (sym c.observe-certifies.ensures.verified ∙ certifies)).1).each_good
+    subst (All (λ a. g.S.Scheme.good c.args.committee.now x a.signer a.signature ≡ true)) (sym c.attestations-attestations.ensures)
+    (g.met.S.Listing.lists_quorums c.args.committee.now x c.args.certificate.now
+    (certified_by_scheme g.S.CertificateVerifier.certified c.args.judging.now c.args.committee.now x c.args.certificate.now (and_parts _ _ (sym c.observe-certifies.ensures.verified ∙ certifies)).1)).each_good
 
 pub returns : goal.returns
 returns g c =

@@ -8,10 +8,10 @@ use Rattle.simplex_detector.proofs.round_votes.RoundVotes.observe_all.Goals as g
 pub listed-init : goal.listed-init
 listed-init g c = holds_none_more {S = g.row.S.Denot} {P = g.row.S-PublicKey.Denot} g.D.PartialEq.eq (length (g.S.CertificateScheme.keys c.args.scheme.now)) ((valid_under g.S.CertificateScheme.keys g.S.Scheme.good c.args.judging.now) c.args.scheme.now) (subject_value c.args.subject.now) c.args.self.now
 
--- each of them is known to be valid where all are
+-- the signature of each is known to be valid where all are
 pub observe-requires : goal.observe-requires
 observe-requires g c = λ known.
-    subst (λ a. (valid_under g.S.CertificateScheme.keys g.S.Scheme.good c.args.judging.now) c.args.scheme.now (subject_value c.args.subject.now) a.signer a.signature ≡ true) (sym c.attestation-item.is)
+    subst (λ a. g.S.Scheme.good c.args.scheme.now (subject_value c.args.subject.now) a.signer a.signature ≡ true) (sym c.attestation-item.is)
     (c.requires known c.listed.attestation-index c.attestation-item.result c.listed-test.true)
 
 pub listed-preserved : goal.listed-preserved
