@@ -6,6 +6,7 @@ use crate::counted::Counted;
 use simplex_audit::audit::{Committees, audit, audit_deferred};
 use simplex_base::codec::Fixed;
 use simplex_base::positions::Epoch;
+use simplex_clients::ledger::store_batch;
 use simplex_plain::marked::{MarkedDigest, MarkedKey};
 use simplex_scheme::set::Set;
 use std::alloc::Global;
@@ -134,7 +135,9 @@ fn ample_nothing_of_an_honest_stream_is_verified(rt: HostRuntime) -> Result<(), 
     let mut stream = honest(alloc)?;
     let report = audit_deferred::<Counted, MarkedDigest>(alloc, &committees, stream.as_slice())?;
     assert_eq!(rt; (report.read, report.evidence.len()), (12_500, 0));
-    assert_eq!(rt; verified(&committees)?, 0);
+    // Nor is anything verified where the stream comes as a batch.
+    let stored = store_batch::<Counted, MarkedDigest>(alloc, &committees, &[], stream.as_slice())?;
+    assert_eq!(rt; (stored.len(), verified(&committees)?), (0, 0));
     // One vote that contradicts costs its signer's votes and the certificate of its own round.
     stream.extend_from_slice(&[0, 0, 128, 1, 5, 7, 3, 0xaa])?;
     let report = audit_deferred::<Counted, MarkedDigest>(alloc, &committees, stream.as_slice())?;
