@@ -119,7 +119,8 @@ impl<S: Listing<D>, D: Digest> Detector<S, D> {
         ensures { IfOk result (λ splits.
             (judging : judgings.Judging)
             (messages : List (Activity S D S.Certificate S.PublicKey S.Signature)) →
-            HaveCommittees (rules_under D.eq S.keys S.good S.certified S.listed judging committees.now) →
+            HaveCommittees
+            (rules_under D.eq S.keys S.good S.certified S.listed judging committees.now) →
             Recalls (rules_under D.eq S.keys S.good S.certified S.listed judging committees.now)
             messages self.now →
             AreSplits (rules_under D.eq S.keys S.good S.certified S.listed judging committees.now)
