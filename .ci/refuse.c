@@ -2,12 +2,15 @@
 // on every other.
 //
 // REFUSED is the number of the one call that fails (the first is 1). Only calls for at least as many bytes as LEAST says are
-// counted; without it all are. FROM is a number of bytes: the first call for exactly so many and each one after it fail. Where a
-// call fails, a byte is written to descriptor 9.
+// counted; without it all are. Where a call fails, a byte is written to descriptor 9.
+//
+// A program says where it needs no memory by two signals: a call for exactly ENDS bytes, and one for exactly RETURNS bytes. With
+// SIGNALS set each call from the first on fails until one for RETURNS bytes, which does not, and again from the next for ENDS bytes
+// on. Neither signal is counted, and without SIGNALS neither fails.
 //
 //     cc -shared -fPIC -o refuse.so refuse.c
 //     REFUSED=3 LD_PRELOAD=./refuse.so ./program 9>refused
-//     FROM=12345 LD_PRELOAD=./refuse.so ./program 9>refused
+//     SIGNALS=1 LD_PRELOAD=./refuse.so ./program 9>refused
 
 #include <errno.h>
 #include <stdlib.h>
@@ -17,31 +20,35 @@ extern void *__libc_malloc(size_t size);
 extern void *__libc_calloc(size_t count, size_t size);
 extern void *__libc_realloc(void *old, size_t size);
 
+// What `memory::ends` and `memory::returns` of `conformance_messages`, and the tests named `without_memory`, ask for.
+static const size_t ENDS = 12345;
+static const size_t RETURNS = 54321;
+
 static unsigned long allocations;
 static unsigned long refused;
 static size_t least;
-static size_t from;
+static int has_signals;
 static int ended;
 
 __attribute__((constructor)) static void begin(void) {
     const char *number = getenv("REFUSED");
     const char *bytes = getenv("LEAST");
-    const char *end = getenv("FROM");
     allocations = 0;
     refused = number ? strtoul(number, NULL, 10) : 0;
     least = bytes ? strtoul(bytes, NULL, 10) : 0;
-    from = end ? strtoul(end, NULL, 10) : 0;
+    has_signals = getenv("SIGNALS") != NULL;
     ended = 0;
 }
 
 static int is_numbered(size_t size) {
-    if (size < least) return 0;
+    if (size < least || size == ENDS || size == RETURNS) return 0;
     allocations++;
     return refused != 0 && allocations == refused;
 }
 
 static int is_refused(size_t size) {
-    if (from != 0 && size == from) ended = 1;
+    if (has_signals && size == ENDS) ended = 1;
+    if (size == RETURNS) ended = 0;
     if (!is_numbered(size) && !ended) return 0;
     if (write(9, "!", 1) != 1) abort();
     errno = ENOMEM;

@@ -1,5 +1,8 @@
 //! The answer to a test vector of messages.
 
+ghost use Rattle.std.specs.Prelude.{◌≡◌, Err, length};
+ghost use Rattle.conformance_messages.specs.declared.vectors.Unanswered.TheVariants.{NoVector};
+
 use crate::leaders::leader;
 use crate::maps::map;
 use crate::names::{derive, subject};
@@ -18,9 +21,11 @@ use simplex_plain::marked::MarkedDigest;
 use std::alloc::Global;
 
 /// The answer to the test vector of these words, as docs/CONFORMANCE.md has it; here those that ask what some bytes are, and what
-/// a scheme makes of them. `NoVector` comes where the words are no test vector that asks about messages. No clause says what the answer is:
-/// the stored test vectors of `conformance` do.
-pub fn message_vector(alloc: Global, words: &[&str]) -> Result<String, Unanswered> {
+/// a scheme makes of them. `NoVector` comes where the words are no test vector that asks about messages. No clause says what the
+/// answer is: the stored test vectors of `conformance` do.
+pub fn message_vector(alloc: Global, words: &[&str]) -> Result<String, Unanswered>
+    ensures { length words.now ≡ 0 → result ≡ Err NoVector }
+{
     match words {
         ["read", kind, bound, encoding @ ..] => {
             read_vector(alloc, Asked::Read, *kind, *bound, encoding)
@@ -33,19 +38,23 @@ pub fn message_vector(alloc: Global, words: &[&str]) -> Result<String, Unanswere
         }
         ["verify" | "sign" | "assemble" | "many", scheme, ..] => vote_vector(alloc, *scheme, words),
         ["derive", base @ ..] => derive(alloc, bytes(alloc, base)?.as_slice()),
-        ["subject", kind, base, encoding @ ..] => subject(alloc, *kind, *base, encoding),
+        ["subject", kind, base, encoding @ ..] => subject::<MarkedDigest>(
+            alloc, *kind, *base, encoding,
+        ),
         _ => node_vector(alloc, words),
     }
 }
 
 /// The answer to the test vector of these words, which asks for a batcher, a resolver or a plan.
-fn node_vector(alloc: Global, words: &[&str]) -> Result<String, Unanswered> {
+fn node_vector(alloc: Global, words: &[&str]) -> Result<String, Unanswered>
+    ensures { length words.now ≡ 0 → result ≡ Err NoVector }
+{
     match words {
         ["batch", participants, proposal, votes @ ..] => {
             let scheme = committee(alloc, *participants)?;
             batch::<_, MarkedDigest>(alloc, &scheme, *proposal, votes)
         }
-        ["resolve", participants, encoding @ ..] => resolved(
+        ["resolve", participants, encoding @ ..] => resolved::<_, MarkedDigest>(
             alloc,
             &committee(alloc, *participants)?,
             bytes(alloc, encoding)?.as_slice(),
@@ -58,7 +67,9 @@ fn node_vector(alloc: Global, words: &[&str]) -> Result<String, Unanswered> {
 }
 
 /// The answer to the test vector of these words, which asks for a vote map, a leader or a term.
-fn leading_vector(alloc: Global, words: &[&str]) -> Result<String, Unanswered> {
+fn leading_vector(alloc: Global, words: &[&str]) -> Result<String, Unanswered>
+    ensures { length words.now ≡ 0 → result ≡ Err NoVector }
+{
     match words {
         ["map", participants, signers @ ..] => map(alloc, small(*participants)?, signers),
         ["leader", participants, seed, length, at, place] => leader(
@@ -74,7 +85,9 @@ fn leading_vector(alloc: Global, words: &[&str]) -> Result<String, Unanswered> {
 }
 
 /// The answer to the test vector of these words, which asks for a window of views.
-fn window_vector(alloc: Global, words: &[&str]) -> Result<String, Unanswered> {
+fn window_vector(alloc: Global, words: &[&str]) -> Result<String, Unanswered>
+    ensures { length words.now ≡ 0 → result ≡ Err NoVector }
+{
     match words {
         ["admits", length, ahead, current, pending] => {
             let lookahead = lookahead(*length, *ahead)?;

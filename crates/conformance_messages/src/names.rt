@@ -3,9 +3,9 @@
 use crate::refusals::name;
 use crate::vectors::{Unanswered, bytes};
 use simplex_base::codec::decode;
-use simplex_plain::marked::MarkedDigest;
 use simplex_scheme::namespace::Namespace;
-use simplex_scheme::scheme::CertificateSubject;
+use simplex_scheme::proposal::Proposal;
+use simplex_scheme::scheme::{CertificateSubject, Digest};
 use simplex_scheme::subject::Subject;
 use std::alloc::Global;
 
@@ -20,7 +20,7 @@ pub(crate) fn derive(alloc: Global, base: &[u8]) -> Result<String, Unanswered> {
 }
 
 /// The name under a base and the message of the subject of a kind that the words encode.
-pub(crate) fn subject(
+pub(crate) fn subject<D: Digest>(
     alloc: Global,
     kind: &str,
     base: &str,
@@ -31,10 +31,10 @@ pub(crate) fn subject(
     let encoding = encoding.as_slice();
     match kind {
         "nullify" => match decode(alloc, encoding) {
-            Ok(round) => told(alloc, &names, &Subject::Nullify { round }),
+            Ok(round) => told::<D>(alloc, &names, &Subject::Nullify { round }),
             Err(error) => Ok(name(alloc, error)?),
         },
-        "notarize" | "finalize" => match &decode(alloc, encoding) {
+        "notarize" | "finalize" => match &decode::<Proposal<D>>(alloc, encoding) {
             Ok(proposal) if kind == "notarize" => {
                 told(alloc, &names, &Subject::Notarize { proposal })
             }
@@ -46,10 +46,10 @@ pub(crate) fn subject(
 }
 
 /// The name of a subject and its message.
-fn told(
+fn told<D: Digest>(
     alloc: Global,
     names: &Namespace,
-    subject: &Subject<'_, MarkedDigest>,
+    subject: &Subject<'_, D>,
 ) -> Result<String, Unanswered> {
     let name = hex::encode(alloc, subject.namespace(names))?;
     let message = hex::encode(alloc, subject.message(alloc)?.as_slice())?;

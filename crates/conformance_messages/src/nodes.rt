@@ -10,8 +10,6 @@ use simplex_lead::Viewport;
 use simplex_node::batcher::Batcher;
 use simplex_node::resolver::resolve;
 use simplex_node::voter::{casts, is_heard, takes};
-use simplex_plain::listed::Listed;
-use simplex_plain::marked::{Marked, MarkedDigest};
 use simplex_scheme::proposal::Proposal;
 use simplex_scheme::scheme::{CertificateScheme, CertificateSubject, Digest, Scheme};
 use simplex_scheme::subject::Subject;
@@ -55,13 +53,17 @@ fn taken<S: Scheme<D>, D: Digest>(
 }
 
 /// What a resolver keeps of the notarizations that the bytes are: the proposals that are certified.
-pub(crate) fn resolved(alloc: Global, scheme: &Marked, bytes: &[u8]) -> Result<String, Unanswered> {
+pub(crate) fn resolved<S: Scheme<D>, D: Digest>(
+    alloc: Global,
+    scheme: &S,
+    bytes: &[u8],
+) -> Result<String, Unanswered> {
     let bound = scheme.certificate_codec_config();
-    let messages: Vec<Notarization<Marked, MarkedDigest>> = match values(alloc, &bound, bytes) {
+    let messages: Vec<Notarization<S, D>> = match values(alloc, &bound, bytes) {
         Ok(messages) => messages,
         Err(error) => return Ok(name(alloc, error)?),
     };
-    let items: Vec<(Subject<'_, MarkedDigest>, &Listed<Marked>)> = messages
+    let items: Vec<(Subject<'_, D>, &S::Certificate)> = messages
         .iter()
         .map(item_of)
         .collect(alloc)?;
@@ -75,15 +77,15 @@ pub(crate) fn resolved(alloc: Global, scheme: &Marked, bytes: &[u8]) -> Result<S
 }
 
 /// A notarization as what a resolver is given.
-fn item_of<'a>(
-    message: &'a Notarization<Marked, MarkedDigest>,
-) -> (Subject<'a, MarkedDigest>, &'a Listed<Marked>) {
+fn item_of<'a, S: Scheme<D>, D: Digest>(
+    message: &'a Notarization<S, D>,
+) -> (Subject<'a, D>, &'a S::Certificate) {
     let proposal = &message.proposal;
     (Subject::Notarize { proposal }, &message.certificate)
 }
 
 /// A subject, as its message encodes it.
-fn told(alloc: Global, subject: &Subject<'_, MarkedDigest>) -> Result<String, AllocError> {
+fn told<D: Digest>(alloc: Global, subject: &Subject<'_, D>) -> Result<String, AllocError> {
     let message = subject.message(alloc)?;
     hex::encode(alloc, message.as_slice())
 }

@@ -2,11 +2,12 @@
 
 ghost use Rattle.std.specs.Prelude.{◌<◌, length};
 
+use crate::memory;
 use crate::refusals::name;
 use crate::vectors::{Unanswered, bytes, small};
 use crate::votes::encoded;
 use simplex_base::codec::error::Error;
-use simplex_base::codec::{Encode, Read, decode_cfg};
+use simplex_base::codec::{Encode, Read, ReadExt, decode, decode_cfg, read_value};
 use simplex_base::positions::{Epoch, Participant, Round, View};
 use simplex_evidence::types::{
     Activity, ConflictingFinalize, ConflictingNotarize, NullifyFinalize,
@@ -33,12 +34,33 @@ pub(crate) enum Asked {
     Cut,
 }
 
-/// The value at the front of the bytes, or that they are: how long its encoding is, the encoding, and how many bytes are
-/// left. What is told is a clone's.
-fn read_as<T: Read + Encode + Drop, C: FnOnce(&T) -> Result<T, AllocError>>(
+/// The value at the front of the bytes, or that they are, of a type that is read without a bound, and so without memory.
+fn read_free<T: ReadExt + Encode + Clone>(
     alloc: Global,
     asked: Asked,
-    cfg: &T::Cfg,
+    bytes: &[u8],
+) -> Result<String, Unanswered> {
+    if let Asked::Cut = asked {
+        return Ok(cut::<T>(alloc, false, &(), bytes)?);
+    }
+    let mut rest: &[u8] = bytes;
+    memory::ends(alloc);
+    let read = match asked {
+        Asked::Read => read_value::<T>(alloc, &mut rest),
+        _ => decode::<T>(alloc, bytes),
+    };
+    memory::returns(alloc);
+    match read {
+        Ok(value) => told(alloc, asked, &value.clone()?, rest.len()),
+        Err(error) => Ok(name(alloc, error)?),
+    }
+}
+
+/// The same of a type that is read under a bound.
+fn read_under<T: Read + Encode + Drop, C: FnOnce(&T) -> Result<T, AllocError>>(
+    alloc: Global,
+    asked: Asked,
+    bound: &T::Cfg,
     bytes: &[u8],
     clone: C,
 ) -> Result<String, Unanswered>
@@ -46,32 +68,48 @@ fn read_as<T: Read + Encode + Drop, C: FnOnce(&T) -> Result<T, AllocError>>(
 {
     let mut rest: &[u8] = bytes;
     let read = match asked {
-        Asked::Read => T::read_cfg(alloc, &mut rest, cfg),
-        Asked::Decode => decode_cfg::<T>(alloc, bytes, cfg),
-        Asked::Cut => return Ok(cut::<T>(alloc, cfg, bytes)?),
+        Asked::Read => T::read_cfg(alloc, &mut rest, bound),
+        Asked::Decode => decode_cfg::<T>(alloc, bytes, bound),
+        Asked::Cut => return Ok(cut::<T>(alloc, true, bound, bytes)?),
     };
-    let value = match read {
-        Ok(value) => value,
-        Err(error) => return Ok(name(alloc, error)?),
-    };
-    let value = clone(&value)?;
-    let (size, encoding) = (value.encode_size(), encoded(alloc, &value)?);
+    match read {
+        Ok(value) => told(alloc, asked, &clone(&value)?, rest.len()),
+        Err(error) => Ok(name(alloc, error)?),
+    }
+}
+
+/// What is said of a value: how long its encoding is, the encoding, and how many bytes are left behind it.
+fn told<T: Encode>(
+    alloc: Global,
+    asked: Asked,
+    value: &T,
+    left: usize,
+) -> Result<String, Unanswered> {
+    memory::ends(alloc);
+    let size = value.encode_size();
+    memory::returns(alloc);
+    let encoding = encoded(alloc, value)?;
     match asked {
-        Asked::Read => Ok(format!(in alloc; "size {size}, {encoding}, left {}", rest.len())?),
+        Asked::Read => Ok(format!(in alloc; "size {size}, {encoding}, left {left}")?),
         _ => Ok(format!(in alloc; "size {size}, {encoding}")?),
     }
 }
 
 /// A letter for each front of the bytes, and then for the bytes with each of their bits turned, the lowest of the first
-/// byte first.
-fn cut<T: Read + Drop>(alloc: Global, cfg: &T::Cfg, bytes: &[u8]) -> Result<String, AllocError> {
+/// byte first. `bounded` says whether the type is read under a bound.
+fn cut<T: Read + Drop>(
+    alloc: Global,
+    bounded: bool,
+    cfg: &T::Cfg,
+    bytes: &[u8],
+) -> Result<String, AllocError> {
     let mut letters = String::new(alloc);
     for end in 0..bytes.len() {
-        letters.push_str(letter::<T>(alloc, cfg, &bytes[..end])?)?;
+        letters.push_str(letter::<T>(alloc, bounded, cfg, &bytes[..end])?)?;
     }
     letters.push_str(" ")?;
     for place in 0..bytes.len() {
-        letters.push_str(turned::<T>(alloc, cfg, bytes, place)?.as_str())?;
+        letters.push_str(turned::<T>(alloc, bounded, cfg, bytes, place)?.as_str())?;
     }
     Ok(letters)
 }
@@ -79,6 +117,7 @@ fn cut<T: Read + Drop>(alloc: Global, cfg: &T::Cfg, bytes: &[u8]) -> Result<Stri
 /// The letters for the bytes with each bit of one of them turned.
 fn turned<T: Read + Drop>(
     alloc: Global,
+    bounded: bool,
     cfg: &T::Cfg,
     bytes: &[u8],
     place: usize,
@@ -89,20 +128,27 @@ fn turned<T: Read + Drop>(
     for bit in [1, 2, 4, 8, 16, 32, 64, 128] {
         let mut changed = bytes.to_vec(alloc)?;
         changed[place] ^= bit;
-        letters.push_str(letter::<T>(alloc, cfg, changed.as_slice())?)?;
+        letters.push_str(letter::<T>(alloc, bounded, cfg, changed.as_slice())?)?;
     }
     Ok(letters)
 }
 
 /// What a read of the front of the bytes answers: `r` where there is a value, and else the first letter of the refusal,
-/// of which `V` is a number's and `B` a truth value's. `!` tells that the slice was moved though nothing was read.
+/// of which `V` is a number's and `B` a truth value's. `!` tells that the slice was moved though nothing was read. Where
+/// the type is read without a bound the read takes no memory.
 fn letter<T: Read + Drop>(
     alloc: Global,
+    bounded: bool,
     cfg: &T::Cfg,
     bytes: &[u8],
 ) -> Result<&'static str, AllocError> {
     let mut rest: &[u8] = bytes;
-    match T::read_cfg(alloc, &mut rest, cfg) {
+    if !bounded {
+        memory::ends(alloc);
+    }
+    let read = T::read_cfg(alloc, &mut rest, cfg);
+    memory::returns(alloc);
+    match read {
         Ok(_) => Ok("r"),
         Err(Error::OutOfMemory) => Err(AllocError),
         Err(_) if rest.len() != bytes.len() => Ok("!"),
@@ -125,17 +171,11 @@ pub(crate) fn read_vector(
     let encoding = bytes(alloc, encoding)?;
     let bytes = encoding.as_slice();
     match kind {
-        "epoch" => read_as(alloc, asked, &(), bytes, Epoch::clone),
-        "view" => read_as(alloc, asked, &(), bytes, View::clone),
-        "participant" => read_as(alloc, asked, &(), bytes, Participant::clone),
-        "round" => read_as(alloc, asked, &(), bytes, Round::clone),
-        "context" => read_as(
-            alloc,
-            asked,
-            &(),
-            bytes,
-            Context::<Sha256Digest, PlainKey>::clone,
-        ),
+        "epoch" => read_free::<Epoch>(alloc, asked, bytes),
+        "view" => read_free::<View>(alloc, asked, bytes),
+        "participant" => read_free::<Participant>(alloc, asked, bytes),
+        "round" => read_free::<Round>(alloc, asked, bytes),
+        "context" => read_free::<Context<Sha256Digest, PlainKey>>(alloc, asked, bytes),
         _ => match kind.strip_prefix("plain-") {
             Some(kind) => read_message::<Plain, Sha256Digest>(alloc, asked, kind, bound, bytes),
             None => read_message::<Marked, MarkedDigest>(alloc, asked, kind, bound, bytes),
@@ -152,19 +192,15 @@ fn read_message<S: Scheme<D>, D: Digest>(
     bytes: &[u8],
 ) -> Result<String, Unanswered> {
     match kind {
-        "proposal" => read_as(alloc, asked, &(), bytes, Proposal::<D>::clone),
-        "attestation" => read_as(alloc, asked, &(), bytes, Attestation::<S>::clone),
-        "notarize" => read_as(alloc, asked, &(), bytes, Notarize::<S, D>::clone),
-        "nullify" => read_as(alloc, asked, &(), bytes, Nullify::<S>::clone),
-        "finalize" => read_as(alloc, asked, &(), bytes, Finalize::<S, D>::clone),
-        "vote" => read_as(alloc, asked, &(), bytes, Vote::<S, D>::clone),
-        "conflicting-notarize" => {
-            read_as(alloc, asked, &(), bytes, ConflictingNotarize::<S, D>::clone)
-        }
-        "conflicting-finalize" => {
-            read_as(alloc, asked, &(), bytes, ConflictingFinalize::<S, D>::clone)
-        }
-        "nullify-finalize" => read_as(alloc, asked, &(), bytes, NullifyFinalize::<S, D>::clone),
+        "proposal" => read_free::<Proposal<D>>(alloc, asked, bytes),
+        "attestation" => read_free::<Attestation<S>>(alloc, asked, bytes),
+        "notarize" => read_free::<Notarize<S, D>>(alloc, asked, bytes),
+        "nullify" => read_free::<Nullify<S>>(alloc, asked, bytes),
+        "finalize" => read_free::<Finalize<S, D>>(alloc, asked, bytes),
+        "vote" => read_free::<Vote<S, D>>(alloc, asked, bytes),
+        "conflicting-notarize" => { read_free::<ConflictingNotarize<S, D>>(alloc, asked, bytes) }
+        "conflicting-finalize" => { read_free::<ConflictingFinalize<S, D>>(alloc, asked, bytes) }
+        "nullify-finalize" => read_free::<NullifyFinalize<S, D>>(alloc, asked, bytes),
         _ => read_bounded::<S, D>(alloc, asked, kind, bound, bytes),
     }
 }
@@ -178,13 +214,13 @@ fn read_bounded<S: Scheme<D>, D: Digest>(
     bytes: &[u8],
 ) -> Result<String, Unanswered> {
     match kind {
-        "listed" => read_as(alloc, asked, &bound, bytes, S::Certificate::clone),
-        "notarization" => read_as(alloc, asked, &bound, bytes, Notarization::<S, D>::clone),
-        "nullification" => read_as(alloc, asked, &bound, bytes, Nullification::<S>::clone),
-        "finalization" => read_as(alloc, asked, &bound, bytes, Finalization::<S, D>::clone),
-        "certificate" => read_as(alloc, asked, &bound, bytes, Certificate::<S, D>::clone),
-        "artifact" => read_as(alloc, asked, &bound, bytes, Artifact::<S, D>::clone),
-        "activity" => read_as(alloc, asked, &bound, bytes, Activity::<S, D>::clone),
+        "listed" => read_under(alloc, asked, &bound, bytes, S::Certificate::clone),
+        "notarization" => read_under(alloc, asked, &bound, bytes, Notarization::<S, D>::clone),
+        "nullification" => read_under(alloc, asked, &bound, bytes, Nullification::<S>::clone),
+        "finalization" => read_under(alloc, asked, &bound, bytes, Finalization::<S, D>::clone),
+        "certificate" => read_under(alloc, asked, &bound, bytes, Certificate::<S, D>::clone),
+        "artifact" => read_under(alloc, asked, &bound, bytes, Artifact::<S, D>::clone),
+        "activity" => read_under(alloc, asked, &bound, bytes, Activity::<S, D>::clone),
         _ => Err(Unanswered::NoVector),
     }
 }

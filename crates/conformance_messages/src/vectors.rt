@@ -49,7 +49,10 @@ fn number(word: &str) -> Result<u64, Unanswered>
 pub(crate) fn small(word: &str) -> Result<u32, Unanswered>
     ensures { IfOk result (λ number. IsDecimal word.now number) }
 {
-    u32::try_from(number(word)?).map_err(|_| Unanswered::NoVector)
+    match u32::try_from(number(word)?) {
+        Ok(number) => Ok(number),
+        Err(_) => Err(Unanswered::NoVector),
+    }
 }
 
 /// An epoch, in decimal digits and nothing else. `NoVector` comes where the word is no such number of at most 2^64 - 1.

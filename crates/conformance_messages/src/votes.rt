@@ -1,6 +1,7 @@
 //! What a scheme signs, makes of votes, and verifies.
 
 use crate::many::many;
+use crate::memory;
 use crate::refusals::name;
 use crate::schemes::{marked, plain};
 use crate::vectors::{Unanswered, bytes};
@@ -8,15 +9,13 @@ use simplex_base::codec::error::Error;
 use simplex_base::codec::{Encode, Read, decode};
 use simplex_evidence::types::Activity;
 use simplex_plain::marked::MarkedDigest;
+use simplex_scheme::faults::quorum;
 use simplex_scheme::hash::Sha256Digest;
-use simplex_scheme::scheme::{AssemblyError, Digest, Scheme};
+use simplex_scheme::scheme::{AssemblyError, CertificateScheme, Digest, Scheme};
 use simplex_votes::types::{
     Finalization, Finalize, Notarization, Notarize, Nullification, Nullify,
 };
 use std::alloc::{AllocError, Global};
-
-/// What is said where votes are for several subjects, or a signer is there twice or in no committee.
-const NO_ASSEMBLY: &str = "no assembly";
 
 /// The answer to a test vector that asks this of a scheme: `N` of a marked committee, or `BASE:N` of a plain one.
 pub(crate) fn vote_vector(
@@ -66,14 +65,16 @@ fn verify<S: Scheme<D>, D: Digest>(
     let bound = scheme.certificate_codec_config();
     match Activity::<S, D>::read_cfg(alloc, &mut rest, &bound) {
         Ok(message) => {
+            memory::ends(alloc);
             let (verified, good) = (message.verified(), message.verify(scheme));
+            memory::returns(alloc);
             Ok(format!(in alloc; "verified {verified}, verify {good}")?)
         }
         Err(error) => Ok(name(alloc, error)?),
     }
 }
 
-/// The vote of a kind for what the bytes encode, as the participant signs it that the scheme is for.
+/// The vote of a kind for what the bytes encode, as the participant signs it that the scheme is for. No memory is taken.
 fn sign<S: Scheme<D>, D: Digest + 'static>(
     alloc: Global,
     scheme: &S,
@@ -82,24 +83,37 @@ fn sign<S: Scheme<D>, D: Digest + 'static>(
 ) -> Result<String, Unanswered> {
     match kind {
         "nullify" => match decode(alloc, bytes) {
-            Ok(round) => told(alloc, Nullify::sign::<D>(alloc, scheme, round)?),
+            Ok(round) => {
+                memory::ends(alloc);
+                told(alloc, Nullify::sign::<D>(alloc, scheme, round))
+            }
             Err(error) => Ok(name(alloc, error)?),
         },
         "notarize" => match decode(alloc, bytes) {
-            Ok(proposal) => told(alloc, Notarize::sign(alloc, scheme, proposal)?),
+            Ok(proposal) => {
+                memory::ends(alloc);
+                told(alloc, Notarize::sign(alloc, scheme, proposal))
+            }
             Err(error) => Ok(name(alloc, error)?),
         },
         "finalize" => match decode(alloc, bytes) {
-            Ok(proposal) => told(alloc, Finalize::sign(alloc, scheme, proposal)?),
+            Ok(proposal) => {
+                memory::ends(alloc);
+                told(alloc, Finalize::sign(alloc, scheme, proposal))
+            }
             Err(error) => Ok(name(alloc, error)?),
         },
         _ => Err(Unanswered::NoVector),
     }
 }
 
-/// A vote, if there is one.
-fn told<V: Encode + Drop>(alloc: Global, vote: Option<V>) -> Result<String, Unanswered> {
-    match vote {
+/// A vote that was signed without memory, if there is one.
+fn told<V: Encode + Drop>(
+    alloc: Global,
+    signed: Result<Option<V>, AllocError>,
+) -> Result<String, Unanswered> {
+    memory::returns(alloc);
+    match signed? {
         Some(vote) => Ok(encoded(alloc, &vote)?),
         None => Ok("nobody signs".to_string(alloc)?),
     }
@@ -114,57 +128,98 @@ fn assemble<S: Scheme<D>, D: Digest + 'static>(
 ) -> Result<String, Unanswered> {
     let owned = call.starts_with("from_owned_");
     match call {
-        "from_notarizes" | "from_owned_notarizes" => match values::<Notarize<S, D>>(
-            alloc,
-            &(),
-            bytes,
-        ) {
-            Ok(votes) if !Notarization::can_assemble(scheme, votes.as_slice()) => {
-                Ok(NO_ASSEMBLY.to_string(alloc)?)
-            }
-            Ok(votes) if owned => assembled(
-                alloc,
-                Notarization::from_owned_notarizes(alloc, scheme, votes),
-            ),
-            Ok(votes) => assembled(
-                alloc,
-                Notarization::from_notarizes(alloc, scheme, votes.as_slice()),
-            ),
+        "from_notarizes" | "from_owned_notarizes" => match values(alloc, &(), bytes) {
+            Ok(votes) => notarization::<S, D>(alloc, scheme, owned, votes),
             Err(error) => Ok(name(alloc, error)?),
         },
-        "from_nullifies" | "from_owned_nullifies" => match values::<Nullify<S>>(alloc, &(), bytes) {
-            Ok(votes) if !Nullification::can_assemble::<D>(scheme, votes.as_slice()) => {
-                Ok(NO_ASSEMBLY.to_string(alloc)?)
-            }
-            Ok(votes) if owned => assembled(
-                alloc,
-                Nullification::from_owned_nullifies::<D>(alloc, scheme, votes),
-            ),
-            Ok(votes) => assembled(
-                alloc,
-                Nullification::from_nullifies::<D>(alloc, scheme, votes.as_slice()),
-            ),
+        "from_nullifies" | "from_owned_nullifies" => match values(alloc, &(), bytes) {
+            Ok(votes) => nullification::<S, D>(alloc, scheme, owned, votes),
             Err(error) => Ok(name(alloc, error)?),
         },
-        "from_finalizes" | "from_owned_finalizes" => match values::<Finalize<S, D>>(
-            alloc,
-            &(),
-            bytes,
-        ) {
-            Ok(votes) if !Finalization::can_assemble(scheme, votes.as_slice()) => {
-                Ok(NO_ASSEMBLY.to_string(alloc)?)
-            }
-            Ok(votes) if owned => assembled(
-                alloc,
-                Finalization::from_owned_finalizes(alloc, scheme, votes),
-            ),
-            Ok(votes) => assembled(
-                alloc,
-                Finalization::from_finalizes(alloc, scheme, votes.as_slice()),
-            ),
+        "from_finalizes" | "from_owned_finalizes" => match values(alloc, &(), bytes) {
+            Ok(votes) => finalization::<S, D>(alloc, scheme, owned, votes),
             Err(error) => Ok(name(alloc, error)?),
         },
         _ => Err(Unanswered::NoVector),
+    }
+}
+
+/// What is made of notarizes, owned or lent.
+fn notarization<S: Scheme<D>, D: Digest>(
+    alloc: Global,
+    scheme: &S,
+    owned: bool,
+    votes: Vec<Notarize<S, D>>,
+) -> Result<String, Unanswered> {
+    memory::ends(alloc);
+    if !Notarization::can_assemble(scheme, votes.as_slice()) {
+        return no_assembly(alloc);
+    }
+    take_memory(alloc, scheme, votes.len());
+    assembled(
+        alloc,
+        if owned {
+            Notarization::from_owned_notarizes(alloc, scheme, votes)
+        } else {
+            Notarization::from_notarizes(alloc, scheme, votes.as_slice())
+        },
+    )
+}
+
+/// What is made of nullifies, owned or lent.
+fn nullification<S: Scheme<D>, D: Digest>(
+    alloc: Global,
+    scheme: &S,
+    owned: bool,
+    votes: Vec<Nullify<S>>,
+) -> Result<String, Unanswered> {
+    memory::ends(alloc);
+    if !Nullification::can_assemble::<D>(scheme, votes.as_slice()) {
+        return no_assembly(alloc);
+    }
+    take_memory(alloc, scheme, votes.len());
+    assembled(
+        alloc,
+        if owned {
+            Nullification::from_owned_nullifies::<D>(alloc, scheme, votes)
+        } else {
+            Nullification::from_nullifies::<D>(alloc, scheme, votes.as_slice())
+        },
+    )
+}
+
+/// What is made of finalizes, owned or lent.
+fn finalization<S: Scheme<D>, D: Digest>(
+    alloc: Global,
+    scheme: &S,
+    owned: bool,
+    votes: Vec<Finalize<S, D>>,
+) -> Result<String, Unanswered> {
+    memory::ends(alloc);
+    if !Finalization::can_assemble(scheme, votes.as_slice()) {
+        return no_assembly(alloc);
+    }
+    take_memory(alloc, scheme, votes.len());
+    assembled(
+        alloc,
+        if owned {
+            Finalization::from_owned_finalizes(alloc, scheme, votes)
+        } else {
+            Finalization::from_finalizes(alloc, scheme, votes.as_slice())
+        },
+    )
+}
+
+/// What is said where votes are for several subjects, or a signer is there twice or in no committee.
+fn no_assembly(alloc: Global) -> Result<String, Unanswered> {
+    memory::returns(alloc);
+    Ok("no assembly".to_string(alloc)?)
+}
+
+/// Has memory where so many votes are a quorum, as a certificate is made of them. Of fewer nothing is made, without memory.
+fn take_memory<S: CertificateScheme>(alloc: Global, scheme: &S, votes: usize) {
+    if votes >= quorum(scheme.participants().len() as u32) as usize {
+        memory::returns(alloc);
     }
 }
 
@@ -173,6 +228,7 @@ fn assembled<M: Encode + Drop>(
     alloc: Global,
     made: Result<M, AssemblyError>,
 ) -> Result<String, Unanswered> {
+    memory::returns(alloc);
     match made {
         Ok(message) => Ok(encoded(alloc, &message)?),
         Err(AssemblyError::InsufficientAttestations(quorum, count)) => {
@@ -200,7 +256,9 @@ pub(crate) fn values<T: Read + Drop>(
             break;
         }
         let value = T::read_cfg(alloc, &mut rest, cfg)?;
-        values.push(value).map_err(|_| Error::OutOfMemory)?;
+        if values.push(value).is_err() {
+            return Err(Error::OutOfMemory);
+        }
     }
     Ok(values)
 }
