@@ -53,6 +53,21 @@ impl<S: Listing<D>, D: Digest> Detector<S, D> {
         alloc: Global,
         committees: &Committees<S>,
         judging: &Judging,
+        message: Activity<S, D>,
+    ) -> Result<(), AllocError>
+        ensures { OnOk result (RecallsMore
+            (rules_under D.eq S.keys S.good S.certified S.listed judging.now committees.now)
+            (message ∷ []) self.old self.new) }
+    {
+        self.record(alloc, committees, judging, &message)
+    }
+
+    /// The same of a message that is lent: no path through this has a message to drop.
+    fn record(
+        &mut self,
+        alloc: Global,
+        committees: &Committees<S>,
+        judging: &Judging,
         message: &Activity<S, D>,
     ) -> Result<(), AllocError>
         ensures { OnOk result (RecallsMore

@@ -12,8 +12,8 @@ use Rattle.simplex_detector.specs.Detector.{RecallsAt}
 use Rattle.simplex_detector.specs.declared.judging.Judging.{Judging}
 use Rattle.simplex_detector.proofs.Results.{on_ok}
 use Rattle.simplex_detector.proofs.DetectorLemmas.{recalls_changed, recalls_still_none, recalls_found, recalls_new, recalls_taken, recalls_no_committee}
-use Rattle.simplex_detector.proofs.detector.Detector.observe.Given as given
-use Rattle.simplex_detector.proofs.detector.Detector.observe.Goals as goal
+use Rattle.simplex_detector.proofs.detector.Detector.record.Given as given
+use Rattle.simplex_detector.proofs.detector.Detector.record.Goals as goal
 
 -- what messages are judged by
 abbrev rules : (g : given.Over) → Judging → Schedule g.row.S.Denot → Rules g.row.S.Denot g.row.D.Denot g.row.S-Certificate.Denot g.row.S-PublicKey.Denot g.row.S-Signature.Denot
