@@ -109,13 +109,14 @@ pub fn audit<S: Listing<D>, D: Digest>(
     audit_stream(alloc, committees, &Judging::Verified, stream)
 }
 
-/// Returns the report that [`audit`] returns, with fewer signatures verified. A signer of a committee is suspect in a round where
-/// two votes contradict that claim to be that signer's. A vote outside certificates is verified only where its signer is suspect in
-/// its round, and a certificate only where somebody is suspect in its round; a vote that such a certificate lists is verified
-/// where its signer is suspect and the certificate was not found to certify. Where nobody is suspect, the stream is read once and
-/// nothing is verified; otherwise it is read twice. The first reading records votes with invalid signatures too, so memory is
-/// bounded by the stream and not by the committees alone. That suits a stored stream or a batch of bounded size; for an endless
-/// stream of strangers there is [`Auditor`]. `AllocError` comes where memory is refused, and then there is no report.
+/// Returns the report that [`audit`] returns, with fewer signatures verified. A signer of a committee is suspect in a round
+/// where two votes contradict that claim to be that signer's. A vote outside certificates is verified only where its signer is
+/// suspect in its round, and a certificate only where somebody is suspect in its round; a vote that such a certificate lists is
+/// verified where its signer is suspect and the certificate was not found to certify. Where nobody is suspect, the stream is
+/// read once and nothing is verified; otherwise it is read twice. The first reading records votes with invalid signatures too,
+/// so memory is bounded by the stream and not by the committees alone. That suits a stored stream or a batch of bounded size;
+/// for an endless stream of strangers there is [`Auditor`]. `AllocError` comes where memory is refused, and then there is no
+/// report.
 pub fn audit_deferred<S: Listing<D>, D: Digest>(
     alloc: Global,
     committees: &Committees<S>,
