@@ -129,57 +129,48 @@ impl<S: CertificateScheme> Elector<S> for First {
     ghost clones = { λ elector copy same. one_alike _ _ _ _ elector copy (sym same) };
 }
 
-/// The elector of so many participants.
-fn built<C: Config<Marked>>(
+/// An elector of this configuration, for this committee, goes by this mode and by these terms, and so lead the first views of
+/// epoch 0, from view 0 on. It says so without memory.
+fn check<C: Config<Marked>>(
     rt: &impl Abort,
     alloc: Global,
+    committee: &Marked,
     config: C,
-    participants: u32,
-) -> Result<C::Elector, Fail> {
-    assert!(rt; participants > 0);
-    let committee = Marked::new(alloc, participants, None)?;
-    Ok(config.build(alloc, committee.participants())?)
-}
-
-/// Who leads the first so many views of epoch 0, from view 0 on.
-fn leaders<E: Elector<Marked>>(
-    alloc: Global,
-    elector: &E,
-    views: u64,
-) -> Result<Vec<u32>, AllocError> {
-    let mut leaders = Vec::new(alloc);
-    for view in 0..views {
-        let round = Round::new(Epoch::new(0), View::new(view));
-        leaders.push(elector.elect(round, None).get())?;
-    }
-    Ok(leaders)
-}
-
-/// So many participants lead the first views in this order, by an elector of this configuration.
-fn check_leaders<C: Config<Marked>>(
-    rt: &impl Abort,
-    alloc: Global,
-    config: C,
-    participants: u32,
+    (mode, terms): (Mode, Terms),
     order: &[u32],
 ) -> Result<(), Fail> {
-    let elector = built(rt, alloc, config, participants)?;
-    let leaders = leaders(alloc, &elector, order.len() as u64)?;
-    assert_eq!(rt; leaders.as_slice(), order);
+    let elector = config.build(alloc, committee.participants())?;
+    let _ = is_out(alloc);
+    assert!(rt; elector.mode() == mode && elector.terms() == terms);
+    for (view, leader) in (0_u64..).zip(order) {
+        let round = Round::new(Epoch::new(0), View::new(view));
+        assert!(rt; elector.elect(round, None).get() == *leader, "view {view}");
+    }
     Ok(())
 }
 
-/// By these hashes five participants lead the first six views in this order.
-fn check_order<H: Hasher>(rt: &impl Abort, alloc: Global, order: [u32; 6]) -> Result<(), Fail> {
+/// By these hashes the committee of five leads the first six views in this order.
+fn check_order<H: Hasher>(
+    rt: &impl Abort,
+    alloc: Global,
+    five: &Marked,
+    order: [u32; 6],
+) -> Result<(), Fail> {
     let shuffled: RoundRobin<H> = RoundRobin::shuffled(alloc, b"s")?;
-    check_leaders(rt, alloc, shuffled, 5, &order)
+    check(rt, alloc, five, shuffled, rotating(), &order)
+}
+
+/// The mode of a rotation, and its terms where it has no others.
+fn rotating() -> (Mode, Terms) {
+    (Mode::Scheduled, Terms::rotating())
 }
 
 /// Hashes that tie leave the order, and hashes that fall turn it.
 #[test]
 fn ample_chosen_hashes(rt: HostRuntime) -> Result<(), Fail> {
-    check_order::<Same>(&rt, rt.alloc(), [0, 1, 2, 3, 4, 0])?;
-    check_order::<Falling>(&rt, rt.alloc(), [4, 3, 2, 1, 0, 4])
+    let five = Marked::new(rt.alloc(), 5, None)?;
+    check_order::<Same>(&rt, rt.alloc(), &five, [0, 1, 2, 3, 4, 0])?;
+    check_order::<Falling>(&rt, rt.alloc(), &five, [4, 3, 2, 1, 0, 4])
 }
 
 /// The first so many participants in the order of SHA-256 of the seed followed by their number in four bytes, the most
@@ -197,58 +188,34 @@ fn by_digest(alloc: Global, seed: &[u8], participants: u32) -> Result<Vec<u32>, 
     order.into_iter().map(|(_, number)| number).collect(alloc)
 }
 
-/// The order in which ten participants lead by a seed, which is that of the digests.
-fn order_of(rt: &impl Abort, alloc: Global, seed: &[u8]) -> Result<Vec<u32>, Fail> {
+/// The order in which the committee of ten leads by a seed, which is that of the digests.
+fn order_of(rt: &impl Abort, alloc: Global, ten: &Marked, seed: &[u8]) -> Result<Vec<u32>, Fail> {
     let shuffled: RoundRobin<Sha256> = RoundRobin::shuffled(alloc, seed)?;
     let order = by_digest(alloc, seed, 10)?;
-    check_leaders(rt, alloc, shuffled, 10, order.as_slice())?;
+    check(rt, alloc, ten, shuffled, rotating(), order.as_slice())?;
     Ok(order)
 }
 
 /// Two seeds give two orders.
 #[test]
 fn ample_seeds(rt: HostRuntime) -> Result<(), Fail> {
-    let first = order_of(&rt, rt.alloc(), b"seed1")?;
-    let second = order_of(&rt, rt.alloc(), b"seed2")?;
+    let ten = Marked::new(rt.alloc(), 10, None)?;
+    let first = order_of(&rt, rt.alloc(), &ten, b"seed1")?;
+    let second = order_of(&rt, rt.alloc(), &ten, b"seed2")?;
     assert!(rt; first.as_slice() != second.as_slice());
     Ok(())
 }
 
 #[test]
 fn ample_elector_of_its_own(rt: HostRuntime) -> Result<(), Fail> {
+    let four = Marked::new(rt.alloc(), 4, None)?;
     let terms = Terms::stable(
         TermLength::new(3),
         Duration::from_secs(10),
         ViewDelta::new(1),
     );
-    check_leaders(&rt, rt.alloc(), FirstAlways(terms), 4, &[0; 4])?;
-    check_mode(&rt, rt.alloc(), FirstAlways(terms), Mode::Dynamic, terms)
-}
-
-#[test]
-fn ample_rotation(rt: HostRuntime) -> Result<(), Fail> {
-    let rotation = RoundRobin::<Sha256>::default();
-    check_mode(
-        &rt,
-        rt.alloc(),
-        rotation,
-        Mode::Scheduled,
-        Terms::rotating(),
-    )
-}
-
-/// An elector of this configuration goes by certificates and terms so.
-fn check_mode<C: Config<Marked>>(
-    rt: &impl Abort,
-    alloc: Global,
-    config: C,
-    mode: Mode,
-    terms: Terms,
-) -> Result<(), Fail> {
-    let elector = built(rt, alloc, config, 4)?;
-    assert_eq!(rt; elector.mode(), mode);
-    assert_eq!(rt; elector.terms(), terms);
-    Ok(())
+    let wanted = (Mode::Dynamic, terms);
+    check(&rt, rt.alloc(), &four, FirstAlways(terms), wanted, &[0; 4])
 }
 
 #[test]
@@ -270,24 +237,13 @@ fn the_last_view_that_fits(rt: HostRuntime) {
     assert!(rt; !look.fits(View::new(18_446_744_065_119_617_026)));
 }
 
-/// An elector of this configuration goes by rotating terms, and participant 3 leads the third of them.
-fn check_rotating<C: Config<Marked>>(
-    rt: &impl Abort,
-    alloc: Global,
-    config: C,
-) -> Result<(), Fail> {
-    let elector = built(rt, alloc, config, 4)?;
-    let _ = is_out(alloc);
-    let round = Round::new(Epoch::new(0), View::new(3));
-    assert!(rt; elector.mode() == Mode::Scheduled);
-    assert!(rt; elector.terms() == Terms::default());
-    assert!(rt; elector.elect(round, None) == Participant::new(3));
-    Ok(())
-}
-
+/// A rotation of four goes by rotating terms, and all lead in turn.
 #[test]
 fn without_memory_leaders(rt: HostRuntime) -> Result<(), Fail> {
-    check_rotating(&rt, rt.alloc(), RoundRobin::<Sha256>::default())
+    let four = Marked::new(rt.alloc(), 4, None)?;
+    let rotation = RoundRobin::<Sha256>::default();
+    let wanted = (Mode::Scheduled, Terms::default());
+    check(&rt, rt.alloc(), &four, rotation, wanted, &[0, 1, 2, 3, 0])
 }
 
 /// What each mode makes of a certificate.

@@ -2,6 +2,7 @@
 
 use simplex_base::codec::{Encode, Read, Write};
 use simplex_plain::marked::{Marked, MarkedDigest};
+use simplex_scheme::scheme::{CertificateScheme, Digest};
 use simplex_votes::types::{Certificate, Vote};
 use std::process::Abort;
 
@@ -41,21 +42,25 @@ fn is_write_refused<T: Encode>(rt: &(impl Abort + AllocGlobal), value: &T, lengt
     refused
 }
 
-/// A vote and a certificate message, each with a byte behind it.
-fn any_is_refused(rt: &(impl Abort + AllocGlobal)) -> bool {
-    let vote = is_refused::<Vote<Marked, MarkedDigest>>(rt, &(), &[1, 0, 10, 1, 0xaa, 9]);
-    let message = [1, 0, 10, 3, 0, 0xaa, 1, 0xaa, 2, 0xaa, 9];
-    let message = is_refused::<Certificate<Marked, MarkedDigest>>(rt, &4, &message);
-    vote || message
+/// A vote, with a byte behind it.
+const VOTE: &[u8] = &[1, 0, 10, 1, 0xaa, 9];
+
+/// A certificate message, with a byte behind it.
+const MESSAGE: &[u8] = &[1, 0, 10, 3, 0, 0xaa, 1, 0xaa, 2, 0xaa, 9];
+
+/// A vote and a certificate message.
+fn any_is_refused<S: CertificateScheme, D: Digest>(rt: &(impl Abort + AllocGlobal)) -> bool {
+    let vote = is_refused::<Vote<S, D>>(rt, &(), VOTE);
+    is_refused::<Certificate<S, D>>(rt, &4, MESSAGE) || vote
 }
 
 #[test]
 fn ample(rt: HostRuntime) {
-    assert!(rt; !any_is_refused(&rt));
+    assert!(rt; !any_is_refused::<Marked, MarkedDigest>(&rt));
 }
 
 /// Where an allocation fails the slice and the buffer are as before.
 #[test]
 fn refused(rt: HostRuntime) {
-    let _ = any_is_refused(&rt);
+    let _ = any_is_refused::<Marked, MarkedDigest>(&rt);
 }

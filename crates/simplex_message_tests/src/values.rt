@@ -5,6 +5,7 @@ use simplex_base::positions::{Epoch, Round, View};
 use simplex_evidence::types::Activity;
 use simplex_plain::marked::{Marked, MarkedDigest};
 use simplex_scheme::proposal::Proposal;
+use simplex_scheme::scheme::{CertificateScheme, Digest};
 use std::alloc::Global;
 use std::collections::HashSet;
 use std::process::Abort;
@@ -60,9 +61,17 @@ const MESSAGES: [&[u8]; 16] = [
     &[9, 0, 10, 1, 0xaa, 0, 10, 5, 6, 1, 0xaa],
 ];
 
+/// These messages are told apart.
+fn are_messages_told_apart<S: CertificateScheme, D: Digest>(
+    rt: &impl Abort,
+    alloc: Global,
+) -> Result<(), Fail> {
+    are_told_apart::<Activity<S, D>>(rt, alloc, &4, &MESSAGES)
+}
+
 #[test]
 fn ample_messages(rt: HostRuntime) -> Result<(), Fail> {
-    are_told_apart::<Activity<Marked, MarkedDigest>>(&rt, rt.alloc(), &4, &MESSAGES)
+    are_messages_told_apart::<Marked, MarkedDigest>(&rt, rt.alloc())
 }
 
 #[test]

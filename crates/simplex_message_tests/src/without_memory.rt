@@ -1,20 +1,15 @@
-//! Calls that take no memory, made when none is left.
+//! Calls that take no memory, made when none is left, where no test vector makes them so.
 //!
 //! Each test makes first what takes memory, and then asks for [`SIGNAL`] bytes. An allocator that refuses this request and every
 //! later one leaves the calls behind it without memory; under any other allocator they are made with memory.
 
 ghost use Rattle.std.specs.Prelude.{◌≡◌, IfOk, length};
 
-use simplex_base::codec::error::Error;
-use simplex_base::codec::{
-    EncodeSize, Fixed, MaxEncodeSize, Read, ReadExt, decode, decode_cfg, read_value,
-};
+use simplex_base::codec::{EncodeSize, Fixed, MaxEncodeSize, Read, ReadExt, decode, decode_cfg};
 use simplex_base::positions::{Epoch, Epochable, Participant, Round, View, Viewable};
-use simplex_evidence::types::{
-    Activity, ConflictingFinalize, ConflictingNotarize, NullifyFinalize,
-};
+use simplex_evidence::types::{ConflictingFinalize, ConflictingNotarize, NullifyFinalize};
 use simplex_plain::listed::Listed;
-use simplex_plain::marked::{Marked, MarkedDigest, MarkedKey};
+use simplex_plain::marked::{Marked, MarkedDigest};
 use simplex_plain::plain::{Plain, PlainKey};
 use simplex_scheme::assembly::can_assemble;
 use simplex_scheme::proposal::Proposal;
@@ -25,8 +20,7 @@ use simplex_scheme::scheme::{
 use simplex_scheme::set::{Set, SetError};
 use simplex_scheme::subject::Subject;
 use simplex_votes::types::{
-    Artifact, Attributable, Certificate, Context, Finalization, Finalize, Notarization, Notarize,
-    Nullification, Nullify, Vote,
+    Artifact, Attributable, Certificate, Finalize, Notarize, Nullify, Vote,
 };
 use std::alloc::Global;
 use std::process::Abort;
@@ -42,247 +36,6 @@ pub(crate) fn is_out(alloc: Global) -> bool {
     signal.is_err() && behind.is_err()
 }
 
-/// Whether a value is read from the front of its encoding, and the encoding without its last byte is refused for that alone.
-fn is_read<T: ReadExt + EncodeSize + Drop>(alloc: Global, encoding: &[u8]) -> bool {
-    let mut rest = encoding;
-    let Ok(value) = read_value::<T>(alloc, &mut rest) else {
-        return false;
-    };
-    let Some((_, short)) = encoding.split_last() else {
-        return false;
-    };
-    let is_whole = rest.is_empty() && value.encode_size() == encoding.len();
-    is_whole && matches!(decode::<T>(alloc, short), Err(Error::EndOfBuffer))
-}
-
-/// Whether the parts of votes are read.
-fn are_parts_read<S: SchemeTypes, D: Digest>(alloc: Global) -> bool {
-    is_read::<Attestation<S>>(alloc, &[1, 0xaa])
-        && is_read::<Proposal<D>>(alloc, &[0, 10, 5, 6])
-        && is_read::<Context<D, S::PublicKey>>(alloc, &[0, 10, 0, 0, 0, 1, 5, 6])
-}
-
-/// Whether votes are read.
-fn are_votes_read<S: SchemeTypes, D: Digest>(alloc: Global) -> bool {
-    let vote = [0, 10, 5, 6, 1, 0xaa];
-    is_read::<Notarize<S, D>>(alloc, &vote)
-        && is_read::<Nullify<S>>(alloc, &[0, 10, 1, 0xaa])
-        && is_read::<Finalize<S, D>>(alloc, &vote)
-        && is_read::<Vote<S, D>>(alloc, &[1, 0, 10, 1, 0xaa])
-}
-
-/// Whether evidence is read.
-fn is_evidence_read<S: SchemeTypes, D: Digest>(alloc: Global) -> bool {
-    let pair = [0, 10, 5, 6, 1, 0xaa, 0, 10, 5, 7, 1, 0xaa];
-    is_read::<ConflictingNotarize<S, D>>(alloc, &pair)
-        && is_read::<ConflictingFinalize<S, D>>(alloc, &pair)
-        && is_read::<NullifyFinalize<S, D>>(alloc, &[0, 10, 1, 0xaa, 0, 10, 5, 6, 1, 0xaa])
-}
-
-#[test]
-fn without_memory_reading(rt: HostRuntime) {
-    let alloc = rt.alloc();
-    let _ = is_out(alloc);
-    assert!(rt; is_read::<Epoch>(alloc, &[0xcd, 2]) && is_read::<View>(alloc, &[10]));
-    assert!(rt; is_read::<Participant>(alloc, &[1]) && is_read::<Round>(alloc, &[0, 10]));
-    assert!(rt; are_parts_read::<Marked, MarkedDigest>(alloc));
-    assert!(rt; are_votes_read::<Marked, MarkedDigest>(alloc));
-    assert!(rt; is_evidence_read::<Marked, MarkedDigest>(alloc));
-}
-
-/// Whether a vote is one of participant 1 in round (0, 10), and no longer than the greatest.
-fn is_by_participant<S: SchemeTypes, D: Digest>(vote: &Vote<S, D>) -> bool {
-    vote.signer() == Participant::new(1)
-        && vote.epoch() == Epoch::new(0)
-        && vote.view() == View::new(10)
-        && vote.bounded_encode_size() <= Vote::<S, D>::max_encode_size()
-}
-
-/// Whether the vote with this encoding is one of participant 1 and becomes the artifact.
-fn becomes<S: CertificateScheme, D: Digest>(
-    alloc: Global,
-    vote: &[u8],
-    artifact: &Artifact<S, D>,
-) -> bool {
-    let Ok(vote) = decode::<Vote<S, D>>(alloc, vote) else {
-        return false;
-    };
-    is_by_participant(&vote) && &Artifact::from(vote) == artifact
-}
-
-/// Whether a vote of each kind becomes the artifact of its kind.
-fn are_votes_stored<S: CertificateScheme, D: Digest>(alloc: Global) -> Result<bool, Fail> {
-    let artifacts = decoded::<Artifact<S, D>>(
-        alloc,
-        &4,
-        &[ACTIVITIES[0], ACTIVITIES[3], ACTIVITIES[5]],
-    )?;
-    let _ = is_out(alloc);
-    let [notarize, nullify, finalize] = artifacts.as_slice() else {
-        return Ok(false);
-    };
-    Ok(
-        becomes(alloc, &[0, 0, 10, 5, 6, 1, 0xaa], notarize)
-            && becomes(alloc, &[1, 0, 10, 1, 0xaa], nullify)
-            && becomes(alloc, &[2, 0, 10, 5, 6, 1, 0xaa], finalize),
-    )
-}
-
-#[test]
-fn without_memory_stored_votes(rt: HostRuntime) -> Result<(), Fail> {
-    assert!(rt; are_votes_stored::<Marked, MarkedDigest>(rt.alloc())?);
-    Ok(())
-}
-
-/// Whether the participant signs a notarize that verifies, and the verifier signs none.
-fn is_notarize_signed<S: Scheme<D>, D: Digest>(
-    alloc: Global,
-    me: &S,
-    verifier: &S,
-    proposal: Proposal<D>,
-) -> bool {
-    let none = Notarize::sign(alloc, verifier, proposal);
-    let signed = Notarize::sign(alloc, me, proposal);
-    matches!(none, Ok(None)) && matches!(signed, Ok(Some(vote)) if vote.verify(verifier))
-}
-
-/// As [`is_notarize_signed`], of a nullify.
-fn is_nullify_signed<S: Scheme<D>, D: Digest>(
-    alloc: Global,
-    me: &S,
-    verifier: &S,
-    proposal: Proposal<D>,
-) -> bool {
-    let none = Nullify::sign::<D>(alloc, verifier, proposal.round);
-    let signed = Nullify::sign::<D>(alloc, me, proposal.round);
-    matches!(none, Ok(None)) && matches!(signed, Ok(Some(vote)) if vote.verify::<D>(verifier))
-}
-
-/// As [`is_notarize_signed`], of a finalize.
-fn is_finalize_signed<S: Scheme<D>, D: Digest>(
-    alloc: Global,
-    me: &S,
-    verifier: &S,
-    proposal: Proposal<D>,
-) -> bool {
-    let none = Finalize::sign(alloc, verifier, proposal);
-    let signed = Finalize::sign(alloc, me, proposal);
-    matches!(none, Ok(None)) && matches!(signed, Ok(Some(vote)) if vote.verify(verifier))
-}
-
-/// Whether a vote of each kind is signed by the participant, and none by the verifier.
-fn are_votes_signed<S: Scheme<D>, D: Digest>(
-    alloc: Global,
-    me: &S,
-    verifier: &S,
-    payload: D,
-) -> bool {
-    let proposal = proposal(payload);
-    is_notarize_signed(alloc, me, verifier, proposal)
-        && is_nullify_signed(alloc, me, verifier, proposal)
-        && is_finalize_signed(alloc, me, verifier, proposal)
-}
-
-#[test]
-fn without_memory_votes(rt: HostRuntime) -> Result<(), Fail> {
-    let alloc = rt.alloc();
-    let me = Marked::new(alloc, 4, Some(Participant::new(1)))?;
-    let nobody = Marked::new(alloc, 4, None)?;
-    let _ = is_out(alloc);
-    assert!(rt; are_votes_signed(alloc, &me, &nobody, MarkedDigest::from_bytes(&[6])));
-    Ok(())
-}
-
-/// Of participant 1 the votes for two proposals, and a nullify.
-const CONTRADICTING: [&[u8]; 3] = [
-    &[0, 10, 5, 6, 1, 0xaa],
-    &[0, 10, 5, 7, 1, 0xaa],
-    &[0, 10, 1, 0xaa],
-];
-
-/// Whether two notarizes contradict, and are the evidence that is made of them.
-fn are_conflicting_notarizes<S: Scheme<D>, D: Digest>(
-    scheme: &S,
-    first: &Notarize<S, D>,
-    second: &Notarize<S, D>,
-) -> bool {
-    if !ConflictingNotarize::conflicts(first, second) {
-        return false;
-    }
-    let evidence = ConflictingNotarize::new(first.copy(), second.copy());
-    evidence.verify(scheme) && evidence.notarize_1() == first && evidence.notarize_2() == second
-}
-
-/// As [`are_conflicting_notarizes`], of two finalizes.
-fn are_conflicting_finalizes<S: Scheme<D>, D: Digest>(
-    scheme: &S,
-    first: &Finalize<S, D>,
-    second: &Finalize<S, D>,
-) -> bool {
-    if !ConflictingFinalize::conflicts(first, second) {
-        return false;
-    }
-    let evidence = ConflictingFinalize::new(first.copy(), second.copy());
-    evidence.verify(scheme) && evidence.finalize_1() == first && evidence.finalize_2() == second
-}
-
-/// As [`are_conflicting_notarizes`], of a nullify and a finalize.
-fn are_nullify_and_finalize<S: Scheme<D>, D: Digest>(
-    scheme: &S,
-    nullify: &Nullify<S>,
-    finalize: &Finalize<S, D>,
-) -> bool {
-    if !NullifyFinalize::conflicts(nullify, finalize) {
-        return false;
-    }
-    let evidence = NullifyFinalize::new(nullify.copy(), finalize.copy());
-    evidence.verify(scheme) && evidence.nullify() == nullify && evidence.finalize() == finalize
-}
-
-/// The values with these two encodings.
-fn pair<A: ReadExt + Drop, B: ReadExt + Drop>(
-    alloc: Global,
-    [first, second]: [&[u8]; 2],
-) -> Result<(A, B), Fail> {
-    Ok((decode(alloc, first)?, decode(alloc, second)?))
-}
-
-/// Whether the notarizes among [`CONTRADICTING`] are evidence.
-fn are_notarizes_evidence<S: Scheme<D>, D: Digest>(
-    alloc: Global,
-    scheme: &S,
-) -> Result<bool, Fail> {
-    let votes = pair(alloc, [CONTRADICTING[0], CONTRADICTING[1]])?;
-    Ok(are_conflicting_notarizes::<S, D>(scheme, &votes.0, &votes.1))
-}
-
-/// As [`are_notarizes_evidence`], of the finalizes.
-fn are_finalizes_evidence<S: Scheme<D>, D: Digest>(
-    alloc: Global,
-    scheme: &S,
-) -> Result<bool, Fail> {
-    let votes = pair(alloc, [CONTRADICTING[0], CONTRADICTING[1]])?;
-    Ok(are_conflicting_finalizes::<S, D>(scheme, &votes.0, &votes.1))
-}
-
-/// As [`are_notarizes_evidence`], of the nullify and the first finalize.
-fn are_both_evidence<S: Scheme<D>, D: Digest>(alloc: Global, scheme: &S) -> Result<bool, Fail> {
-    let votes = pair(alloc, [CONTRADICTING[2], CONTRADICTING[0]])?;
-    Ok(are_nullify_and_finalize::<S, D>(scheme, &votes.0, &votes.1))
-}
-
-/// Votes of participant 1 that contradict are evidence.
-#[test]
-fn without_memory_evidence(rt: HostRuntime) -> Result<(), Fail> {
-    let alloc = rt.alloc();
-    let scheme = Marked::new(alloc, 4, None)?;
-    let _ = is_out(alloc);
-    assert!(rt; are_notarizes_evidence::<Marked, MarkedDigest>(alloc, &scheme)?);
-    assert!(rt; are_finalizes_evidence::<Marked, MarkedDigest>(alloc, &scheme)?);
-    assert!(rt; are_both_evidence::<Marked, MarkedDigest>(alloc, &scheme)?);
-    Ok(())
-}
-
 /// The values with these encodings.
 fn decoded<T: Read + Drop>(
     alloc: Global,
@@ -296,101 +49,179 @@ fn decoded<T: Read + Drop>(
     Ok(values)
 }
 
-/// The encodings of a message of each tag, from 0 on.
-const ACTIVITIES: [&[u8]; 10] = [
+/// A vote of each kind, of participant 1.
+const VOTES: [&[u8]; 3] = [
     &[0, 0, 10, 5, 6, 1, 0xaa],
-    &[1, 0, 10, 5, 6, 3, 0, 0xaa, 1, 0xaa, 2, 0xaa],
-    &[2, 0, 10, 5, 6, 3, 0, 0xaa, 1, 0xaa, 2, 0xaa],
-    &[3, 0, 10, 1, 0xaa],
-    &[4, 0, 10, 3, 0, 0xaa, 1, 0xaa, 2, 0xaa],
-    &[5, 0, 10, 5, 6, 1, 0xaa],
-    &[6, 0, 10, 5, 6, 3, 0, 0xaa, 1, 0xaa, 2, 0xaa],
-    &[7, 0, 10, 5, 6, 1, 0xaa, 0, 10, 5, 7, 1, 0xaa],
-    &[8, 0, 10, 5, 6, 1, 0xaa, 0, 10, 5, 7, 1, 0xaa],
-    &[9, 0, 10, 1, 0xaa, 0, 10, 5, 6, 1, 0xaa],
+    &[1, 0, 10, 1, 0xaa],
+    &[2, 0, 10, 5, 6, 1, 0xaa],
 ];
 
-/// Whether messages of each tag verify, are as long as their encodings, and are verified before they are reported where they have a
-/// certificate.
-fn are_valid<S: Scheme<D>, D: Digest>(alloc: Global, scheme: &S) -> Result<bool, Fail> {
-    let messages = decoded::<Activity<S, D>>(alloc, &4, &ACTIVITIES)?;
+/// The artifacts that they become.
+const STORED_VOTES: [&[u8]; 3] = [
+    &[0, 0, 10, 5, 6, 1, 0xaa],
+    &[3, 0, 10, 1, 0xaa],
+    &[5, 0, 10, 5, 6, 1, 0xaa],
+];
+
+/// A certificate message of each kind, of participants 0, 1 and 2.
+const CERTIFICATES: [&[u8]; 3] = [
+    &[0, 0, 10, 5, 6, 3, 0, 0xaa, 1, 0xaa, 2, 0xaa],
+    &[1, 0, 10, 3, 0, 0xaa, 1, 0xaa, 2, 0xaa],
+    &[2, 0, 10, 5, 6, 3, 0, 0xaa, 1, 0xaa, 2, 0xaa],
+];
+
+/// The words of their kinds.
+const KINDS: [&str; 3] = ["notarization", "nullification", "finalization"];
+
+/// The artifacts that they become.
+const STORED_CERTIFICATES: [&[u8]; 3] = [
+    &[1, 0, 10, 5, 6, 3, 0, 0xaa, 1, 0xaa, 2, 0xaa],
+    &[4, 0, 10, 3, 0, 0xaa, 1, 0xaa, 2, 0xaa],
+    &[6, 0, 10, 5, 6, 3, 0, 0xaa, 1, 0xaa, 2, 0xaa],
+];
+
+/// Whether messages become these artifacts, which are as long.
+fn are_stored<M: EncodeSize + Drop, A: From<M> + EncodeSize + PartialEq + Drop>(
+    messages: Vec<M>,
+    artifacts: &[A],
+) -> bool {
+    let is_whole = messages.len() == artifacts.len();
+    for (message, artifact) in messages.into_iter().zip(artifacts) {
+        if message.encode_size() != artifact.encode_size() || A::from(message) != *artifact {
+            return false;
+        }
+    }
+    is_whole
+}
+
+/// Whether votes and certificate messages become artifacts.
+fn are_all_stored<S: CertificateScheme, D: Digest>(alloc: Global) -> Result<bool, Fail> {
+    let certificates = decoded::<Certificate<S, D>>(alloc, &4, &CERTIFICATES)?;
+    let stored = decoded::<Artifact<S, D>>(alloc, &4, &STORED_CERTIFICATES)?;
+    let votes = decoded::<Vote<S, D>>(alloc, &(), &VOTES)?;
+    let stored_votes = decoded::<Artifact<S, D>>(alloc, &4, &STORED_VOTES)?;
     let _ = is_out(alloc);
-    for (message, encoding) in messages.iter().zip(&ACTIVITIES) {
-        let has_certificate = matches!(encoding, [1 | 2 | 4 | 6, ..]);
-        let is_whole = message.encode_size() == encoding.len();
-        if !message.verify(scheme) || !is_whole || message.verified() != has_certificate {
+    Ok(are_stored(certificates, stored.as_slice()) && are_stored(votes, stored_votes.as_slice()))
+}
+
+#[test]
+fn without_memory_stored(rt: HostRuntime) -> Result<(), Fail> {
+    assert!(rt; are_all_stored::<Marked, MarkedDigest>(rt.alloc())?);
+    Ok(())
+}
+
+/// Whether a vote is of participant 1 in round (0, 10), and no longer than the greatest.
+fn is_by_participant<V: Attributable + Epochable + Viewable + MaxEncodeSize>(vote: &V) -> bool {
+    vote.signer() == Participant::new(1)
+        && vote.epoch() == Epoch::new(0)
+        && vote.view() == View::new(10)
+        && vote.bounded_encode_size() <= V::max_encode_size()
+}
+
+/// Whether votes of each kind are of the participant.
+fn are_by_participant<S: SchemeTypes, D: Digest>(alloc: Global) -> Result<bool, Fail> {
+    let votes = decoded::<Vote<S, D>>(alloc, &(), &VOTES)?;
+    let _ = is_out(alloc);
+    for vote in &votes {
+        if !is_by_participant(vote) {
             return Ok(false);
         }
     }
-    Ok(messages.len() == ACTIVITIES.len())
+    Ok(true)
 }
 
 #[test]
-fn without_memory_activities(rt: HostRuntime) -> Result<(), Fail> {
-    let scheme = Marked::new(rt.alloc(), 4, None)?;
-    assert!(rt; are_valid::<Marked, MarkedDigest>(rt.alloc(), &scheme)?);
+fn without_memory_votes(rt: HostRuntime) -> Result<(), Fail> {
+    assert!(rt; are_by_participant::<Marked, MarkedDigest>(rt.alloc())?);
     Ok(())
 }
 
-/// Whether the certificate message with this encoding is of the kind with this word, verifies, and becomes the artifact with that
-/// encoding.
-fn is_stored<S: Scheme<D>, D: Digest>(
-    alloc: Global,
-    scheme: &S,
-    [message, artifact]: [&[u8]; 2],
-    word: &str,
-) -> Result<bool, Fail> {
-    let message = decode_cfg::<Certificate<S, D>>(alloc, message, &4)?;
-    let artifact = decode_cfg::<Artifact<S, D>>(alloc, artifact, &4)?;
+/// Whether certificate messages of each kind verify, and are of the kinds with these words.
+fn are_certified<S: Scheme<D>, D: Digest>(alloc: Global, scheme: &S) -> Result<bool, Fail> {
+    let messages = decoded::<Certificate<S, D>>(alloc, &4, &CERTIFICATES)?;
     let _ = is_out(alloc);
-    Ok(
-        message.verify(scheme)
-            && message.kind().as_str() == word
-            && message.encode_size() == artifact.encode_size()
-            && Artifact::from(message) == artifact,
-    )
+    for (message, word) in messages.iter().zip(&KINDS) {
+        if !message.verify(scheme) || message.kind().as_str() != *word {
+            return Ok(false);
+        }
+    }
+    Ok(true)
 }
 
 #[test]
-fn without_memory_stored_notarization(rt: HostRuntime) -> Result<(), Fail> {
+fn without_memory_certificates(rt: HostRuntime) -> Result<(), Fail> {
     let scheme = Marked::new(rt.alloc(), 4, None)?;
-    let encodings = [
-        [0, 0, 10, 5, 6, 3, 0, 0xaa, 1, 0xaa, 2, 0xaa].as_slice(),
-        ACTIVITIES[1],
-    ];
-    assert!(rt; is_stored::<_, MarkedDigest>(rt.alloc(), &scheme, encodings, "notarization")?);
+    assert!(rt; are_certified::<Marked, MarkedDigest>(rt.alloc(), &scheme)?);
     Ok(())
+}
+
+/// Of participant 1 the votes for two proposals, and a nullify.
+const CONTRADICTING: [&[u8]; 3] = [
+    &[0, 10, 5, 6, 1, 0xaa],
+    &[0, 10, 5, 7, 1, 0xaa],
+    &[0, 10, 1, 0xaa],
+];
+
+/// The values with these two encodings, which take no memory.
+fn pair<A: ReadExt + Drop, B: ReadExt + Drop>(
+    alloc: Global,
+    first: &[u8],
+    second: &[u8],
+) -> Option<(A, B)> {
+    let first = decode(alloc, first).ok()?;
+    Some((first, decode(alloc, second).ok()?))
+}
+
+/// Whether two notarizes contradict, and are the evidence that is made of them.
+fn are_notarizes_evidence<S: Scheme<D>, D: Digest>(alloc: Global, scheme: &S) -> bool {
+    let Some((first, second)) = pair(alloc, CONTRADICTING[0], CONTRADICTING[1]) else {
+        return false;
+    };
+    if !ConflictingNotarize::<S, D>::conflicts(&first, &second) {
+        return false;
+    }
+    let evidence = ConflictingNotarize::new(first.copy(), second.copy());
+    evidence.verify(scheme) && *evidence.notarize_1() == first && *evidence.notarize_2() == second
+}
+
+/// As [`are_notarizes_evidence`], of two finalizes.
+fn are_finalizes_evidence<S: Scheme<D>, D: Digest>(alloc: Global, scheme: &S) -> bool {
+    let Some((first, second)) = pair(alloc, CONTRADICTING[0], CONTRADICTING[1]) else {
+        return false;
+    };
+    if !ConflictingFinalize::<S, D>::conflicts(&first, &second) {
+        return false;
+    }
+    let evidence = ConflictingFinalize::new(first.copy(), second.copy());
+    evidence.verify(scheme) && *evidence.finalize_1() == first && *evidence.finalize_2() == second
+}
+
+/// As [`are_notarizes_evidence`], of a nullify and a finalize.
+fn are_both_evidence<S: Scheme<D>, D: Digest>(alloc: Global, scheme: &S) -> bool {
+    let Some((first, second)) = pair(alloc, CONTRADICTING[2], CONTRADICTING[0]) else {
+        return false;
+    };
+    if !NullifyFinalize::<S, D>::conflicts(&first, &second) {
+        return false;
+    }
+    let evidence = NullifyFinalize::new(first.copy(), second.copy());
+    evidence.verify(scheme) && *evidence.nullify() == first && *evidence.finalize() == second
+}
+
+/// Whether votes of participant 1 that contradict are evidence, of each kind.
+fn are_evidence<S: Scheme<D>, D: Digest>(alloc: Global, scheme: &S) -> bool {
+    let _ = is_out(alloc);
+    are_notarizes_evidence(alloc, scheme)
+        && are_finalizes_evidence(alloc, scheme)
+        && are_both_evidence(alloc, scheme)
 }
 
 #[test]
-fn without_memory_stored_nullification(rt: HostRuntime) -> Result<(), Fail> {
+fn without_memory_evidence(rt: HostRuntime) -> Result<(), Fail> {
     let scheme = Marked::new(rt.alloc(), 4, None)?;
-    let encodings = [
-        [1, 0, 10, 3, 0, 0xaa, 1, 0xaa, 2, 0xaa].as_slice(),
-        ACTIVITIES[4],
-    ];
-    assert!(rt; is_stored::<_, MarkedDigest>(rt.alloc(), &scheme, encodings, "nullification")?);
+    assert!(rt; are_evidence::<Marked, MarkedDigest>(rt.alloc(), &scheme));
     Ok(())
 }
-
-#[test]
-fn without_memory_stored_finalization(rt: HostRuntime) -> Result<(), Fail> {
-    let scheme = Marked::new(rt.alloc(), 4, None)?;
-    let encodings = [
-        [2, 0, 10, 5, 6, 3, 0, 0xaa, 1, 0xaa, 2, 0xaa].as_slice(),
-        ACTIVITIES[6],
-    ];
-    assert!(rt; is_stored::<_, MarkedDigest>(rt.alloc(), &scheme, encodings, "finalization")?);
-    Ok(())
-}
-
-/// Whether nothing is made of two votes of four participants.
-fn are_too_few<T: Drop>(made: Result<T, AssemblyError>) -> bool {
-    matches!(made, Err(error) if error == AssemblyError::InsufficientAttestations(3, 2))
-}
-
-/// Votes of participants 1 and 2 for one proposal.
-const VOTES: [&[u8]; 2] = [&[0, 10, 5, 6, 1, 0xaa], &[0, 10, 5, 6, 2, 0xaa]];
 
 /// Whether attestations of distinct participants can be assembled, and those of one participant cannot.
 fn are_distinct_assembled<S: CertificateScheme>(alloc: Global, scheme: &S) -> Result<bool, Fail> {
@@ -404,63 +235,6 @@ fn are_distinct_assembled<S: CertificateScheme>(alloc: Global, scheme: &S) -> Re
 fn without_memory_assembly(rt: HostRuntime) -> Result<(), Fail> {
     let scheme = Marked::new(rt.alloc(), 4, None)?;
     assert!(rt; are_distinct_assembled(rt.alloc(), &scheme)?);
-    Ok(())
-}
-
-/// Whether two notarizes are too few, lent and owned.
-fn are_few_notarizes<S: Scheme<D>, D: Digest>(alloc: Global, scheme: &S) -> Result<bool, Fail> {
-    let votes = decoded::<Notarize<S, D>>(alloc, &(), &VOTES)?;
-    let _ = is_out(alloc);
-    if !Notarization::can_assemble(scheme, votes.as_slice()) {
-        return Ok(false);
-    }
-    let lent = Notarization::from_notarizes(alloc, scheme, votes.as_slice());
-    Ok(are_too_few(lent) && are_too_few(Notarization::from_owned_notarizes(alloc, scheme, votes)))
-}
-
-/// Whether two nullifies are too few, lent and owned.
-fn are_few_nullifies<S: Scheme<D>, D: Digest>(alloc: Global, scheme: &S) -> Result<bool, Fail> {
-    let votes = decoded::<Nullify<S>>(alloc, &(), &[&[0, 10, 1, 0xaa], &[0, 10, 2, 0xaa]])?;
-    let _ = is_out(alloc);
-    if !Nullification::can_assemble::<D>(scheme, votes.as_slice()) {
-        return Ok(false);
-    }
-    let lent = Nullification::from_nullifies::<D>(alloc, scheme, votes.as_slice());
-    Ok(
-        are_too_few(lent)
-            && are_too_few(Nullification::from_owned_nullifies::<D>(alloc, scheme, votes)),
-    )
-}
-
-/// Whether two finalizes are too few, lent and owned.
-fn are_few_finalizes<S: Scheme<D>, D: Digest>(alloc: Global, scheme: &S) -> Result<bool, Fail> {
-    let votes = decoded::<Finalize<S, D>>(alloc, &(), &VOTES)?;
-    let _ = is_out(alloc);
-    if !Finalization::can_assemble(scheme, votes.as_slice()) {
-        return Ok(false);
-    }
-    let lent = Finalization::from_finalizes(alloc, scheme, votes.as_slice());
-    Ok(are_too_few(lent) && are_too_few(Finalization::from_owned_finalizes(alloc, scheme, votes)))
-}
-
-#[test]
-fn without_memory_few_notarizes(rt: HostRuntime) -> Result<(), Fail> {
-    let scheme = Marked::new(rt.alloc(), 4, None)?;
-    assert!(rt; are_few_notarizes::<_, MarkedDigest>(rt.alloc(), &scheme)?);
-    Ok(())
-}
-
-#[test]
-fn without_memory_few_nullifies(rt: HostRuntime) -> Result<(), Fail> {
-    let scheme = Marked::new(rt.alloc(), 4, None)?;
-    assert!(rt; are_few_nullifies::<_, MarkedDigest>(rt.alloc(), &scheme)?);
-    Ok(())
-}
-
-#[test]
-fn without_memory_few_finalizes(rt: HostRuntime) -> Result<(), Fail> {
-    let scheme = Marked::new(rt.alloc(), 4, None)?;
-    assert!(rt; are_few_finalizes::<_, MarkedDigest>(rt.alloc(), &scheme)?);
     Ok(())
 }
 
