@@ -2,8 +2,12 @@
 
 use crate::model::audit_by_definition;
 use crate::outcome::{deferred_outcome_of, four_and_one, outcome_of};
-use simplex_plain::marked::{Marked, MarkedDigest};
+use simplex_audit::audit::Committees;
+use simplex_evidence::types::Activity;
+use simplex_plain::marked::MarkedDigest;
+use simplex_scheme::scheme::{Digest, Listing};
 use std::alloc::{AllocError, Global};
+use std::process::Abort;
 use std::test::Fail;
 
 /// Messages of each of the ten kinds, of views 10 and 11 of epoch 0, which has a committee of four, and of view 10 of
@@ -66,6 +70,25 @@ const TAILS: [&[u8]; 6] = [
     &[7, 0, 10, 5, 6, 1, 0xaa, 0, 10, 5, 6, 1, 0xaa],
 ];
 
+/// How many participants the committees of epochs 0 and 1 have, and the bound that messages are read under.
+const SIZES: ([usize; 2], u32) = ([4, 1], 4);
+
+/// The audit of a stream, and the deferred one, answer what its definition does.
+fn check<S: Listing<D>, D: Digest>(
+    rt: &impl Abort,
+    alloc: Global,
+    committees: &Committees<S>,
+    stream: &[u8],
+) -> Result<(), Fail> {
+    let (sizes, bound) = SIZES;
+    let wanted = audit_by_definition::<Activity<S, D>>(alloc, &sizes, &bound, stream)?;
+    let found = outcome_of::<S, D>(alloc, committees, stream)?;
+    assert_eq!(rt; found, wanted, "of {stream:?}");
+    let found = deferred_outcome_of::<S, D>(alloc, committees, stream)?;
+    assert_eq!(rt; found, wanted, "deferred, of {stream:?}");
+    Ok(())
+}
+
 #[test]
 fn ample_every_small_stream_is_audited_by_the_definition(rt: HostRuntime) -> Result<(), Fail> {
     let alloc = rt.alloc();
@@ -74,12 +97,7 @@ fn ample_every_small_stream_is_audited_by_the_definition(rt: HostRuntime) -> Res
         for number in 0..streams {
             let mut stream = stream_of(alloc, messages, number)?;
             stream.extend_from_slice(TAILS[number / 7 % 6])?;
-            let bytes = stream.as_slice();
-            let wanted = audit_by_definition(alloc, &committees, bytes)?;
-            let found = outcome_of::<Marked, MarkedDigest>(alloc, &committees, bytes)?;
-            assert_eq!(rt; found, wanted, "of {stream:?}");
-            let found = deferred_outcome_of::<Marked, MarkedDigest>(alloc, &committees, bytes)?;
-            assert_eq!(rt; found, wanted, "deferred, of {stream:?}");
+            check::<_, MarkedDigest>(&rt, alloc, &committees, stream.as_slice())?;
         }
     }
     Ok(())

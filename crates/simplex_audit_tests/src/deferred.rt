@@ -1,8 +1,12 @@
 //! A deferred audit returns what an audit does, and what is stored of a batch by one is what a ledger stores.
 
 use crate::outcome::{deferred_outcome_of, marked, outcome_of};
+use simplex_audit::audit::Committees;
 use simplex_clients::ledger::{Ledger, store_batch};
-use simplex_plain::marked::{Marked, MarkedDigest};
+use simplex_plain::marked::MarkedDigest;
+use simplex_scheme::scheme::{Digest, Listing};
+use std::alloc::Global;
+use std::process::Abort;
 use std::test::Fail;
 
 /// Two notarizes of participant 1 that contradict, and a notarize of participant 2.
@@ -19,20 +23,28 @@ const BATCH: &[u8] = &[
     0, 0,
 ];
 
-#[test]
-fn ample(rt: HostRuntime) -> Result<(), Fail> {
-    let alloc = rt.alloc();
-    let committees = marked(alloc, 4)?;
+/// A deferred audit and a batch answer what an audit and a ledger do.
+fn check<S: Listing<D>, D: Digest>(
+    rt: &impl Abort,
+    alloc: Global,
+    committees: &Committees<S>,
+) -> Result<(), Fail> {
     for stream in [STORED, BATCH, b"".as_slice()] {
-        let found = deferred_outcome_of::<Marked, MarkedDigest>(alloc, &committees, stream)?;
-        let wanted = outcome_of::<Marked, MarkedDigest>(alloc, &committees, stream)?;
+        let found = deferred_outcome_of::<S, D>(alloc, committees, stream)?;
+        let wanted = outcome_of::<S, D>(alloc, committees, stream)?;
         assert_eq!(rt; found, wanted, "of {stream:?}");
     }
     for stored in [b"".as_slice(), STORED] {
-        let ledger = Ledger::<Marked, MarkedDigest>::resume(alloc, &committees, stored)?;
+        let ledger = Ledger::<S, D>::resume(alloc, committees, stored)?;
         let wanted = ledger.feed(BATCH)?.store(alloc)?;
-        let found = store_batch::<Marked, MarkedDigest>(alloc, &committees, stored, BATCH)?;
+        let found = store_batch::<S, D>(alloc, committees, stored, BATCH)?;
         assert_eq!(rt; found, wanted, "after {stored:?}");
     }
     Ok(())
+}
+
+#[test]
+fn ample(rt: HostRuntime) -> Result<(), Fail> {
+    let committees = marked(rt.alloc(), 4)?;
+    check::<_, MarkedDigest>(&rt, rt.alloc(), &committees)
 }

@@ -2,9 +2,11 @@
 
 use crate::outcome::marked;
 use faulty_io::{Source, Target, Trouble};
-use simplex_audit::audit::{Watched, run};
-use simplex_plain::marked::{Marked, MarkedDigest};
+use simplex_audit::audit::{Committees, Watched, run};
+use simplex_plain::marked::MarkedDigest;
+use simplex_scheme::scheme::{Digest, Listing};
 use std::alloc::Global;
+use std::process::Abort;
 use std::test::Fail;
 
 /// The first signer whose number is encoded in four bytes.
@@ -35,22 +37,25 @@ fn nullification(alloc: Global) -> Result<Vec<u8>, Fail> {
     Ok(bytes)
 }
 
+/// The stream is one message, which names nobody, also where it comes in reads of 1,000 bytes.
+fn check<S: Listing<D>, D: Digest>(
+    rt: &impl Abort,
+    alloc: Global,
+    committees: &Committees<S>,
+    stream: &[u8],
+) -> Result<(), Fail> {
+    let source = Source::new(stream, 1000, Trouble::Never);
+    let (mut reader, mut writer) = (Watched::new(source), Watched::new(Target::steady()));
+    let summary = run::<S, D, Source, Target>(alloc, committees, &mut reader, &mut writer)?;
+    assert!(rt; summary.read == 1 && summary.evidence == 0 && summary.fault.is_none());
+    Ok(())
+}
+
 #[test]
 fn ample_a_long_message_in_short_reads_is_read(rt: HostRuntime) -> Result<(), Fail> {
     let alloc = rt.alloc();
     let committees = marked(alloc, FIRST + ATTESTATIONS)?;
     let stream = nullification(alloc)?;
     assert_eq!(rt; stream.len(), 16_000_007);
-    let source = Source::new(stream.as_slice(), 1000, Trouble::Never);
-    let (mut reader, mut writer) = (Watched::new(source), Watched::new(Target::steady()));
-    let summary = run::<Marked, MarkedDigest, Source, Target>(
-        alloc,
-        &committees,
-        &mut reader,
-        &mut writer,
-    )?;
-    assert_eq!(rt; summary.read, 1);
-    assert_eq!(rt; summary.evidence, 0);
-    assert_eq!(rt; summary.fault, None);
-    Ok(())
+    check::<_, MarkedDigest>(&rt, alloc, &committees, stream.as_slice())
 }

@@ -1,14 +1,12 @@
 //! The auditor by its definition: the valid votes stand in one list and the subjects of certified messages in another, and of
-//! each list any two are compared. It is slow, and there to be run against.
+//! each list any two are compared. It is slow, and there to be run against. What a message says it takes from its bytes, in which
+//! each number and each payload is one byte, and the signature of the marked scheme another.
 
 use crate::outcome::Outcome;
-use simplex_audit::audit::{Committees, Fault};
-use simplex_base::codec::{Fixed, Read};
-use simplex_base::positions::Round;
-use simplex_evidence::types::Activity;
-use simplex_plain::marked::{Marked, MarkedDigest};
-use simplex_scheme::proposal::Proposal;
-use simplex_scheme::scheme::{Attestation, CertificateScheme, Listing};
+use simplex_audit::audit::Fault;
+use simplex_base::codec::Read;
+use simplex_base::codec::error::Error;
+use simplex_base::positions::{Epoch, Round, View};
 use std::alloc::{AllocError, Global};
 
 /// The sorts of votes.
@@ -36,23 +34,19 @@ struct Matter {
 }
 
 impl Matter {
-    /// What a vote for a proposal is for.
-    fn of(sort: Sort, proposal: &Proposal<MarkedDigest>) -> Matter {
+    /// What a vote or a certificate of this sort is for, by its first bytes.
+    fn read(sort: Sort, bytes: &mut &[u8]) -> Matter {
+        let (epoch, view) = (u64::from(byte(bytes)), u64::from(byte(bytes)));
+        let round = Round::new(Epoch::new(epoch), View::new(view));
+        let (parent, payload) = match sort {
+            Sort::Nullify => (0, 0),
+            _ => (u64::from(byte(bytes)), byte(bytes)),
+        };
         Matter {
             sort,
-            round: proposal.round,
-            parent: proposal.parent.get(),
-            payload: proposal.payload.as_bytes().first().copied().unwrap_or(0),
-        }
-    }
-
-    /// What a nullify is for.
-    fn none_of(round: Round) -> Matter {
-        Matter {
-            sort: Sort::Nullify,
             round,
-            parent: 0,
-            payload: 0,
+            parent,
+            payload,
         }
     }
 
@@ -88,17 +82,21 @@ struct Lists {
     certified: Vec<Matter>,
 }
 
-/// What an audit of the stream has to answer.
-pub(crate) fn audit_by_definition(
+/// How many participants the committee of each epoch from 0 on has. There is none in later epochs.
+type Sizes<'a> = &'a [usize];
+
+/// What an audit of the stream has to answer, by marked committees of these sizes. `T` is what is read of it under `bound`.
+pub(crate) fn audit_by_definition<T: Read + Drop>(
     alloc: Global,
-    committees: &Committees<Marked>,
+    sizes: Sizes<'_>,
+    bound: &T::Cfg,
     stream: &[u8],
 ) -> Result<Outcome, AllocError> {
     let mut lists = Lists {
         votes: Vec::new(alloc),
         certified: Vec::new(alloc),
     };
-    let (read, fault) = read_messages(alloc, committees, stream, &mut lists)?;
+    let (read, fault) = read_messages::<T>(alloc, sizes, bound, stream, &mut lists)?;
     let mut findings = findings_of(alloc, lists.votes.as_slice())?;
     findings.sort_by_key(|finding| (finding.round, finding.signer, finding.kind))?;
     let mut text = String::new(alloc);
@@ -106,16 +104,17 @@ pub(crate) fn audit_by_definition(
         text.push_str(finding.line.as_str())?;
     }
     for round in split_rounds(alloc, lists.certified.as_slice())? {
-        let line = split_line(alloc, committees, round, findings.as_slice())?;
+        let line = split_line(alloc, sizes, round, findings.as_slice())?;
         text.push_str(line.as_str())?;
     }
     Ok(Outcome { text, read, fault })
 }
 
 /// Reads messages until the end or the first fault.
-fn read_messages(
+fn read_messages<T: Read + Drop>(
     alloc: Global,
-    committees: &Committees<Marked>,
+    sizes: Sizes<'_>,
+    bound: &T::Cfg,
     stream: &[u8],
     lists: &mut Lists,
 ) -> Result<(usize, Option<Fault>), AllocError> {
@@ -125,83 +124,56 @@ fn read_messages(
         if rest.is_empty() {
             return Ok((read, None));
         }
-        match Activity::<Marked, MarkedDigest>::read_cfg(alloc, &mut rest, &committees.bound()) {
-            Ok(message) => list_message(committees, message, lists)?,
-            Err(error) => {
-                let place = stream.len().saturating_sub(rest.len());
-                return Ok((read, Some(Fault { place, error })));
-            }
+        let mut message: &[u8] = rest;
+        if let Err(error) = skip::<T>(alloc, bound, &mut rest) {
+            let place = stream.len().saturating_sub(rest.len());
+            return Ok((read, Some(Fault { place, error })));
         }
+        list_message(sizes, &mut message, lists)?;
     }
     Ok((stream.len(), None))
 }
 
-/// Appends what is valid of a message.
-fn list_message(
-    committees: &Committees<Marked>,
-    message: Activity<Marked, MarkedDigest>,
-    lists: &mut Lists,
-) -> Result<(), AllocError> {
-    match message {
-        Activity::Notarize(vote) => {
-            let matter = Matter::of(Sort::Notarize, &vote.proposal);
-            list_vote(committees, matter, &vote.attestation, lists)
-        }
-        Activity::Nullify(vote) => {
-            let matter = Matter::none_of(vote.round);
-            list_vote(committees, matter, &vote.attestation, lists)
-        }
-        Activity::Finalize(vote) => {
-            let matter = Matter::of(Sort::Finalize, &vote.proposal);
-            list_vote(committees, matter, &vote.attestation, lists)
-        }
-        Activity::Notarization(message) | Activity::Certification(message) => {
-            let matter = Matter::of(Sort::Notarize, &message.proposal);
-            list_certificate(committees, matter, listed(&message.certificate), lists)
-        }
-        Activity::Nullification(message) => {
-            let matter = Matter::none_of(message.round);
-            list_certificate(committees, matter, listed(&message.certificate), lists)
-        }
-        Activity::Finalization(message) => {
-            let matter = Matter::of(Sort::Finalize, &message.proposal);
-            list_certificate(committees, matter, listed(&message.certificate), lists)
-        }
-        Activity::ConflictingNotarize(evidence) => {
-            for vote in [evidence.notarize_1(), evidence.notarize_2()] {
-                let matter = Matter::of(Sort::Notarize, &vote.proposal);
-                list_vote(committees, matter, &vote.attestation, lists)?;
-            }
-            Ok(())
-        }
-        Activity::ConflictingFinalize(evidence) => {
-            for vote in [evidence.finalize_1(), evidence.finalize_2()] {
-                let matter = Matter::of(Sort::Finalize, &vote.proposal);
-                list_vote(committees, matter, &vote.attestation, lists)?;
-            }
-            Ok(())
-        }
-        Activity::NullifyFinalize(evidence) => {
-            let (nullify, finalize) = (evidence.nullify(), evidence.finalize());
-            let matter = Matter::none_of(nullify.round);
-            list_vote(committees, matter, &nullify.attestation, lists)?;
-            let matter = Matter::of(Sort::Finalize, &finalize.proposal);
-            list_vote(committees, matter, &finalize.attestation, lists)
-        }
-    }
+/// Moves the slice past the value at its front.
+fn skip<T: Read + Drop>(alloc: Global, bound: &T::Cfg, bytes: &mut &[u8]) -> Result<(), Error> {
+    T::read_cfg(alloc, bytes, bound)?;
+    Ok(())
 }
 
-/// What a certificate lists.
-fn listed(certificate: &<Marked as CertificateScheme>::Certificate) -> &[Attestation<Marked>] {
-    <Marked as Listing<MarkedDigest>>::attestations(certificate)
+/// The first of the bytes, behind which they are left. It is 0 where there is none.
+fn byte(bytes: &mut &[u8]) -> u8 {
+    let Some((first, rest)) = bytes.split_first() else {
+        return 0;
+    };
+    *bytes = rest;
+    *first
+}
+
+/// Appends what is valid of the message that begins the bytes.
+fn list_message(sizes: Sizes<'_>, bytes: &mut &[u8], lists: &mut Lists) -> Result<(), AllocError> {
+    match byte(bytes) {
+        0 => list_vote(sizes, Sort::Notarize, bytes, lists),
+        1 | 2 => list_certificate(sizes, Sort::Notarize, bytes, lists),
+        3 => list_vote(sizes, Sort::Nullify, bytes, lists),
+        4 => list_certificate(sizes, Sort::Nullify, bytes, lists),
+        5 => list_vote(sizes, Sort::Finalize, bytes, lists),
+        6 => list_certificate(sizes, Sort::Finalize, bytes, lists),
+        tag => {
+            let (first, second) = match tag {
+                7 => (Sort::Notarize, Sort::Notarize),
+                8 => (Sort::Finalize, Sort::Finalize),
+                _ => (Sort::Nullify, Sort::Finalize),
+            };
+            list_vote(sizes, first, bytes, lists)?;
+            list_vote(sizes, second, bytes, lists)
+        }
+    }
 }
 
 /// The number of participants of the committee of a round, none where there is no committee.
-fn size_at(committees: &Committees<Marked>, round: Round) -> usize {
-    match committees.get(round.epoch()) {
-        Some(committee) => committee.participants().len(),
-        None => 0,
-    }
+fn size_at(sizes: Sizes<'_>, round: Round) -> usize {
+    let epoch = round.epoch().get() as usize;
+    sizes.get(epoch).copied().unwrap_or(0)
 }
 
 /// How many of so many participants may lie.
@@ -209,50 +181,51 @@ fn faults_of(participants: usize) -> usize {
     participants.saturating_sub(1) / 3
 }
 
-/// Whether an attestation is valid: marked so, by a member of the committee of its epoch.
-fn is_good(
-    committees: &Committees<Marked>,
-    round: Round,
-    attestation: &Attestation<Marked>,
-) -> bool {
-    attestation.signature.as_bytes() == [0xaa].as_slice()
-        && (attestation.signer.get() as usize) < size_at(committees, round)
+/// Takes an attestation to this, and appends the vote if it is valid: marked so, by a member of the committee of its epoch.
+/// Returns whether it is.
+fn list_attestation(
+    sizes: Sizes<'_>,
+    matter: Matter,
+    bytes: &mut &[u8],
+    lists: &mut Lists,
+) -> Result<bool, AllocError> {
+    let (signer, signature) = (byte(bytes), byte(bytes));
+    let is_good = signature == 0xaa && usize::from(signer) < size_at(sizes, matter.round);
+    if is_good {
+        let signer = u32::from(signer);
+        lists.votes.push(Vote { matter, signer })?;
+    }
+    Ok(is_good)
 }
 
-/// Appends a vote if it is valid.
+/// Takes a vote, and appends it if it is valid.
 fn list_vote(
-    committees: &Committees<Marked>,
-    matter: Matter,
-    attestation: &Attestation<Marked>,
+    sizes: Sizes<'_>,
+    sort: Sort,
+    bytes: &mut &[u8],
     lists: &mut Lists,
 ) -> Result<(), AllocError> {
-    if is_good(committees, matter.round, attestation) {
-        lists.votes.push(Vote {
-            matter,
-            signer: attestation.signer.get(),
-        })?;
-    }
+    let matter = Matter::read(sort, bytes);
+    let _ = list_attestation(sizes, matter, bytes, lists)?;
     Ok(())
 }
 
-/// Appends the valid votes of a certificate, and what it is for if a quorum is listed and all are valid.
+/// Takes a certificate, and appends its valid votes, and what it is for if a quorum is listed and all are valid.
 fn list_certificate(
-    committees: &Committees<Marked>,
-    matter: Matter,
-    attestations: &[Attestation<Marked>],
+    sizes: Sizes<'_>,
+    sort: Sort,
+    bytes: &mut &[u8],
     lists: &mut Lists,
 ) -> Result<(), AllocError> {
-    let size = size_at(committees, matter.round);
-    let is_quorum = size > 0 && attestations.len() >= size.saturating_sub(faults_of(size));
-    if is_quorum
-        && attestations
-            .iter()
-            .all(|each| is_good(committees, matter.round, each))
-    {
-        lists.certified.push(matter)?;
+    let matter = Matter::read(sort, bytes);
+    let (size, listed) = (size_at(sizes, matter.round), byte(bytes));
+    let mut are_good = true;
+    for _ in 0..listed {
+        are_good &= list_attestation(sizes, matter, bytes, lists)?;
     }
-    for attestation in attestations {
-        list_vote(committees, matter, attestation, lists)?;
+    let is_quorum = size > 0 && usize::from(listed) >= size.saturating_sub(faults_of(size));
+    if is_quorum && are_good {
+        lists.certified.push(matter)?;
     }
     Ok(())
 }
@@ -318,7 +291,7 @@ fn split_rounds(alloc: Global, certified: &[Matter]) -> Result<Vec<Round>, Alloc
 /// The line that tells of a round whose certificates contradict.
 fn split_line(
     alloc: Global,
-    committees: &Committees<Marked>,
+    sizes: Sizes<'_>,
     round: Round,
     findings: &[Finding],
 ) -> Result<String, AllocError> {
@@ -329,6 +302,6 @@ fn split_line(
         }
     }
     let (epoch, view) = (round.epoch().get(), round.view().get());
-    let least = faults_of(size_at(committees, round)).saturating_add(1);
+    let least = faults_of(size_at(sizes, round)).saturating_add(1);
     format!(in alloc; "{epoch} {view} split {} {least}\n", signers.len())
 }

@@ -2,8 +2,9 @@
 
 use crate::outcome::marked;
 use faulty_io::{Source, Target, Trouble};
-use simplex_audit::audit::{RunError, Watched, run};
-use simplex_plain::marked::{Marked, MarkedDigest};
+use simplex_audit::audit::{Committees, RunError, Watched, run};
+use simplex_plain::marked::MarkedDigest;
+use simplex_scheme::scheme::{Digest, Listing};
 use std::alloc::Global;
 use std::fmt::Write;
 use std::io::ErrorKind;
@@ -45,19 +46,24 @@ const STEADY: Case<'static> = Case {
     flushes: 1,
 };
 
-/// Makes a run, and compares.
+/// Makes a run by a marked committee of four, and compares.
 fn ends(rt: &impl Abort, alloc: Global, case: Case<'_>) -> Result<(), Fail> {
-    let committees = marked(alloc, 4)?;
+    ends_by::<_, MarkedDigest>(rt, alloc, &marked(alloc, 4)?, case);
+    Ok(())
+}
+
+/// Makes a run, and compares.
+fn ends_by<S: Listing<D>, D: Digest>(
+    rt: &impl Abort,
+    alloc: Global,
+    committees: &Committees<S>,
+    case: Case<'_>,
+) {
     let source = Source::new(case.stream, case.steps.0.max(1), case.reading);
     let target = Target::new(case.steps.1, case.room, case.writing, case.flushing);
     let (mut reader, mut writer) = (Watched::new(source), Watched::new(target));
     assert!(rt; !reader.failed() && !writer.failed());
-    let answer = run::<Marked, MarkedDigest, Source, Target>(
-        alloc,
-        &committees,
-        &mut reader,
-        &mut writer,
-    );
+    let answer = run::<S, D, Source, Target>(alloc, committees, &mut reader, &mut writer);
     assert_eq!(rt; reader.failed(), case.error == Some(RunError::Read));
     assert_eq!(rt; writer.failed(), case.error == Some(RunError::Write));
     assert_eq!(rt; answer.err(), case.error);
@@ -66,7 +72,6 @@ fn ends(rt: &impl Abort, alloc: Global, case: Case<'_>) -> Result<(), Fail> {
     let (writes, flushes) = target.calls();
     assert_eq!(rt; flushes, case.flushes);
     assert!(rt; writes == 0 || case.error != Some(RunError::Read));
-    Ok(())
 }
 
 #[test]

@@ -7,9 +7,10 @@ use faulty_io::{Source, Target, Trouble};
 use simplex_audit::audit::{Auditor, Committees, CommitteesError, Watched, audit};
 use simplex_base::positions::{Epoch, Participant, Round, View};
 use simplex_plain::marked::{Marked, MarkedDigest};
-use simplex_scheme::scheme::CertificateScheme;
+use simplex_scheme::scheme::{CertificateScheme, Digest, Listing};
 use std::alloc::Global;
 use std::io::{ErrorKind, Read};
+use std::process::Abort;
 use std::test::Fail;
 
 /// Asks for the room from which on every allocation may be refused.
@@ -54,40 +55,56 @@ fn without_memory_committees(rt: HostRuntime) -> Result<(), Fail> {
     Ok(())
 }
 
+/// What auditors say of two votes and the beginning of a message, and of nothing.
+fn check_auditors<S: Listing<D>, D: Digest>(
+    rt: &impl Abort,
+    alloc: Global,
+    committees: &Committees<S>,
+) -> Result<(), Fail> {
+    let stream = [0, 0, 10, 5, 6, 1, 0xaa, 3, 0, 10, 1, 0xaa, 0, 0];
+    let auditor = Auditor::<S, D>::new(alloc, committees).feed(&stream)?;
+    memory_ends(alloc);
+    assert!(rt; auditor.fed() == 14 && auditor.votes() == 2);
+    assert!(rt; auditor.rest() == [0, 0].as_slice());
+    let auditor = Auditor::<S, D>::new(alloc, committees);
+    assert!(rt; auditor.fed() == 0 && auditor.votes() == 0);
+    assert!(rt; auditor.rest().is_empty());
+    Ok(())
+}
+
 #[test]
 fn without_memory_auditors(rt: HostRuntime) -> Result<(), Fail> {
-    let alloc = rt.alloc();
-    let committees = marked(alloc, 4)?;
-    let stream = [0, 0, 10, 5, 6, 1, 0xaa, 3, 0, 10, 1, 0xaa, 0, 0];
-    let auditor = Auditor::<Marked, MarkedDigest>::new(alloc, &committees).feed(&stream)?;
+    let committees = marked(rt.alloc(), 4)?;
+    check_auditors::<_, MarkedDigest>(&rt, rt.alloc(), &committees)
+}
+
+/// Two finalizes, two notarizes and a nullify of participant 1.
+const CONTRADICTING: &[u8] = &[
+    8, 0, 10, 5, 7, 1, 0xaa, 0, 10, 5, 6, 1, 0xaa, //
+    0, 0, 10, 5, 6, 1, 0xaa, 0, 0, 10, 5, 7, 1, 0xaa, //
+    3, 0, 10, 1, 0xaa,
+];
+
+/// Whom the evidence of a report accuses, and where.
+fn check_evidence<S: Listing<D>, D: Digest>(
+    rt: &impl Abort,
+    alloc: Global,
+    committees: &Committees<S>,
+) -> Result<(), Fail> {
+    let report = audit::<S, D>(alloc, committees, CONTRADICTING)?;
     memory_ends(alloc);
-    assert_eq!(rt; auditor.fed(), 14);
-    assert_eq!(rt; auditor.rest(), [0, 0].as_slice());
-    assert_eq!(rt; auditor.votes(), 2);
-    let auditor = Auditor::<Marked, MarkedDigest>::new(alloc, &committees);
-    assert_eq!(rt; auditor.fed(), 0);
-    assert!(rt; auditor.rest().is_empty());
-    assert_eq!(rt; auditor.votes(), 0);
+    assert!(rt; report.evidence.len() == 3);
+    for evidence in &report.evidence {
+        assert!(rt; evidence.round() == Round::new(Epoch::new(0), View::new(10)));
+        assert!(rt; evidence.signer() == Participant::new(1));
+    }
     Ok(())
 }
 
 #[test]
 fn without_memory_evidence(rt: HostRuntime) -> Result<(), Fail> {
-    let alloc = rt.alloc();
-    let committees = marked(alloc, 4)?;
-    let stream = [
-        8, 0, 10, 5, 7, 1, 0xaa, 0, 10, 5, 6, 1, 0xaa, // Two finalizes.
-        0, 0, 10, 5, 6, 1, 0xaa, 0, 0, 10, 5, 7, 1, 0xaa, // Two notarizes.
-        3, 0, 10, 1, 0xaa, // A nullify.
-    ];
-    let report = audit::<Marked, MarkedDigest>(alloc, &committees, &stream)?;
-    memory_ends(alloc);
-    assert_eq!(rt; report.evidence.len(), 3);
-    for evidence in &report.evidence {
-        assert_eq!(rt; evidence.round(), Round::new(Epoch::new(0), View::new(10)));
-        assert_eq!(rt; evidence.signer(), Participant::new(1));
-    }
-    Ok(())
+    let committees = marked(rt.alloc(), 4)?;
+    check_evidence::<_, MarkedDigest>(&rt, rt.alloc(), &committees)
 }
 
 #[test]
