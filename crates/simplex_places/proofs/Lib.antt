@@ -1,2 +1,2 @@
-pub mod PlaceLemmas
 pub mod ReadingLemmas
+pub mod SuspectLemmas

@@ -10,7 +10,7 @@ ghost use Rattle.simplex_detector.specs.Named.{round_cmp};
 ghost use Rattle.simplex_detector.specs.Rules.{AreLawful};
 ghost use Rattle.simplex_detector.specs.Suspects.{is_suspect};
 ghost use Rattle.simplex_detector.specs.declared.judging.Judging.TheVariants.{Claimed};
-ghost use Rattle.simplex_places.specs.Suspects.{AreSuspects, is_sought, round_at};
+ghost use Rattle.simplex_places.specs.Suspects.{AreSuspects, is_sought};
 
 use crate::located::{Counted, Located};
 use crate::places::Suspect;
@@ -53,7 +53,20 @@ fn is_member<S: CertificateScheme>(committees: &Committees<S>, epoch: u64, signe
     }
 }
 
-/// The attestations that have to be verified: those of these rounds whose signers are in the committees of their epochs.
+/// Whether an attestation has to be verified: it is of one of these rounds, and its signer is in the committee of the epoch.
+fn is_sought<S: CertificateScheme>(
+    committees: &Committees<S>,
+    rounds: &BTreeSet<Round>,
+    place: &Suspect,
+) -> bool
+    ensures { result ≡ is_sought (contains round_cmp rounds.now)
+        (λ epoch. size_by S.keys (committee_of committees.now epoch)) place.now }
+{
+    let round = Round::new(Epoch::new(place.epoch), View::new(place.view));
+    rounds.contains(&round) && is_member(committees, place.epoch, place.signer)
+}
+
+/// The attestations that have to be verified, of these.
 fn sought<S: CertificateScheme>(
     alloc: Global,
     committees: &Committees<S>,
@@ -65,8 +78,7 @@ fn sought<S: CertificateScheme>(
 {
     let mut found = Vec::new(alloc);
     'places: for place in places {
-        let round = Round::new(Epoch::new(place.epoch), View::new(place.view));
-        if rounds.contains(&round) && is_member(committees, place.epoch, place.signer) {
+        if is_sought(committees, rounds, place) {
             found.push(*place)?;
         }
     }
@@ -76,8 +88,8 @@ fn sought<S: CertificateScheme>(
 /// The attestations of a stream that have to be verified before it is audited, in the order of the stream: those of suspect
 /// rounds whose signers are in the committees of the epochs. A round is suspect where two votes contradict that claim one
 /// signer of its committee. No signature of another attestation has a part in the report. Nothing is verified here, so the
-/// stream may hold any verdicts. It is read once, in memory that is bounded by the stream. `AllocError` comes where memory is
-/// refused.
+/// stream may hold any verdicts. It is read once, in memory that is bounded by the stream and the sizes of the committees.
+/// `AllocError` comes where memory is refused.
 pub fn suspects<S: Counted<D>, D: Digest>(
     alloc: Global,
     committees: &Committees<S>,
