@@ -1,12 +1,20 @@
 -- The places of attestations along messages, and along further ones.
-use Rattle.std.proofs.Common.{◌≡◌, ℕ, ◌+◌, ◌-◌, ◌≤◌, List, [], ◌∷◌, ◌++◌, length, Ok, sym, ap, subst, ◌∙◌, arith, append_assoc, append-nil, length-append}
+use Rattle.std.proofs.Common.{◌≡◌, ℕ, ◌+◌, ◌-◌, ◌≤◌, List, [], ◌∷◌, ◌++◌, length, Ok, Option, sym, ap, subst, ◌∙◌, arith, append_assoc, append-nil, length-append}
 use Rattle.std.specs.List.{flat_map}
 use Rattle.std.proofs.lemmas.Grind.{flat_map-append}
 use Rattle.simplex_base.specs.Format.{Format, IsLawful}
 use Rattle.simplex_base.specs.FormatLaws.{IsBytes-after}
 use Rattle.simplex_base.specs.Reading.{IsBytes}
+use Rattle.simplex_base.specs.declared.codec.error.Error.{Error}
+use Rattle.simplex_evidence.specs.declared.types.activity.Activity.{Activity}
+use Rattle.simplex_detector.specs.Detector.{Recalls}
+use Rattle.simplex_detector.specs.Rules.{Rules}
+use Rattle.simplex_detector.specs.declared.detector.Detector.{Detector}
+use Rattle.simplex_audit.specs.Basis.{Basis}
+use Rattle.simplex_audit.specs.Progress.{IsProgress}
 use Rattle.simplex_audit.proofs.StreamLemmas.{SoFar}
 use Rattle.simplex_places.specs.Places.{places_along}
+use Rattle.simplex_places.specs.Suspects.{AreRead}
 use Rattle.simplex_places.specs.declared.places.Suspect.{Suspect}
 
 -- along messages and further ones
@@ -58,3 +66,15 @@ pub read_length : {M : Type 0} (format : Format M) (Recorded : List M → Type 0
 read_length format Recorded stream rest rest' read m law fit far e =
     let t = law.takes rest m rest' (IsBytes-after (flat_map format.encoding far.messages) rest (subst IsBytes far.whole fit)) e in
     ap length t.parts ∙ length-append (format.encoding m) rest'
+
+-- no more messages stand there
+pub read_so_far : {S D C P G : Type 0} (basis : Basis S D C P G) (rules : Rules S D C P G) (places_in : ℕ → Activity S D C P G → List Suspect) (stream rest left : List ℕ) (read : ℕ) (stop : Option Error) (detector : Detector S D P G) (places : List Suspect) →
+    IsProgress basis.format (AreNoted (λ messages. Recalls rules messages detector) places_in basis.format.encoding stream left places) stream rest read stop →
+    AreRead basis rules places_in stream detector places
+read_so_far basis rules places_in stream rest left read stop detector places p = record {
+  messages = p.messages;
+  rest = rest;
+  are_messages = p.are_messages;
+  recalled = p.recorded.recorded;
+  places_are = p.recorded.places_are;
+}

@@ -101,5 +101,6 @@ pub fn suspects<S: Counted<D>, D: Digest>(
     let bound = reading_bound::<S, D>(committees);
     let claims = read_claims::<S, D>(alloc, committees, bound, stream)?;
     let rounds = suspect_rounds(alloc, &claims.detector)?;
-    sought(alloc, committees, &rounds, claims.places.as_slice())
+    let found = sought(alloc, committees, &rounds, claims.places.as_slice())?;
+    Ok(found)
 }
