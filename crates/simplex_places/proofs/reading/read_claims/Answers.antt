@@ -55,13 +55,13 @@ basis g bound committees = record {
 }
 
 pub messages-init : goal.messages-init
-messages-init g c = (0, so_far_start (format g c.args.bound) _ c.args.stream.now (noted_none _ (places_in g) (format g c.args.bound).encoding c.args.stream.now _ (c.new-detector.ensures Claimed c.args.committees.now) c.new-places.ensures))
+messages-init g c = (0, so_far_start (format g c.args.bound) _ c.args.stream.now (noted_none _ (places_in g) (format g c.args.bound).encoding c.args.stream.now _ (c.new-detector.ensures Claimed c.args.committees.now) c.new-places.ensures.items))
 
 pub overflow_sub-place : goal.overflow_sub-place
 overflow_sub-place g c = let (read, far) = c.messages.invariant in let room = far.room in omega arith
 
-pub push_message-requires : goal.push_message-requires
-push_message-requires g c =
+pub push_message-placed-requires : goal.push_message-placed-requires
+push_message-placed-requires g c =
     let (read, far) = c.messages.invariant in
     let room = far.room in
     let size = read_length (format g c.args.bound) _ c.args.stream.now c.messages.rest.now c.read_cfg.new.input.now read c.in-Ok.message (law g c.args.bound) (λ i. omega (arith, c.type_inv.stream i)) far c.in-Ok.ensures in
