@@ -1,22 +1,18 @@
-use Rattle.std.proofs.Common.{◌≡◌, ◌≢◌, ◌+◌, ◌≤◌, ℕ, List, [], ◌∷◌, ◌++◌, Option, Some, None, length, refl, sym, ap, subst, ◌∙◌, arith, append_assoc, length-append}
-use Rattle.std.specs.List.{flat_map}
+use Rattle.std.proofs.Common.{◌+◌, ℕ, List, Some, None, length, sym, subst, ◌∙◌, arith}
 use Rattle.std.proofs.lemmas.Bool.{eqb-true, eqb-false}
 use Rattle.simplex_base.specs.Format.{Format, fixed, IsLawful}
-use Rattle.simplex_base.specs.declared.codec.error.Error.TheVariants as errors
 use Rattle.simplex_evidence.specs.Activity.{activity_format, activity_lawful}
 use Rattle.simplex_evidence.specs.declared.types.activity.Activity.{Activity}
-use Rattle.simplex_detector.specs.Detector.{Recalls}
 use Rattle.simplex_detector.specs.Judging.{rules_under}
-use Rattle.simplex_detector.specs.declared.detector.Detector.{Detector}
 use Rattle.simplex_detector.specs.declared.judging.Judging.TheVariants.{Claimed}
 use Rattle.simplex_detector.specs.Committees.{Schedule, rules_of}
 use Rattle.simplex_detector.specs.Rules.{Rules}
 use Rattle.simplex_audit.specs.Basis.{Basis}
-use Rattle.simplex_audit.proofs.StreamLemmas.{SoFar, so_far_start, so_far_next, so_far_shorter, progress_at_refusal, progress_at_end, none_left, some_left, fails_whatever}
+use Rattle.simplex_audit.proofs.StreamLemmas.{so_far_start, so_far_next, so_far_shorter, progress_at_refusal, progress_at_end, none_left, some_left, fails_whatever}
 use Rattle.simplex_places.specs.Places.{message_places}
 use Rattle.simplex_places.specs.Suspects.{AreRead}
 use Rattle.simplex_places.specs.declared.places.Suspect.{Suspect}
-use Rattle.simplex_places.proofs.ReadingLemmas.{AreNoted, noted_none, noted_more, read_length, read_so_far}
+use Rattle.simplex_places.proofs.ReadingLemmas.{noted_none, noted_more, read_length, read_so_far}
 use Rattle.simplex_places.proofs.reading.read_claims.Given as given
 use Rattle.simplex_places.proofs.reading.read_claims.Goals as goal
 

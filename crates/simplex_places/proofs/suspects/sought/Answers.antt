@@ -1,4 +1,4 @@
-use Rattle.std.proofs.Common.{◌≡◌, ℕ, Bool, sym, ap, ◌∙◌}
+use Rattle.std.proofs.Common.{Bool, sym, ap, ◌∙◌}
 use Rattle.std.specs.BTreeSet.{contains}
 use Rattle.simplex_detector.specs.Committees.{committee_of, size_by}
 use Rattle.simplex_detector.specs.Named.{round_cmp}
