@@ -1,7 +1,8 @@
 //! Compares the static library with the auditor by hand, on random and mutated streams: `fuzz SECONDS THREADS SEED`. A stream is some
 //! messages of a committee of four, of all ten kinds and of few rounds, with good and bad signatures, and then some of its bytes are
 //! changed. Both have to return the same lines and the same fault, and what the library stores of a stream has to give the same
-//! evidence again. It ends with status 1 at the first stream on which they do not, and prints it.
+//! evidence again. Of a stream with verdicts the report has to be the same with any verdicts but those that the library lists. It
+//! ends with status 1 at the first stream on which they do not, and prints it.
 
 #[allow(dead_code)]
 #[path = "by_hand.rs"]
@@ -24,7 +25,27 @@ struct Summary {
     length: usize,
 }
 
+#[repr(C)]
+#[derive(Clone, Copy, Debug, Default)]
+struct Suspect {
+    epoch: u64,
+    view: u64,
+    verdict_place: usize,
+    subject_place: usize,
+    subject_length: usize,
+    signer: u32,
+    kind: u32,
+}
+
 unsafe extern "C" {
+    fn simplex_audit_vouched_64(
+        epochs: *const u64, epochs_len: usize, sizes: *const u32, sizes_len: usize, stream: *const u8, stream_len: usize,
+        text: *mut u8, text_len: usize, summary: *mut Summary,
+    ) -> u32;
+    fn simplex_suspects_vouched_64(
+        epochs: *const u64, epochs_len: usize, sizes: *const u32, sizes_len: usize, stream: *const u8, stream_len: usize,
+        records: *mut Suspect, records_len: usize, needed: *mut usize,
+    ) -> u32;
     fn simplex_audit_plain(
         name: *const u8, name_len: usize, keys: *const u8, keys_len: usize, stream: *const u8, stream_len: usize,
         text: *mut u8, text_len: usize, summary: *mut Summary,
@@ -205,6 +226,101 @@ fn agree(keys: &[u8], texts: &[String], stream: &[u8], room: &mut [u8]) -> bool 
     none.is_none() && lines(&again, number) == lines(&text, evidence)
 }
 
+/// The committees of epochs 0 and 1: of four, and of three.
+const EPOCHS: [u64; 2] = [0, 1];
+const SIZES: [u32; 2] = [4, 3];
+
+/// An attestation of a stream with verdicts: its round, signer and kind, and where its subject and its verdict stand.
+type Attestation = ((u64, u64), u64, usize, (usize, usize), usize);
+
+fn put_attested(random: &mut Random, bytes: &mut Vec<u8>, listed: &mut Vec<Attestation>, sort: usize, round: (u64, u64), signers: &[u64], counted: bool) {
+    let subject = subject(random, sort, round);
+    let place = (bytes.len(), subject.len());
+    bytes.extend(subject);
+    if counted {
+        put_number(bytes, signers.len() as u64);
+    }
+    for signer in signers {
+        put_number(bytes, *signer);
+        bytes.extend([9; 64]);
+        listed.push((round, *signer, sort, place, bytes.len()));
+        bytes.push(u8::from(!random.one_in(8)));
+    }
+}
+
+/// Some messages with verdicts, of all ten kinds, and their attestations. Evidence may contradict nothing, and is a fault then.
+fn vouched(random: &mut Random) -> (Vec<u8>, Vec<Attestation>) {
+    let (mut bytes, mut listed) = (Vec::new(), Vec::new());
+    for _ in 0..random.below(9) {
+        let round = (random.below(2), [10, 11, 300][random.below(3) as usize]);
+        let (tag, signer) = (random.below(10), random.below(MEMBERS + 1));
+        let signers: Vec<u64> = (0..MEMBERS).filter(|_| !random.one_in(4)).collect();
+        bytes.push(tag as u8);
+        match tag {
+            0 | 3 | 5 => put_attested(random, &mut bytes, &mut listed, [0, 9, 9, 1, 9, 2][tag as usize], round, &[signer], false),
+            1 | 2 | 4 | 6 => put_attested(random, &mut bytes, &mut listed, [9, 0, 0, 9, 1, 9, 2][tag as usize], round, &signers, true),
+            _ => {
+                let sorts = [[0, 0], [2, 2], [1, 2]][tag as usize - 7];
+                for sort in sorts {
+                    put_attested(random, &mut bytes, &mut listed, sort, round, &[signer], false);
+                }
+            }
+        }
+    }
+    (bytes, listed)
+}
+
+/// The text of the library, its lines of evidence and the offset of the fault, of a stream with verdicts.
+fn audit_vouched(stream: &[u8], text: &mut [u8]) -> (String, usize, Option<usize>) {
+    let mut summary = Summary::default();
+    let status = unsafe {
+        simplex_audit_vouched_64(
+            EPOCHS.as_ptr(), 2, SIZES.as_ptr(), 2, stream.as_ptr(), stream.len(), text.as_mut_ptr(), text.len(), &mut summary
+        )
+    };
+    assert!(status == summary.faulted as u32 && status < 2, "status {status}");
+    let text = std::str::from_utf8(&text[..summary.length]).unwrap();
+    (text.to_owned(), summary.evidence, (status == 1).then_some(summary.fault_place))
+}
+
+fn suspects(stream: &[u8]) -> Vec<Suspect> {
+    let (mut records, mut needed) = ([Suspect::default(); 100], 0);
+    let status = unsafe {
+        simplex_suspects_vouched_64(
+            EPOCHS.as_ptr(), 2, SIZES.as_ptr(), 2, stream.as_ptr(), stream.len(), records.as_mut_ptr(), records.len(), &mut needed
+        )
+    };
+    assert_eq!(status, 0);
+    records[..needed].to_vec()
+}
+
+/// Whether the attestations that the library lists are those of suspect rounds by hand, and the verdicts of no others are in the report.
+fn defers(random: &mut Random, stream: &[u8], listed: &[Attestation], room: &mut [u8]) -> bool {
+    let wanted = audit_vouched(stream, room);
+    let end = wanted.2.unwrap_or(stream.len());
+    let valid = |one: &&Attestation| one.3.0 < end && one.1 < u64::from(SIZES[one.0.0 as usize]);
+    let claimed: Vec<&Attestation> = listed.iter().filter(valid).collect();
+    let clash = |one: &Attestation, other: &Attestation| {
+        let subject = |of: &Attestation| &stream[of.3.0..][..of.3.1];
+        one.0 == other.0 && one.1 == other.1
+            && if one.2 == other.2 { one.2 != 1 && subject(one) != subject(other) } else { one.2 + other.2 == 3 }
+    };
+    let is_suspect = |round: (u64, u64)| claimed.iter().any(|one| one.0 == round && claimed.iter().any(|other| clash(one, other)));
+    let by_hand: Vec<Attestation> = claimed.iter().filter(|one| is_suspect(one.0)).map(|one| **one).collect();
+    let mut other = stream.to_vec();
+    for one in listed {
+        other[one.4] = random.below(3) as u8;
+    }
+    let found = suspects(&other);
+    for one in &found {
+        other[one.verdict_place] = stream[one.verdict_place];
+    }
+    let plain = |one: &Suspect| {
+        ((one.epoch, one.view), u64::from(one.signer), one.kind as usize, (one.subject_place, one.subject_length), one.verdict_place)
+    };
+    found.iter().map(plain).eq(by_hand) && audit_vouched(&other, room) == wanted
+}
+
 fn main() {
     let words: Vec<u64> = std::env::args().skip(1).map(|word| word.parse().unwrap()).collect();
     let [seconds, threads, seed] = words[..] else { panic!("fuzz SECONDS THREADS SEED") };
@@ -224,6 +340,12 @@ fn main() {
                         let (text, _, fault) = audit(keys, &stream, &mut room);
                         with_lines.fetch_add(u64::from(!text.is_empty()), Ordering::Relaxed);
                         with_faults.fetch_add(u64::from(fault.is_some()), Ordering::Relaxed);
+                        let (verdicts, listed) = vouched(&mut random);
+                        if !defers(&mut random, &verdicts, &listed, &mut room) {
+                            println!("suspects differ on {}", verdicts.iter().map(|byte| format!("{byte:02x}")).collect::<String>());
+                            is_over.store(true, Ordering::Relaxed);
+                            return;
+                        }
                         if !agree(keys, texts, &stream, &mut room) {
                             println!("they differ on {}", stream.iter().map(|byte| format!("{byte:02x}")).collect::<String>());
                             is_over.store(true, Ordering::Relaxed);

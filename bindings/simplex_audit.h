@@ -8,9 +8,11 @@
  * Ownership: every buffer is the caller's. No call keeps a pointer, and none returns memory that
  *   has to be freed.
  * Pointers: none may be NULL, not even that of an empty slice, and each has the alignment of its
- *   type. What is written (text, evidence, summary, size, floor, number) overlaps nothing else that
- *   is passed. Nothing checks this at run time; GCC and Clang warn of a NULL that they can see.
- * Lengths: the length of a slice counts its elements: bytes, epochs, sizes. A slice may be empty.
+ *   type. What is written (text, evidence, records, summary, size, needed, floor, number)
+ *   overlaps nothing else that is passed. Nothing checks this at run time; GCC and Clang warn of a
+ *   NULL that they can see.
+ * Lengths: the length of a slice counts its elements: bytes, epochs, sizes, records. A slice may be
+ *   empty.
  * Threads: the library has no state. Calls may run in several threads at once if no buffer that is
  *   written is shared, but not in a signal handler, nor in the forked child of a process with
  *   threads.
@@ -86,6 +88,61 @@ SIMPLEX_NONNULL
 uint32_t simplex_audit_vouched_96(const uint64_t *epochs, size_t epochs_len, const uint32_t *sizes,
                                   size_t sizes_len, const uint8_t *stream, size_t stream_len,
                                   uint8_t *text, size_t text_len, struct simplex_summary *summary);
+
+/* The kind of a vote in a record. */
+#define SIMPLEX_NOTARIZE 0u
+#define SIMPLEX_NULLIFY 1u
+#define SIMPLEX_FINALIZE 2u
+
+/* An attestation that has to be verified, and where it stands in the stream. */
+struct simplex_suspect {
+    uint64_t epoch;        /* of its round */
+    uint64_t view;         /* of its round */
+    size_t verdict_place;  /* the 0-based offset of its verdict, the byte behind the signature */
+    size_t subject_place;  /* the 0-based offset of its subject, the message that is signed */
+    size_t subject_length; /* bytes of the subject */
+    uint32_t signer;       /* below the size of the epoch's committee */
+    uint32_t kind;         /* SIMPLEX_NOTARIZE, SIMPLEX_NULLIFY or SIMPLEX_FINALIZE */
+};
+
+/*
+ * The first of two steps of deferred verification: lists the attestations of a stream that have to
+ * be verified before the stream is audited. It is as simplex_audit_vouched_.. reads it, but its
+ * verdicts may yet be any bytes, as zeros. Of an honest stream nothing is listed.
+ *
+ * A round is suspect where two votes contradict that claim one signer of its committee. Listed are,
+ * in the order of the stream, all attestations of suspect rounds whose signer is in the committee
+ * of the epoch: of each vote, of each certificate that lists some, and of both votes of evidence.
+ * With n = 48, 64 or 96 the signature is the n bytes before `verdict_place`, and what was signed
+ * is the namespace of the kind behind its length, and then the bytes of the subject.
+ *
+ * The caller writes 01 to each `verdict_place` where it verified the signature, else 00, and
+ * audits. No verdict of another attestation has a part in the report.
+ *
+ * The first `*needed` records are written; those behind them are as before. The status is
+ * SIMPLEX_WHOLE, SIMPLEX_ARGUMENTS, SIMPLEX_MEMORY or SIMPLEX_SHORT; where `records` is too short
+ * `*needed` is written, and nothing else. What is behind a fault of the stream is ignored; the
+ * audit reports the fault. Votes are held before they are verified, so a stream of strangers is to
+ * be of bounded size: a vote of a round of its own takes some 900 bytes and 8 for each participant.
+ */
+SIMPLEX_NONNULL
+uint32_t simplex_suspects_vouched_48(const uint64_t *epochs, size_t epochs_len,
+                                     const uint32_t *sizes, size_t sizes_len,
+                                     const uint8_t *stream, size_t stream_len,
+                                     struct simplex_suspect *records, size_t records_len,
+                                     size_t *needed);
+SIMPLEX_NONNULL
+uint32_t simplex_suspects_vouched_64(const uint64_t *epochs, size_t epochs_len,
+                                     const uint32_t *sizes, size_t sizes_len,
+                                     const uint8_t *stream, size_t stream_len,
+                                     struct simplex_suspect *records, size_t records_len,
+                                     size_t *needed);
+SIMPLEX_NONNULL
+uint32_t simplex_suspects_vouched_96(const uint64_t *epochs, size_t epochs_len,
+                                     const uint32_t *sizes, size_t sizes_len,
+                                     const uint8_t *stream, size_t stream_len,
+                                     struct simplex_suspect *records, size_t records_len,
+                                     size_t *needed);
 
 /*
  * The evidence of `stored` and of the messages of `batch` behind it, as messages: with nothing

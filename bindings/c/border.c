@@ -27,6 +27,8 @@ static int checks, failed;
         }                                                                                          \
     } while (0)
 
+#define RECORD sizeof(struct simplex_suspect)
+
 /* Allocations: how many may still succeed (-1: all), and how many blocks the library holds. */
 static _Thread_local long allowed = -1, blocks;
 
@@ -139,6 +141,22 @@ static uint32_t store(const struct input *in, uint8_t *evidence, size_t room, si
     }
 }
 
+static uint32_t suspects(const struct input *in, struct simplex_suspect *records, size_t room,
+                         size_t *needed)
+{
+    switch (in->signature) {
+    case 48:
+        return simplex_suspects_vouched_48(in->epochs, in->epochs_len, in->sizes, in->sizes_len,
+                                           in->stream, in->stream_len, records, room, needed);
+    case 64:
+        return simplex_suspects_vouched_64(in->epochs, in->epochs_len, in->sizes, in->sizes_len,
+                                           in->stream, in->stream_len, records, room, needed);
+    default:
+        return simplex_suspects_vouched_96(in->epochs, in->epochs_len, in->sizes, in->sizes_len,
+                                           in->stream, in->stream_len, records, room, needed);
+    }
+}
+
 static const struct simplex_summary untouched = {99, 99, 99, 99, 99, 99};
 
 static int is_untouched(const struct simplex_summary *summary)
@@ -156,6 +174,10 @@ static void refuses(const struct input *in)
     CHECK(is_untouched(&summary));
     CHECK(store(in, buffer, 500, &size) == SIMPLEX_ARGUMENTS);
     CHECK(size == 99);
+    if (in->signature) {
+        CHECK(suspects(in, (struct simplex_suspect *)buffer, 500 / RECORD, &size) == SIMPLEX_ARGUMENTS);
+        CHECK(size == 99);
+    }
     CHECK(all(buffer, 500, 7));
     free(buffer);
 }
@@ -232,20 +254,69 @@ static void stores(const struct input *in)
     free(evidence);
 }
 
+/* The attestations that have to be verified, with buffers as above. Their verdicts alone are in the
+ * report: with every verdict of the stream another, but these, it is the same. Returns how many. */
+static size_t defers(const struct input *in, const size_t *verdicts, size_t verdicts_len)
+{
+    size_t n = 99, needed = 99, spare = 2;
+    uint8_t *buffer = block(0, 7);
+    uint32_t status = suspects(in, (struct simplex_suspect *)buffer, 0, &n);
+    free(buffer);
+    CHECK(status == (n ? SIMPLEX_SHORT : SIMPLEX_WHOLE));
+    struct simplex_suspect *records = (struct simplex_suspect *)block((n + spare) * RECORD, 7);
+    CHECK(suspects(in, records, n + spare, &needed) == SIMPLEX_WHOLE && needed == n);
+    CHECK(all((const uint8_t *)(records + n), spare * RECORD, 7));
+    struct simplex_suspect *fitting = (struct simplex_suspect *)block(n * RECORD, 7);
+    CHECK(suspects(in, fitting, n, &needed) == SIMPLEX_WHOLE && needed == n);
+    CHECK(!memcmp(fitting, records, n * RECORD));
+    free(fitting);
+    if (n) {
+        buffer = block((n - 1) * RECORD, 7);
+        needed = 99;
+        CHECK(suspects(in, (struct simplex_suspect *)buffer, n - 1, &needed) == SIMPLEX_SHORT);
+        CHECK(needed == n && all(buffer, (n - 1) * RECORD, 7));
+        free(buffer);
+    }
+    struct input other = *in;
+    uint8_t *stream = copy(in->stream, in->stream_len);
+    for (size_t i = 0; i < verdicts_len; i++)
+        stream[verdicts[i]] ^= 1;
+    other.stream = stream;
+    struct simplex_suspect *again = (struct simplex_suspect *)block(n * RECORD, 7);
+    CHECK(suspects(&other, again, n, &needed) == SIMPLEX_WHOLE && needed == n);
+    CHECK(!memcmp(again, records, n * RECORD));
+    for (size_t i = 0; i < n; i++)
+        stream[again[i].verdict_place] ^= 1;
+    struct simplex_summary summary, filled;
+    uint8_t text[500], as_well[500];
+    CHECK(audit(in, text, sizeof text, &summary) == SIMPLEX_WHOLE);
+    CHECK(audit(&other, as_well, sizeof as_well, &filled) == SIMPLEX_WHOLE);
+    CHECK(!memcmp(&summary, &filled, sizeof summary) && !memcmp(text, as_well, summary.length));
+    free(again);
+    free(stream);
+    free(records);
+    return n;
+}
+
 /* With its k-th allocation and all later ones refused a call ends with SIMPLEX_MEMORY, writes
  * nothing and frees what it had, until k is more than it makes. */
 static void without_memory(const struct input *in)
 {
     long before = blocks;
-    for (int stored = 0; stored < 2; stored++)
+    for (int call = in->signature ? 0 : 1; call < 3; call++)
         for (long k = 1;; k++) {
             struct simplex_summary summary = untouched;
             size_t size = 99;
-            uint8_t buffer[500];
-            memset(buffer, 7, sizeof buffer);
+            union {
+                uint8_t bytes[500];
+                struct simplex_suspect records[500 / RECORD];
+            } to;
+            uint8_t *buffer = to.bytes;
+            memset(&to, 7, sizeof to);
             allowed = k;
-            uint32_t status = stored ? store(in, buffer, sizeof buffer, &size)
-                                     : audit(in, buffer, sizeof buffer, &summary);
+            uint32_t status = call == 0   ? suspects(in, to.records, 500 / RECORD, &size)
+                              : call == 1 ? audit(in, buffer, 500, &summary)
+                                          : store(in, buffer, 500, &size);
             int over = allowed > 0;
             allowed = -1;
             CHECK(blocks == before);
@@ -254,7 +325,7 @@ static void without_memory(const struct input *in)
                 CHECK(k > 1);
                 break;
             }
-            CHECK(status == SIMPLEX_MEMORY && all(buffer, sizeof buffer, 7));
+            CHECK(status == SIMPLEX_MEMORY && all(buffer, 500, 7));
             CHECK(size == 99 && is_untouched(&summary));
         }
 }
@@ -376,6 +447,46 @@ static void vouched(int signature)
     free(none);
 }
 
+/* Two votes of participant 2 in epoch 4 that contradict, between two of others, in other epochs. */
+static void deferred(int signature)
+{
+    uint8_t *none = block(0, 0), room[800], *end = room;
+    const size_t vote = 38 + (size_t)signature;
+    const size_t verdicts[] = {vote - 1, 2 * vote - 1, 3 * vote - 1, 4 * vote - 1, 5 * vote - 1};
+    const uint32_t four[] = {4, 4}, two_members[] = {2, 2};
+    const uint64_t epochs[] = {3, 4};
+    end = put_notarize(end, 3, 2, 6, (size_t)signature, 1);
+    end = put_notarize(end, 4, 2, 6, (size_t)signature, 1);
+    end = put_notarize(end, 4, 3, 7, (size_t)signature, 1);
+    end = put_notarize(end, 4, 9, 7, (size_t)signature, 1); /* a signer outside the committee */
+    end = put_notarize(end, 4, 2, 7, (size_t)signature, 1);
+    uint8_t *stream = copy(room, (size_t)(end - room));
+    struct input in = {.stored = none, .stream = stream, .stream_len = (size_t)(end - room),
+                       .signature = signature, .epochs = epochs, .epochs_len = 2, .sizes = four,
+                       .sizes_len = 2};
+    CHECK(defers(&in, verdicts, 5) == 3);
+    struct simplex_suspect records[3];
+    size_t needed;
+    CHECK(suspects(&in, records, 3, &needed) == SIMPLEX_WHOLE && needed == 3);
+    for (size_t i = 0; i < 3; i++) {
+        const size_t at = (i < 2 ? i + 1 : 4) * vote;
+        CHECK(records[i].epoch == 4 && records[i].view == 10);
+        CHECK(records[i].verdict_place == at + vote - 1);
+        CHECK(records[i].subject_place == at + 1 && records[i].subject_length == 35);
+        CHECK(records[i].signer == (i == 1 ? 3 : 2) && records[i].kind == SIMPLEX_NOTARIZE);
+    }
+    without_memory(&in);
+    in.sizes = two_members; /* now nobody of the stream is in a committee */
+    CHECK(defers(&in, verdicts, 5) == 0);
+    in.sizes = four;
+    in.stream_len = 4 * vote; /* without the last vote the stream is honest */
+    CHECK(defers(&in, verdicts, 4) == 0);
+    in.stream_len = 0;
+    CHECK(defers(&in, verdicts, 0) == 0);
+    free(stream);
+    free(none);
+}
+
 static void numbers(void)
 {
     CHECK(simplex_version() == SIMPLEX_VERSION);
@@ -486,6 +597,9 @@ int main(int argc, char **argv)
     vouched(48);
     vouched(64);
     vouched(96);
+    deferred(48);
+    deferred(64);
+    deferred(96);
     numbers();
     threads();
     if (argc > 1 && !strcmp(argv[1], "--limit"))

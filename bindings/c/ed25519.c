@@ -1,8 +1,9 @@
 /*
  * Four participants sign votes by Ed25519. One notarizes two payloads, one nullifies a round and
  * finalizes in it, and one forges a vote of another. The caller verifies each vote by libcrypto,
- * writes the stream with its verdicts, and asks who equivocated. With an argument the program prints
- * the stream alone.
+ * writes the stream with its verdicts, and asks who equivocated. Then it defers: of the same votes
+ * with an honest round before them it verifies those of the suspect round alone. With an argument
+ * the program prints the first stream, and nothing else.
  */
 #include "../simplex_audit.h"
 #include <openssl/evp.h>
@@ -12,8 +13,9 @@
 
 #define MEMBERS 4
 
-/* The tags of votes in a stream. */
-enum kind { NOTARIZE = 0, NULLIFY = 3, FINALIZE = 5 };
+/* By the kind of a vote: its tag in a stream, and the namespace under which it is signed. */
+static const uint8_t tags[] = {0, 3, 5};
+static const char *const names[] = {"demo_NOTARIZE", "demo_NULLIFY", "demo_FINALIZE"};
 
 struct bytes {
     uint8_t at[4096];
@@ -21,7 +23,7 @@ struct bytes {
 };
 
 struct vote {
-    enum kind kind;
+    uint32_t kind; /* SIMPLEX_NOTARIZE, SIMPLEX_NULLIFY or SIMPLEX_FINALIZE */
     uint32_t signer;
     uint64_t epoch, view, parent;
     uint8_t payload[32];
@@ -54,27 +56,29 @@ static void put_subject(struct bytes *b, const struct vote *v)
 {
     put_number(b, v->epoch);
     put_number(b, v->view);
-    if (v->kind != NULLIFY) {
+    if (v->kind != SIMPLEX_NULLIFY) {
         put_number(b, v->parent);
         put(b, v->payload, sizeof v->payload);
     }
 }
 
 /* What is signed: the length of the namespace, the namespace, the subject. */
+static void put_name(struct bytes *b, uint32_t kind)
+{
+    put_number(b, strlen(names[kind]));
+    put(b, names[kind], strlen(names[kind]));
+}
+
 static void put_signed(struct bytes *b, const struct vote *v)
 {
-    const char *name = v->kind == NOTARIZE  ? "demo_NOTARIZE"
-                       : v->kind == NULLIFY ? "demo_NULLIFY"
-                                            : "demo_FINALIZE";
-    put_number(b, strlen(name));
-    put(b, name, strlen(name));
+    put_name(b, v->kind);
     put_subject(b, v);
 }
 
 /* A message of the stream: the tag, the subject, the signer, the signature and the verdict. */
 static void put_message(struct bytes *b, const struct vote *v, int verified)
 {
-    put_byte(b, (uint8_t)v->kind);
+    put_byte(b, tags[v->kind]);
     put_subject(b, v);
     put_number(b, v->signer);
     put(b, v->signature, sizeof v->signature);
@@ -93,25 +97,66 @@ static void sign(EVP_PKEY *key, struct vote *v)
     EVP_MD_CTX_free(context);
 }
 
-static int verifies(EVP_PKEY *key, const struct vote *v)
+static int verifies(EVP_PKEY *key, const struct bytes *m, const uint8_t *signature)
 {
-    struct bytes m = {.len = 0};
     EVP_MD_CTX *context = EVP_MD_CTX_new();
-    put_signed(&m, v);
     int verified = EVP_DigestVerifyInit(context, NULL, NULL, NULL, key) == 1
-                   && EVP_DigestVerify(context, v->signature, sizeof v->signature, m.at, m.len) == 1;
+                   && EVP_DigestVerify(context, signature, 64, m->at, m->len) == 1;
     EVP_MD_CTX_free(context);
     return verified;
 }
 
-/* A vote of `signer` in epoch 3, view 10, signed with the key `with`. */
-static struct vote vote(EVP_PKEY **keys, enum kind kind, uint32_t signer, uint32_t with,
-                        uint8_t payload)
+static int vote_verifies(EVP_PKEY **keys, const struct vote *v)
 {
-    struct vote v = {.kind = kind, .signer = signer, .epoch = 3, .view = 10, .parent = 5};
+    struct bytes m = {.len = 0};
+    put_signed(&m, v);
+    return v->signer < MEMBERS && verifies(keys[v->signer], &m, v->signature);
+}
+
+/* A vote of `signer` in a view of epoch 3, signed with the key `with`. */
+static struct vote vote(EVP_PKEY **keys, uint32_t kind, uint64_t view, uint32_t signer,
+                        uint32_t with, uint8_t payload)
+{
+    struct vote v = {.kind = kind, .signer = signer, .epoch = 3, .view = view, .parent = 5};
     memset(v.payload, payload, sizeof v.payload);
     sign(keys[with], &v);
     return v;
+}
+
+/* Of epoch 3 the committee has four participants. */
+static const uint64_t epochs[] = {3};
+static const uint32_t sizes[] = {MEMBERS};
+
+static void audit(const struct bytes *stream, char *text, size_t room,
+                  struct simplex_summary *summary)
+{
+    uint32_t status = simplex_audit_vouched_64(epochs, 1, sizes, 1, stream->at, stream->len,
+                                               (uint8_t *)text, room, summary);
+    if (status != SIMPLEX_WHOLE) {
+        fprintf(stderr, "status %u\n", (unsigned)status);
+        exit(1);
+    }
+}
+
+/* Verifies what has to be verified of a stream, and writes the verdicts into it. Returns how many
+ * signatures that were. */
+static size_t verify_suspects(EVP_PKEY **keys, struct bytes *stream)
+{
+    struct simplex_suspect records[100];
+    size_t needed;
+    uint32_t status = simplex_suspects_vouched_64(epochs, 1, sizes, 1, stream->at, stream->len,
+                                                  records, 100, &needed);
+    if (status != SIMPLEX_WHOLE)
+        abort();
+    for (size_t i = 0; i < needed; i++) {
+        const struct simplex_suspect *it = &records[i];
+        uint8_t *verdict = stream->at + it->verdict_place;
+        struct bytes m = {.len = 0};
+        put_name(&m, it->kind);
+        put(&m, stream->at + it->subject_place, it->subject_length);
+        *verdict = verifies(keys[it->signer], &m, verdict - 64);
+    }
+    return needed;
 }
 
 int main(int argc, char **argv)
@@ -128,39 +173,44 @@ int main(int argc, char **argv)
         if (!publics[i])
             abort();
     }
-    struct vote votes[] = {
-        vote(secrets, NOTARIZE, 0, 0, 0xaa),
-        vote(secrets, NOTARIZE, 1, 1, 0xaa),
-        vote(secrets, NOTARIZE, 2, 2, 0xaa),
-        vote(secrets, NOTARIZE, 3, 3, 0xaa),
-        vote(secrets, NOTARIZE, 0, 0, 0xbb), /* participant 0 votes for another payload */
-        vote(secrets, NOTARIZE, 3, 1, 0xbb), /* participant 1 forges a vote of participant 3 */
-        vote(secrets, NULLIFY, 2, 2, 0),     /* participant 2 nullifies the round */
-        vote(secrets, FINALIZE, 2, 2, 0xaa), /* and finalizes in it */
-        vote(secrets, FINALIZE, 1, 1, 0xaa),
+    const struct vote votes[] = {
+        vote(secrets, SIMPLEX_NOTARIZE, 10, 0, 0, 0xaa),
+        vote(secrets, SIMPLEX_NOTARIZE, 10, 1, 1, 0xaa),
+        vote(secrets, SIMPLEX_NOTARIZE, 10, 2, 2, 0xaa),
+        vote(secrets, SIMPLEX_NOTARIZE, 10, 3, 3, 0xaa),
+        vote(secrets, SIMPLEX_NOTARIZE, 10, 0, 0, 0xbb), /* 0 votes for another payload */
+        vote(secrets, SIMPLEX_NOTARIZE, 10, 3, 1, 0xbb), /* 1 forges a vote of 3 */
+        vote(secrets, SIMPLEX_NULLIFY, 10, 2, 2, 0),     /* 2 nullifies the round */
+        vote(secrets, SIMPLEX_FINALIZE, 10, 2, 2, 0xaa), /* and finalizes in it */
+        vote(secrets, SIMPLEX_FINALIZE, 10, 1, 1, 0xaa),
     };
+    const size_t n = sizeof votes / sizeof *votes;
     struct bytes stream = {.len = 0};
-    for (size_t i = 0; i < sizeof votes / sizeof *votes; i++) {
-        const struct vote *v = &votes[i];
-        put_message(&stream, v, v->signer < MEMBERS && verifies(publics[v->signer], v));
-    }
-
+    for (size_t i = 0; i < n; i++)
+        put_message(&stream, &votes[i], vote_verifies(publics, &votes[i]));
     if (argc > 1)
         return fwrite(stream.at, 1, stream.len, stdout) != stream.len;
-
-    /* Of epoch 3 the committee has four participants. */
-    const uint64_t epochs[] = {3};
-    const uint32_t sizes[] = {MEMBERS};
-    uint8_t text[1024];
-    struct simplex_summary summary;
-    uint32_t status = simplex_audit_vouched_64(epochs, 1, sizes, 1, stream.at, stream.len, text,
-                                               sizeof text, &summary);
-    if (status != SIMPLEX_WHOLE) {
-        fprintf(stderr, "status %u\n", (unsigned)status);
-        return 1;
-    }
+    char text[1024], again[1024];
+    struct simplex_summary summary, deferred;
+    audit(&stream, text, sizeof text, &summary);
     printf("%zu messages, %zu equivocators\n", summary.read, summary.evidence);
     fwrite(text, 1, summary.length, stdout);
+
+    /* The same votes behind an honest round, with no verdict yet. */
+    stream.len = 0;
+    for (uint32_t i = 0; i < MEMBERS; i++) {
+        const struct vote honest = vote(secrets, SIMPLEX_NOTARIZE, 9, i, i, 0xaa);
+        put_message(&stream, &honest, 0);
+    }
+    size_t verified = verify_suspects(publics, &stream);
+    printf("deferred: %zu of %d signatures of an honest round verified\n", verified, MEMBERS);
+    for (size_t i = 0; i < n; i++)
+        put_message(&stream, &votes[i], 0);
+    verified = verify_suspects(publics, &stream);
+    audit(&stream, again, sizeof again, &deferred);
+    if (deferred.length != summary.length || memcmp(text, again, summary.length) != 0)
+        abort();
+    printf("deferred: %zu of %zu signatures of both rounds verified\n", verified, MEMBERS + n);
     for (int i = 0; i < MEMBERS; i++) {
         EVP_PKEY_free(secrets[i]);
         EVP_PKEY_free(publics[i]);

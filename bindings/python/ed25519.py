@@ -1,11 +1,12 @@
 """Four participants sign votes by Ed25519 of OpenSSL's libcrypto. One notarizes two payloads, one nullifies a round and finalizes in
-it, and one forges a vote of another. The caller verifies each vote, writes the stream with its verdicts, and asks who equivocated.
-With an argument the program prints the stream alone."""
+it, and one forges a vote of another. The caller verifies each vote, writes the stream with its verdicts, and asks who equivocated. Then
+it defers: of the same votes with an honest round before them it verifies those of the suspect round alone. With an argument the
+program prints the first stream, and nothing else."""
 import ctypes
 import ctypes.util
 import sys
 
-from simplex_audit import Committees, Encoder, Vote, audit
+from simplex_audit import Committees, Encoder, Vote, audit, audit_deferred
 
 ED25519 = 1087
 _crypto = ctypes.CDLL(ctypes.util.find_library("crypto"))
@@ -71,15 +72,35 @@ def main():
         (Vote("finalize", *one), 2, 2),  # and finalizes in it
         (Vote("finalize", *one), 1, 1),
     ]
-    stream = Encoder(64)
-    for vote, signer, by in votes:
-        stream.vote(vote, signer, sign(secrets[by], vote.signed_bytes(base)), verify)
+
+    def write(stream, votes, verify=None):
+        for vote, signer, by in votes:
+            stream.vote(vote, signer, sign(secrets[by], vote.signed_bytes(base)), verify)
+
+    committees, stream = Committees.listed(64, {3: len(keys)}), Encoder(64)
+    write(stream, votes, verify)
     if sys.argv[1:]:
         sys.stdout.buffer.write(stream.encoded())
         return
-    report = audit(Committees.listed(64, {3: len(keys)}), stream.encoded())
+    report = audit(committees, stream.encoded())
     print(f"{report.read} messages, {len({one.signer for one in report.evidence})} equivocators")
     print(report.text, end="")
+
+    # the same votes behind an honest round, with nothing verified yet
+    verified = []
+
+    def deferred(vote, signer, signature):
+        verified.append(vote)
+        return verify(vote, signer, signature)
+
+    stream = Encoder(64)
+    write(stream, [(Vote("notarize", 3, 9, 5, b"\xaa" * 32), i, i) for i in range(4)])
+    honest = audit_deferred(committees, stream.encoded(), deferred)
+    print(f"deferred: {len(verified)} of {honest.read} signatures of an honest round verified")
+    write(stream, votes)
+    both = audit_deferred(committees, stream.encoded(), deferred)
+    assert both.text == report.text
+    print(f"deferred: {len(verified)} of {both.read} signatures of both rounds verified")
 
 
 if __name__ == "__main__":

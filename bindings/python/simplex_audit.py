@@ -16,8 +16,8 @@ import ctypes
 import os
 import pathlib
 
-__all__ = ["Committees", "Encoder", "Evidence", "Report", "Split", "Vote", "admits", "admits_outbound", "audit", "issuance_floor", "leader",
-           "max_faults", "quorum", "store", "version"]
+__all__ = ["Committees", "Encoder", "Evidence", "Report", "Split", "Vote", "admits", "admits_outbound", "audit", "audit_deferred",
+           "issuance_floor", "leader", "max_faults", "quorum", "store", "version"]
 
 _FOLDER = os.environ.get("SIMPLEX_AUDIT_LIB") or pathlib.Path(__file__).resolve().parent.parent / "out"
 _library = ctypes.CDLL(os.path.join(_FOLDER, "simplex_audit.so"))
@@ -27,6 +27,14 @@ _NO, _YES, _NONE = range(3)
 
 class _Summary(ctypes.Structure):
     _fields_ = [(name, ctypes.c_size_t) for name in ("read", "evidence", "splits", "faulted", "fault_place", "length")]
+
+
+class _Suspect(ctypes.Structure):
+    _fields_ = [("epoch", ctypes.c_uint64), ("view", ctypes.c_uint64), ("verdict_place", ctypes.c_size_t), ("subject_place", ctypes.c_size_t),
+                ("subject_length", ctypes.c_size_t), ("signer", ctypes.c_uint32), ("kind", ctypes.c_uint32)]
+
+
+_KINDS = ("notarize", "nullify", "finalize")
 
 
 def _declare():
@@ -43,6 +51,7 @@ def _declare():
     }
     for bytes_of in (48, 64, 96):
         calls[f"audit_vouched_{bytes_of}"] = [*numbers, *data, *buffer, out(_Summary)]
+        calls[f"suspects_vouched_{bytes_of}"] = [*numbers, *data, out(_Suspect), size, out(size)]
         calls[f"store_vouched_{bytes_of}"] = [*numbers, *data, *data, *buffer, out(size)]
     for name, types in calls.items():
         call = getattr(_library, f"simplex_{name}")
@@ -74,8 +83,8 @@ def _refused(status):
 class Committees:
     """Who judges which epoch."""
 
-    def __init__(self, suffix, arguments):
-        self._suffix, self._arguments = suffix, arguments
+    def __init__(self, suffix, arguments, size=None):
+        self._suffix, self._arguments, self._size = suffix, arguments, size
 
     @staticmethod
     def every(size, participants):
@@ -104,7 +113,20 @@ class Committees:
     def _vouched(size, epochs, sizes):
         if size not in (48, 64, 96):
             raise ValueError("a signature has 48, 64 or 96 bytes")
-        return Committees(f"vouched_{size}", [*_numbers(ctypes.c_uint64, 64, epochs), *_numbers(ctypes.c_uint32, 32, sizes)])
+        return Committees(f"vouched_{size}", [*_numbers(ctypes.c_uint64, 64, epochs), *_numbers(ctypes.c_uint32, 32, sizes)], size)
+
+    def _suspects(self, stream):
+        """The attestations of a stream that have to be verified; under the plain scheme, which verifies its signatures itself, none."""
+        if self._size is None:
+            return []
+        function, room, needed = getattr(_library, f"simplex_suspects_{self._suffix}"), 64, ctypes.c_size_t()
+        while True:
+            records = (_Suspect * room)()
+            status = function(*self._arguments, stream, len(stream), records, room, ctypes.byref(needed))
+            _refused(status)
+            room = max(1, needed.value)
+            if status != _SHORT:
+                return records[: needed.value]
 
     def _put(self, call, given, room, written, needed):
         """Makes a call that puts something into a buffer, again with a longer buffer if the first is too short."""
@@ -137,6 +159,43 @@ def audit(committees, stream):
     evidence = [_evidence(line) for line in lines[: summary.evidence]]
     splits = [_split(line) for line in lines[summary.evidence :]]
     return Report(summary.read, evidence, splits, summary.fault_place if summary.faulted else None, text)
+
+
+def audit_deferred(committees, stream, verify):
+    """The report of a stream whose signatures are not verified yet; its verdicts may be any. Only signatures of suspect rounds are
+    verified, those in which two votes contradict that claim one signer of the committee: of an honest stream none. The report is
+    that of `audit` with every signature verified. `verify` is as of an `Encoder`.
+
+    >>> stream = Encoder(64)
+    >>> for view, signer, payload in ((9, 0, 6), (9, 1, 6), (10, 2, 6), (10, 2, 7)):
+    ...     stream.vote(Vote("notarize", 3, view, 5, bytes([payload] * 32)), signer, bytes(64))
+    >>> verified = []
+    >>> def verify(vote, signer, signature):
+    ...     verified.append((vote.view, signer))
+    ...     return True
+    >>> len(audit_deferred(Committees.every(64, 4), stream.encoded(), verify).evidence), verified
+    (1, [(10, 2), (10, 2)])
+    """
+    stream = bytearray(stream)
+    for it in committees._suspects(bytes(stream)):
+        subject = stream[it.subject_place : it.subject_place + it.subject_length]
+        signature = bytes(stream[it.verdict_place - committees._size : it.verdict_place])
+        stream[it.verdict_place] = bool(verify(_vote(_KINDS[it.kind], bytes(subject)), it.signer, signature))
+    return audit(committees, stream)
+
+
+def _vote(kind, subject):
+    """The vote of a kind that has this subject."""
+    numbers, at = [], 0
+    while len(numbers) < (2 if kind == "nullify" else 3):
+        number, shift = 0, 0
+        while True:
+            byte, at = subject[at], at + 1
+            number, shift = number | (byte & 127) << shift, shift + 7
+            if byte < 128:
+                break
+        numbers.append(number)
+    return Vote(kind, *numbers) if kind == "nullify" else Vote(kind, *numbers, subject[at:])
 
 
 def _evidence(line):
@@ -178,19 +237,20 @@ class Vote(collections.namedtuple("Vote", "kind epoch view parent payload", defa
 
 class Encoder:
     """Writes messages as a stream. Each signature is verified, and the verdict is written behind it. `verify(vote, signer,
-    signature)` says whether the signature is one of this signer, by its key in the committee of the vote's epoch, over the vote."""
+    signature)` says whether the signature is one of this signer, by its key in the committee of the vote's epoch, over the vote.
+    Without it nothing is verified, for `audit_deferred`."""
 
     _VOTES = {"notarize": 0, "nullify": 3, "finalize": 5}
 
     def __init__(self, size):
         self._size, self._bytes = size, bytearray()
 
-    def vote(self, vote, signer, signature, verify):
+    def vote(self, vote, signer, signature, verify=None):
         """Appends a vote."""
         message = vote.message()
         self._bytes += bytes([self._VOTES[vote.kind]]) + message + self._attestation(vote, signer, signature, verify)
 
-    def certificate(self, vote, listed, verify):
+    def certificate(self, vote, listed, verify=None):
         """Appends a certificate that lists these pairs of a signer and a signature, signers ascending."""
         listed = list(listed)
         signers = [signer for signer, _ in listed]
@@ -204,7 +264,7 @@ class Encoder:
         signature = bytes(signature)
         if len(signature) != self._size:
             raise ValueError(f"a signature has {self._size} bytes")
-        return _varint(_checked(signer, 32, "a signer")) + signature + bytes([bool(verify(vote, signer, signature))])
+        return _varint(_checked(signer, 32, "a signer")) + signature + bytes([bool(verify and verify(vote, signer, signature))])
 
     def encoded(self):
         """All that it wrote."""

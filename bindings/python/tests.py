@@ -5,7 +5,7 @@ import hashlib
 import unittest
 
 import simplex_audit
-from simplex_audit import Committees, Encoder, Vote, audit, store
+from simplex_audit import Committees, Encoder, Vote, audit, audit_deferred, store
 
 
 def valid(vote, signer, signature):
@@ -50,6 +50,31 @@ class Tests(unittest.TestCase):
                 stream += bytes([Encoder._VOTES[vote.kind]]) + vote.message() + b"\0" + signature
             report = audit(Committees.plain(b"test", [bytes(32)]), stream)
             self.assertEqual((report.read, len(report.evidence)), (2, 1))
+
+    def test_deferred(self):
+        nullify, finalize = Vote("nullify", 300, 10), Vote("finalize", 300, 10, 1 << 40, b"\7" * 32)
+        for size in (48, 64, 96):
+            committees, asked, streams = Committees.listed(size, {7: 9, 300: 4}), [], []
+            for verify in (None, valid):
+                stream = Encoder(size)
+                stream.certificate(Vote("finalize", 300, 9, 5, b"\6" * 32), [(0, b"\10" * size), (1, b"\10" * size)], verify)
+                for vote in (nullify, finalize):
+                    stream.certificate(vote, [(it, b"\11" * size) for it in range(3)], verify)
+                streams.append(stream.encoded())
+
+            def verify(*what):
+                asked.append(what)
+                return True
+
+            report = audit_deferred(committees, streams[0], verify)
+            self.assertEqual((report, len(report.splits)), (audit(committees, streams[1]), 1))
+            self.assertEqual(asked, [(vote, it, b"\11" * size) for vote in (nullify, finalize) for it in range(3)])
+            self.assertEqual(audit_deferred(committees, streams[1], lambda *what: False).text, "")
+        self.assertEqual(audit_deferred(Committees.every(64, 4), two_votes(10, verify=None), valid), audit(Committees.every(64, 4), two_votes(10)))
+
+    def test_many_suspects(self):
+        stream = b"".join(two_votes(view, verify=None) for view in range(1, 101))
+        self.assertEqual(len(audit_deferred(Committees.every(64, 4), stream, valid).evidence), 100)
 
     def test_elements_of_more_than_a_byte(self):
         stream = two_votes(10)

@@ -12,6 +12,9 @@ const MEMORY: u32 = 3;
 const SHORT: u32 = 4;
 const NO: u32 = 0;
 const YES: u32 = 1;
+pub(crate) const NOTARIZE: u32 = 0;
+pub(crate) const NULLIFY: u32 = 1;
+pub(crate) const FINALIZE: u32 = 2;
 
 /// `struct simplex_summary`.
 #[repr(C)]
@@ -23,6 +26,19 @@ pub(crate) struct Summary {
     pub faulted: usize,
     pub fault_place: usize,
     pub length: usize,
+}
+
+/// `struct simplex_suspect`.
+#[repr(C)]
+#[derive(Clone, Copy, Default)]
+pub(crate) struct Suspect {
+    pub epoch: u64,
+    pub view: u64,
+    pub verdict_place: usize,
+    pub subject_place: usize,
+    pub subject_length: usize,
+    pub signer: u32,
+    pub kind: u32,
 }
 
 type AuditVouched = unsafe extern "C" fn(
@@ -49,6 +65,18 @@ type StoreVouched = unsafe extern "C" fn(
     evidence: *mut u8,
     evidence_len: usize,
     size: *mut usize,
+) -> u32;
+
+type SuspectsVouched = unsafe extern "C" fn(
+    epochs: *const u64,
+    epochs_len: usize,
+    sizes: *const u32,
+    sizes_len: usize,
+    stream: *const u8,
+    stream_len: usize,
+    records: *mut Suspect,
+    records_len: usize,
+    needed: *mut usize,
 ) -> u32;
 
 #[rustfmt::skip]
@@ -86,6 +114,18 @@ extern "C" {
         name: *const u8, name_len: usize, keys: *const u8, keys_len: usize, stored: *const u8, stored_len: usize,
         batch: *const u8, batch_len: usize, evidence: *mut u8, evidence_len: usize, size: *mut usize,
     ) -> u32;
+    fn simplex_suspects_vouched_48(
+        epochs: *const u64, epochs_len: usize, sizes: *const u32, sizes_len: usize, stream: *const u8, stream_len: usize,
+        records: *mut Suspect, records_len: usize, needed: *mut usize,
+    ) -> u32;
+    fn simplex_suspects_vouched_64(
+        epochs: *const u64, epochs_len: usize, sizes: *const u32, sizes_len: usize, stream: *const u8, stream_len: usize,
+        records: *mut Suspect, records_len: usize, needed: *mut usize,
+    ) -> u32;
+    fn simplex_suspects_vouched_96(
+        epochs: *const u64, epochs_len: usize, sizes: *const u32, sizes_len: usize, stream: *const u8, stream_len: usize,
+        records: *mut Suspect, records_len: usize, needed: *mut usize,
+    ) -> u32;
     fn simplex_max_faults(n: u32) -> u32;
     fn simplex_quorum(n: u32) -> u32;
     fn simplex_admits(term_length: u32, optimistic_views: u64, current: u64, pending: u64) -> u32;
@@ -98,9 +138,9 @@ extern "C" {
 }
 
 /// Calls with a buffer, and once more with a longer one where the call asks for it. What the call returns beside its status is how
-/// many bytes it wrote, or needs.
-fn filled(first: usize, mut call: impl FnMut(&mut [u8]) -> (u32, usize)) -> Result<Vec<u8>, Error> {
-    let mut buffer = vec![0; first];
+/// many items it wrote, or needs.
+fn filled<T: Clone + Default>(first: usize, mut call: impl FnMut(&mut [T]) -> (u32, usize)) -> Result<Vec<T>, Error> {
+    let mut buffer = vec![T::default(); first];
     loop {
         let (status, length) = call(&mut buffer);
         match status {
@@ -111,7 +151,7 @@ fn filled(first: usize, mut call: impl FnMut(&mut [u8]) -> (u32, usize)) -> Resu
             SHORT => {
                 let more = length.saturating_sub(buffer.len());
                 buffer.try_reserve_exact(more).map_err(|_| Error::OutOfMemory)?;
-                buffer.resize(length, 0);
+                buffer.resize(length, T::default());
             }
             MEMORY => return Err(Error::OutOfMemory),
             _ => return Err(Error::Arguments),
@@ -211,6 +251,36 @@ pub(crate) fn store(committees: &Committees, stored: &[u8], batch: &[u8]) -> Res
             },
         };
         (status, length)
+    })
+}
+
+/// The attestations of a stream that have to be verified; under the plain scheme, which verifies its signatures itself, none.
+pub(crate) fn suspects(committees: &Committees, stream: &[u8]) -> Result<Vec<Suspect>, Error> {
+    let Members::Vouched { size, epochs, sizes } = &committees.members else {
+        return Ok(Vec::new());
+    };
+    let call: SuspectsVouched = match size {
+        Size::Bytes48 => simplex_suspects_vouched_48,
+        Size::Bytes64 => simplex_suspects_vouched_64,
+        Size::Bytes96 => simplex_suspects_vouched_96,
+    };
+    filled(64, |records| {
+        let mut needed = 0;
+        // SAFETY: see this module.
+        let status = unsafe {
+            call(
+                epochs.as_ptr(),
+                epochs.len(),
+                sizes.as_ptr(),
+                sizes.len(),
+                stream.as_ptr(),
+                stream.len(),
+                records.as_mut_ptr(),
+                records.len(),
+                &mut needed,
+            )
+        };
+        (status, needed)
     })
 }
 

@@ -18,6 +18,7 @@
 //! ```
 
 mod committees;
+mod deferred;
 mod encoder;
 mod error;
 mod ffi;
@@ -27,6 +28,7 @@ mod report;
 pub mod views;
 
 pub use committees::{Committees, Size};
+pub use deferred::{audit_deferred, Deferred};
 pub use encoder::{Encoder, Verifier, Vote};
 pub use error::Error;
 pub use ledger::Ledger;

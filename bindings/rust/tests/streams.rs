@@ -1,6 +1,9 @@
 //! Streams that an `Encoder` writes, and what is refused.
 
-use simplex_audit::{audit, version, views, Committees, Encoder, Error, Kind, Ledger, Size, Split, Vote};
+use simplex_audit::{
+    audit, audit_deferred, version, views, Committees, Deferred, Encoder, Error, Kind, Ledger, Size, Split, Vote,
+};
+use std::cell::RefCell;
 
 const SIZES: [Size; 3] = [Size::Bytes48, Size::Bytes64, Size::Bytes96];
 
@@ -52,6 +55,50 @@ fn what_is_signed() {
     let base = [b'n'; 120];
     let vote = Vote::Nullify { epoch: 3, view: 10 };
     assert_eq!(vote.signed_bytes(&base), [&[0x80, 1][..], &base, b"_NULLIFY", &[3, 10]].concat());
+}
+
+#[test]
+fn deferred_certificates() {
+    for size in SIZES {
+        let committees = Committees::listed(size, &[(7, 9), (300, 4)]).unwrap();
+        let mut stream = Encoder::new(size);
+        let honest = Vote::Finalize { epoch: 300, view: 9, parent: 1 << 40, payload: [5; 32] };
+        let signature = vec![8; size.bytes()];
+        stream.certificate(&honest, &[(0, &signature), (1, &signature)], &Deferred).unwrap();
+        let asked = RefCell::new(Vec::new());
+        let verifier = |vote: &Vote, signer: u32, signature: &[u8]| {
+            asked.borrow_mut().push((*vote, signer, signature.to_vec()));
+            true
+        };
+        let report = audit_deferred(&committees, stream.as_bytes(), &verifier).unwrap();
+        assert_eq!((report.read, report.text.as_str(), asked.borrow().len()), (1, "", 0));
+        let bytes = [stream.as_bytes(), fork(size, &Deferred).as_bytes()].concat();
+        let report = audit_deferred(&committees, &bytes, &verifier).unwrap();
+        assert_eq!(report.text, audit(&committees, fork(size, &every).as_bytes()).unwrap().text);
+        let mut wanted = Vec::new();
+        let finalize = Vote::Finalize { epoch: 300, view: 10, parent: 5, payload: [6; 32] };
+        for vote in [Vote::Nullify { epoch: 300, view: 10 }, finalize] {
+            wanted.extend((0..3).map(|signer| (vote, signer, vec![9; size.bytes()])));
+        }
+        assert_eq!(*asked.borrow(), wanted);
+        // nothing is valid that does not verify, whatever stands in the stream
+        let none = |_: &Vote, _: u32, _: &[u8]| false;
+        assert_eq!(audit_deferred(&committees, fork(size, &every).as_bytes(), &none).unwrap().text, "");
+    }
+}
+
+#[test]
+fn more_suspects_than_the_first_buffer() {
+    let mut stream = Encoder::new(Size::Bytes64);
+    for signer in 0..100 {
+        for payload in [[6; 32], [7; 32]] {
+            let vote = Vote::Notarize { epoch: u64::MAX, view: u64::MAX, parent: u64::MAX, payload };
+            stream.vote(&vote, signer, &[9; 64], &Deferred).unwrap();
+        }
+    }
+    let committees = Committees::every(Size::Bytes64, 100).unwrap();
+    let report = audit_deferred(&committees, stream.as_bytes(), &every).unwrap();
+    assert_eq!((report.evidence.len(), report.read), (100, 200));
 }
 
 #[test]

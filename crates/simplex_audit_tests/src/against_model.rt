@@ -49,7 +49,11 @@ const MESSAGES: [&[u8]; 24] = [
 ];
 
 /// The stream of so many messages that a number tells.
-fn stream_of(alloc: Global, messages: u32, number: usize) -> Result<Vec<u8>, AllocError> {
+pub(crate) fn stream_of(
+    alloc: Global,
+    messages: u32,
+    number: usize,
+) -> Result<Vec<u8>, AllocError> {
     let mut stream = Vec::new(alloc);
     let mut rest = number;
     for _ in 0..messages {
@@ -61,7 +65,7 @@ fn stream_of(alloc: Global, messages: u32, number: usize) -> Result<Vec<u8>, All
 
 /// What may follow: nothing, messages that are cut off, an unknown tag, a number spelled wrongly, evidence that
 /// does not contradict.
-const TAILS: [&[u8]; 6] = [
+pub(crate) const TAILS: [&[u8]; 6] = [
     &[],
     &[0, 0, 10, 5, 6],
     &[1, 0, 10, 5, 6, 2, 0],

@@ -20,6 +20,8 @@ mod outcome;
 #[cfg(test)]
 mod runs;
 #[cfg(test)]
+mod suspects;
+#[cfg(test)]
 mod verified;
 #[cfg(test)]
 mod watched;

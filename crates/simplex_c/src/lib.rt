@@ -9,7 +9,7 @@ ghost use Rattle.simplex_lead.specs.Windows.{FitsWindow, IsAdmitted, IsOutbound}
 ghost use Rattle.simplex_plain.specs.Plain.{PlainScheme};
 ghost use Rattle.simplex_detector.specs.Committees.{Schedule};
 ghost use Rattle.simplex_vouched.specs.Vouched.{VouchedScheme};
-ghost use Rattle.simplex_ffi.specs.Answer.{AreStored, IsAudited};
+ghost use Rattle.simplex_ffi.specs.Answer.{AreGiven, AreStored, IsAudited};
 ghost use Rattle.simplex_ffi.specs.Keys.{AreKeys, AreOfKeys};
 ghost use Rattle.simplex_ffi.specs.Leaders.{LeadsRound};
 ghost use Rattle.simplex_ffi.specs.Sizes.{AreSizes};
@@ -18,8 +18,11 @@ use simplex_audit::basis::Audited;
 use simplex_base::codec::Fixed;
 use simplex_ffi::answer::Summary;
 use simplex_ffi::plain::{answer_plain, store_plain};
+use simplex_ffi::suspects::suspects_vouched;
 use simplex_ffi::vouched::{Role48, Role64, Role96, answer_vouched, store_vouched};
 use simplex_ffi::{leaders, numbers};
+use simplex_places::located::Located;
+use simplex_places::places::Suspect;
 use simplex_plain::plain::Plain;
 use simplex_scheme::hash::{Hasher, Sha256, Sha256Digest};
 use simplex_vouched::vouched::Vouched;
@@ -80,6 +83,30 @@ pub extern "C" fn simplex_store_vouched_48(
     store_vouched::<Role48, 49>(alloc, epochs, sizes, stored, batch, evidence, size)
 }
 
+/// Lists the attestations of a stream that the caller has to verify before it audits the stream, whose
+/// signatures have 48 bytes and a verdict that may yet be any, under the committees of these sizes.
+#[unsafe(no_mangle)]
+pub extern "C" fn simplex_suspects_vouched_48(
+    alloc: Global,
+    epochs: &[u64],
+    sizes: &[u32],
+    stream: &[u8],
+    records: &mut [Suspect],
+    needed: &mut usize,
+) -> u32
+    ensures given { result ≢ 2 → result ≢ 3 → (committees : Schedule VouchedScheme) ×
+        AreSizes epochs.now sizes.now committees ×
+        AreGiven (⟦<Vouched<Role48, 49> as Audited<Sha256Digest>>⟧.basis committees)
+        ⟦<Vouched<Role48, 49> as Located<Sha256Digest>>⟧.places
+        stream.now records.old records.new needed.new result }
+    ensures refused { result ≡ 2 → (committees : Schedule VouchedScheme) →
+        ¬ AreSizes epochs.now sizes.now committees }
+    ensures untouched { (result ≡ 2) ⊎ (result ≡ 3) →
+        (records.new ≡ records.old) × (needed.new ≡ needed.old) }
+{
+    suspects_vouched::<Role48, 49>(alloc, epochs, sizes, stream, records, needed)
+}
+
 /// Audits a stream whose signatures have 64 bytes, as those of Ed25519, each with the caller's
 /// verdict behind it, under the committees of these sizes.
 #[unsafe(no_mangle)]
@@ -127,6 +154,30 @@ pub extern "C" fn simplex_store_vouched_64(
     store_vouched::<Role64, 65>(alloc, epochs, sizes, stored, batch, evidence, size)
 }
 
+/// Lists the attestations of a stream that the caller has to verify before it audits the stream, whose
+/// signatures have 64 bytes and a verdict that may yet be any, under the committees of these sizes.
+#[unsafe(no_mangle)]
+pub extern "C" fn simplex_suspects_vouched_64(
+    alloc: Global,
+    epochs: &[u64],
+    sizes: &[u32],
+    stream: &[u8],
+    records: &mut [Suspect],
+    needed: &mut usize,
+) -> u32
+    ensures given { result ≢ 2 → result ≢ 3 → (committees : Schedule VouchedScheme) ×
+        AreSizes epochs.now sizes.now committees ×
+        AreGiven (⟦<Vouched<Role64, 65> as Audited<Sha256Digest>>⟧.basis committees)
+        ⟦<Vouched<Role64, 65> as Located<Sha256Digest>>⟧.places
+        stream.now records.old records.new needed.new result }
+    ensures refused { result ≡ 2 → (committees : Schedule VouchedScheme) →
+        ¬ AreSizes epochs.now sizes.now committees }
+    ensures untouched { (result ≡ 2) ⊎ (result ≡ 3) →
+        (records.new ≡ records.old) × (needed.new ≡ needed.old) }
+{
+    suspects_vouched::<Role64, 65>(alloc, epochs, sizes, stream, records, needed)
+}
+
 /// Audits a stream whose signatures have 96 bytes, as those of BLS12-381 in G2, each with the
 /// caller's verdict behind it, under the committees of these sizes.
 #[unsafe(no_mangle)]
@@ -172,6 +223,30 @@ pub extern "C" fn simplex_store_vouched_96(
         (evidence.new ≡ evidence.old) × (size.new ≡ size.old) }
 {
     store_vouched::<Role96, 97>(alloc, epochs, sizes, stored, batch, evidence, size)
+}
+
+/// Lists the attestations of a stream that the caller has to verify before it audits the stream, whose
+/// signatures have 96 bytes and a verdict that may yet be any, under the committees of these sizes.
+#[unsafe(no_mangle)]
+pub extern "C" fn simplex_suspects_vouched_96(
+    alloc: Global,
+    epochs: &[u64],
+    sizes: &[u32],
+    stream: &[u8],
+    records: &mut [Suspect],
+    needed: &mut usize,
+) -> u32
+    ensures given { result ≢ 2 → result ≢ 3 → (committees : Schedule VouchedScheme) ×
+        AreSizes epochs.now sizes.now committees ×
+        AreGiven (⟦<Vouched<Role96, 97> as Audited<Sha256Digest>>⟧.basis committees)
+        ⟦<Vouched<Role96, 97> as Located<Sha256Digest>>⟧.places
+        stream.now records.old records.new needed.new result }
+    ensures refused { result ≡ 2 → (committees : Schedule VouchedScheme) →
+        ¬ AreSizes epochs.now sizes.now committees }
+    ensures untouched { (result ≡ 2) ⊎ (result ≡ 3) →
+        (records.new ≡ records.old) × (needed.new ≡ needed.old) }
+{
+    suspects_vouched::<Role96, 97>(alloc, epochs, sizes, stream, records, needed)
 }
 
 /// Audits a stream of the plain scheme, whose signatures are hashes, under one committee for every

@@ -4,8 +4,11 @@ use Rattle.simplex_audit.specs.Basis.{Basis}
 use Rattle.simplex_audit.specs.Guarantees.{IsAudit}
 use Rattle.simplex_audit.specs.Run.{report_text}
 use Rattle.simplex_clients.specs.Holding.{IsStored}
+use Rattle.simplex_evidence.specs.declared.types.activity.Activity.{Activity}
 use Rattle.simplex_audit.specs.declared.audit.Fault.{Fault}
 use Rattle.simplex_audit.specs.declared.audit.Report.{Report}
+use Rattle.simplex_places.specs.Suspects.{AreSuspects}
+use Rattle.simplex_places.specs.declared.places.Suspect.{Suspect}
 use Rattle.simplex_ffi.specs.declared.answer.Summary.{Summary}
 
 -- the number of a stream that was read whole, or that has a fault
@@ -27,8 +30,9 @@ pub record IsSummary {S D P G : Type 0} (bytes_of : D → List ℕ) (report : Re
   pub place_is : summary.fault_place ≡ place_of report.fault
   pub length_is : summary.length ≡ length (report_text bytes_of report)
 
--- A text is put at the front of a buffer, and what is behind it stays; or it has no room there, and the buffer is as before.
-abbrev pub IsPut : List ℕ → List ℕ → List ℕ → ℕ → ℕ → Type 0
+-- A text, or other items, is put at the front of a buffer, and what is behind it stays; or it has no room there, and the buffer is
+-- as before.
+abbrev pub IsPut : {A : Type 0} → List A → List A → List A → ℕ → ℕ → Type 0
 IsPut text before after status ended =
     ((length text ≤ length before) × (status ≡ ended) × (after ≡ text ++ drop (length text) before))
     ⊎ ((length before < length text) × (status ≡ 4) × (after ≡ before))
@@ -48,3 +52,11 @@ pub record AreStored {S D C P G : Type 0} (basis : Basis S D C P G) (stream befo
   pub stored_is : IsStored basis stream bytes
   pub size_is : size ≡ length bytes
   pub bytes_are : IsPut bytes before after status 0
+
+-- The attestations of the stream that have to be verified stand at the front of the buffer, with 0; or the buffer is too short and as
+-- before, with 4. The number needed is that of the attestations.
+pub record AreGiven {S D C P G : Type 0} (basis : Basis S D C P G) (places_in : ℕ → Activity S D C P G → List Suspect) (stream : List ℕ) (before after : List Suspect) (needed status : ℕ) : Type 0 where
+  pub found : List Suspect
+  pub suspects_are : AreSuspects basis places_in stream found
+  pub needed_is : needed ≡ length found
+  pub records_are : IsPut found before after status 0

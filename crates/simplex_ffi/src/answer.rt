@@ -66,8 +66,8 @@ fn place(fault: Option<Fault>) -> usize
     }
 }
 
-/// Puts a text at the front of a buffer, if it has room there.
-pub(crate) fn put(text: &[u8], buffer: &mut [u8]) -> bool
+/// Puts a text, or other items, at the front of a buffer, if there is room.
+pub(crate) fn put<T: Copy>(text: &[T], buffer: &mut [T]) -> bool
     ensures fits { IsTrue result → length text.now ≤ length buffer.old }
     ensures short { result ≡ false → length buffer.old < length text.now }
     ensures there { IsTrue result → buffer.new ≡ text.now ++ drop (length text.now) buffer.old }

@@ -8,4 +8,5 @@ pub mod numbers;
 pub mod plain;
 pub mod sizes;
 pub mod store;
+pub mod suspects;
 pub mod vouched;

@@ -1,0 +1,78 @@
+use crate::committees::Members;
+use crate::{audit, ffi, Committees, Error, Report, Verifier, Vote};
+
+/// Verifies nothing: an [`Encoder`](crate::Encoder) writes a stream with it whose signatures [`audit_deferred`] verifies.
+#[derive(Clone, Copy, Debug)]
+pub struct Deferred;
+
+impl Verifier for Deferred {
+    fn verify(&self, _: &Vote, _: u32, _: &[u8]) -> bool {
+        false
+    }
+}
+
+/// Audits a stream whose signatures are not verified yet; its verdicts may be any. Only signatures of suspect rounds are verified,
+/// those in which two votes contradict that claim one signer of the committee: of an honest stream none. The report is that of
+/// [`audit`] with every signature verified.
+///
+/// ```
+/// use simplex_audit::{audit_deferred, Committees, Deferred, Encoder, Size, Vote};
+/// use std::cell::Cell;
+///
+/// let mut stream = Encoder::new(Size::Bytes64);
+/// // Each participant votes in view 9, and participant 2 for two payloads in view 10.
+/// for (view, signer, payload) in [(9, 0, 6), (9, 1, 6), (9, 2, 6), (10, 2, 6), (10, 2, 7)] {
+///     let vote = Vote::Notarize { epoch: 3, view, parent: 5, payload: [payload; 32] };
+///     stream.vote(&vote, signer, &[0; 64], &Deferred)?;
+/// }
+/// let verified = Cell::new(0);
+/// let report = audit_deferred(&Committees::every(Size::Bytes64, 4)?, stream.as_bytes(), &|_: &Vote, _: u32, _: &[u8]| {
+///     verified.set(verified.get() + 1);
+///     true
+/// })?;
+/// assert_eq!((report.read, report.evidence.len(), verified.get()), (5, 1, 2));
+/// # Ok::<(), simplex_audit::Error>(())
+/// ```
+pub fn audit_deferred(committees: &Committees, stream: &[u8], verifier: &dyn Verifier) -> Result<Report, Error> {
+    let Members::Vouched { size, .. } = &committees.members else {
+        return audit(committees, stream);
+    };
+    let mut verified = stream.to_vec();
+    for suspect in ffi::suspects(committees, stream)? {
+        let subject = &stream[suspect.subject_place..][..suspect.subject_length];
+        let signature = &stream[suspect.verdict_place - size.bytes()..suspect.verdict_place];
+        let vote = vote_of(suspect.kind, subject).ok_or(Error::Arguments)?;
+        verified[suspect.verdict_place] = u8::from(verifier.verify(&vote, suspect.signer, signature));
+    }
+    audit(committees, &verified)
+}
+
+/// The vote of a kind that has this subject.
+fn vote_of(kind: u32, mut subject: &[u8]) -> Option<Vote> {
+    let bytes = &mut subject;
+    let (epoch, view) = (take_number(bytes)?, take_number(bytes)?);
+    if kind == ffi::NULLIFY {
+        return Some(Vote::Nullify { epoch, view });
+    }
+    let parent = take_number(bytes)?;
+    let payload = (*bytes).try_into().ok()?;
+    match kind {
+        ffi::NOTARIZE => Some(Vote::Notarize { epoch, view, parent, payload }),
+        ffi::FINALIZE => Some(Vote::Finalize { epoch, view, parent, payload }),
+        _ => None,
+    }
+}
+
+/// Takes a number from the front of some bytes: seven bits a byte, the least significant first.
+fn take_number(bytes: &mut &[u8]) -> Option<u64> {
+    let mut number = 0;
+    for shift in (0..64).step_by(7) {
+        let (byte, rest) = bytes.split_first()?;
+        *bytes = rest;
+        number |= u64::from(byte & 127) << shift;
+        if *byte < 128 {
+            return Some(number);
+        }
+    }
+    None
+}

@@ -1,0 +1,106 @@
+//! The attestations of a stream that have to be verified.
+
+ghost use Rattle.std.specs.Prelude.{◌≡◌, ◌&&◌, ◌↔◌, ℕ, List, Bool, IsTrue, IfOk, filter, nat_lt};
+ghost use Rattle.std.specs.BTreeSet.{contains};
+ghost use Rattle.simplex_base.specs.Positions as positions;
+ghost use Rattle.simplex_evidence.specs.declared.types.activity.Activity as activities;
+ghost use Rattle.simplex_detector.specs.Committees.{Schedule, committee_of, size_by};
+ghost use Rattle.simplex_detector.specs.Detector.{Recalls};
+ghost use Rattle.simplex_detector.specs.Named.{round_cmp};
+ghost use Rattle.simplex_detector.specs.Rules.{AreLawful};
+ghost use Rattle.simplex_detector.specs.Suspects.{is_suspect_round};
+ghost use Rattle.simplex_detector.specs.declared.judging.Judging.TheVariants.{Claimed};
+ghost use Rattle.simplex_places.specs.Suspects.{AreSuspects, is_sought};
+
+use crate::located::{Counted, Located};
+use crate::places::Suspect;
+use crate::reading::{read_claims, reading_bound};
+use simplex_audit::basis::Audited;
+use simplex_base::positions::{Epoch, Round, View};
+use simplex_detector::committees::Committees;
+use simplex_detector::detector::Detector;
+use simplex_detector::judging::suspects_of;
+use simplex_detector::laws::suspects_suffice;
+use simplex_scheme::scheme::{CertificateScheme, Digest};
+use std::alloc::{AllocError, Global};
+use std::collections::BTreeSet;
+
+/// The suspect rounds: those of what the votes claim.
+fn suspect_rounds<S: Counted<D>, D: Digest>(
+    alloc: Global,
+    detector: &Detector<S, D>,
+) -> Result<BTreeSet<Round>, AllocError>
+    ensures { IfOk result (λ rounds. (committees : Schedule S)
+        (messages : List (activities.Activity S D S.Certificate S.PublicKey S.Signature)) →
+        AreLawful (⟦<S as Audited<D>>⟧.basis committees).rules →
+        Recalls (⟦<S as Audited<D>>⟧.basis_under Claimed committees).rules messages detector.now →
+        (round : positions.Round) → contains round_cmp rounds round ≡
+        is_suspect_round (⟦<S as Audited<D>>⟧.basis committees).rules messages round) }
+{
+    suspects_suffice::<S, D>();
+    let evidence = detector.evidence(alloc)?;
+    let suspects = suspects_of(alloc, &evidence)?;
+    Ok(suspects.rounds)
+}
+
+/// Whether a signer is in the committee of an epoch.
+fn is_member<S: CertificateScheme>(committees: &Committees<S>, epoch: u64, signer: u32) -> bool
+    ensures { result ≡ nat_lt signer (size_by S.keys (committee_of committees.now epoch)) }
+{
+    match committees.get(Epoch::new(epoch)) {
+        Some(committee) => (signer as usize) < committee.participants().len(),
+        None => false,
+    }
+}
+
+/// Whether an attestation has to be verified: it is of one of these rounds, and its signer is in the committee of the epoch.
+fn is_sought<S: CertificateScheme>(
+    committees: &Committees<S>,
+    rounds: &BTreeSet<Round>,
+    place: &Suspect,
+) -> bool
+    ensures { result ≡ is_sought (contains round_cmp rounds.now)
+        (λ epoch. size_by S.keys (committee_of committees.now epoch)) place.now }
+{
+    let round = Round::new(Epoch::new(place.epoch), View::new(place.view));
+    rounds.contains(&round) && is_member(committees, place.epoch, place.signer)
+}
+
+/// The attestations that have to be verified, of these.
+fn sought<S: CertificateScheme>(
+    alloc: Global,
+    committees: &Committees<S>,
+    rounds: &BTreeSet<Round>,
+    places: &[Suspect],
+) -> Result<Vec<Suspect>, AllocError>
+    ensures { IfOk result (λ found. found.items ≡ filter (is_sought (contains round_cmp rounds.now)
+        (λ epoch. size_by S.keys (committee_of committees.now epoch))) places.now) }
+{
+    let mut found = Vec::new(alloc);
+    'places: for place in places {
+        if is_sought(committees, rounds, place) {
+            found.push(*place)?;
+        }
+    }
+    Ok(found)
+}
+
+/// The attestations of a stream that have to be verified before it is audited, in the order of the stream: those of suspect
+/// rounds whose signers are in the committees of the epochs. A round is suspect where two votes contradict that claim one
+/// signer of its committee. No signature of another attestation has a part in the report. Nothing is verified here, so the
+/// stream may hold any verdicts. It is read once, in memory that is bounded by the stream and the sizes of the committees.
+/// `AllocError` comes where memory is refused.
+pub fn suspects<S: Counted<D>, D: Digest>(
+    alloc: Global,
+    committees: &Committees<S>,
+    stream: &[u8],
+) -> Result<Vec<Suspect>, AllocError>
+    ensures { IfOk result (λ found. AreSuspects (⟦<S as Audited<D>>⟧.basis committees.now)
+        ⟦<S as Located<D>>⟧.places stream.now found.items) }
+{
+    let bound = reading_bound::<S, D>(committees);
+    let claims = read_claims::<S, D>(alloc, committees, bound, stream)?;
+    let rounds = suspect_rounds(alloc, &claims.detector)?;
+    let found = sought(alloc, committees, &rounds, claims.places.as_slice())?;
+    Ok(found)
+}
