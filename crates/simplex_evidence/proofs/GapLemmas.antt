@@ -1,9 +1,10 @@
 -- What halving finds among items in the order of their signers, and what an item put into its gap leaves.
 use Rattle.std.proofs.Common.{◌≡◌, ℕ, zero, suc, ◌+◌, ◌-◌, ◌<◌, ◌≤◌, inl, inr, List, [], ◌∷◌, length, get_or, Some, None, IsSome, Result, Ok, Err, IfOk, IfErr, sym, ap, subst, refl, arith}
-use Rattle.std.specs.List.{insert}
+use Rattle.std.specs.List.{insert, slice_get}
 use Rattle.std.specs.List.Sorted.{IsPermutation, IsSearchInRange, IsBinarySearchResult, IsNonDecreasingBy}
 use Rattle.std.specs.Ordering.{nat_cmp, ordering_index}
 use Rattle.std.proofs.lemmas.Cmp.{ranked}
+use Rattle.std.proofs.lemmas.Option.{get_or_from_slice_get}
 use Rattle.std.proofs.lemmas.List.Sorted.{IsPermutation-insert}
 use Rattle.std.proofs.lemmas.List.Edits.{length-insert, get_or-insert_below, get_or-insert_at, get_or-insert_above}
 use Rattle.std.proofs.lemmas.Bool.{cases_lt}
@@ -41,6 +42,19 @@ module _ {X : Type 0} (signer : X → ℕ) where
       smaller_before = λ i d lt. ranked _ s _ (sym ((parted (comparisons_rise xs ordered s)).0 i d (omega arith) lt));
       greater_after = λ i d le lt. ranked _ s _ (sym ((parted (comparisons_rise xs ordered s)).1 i d le lt));
     };
+  }
+
+  -- a signer above that of the last item has its gap behind it
+  pub beyond : (xs : List X) → IsBySigner signer xs → (s : ℕ) (last : X) → slice_get xs (length xs - 1) ≡ Some last → signer last < s → IsGap signer xs s (length xs)
+  beyond xs ordered s last is lt = record {
+    in_range = omega arith;
+    smaller_before = λ i d below.
+        let at = ap signer (get_or_from_slice_get xs (length xs - 1) last d is) in
+        elim (cases_lt i (length xs - 1)) [
+          | inl less ↦ omega (arith, at, ordered i (length xs - 1) d less (omega arith))
+          | inr ge ↦ (let e : i ≡ length xs - 1 = omega arith in rw e (omega (arith, at)))
+        ];
+    greater_after = λ i d le below. absurd (omega arith);
   }
 
   -- ---- the item of a signer

@@ -186,5 +186,8 @@ fn place_of<T: Attributable>(items: &[T], signer: Participant) -> Result<usize, 
         ((d : T) → T.signer_of (slice_index_or items.now place d) ≡ signer)) }
     ensures gap { IfErr result (IsGap T.signer_of items.now signer) }
 {
-    items.binary_search_by_key(&signer.get(), |item| item.signer().get())
+    match items.last() {
+        Some(last) if last.signer().get() < signer.get() => Err(items.len()),
+        _ => items.binary_search_by_key(&signer.get(), |item| item.signer().get()),
+    }
 }
