@@ -22,7 +22,8 @@ pub(crate) fn lookahead(length: &str, ahead: &str) -> Result<Lookahead, Unanswer
 /// Whether votes of the view `pending` are taken in the view `current`, where all that is counted is a view.
 pub(crate) fn admits(lookahead: Lookahead, current: View, pending: View) -> Option<bool>
     ensures { MatchOption result (¬ FitsWindow lookahead.term_length current) (λ taken.
-        IsTrue taken ↔ IsAdmitted lookahead.term_length lookahead.optimistic_views current pending) }
+        IsTrue taken ↔
+        IsAdmitted lookahead.term_length lookahead.optimistic_views current pending) }
 {
     if !lookahead.fits(current) {
         return None;
@@ -57,7 +58,8 @@ fn takes_vote(viewport: Viewport, view: View) -> Option<bool>
     ensures { MatchOption result (¬ FitsWindow viewport.lookahead.term_length viewport.current)
         (λ taken. IsTrue taken ↔
         (IsRetained viewport.finalized viewport.view_retention view ×
-        IsAdmitted viewport.lookahead.term_length viewport.lookahead.optimistic_views viewport.current view)) }
+        IsAdmitted viewport.lookahead.term_length viewport.lookahead.optimistic_views
+        viewport.current view)) }
 {
     if !viewport.lookahead.fits(viewport.current) {
         return None;

@@ -162,10 +162,12 @@ pub trait Fixed: FixedSize + Copy + Eq + Ord + Hash {
         (fixed_at Self.SIZE of_bytes) } = { fixed_lawful Self.SIZE bytes_of of_bytes back forth };
 
     /// No value has more bytes than the size,
-    ghost within: { IsWithin (fixed Self.SIZE bytes_of of_bytes) Self.SIZE } = { fixed_within Self.SIZE bytes_of of_bytes };
+    ghost within: { IsWithin (fixed Self.SIZE bytes_of of_bytes)
+        Self.SIZE } = { fixed_within Self.SIZE bytes_of of_bytes };
 
     /// and some value has as many.
-    ghost longest: { Longest (fixed Self.SIZE bytes_of of_bytes) Self.SIZE } = { fixed_longest Self.SIZE bytes_of of_bytes back };
+    ghost longest: { Longest (fixed Self.SIZE bytes_of of_bytes)
+        Self.SIZE } = { fixed_longest Self.SIZE bytes_of of_bytes back };
 
     /// Equal is what has the same bytes.
     ghost equal: { (x y : Self) → (Self.eq x y ≡ true) ↔ (bytes_of x ≡ bytes_of y) };
