@@ -230,8 +230,9 @@ fn agree(keys: &[u8], texts: &[String], stream: &[u8], room: &mut [u8]) -> bool 
 const EPOCHS: [u64; 2] = [0, 1];
 const SIZES: [u32; 2] = [4, 3];
 
-/// An attestation of a stream with verdicts: its round, signer and kind, and where its subject and its verdict stand.
-type Attestation = ((u64, u64), u64, usize, (usize, usize), usize);
+/// An attestation of a stream with verdicts: its round, signer and kind, where its subject and its verdict stand, and whether a
+/// certificate lists it.
+type Attestation = ((u64, u64), u64, usize, (usize, usize), usize, bool);
 
 fn put_attested(random: &mut Random, bytes: &mut Vec<u8>, listed: &mut Vec<Attestation>, sort: usize, round: (u64, u64), signers: &[u64], counted: bool) {
     let subject = subject(random, sort, round);
@@ -243,7 +244,7 @@ fn put_attested(random: &mut Random, bytes: &mut Vec<u8>, listed: &mut Vec<Attes
     for signer in signers {
         put_number(bytes, *signer);
         bytes.extend([9; 64]);
-        listed.push((round, *signer, sort, place, bytes.len()));
+        listed.push((round, *signer, sort, place, bytes.len(), counted));
         bytes.push(u8::from(!random.one_in(8)));
     }
 }
@@ -294,7 +295,8 @@ fn suspects(stream: &[u8]) -> Vec<Suspect> {
     records[..needed].to_vec()
 }
 
-/// Whether the attestations that the library lists are those of suspect rounds by hand, and the verdicts of no others are in the report.
+/// Whether the attestations that the library lists are those by hand, votes of suspects and certificates of their rounds, and the
+/// verdicts of no others are in the report.
 fn defers(random: &mut Random, stream: &[u8], listed: &[Attestation], room: &mut [u8]) -> bool {
     let wanted = audit_vouched(stream, room);
     let end = wanted.2.unwrap_or(stream.len());
@@ -305,8 +307,9 @@ fn defers(random: &mut Random, stream: &[u8], listed: &[Attestation], room: &mut
         one.0 == other.0 && one.1 == other.1
             && if one.2 == other.2 { one.2 != 1 && subject(one) != subject(other) } else { one.2 + other.2 == 3 }
     };
-    let is_suspect = |round: (u64, u64)| claimed.iter().any(|one| one.0 == round && claimed.iter().any(|other| clash(one, other)));
-    let by_hand: Vec<Attestation> = claimed.iter().filter(|one| is_suspect(one.0)).map(|one| **one).collect();
+    let suspects_by_hand: Vec<&Attestation> = claimed.iter().copied().filter(|one| claimed.iter().any(|other| clash(one, other))).collect();
+    let is_sought = |one: &&&Attestation| suspects_by_hand.iter().any(|suspect| suspect.0 == one.0 && (one.5 || suspect.1 == one.1));
+    let by_hand: Vec<Attestation> = claimed.iter().filter(is_sought).map(|one| **one).collect();
     let mut other = stream.to_vec();
     for one in listed {
         other[one.4] = random.below(3) as u8;
@@ -318,7 +321,8 @@ fn defers(random: &mut Random, stream: &[u8], listed: &[Attestation], room: &mut
     let plain = |one: &Suspect| {
         ((one.epoch, one.view), u64::from(one.signer), one.kind as usize, (one.subject_place, one.subject_length), one.verdict_place)
     };
-    found.iter().map(plain).eq(by_hand) && audit_vouched(&other, room) == wanted
+    let wanted_places = by_hand.iter().map(|one| (one.0, one.1, one.2, one.3, one.4));
+    found.iter().map(plain).eq(wanted_places) && audit_vouched(&other, room) == wanted
 }
 
 fn main() {

@@ -110,11 +110,12 @@ struct simplex_suspect {
  * be verified before the stream is audited. It is as simplex_audit_vouched_.. reads it, but its
  * verdicts may yet be any bytes, as zeros. Of an honest stream nothing is listed.
  *
- * A round is suspect where two votes contradict that claim one signer of its committee. Listed are,
- * in the order of the stream, all attestations of suspect rounds whose signer is in the committee
- * of the epoch: of each vote, of each certificate that lists some, and of both votes of evidence.
- * With n = 48, 64 or 96 the signature is the n bytes before `verdict_place`, and what was signed
- * is the namespace of the kind behind its length, and then the bytes of the subject.
+ * A signer of a committee is suspect in a round where two votes contradict that claim to be that
+ * signer's, and the round is, too. Listed are, in the order of the stream, the votes of suspects in
+ * their rounds, also those in evidence; and of each certificate of a suspect round all attestations
+ * whose signer is in the committee of the epoch. With n = 48, 64 or 96 the signature is the n bytes
+ * before `verdict_place`, and what was signed is the namespace of the kind behind its length, and
+ * then the bytes of the subject.
  *
  * The caller writes 01 to each `verdict_place` where it verified the signature, else 00, and
  * audits. No verdict of another attestation has a part in the report.

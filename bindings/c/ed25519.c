@@ -2,8 +2,8 @@
  * Four participants sign votes by Ed25519. One notarizes two payloads, one nullifies a round and
  * finalizes in it, and one forges a vote of another. The caller verifies each vote by libcrypto,
  * writes the stream with its verdicts, and asks who equivocated. Then it defers: of the same votes
- * with an honest round before them it verifies those of the suspect round alone. With an argument
- * the program prints the first stream, and nothing else.
+ * with an honest round before them it verifies those of suspects alone. With an argument the
+ * program prints the first stream, and nothing else.
  */
 #include "../simplex_audit.h"
 #include <openssl/evp.h>

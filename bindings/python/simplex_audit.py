@@ -162,9 +162,9 @@ def audit(committees, stream):
 
 
 def audit_deferred(committees, stream, verify):
-    """The report of a stream whose signatures are not verified yet; its verdicts may be any. Only signatures of suspect rounds are
-    verified, those in which two votes contradict that claim one signer of the committee: of an honest stream none. The report is
-    that of `audit` with every signature verified. `verify` is as of an `Encoder`.
+    """The report of a stream whose signatures are not verified yet; its verdicts may be any. Verified are only the
+    votes of suspects, signers of the committee of whom two votes contradict in a round that claim to be theirs, and the certificates
+    of these rounds: of an honest stream none. The report is that of `audit` with every signature verified. `verify` is as of an `Encoder`.
 
     >>> stream = Encoder(64)
     >>> for view, signer, payload in ((9, 0, 6), (9, 1, 6), (10, 2, 6), (10, 2, 7)):

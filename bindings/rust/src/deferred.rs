@@ -11,9 +11,9 @@ impl Verifier for Deferred {
     }
 }
 
-/// Audits a stream whose signatures are not verified yet; its verdicts may be any. Only signatures of suspect rounds are verified,
-/// those in which two votes contradict that claim one signer of the committee: of an honest stream none. The report is that of
-/// [`audit`] with every signature verified.
+/// Audits a stream whose signatures are not verified yet; its verdicts may be any. Verified are only the votes of suspects, signers
+/// of the committee of whom two votes contradict in a round that claim to be theirs, and the certificates of these rounds: of an
+/// honest stream none. The report is that of [`audit`] with every signature verified.
 ///
 /// ```
 /// use simplex_audit::{audit_deferred, Committees, Deferred, Encoder, Size, Vote};

@@ -66,11 +66,13 @@ fn copy_verdict(from: &[u8], to: &mut [u8], place: usize) {
 fn ample(rt: HostRuntime) -> Result<(), Fail> {
     let alloc = rt.alloc();
     let committees = committees(alloc)?;
-    // A notarize of view 11; of view 10 a finalization, evidence, and a finalize of a signer outside the committee; a fault.
+    // A notarize of view 11; of view 10 a finalization, evidence, and finalizes of a signer who does not contradict and of one
+    // outside the committee; a fault.
     let stream = [
         0, 0, 11, 5, 6, 1, 9, //
         6, 0, 10, 5, 6, 2, 1, 9, 3, 9, //
         9, 0, 10, 3, 9, 0, 10, 5, 6, 3, 9, //
+        5, 0, 10, 5, 6, 2, 9, //
         5, 0, 10, 5, 6, 5, 9, //
         3, 128,
     ];

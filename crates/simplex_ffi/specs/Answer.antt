@@ -8,6 +8,7 @@ use Rattle.simplex_evidence.specs.declared.types.activity.Activity.{Activity}
 use Rattle.simplex_audit.specs.declared.audit.Fault.{Fault}
 use Rattle.simplex_audit.specs.declared.audit.Report.{Report}
 use Rattle.simplex_places.specs.Suspects.{AreSuspects}
+use Rattle.simplex_places.specs.declared.places.Placed.{Placed}
 use Rattle.simplex_places.specs.declared.places.Suspect.{Suspect}
 use Rattle.simplex_ffi.specs.declared.answer.Summary.{Summary}
 
@@ -55,7 +56,7 @@ pub record AreStored {S D C P G : Type 0} (basis : Basis S D C P G) (stream befo
 
 -- The attestations of the stream that have to be verified stand at the front of the buffer, with 0; or the buffer is too short and as
 -- before, with 4. The number needed is that of the attestations.
-pub record AreGiven {S D C P G : Type 0} (basis : Basis S D C P G) (places_in : ℕ → Activity S D C P G → List Suspect) (stream : List ℕ) (before after : List Suspect) (needed status : ℕ) : Type 0 where
+pub record AreGiven {S D C P G : Type 0} (basis : Basis S D C P G) (places_in : ℕ → Activity S D C P G → List Placed) (stream : List ℕ) (before after : List Suspect) (needed status : ℕ) : Type 0 where
   pub found : List Suspect
   pub suspects_are : AreSuspects basis places_in stream found
   pub needed_is : needed ≡ length found

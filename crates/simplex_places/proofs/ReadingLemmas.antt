@@ -15,32 +15,32 @@ use Rattle.simplex_audit.specs.Progress.{IsProgress}
 use Rattle.simplex_audit.proofs.StreamLemmas.{SoFar}
 use Rattle.simplex_places.specs.Places.{places_along}
 use Rattle.simplex_places.specs.Suspects.{AreRead}
-use Rattle.simplex_places.specs.declared.places.Suspect.{Suspect}
+use Rattle.simplex_places.specs.declared.places.Placed.{Placed}
 
 -- along messages and further ones
-pub along_append : {M : Type 0} (places_in : ℕ → M → List Suspect) (encoding : M → List ℕ) (place : ℕ) (ms ks : List M) →
+pub along_append : {M : Type 0} (places_in : ℕ → M → List Placed) (encoding : M → List ℕ) (place : ℕ) (ms ks : List M) →
     places_along places_in encoding place (ms ++ ks) ≡ places_along places_in encoding place ms ++ places_along places_in encoding (place + length (flat_map encoding ms)) ks
 along_append places_in encoding place [] ks = ap (λ (n : ℕ). places_along places_in encoding n ks) (omega arith)
 along_append places_in encoding place (m ∷ ms) ks =
     let here = places_in place m in
     let next = place + length (encoding m) in
     let at : next + length (flat_map encoding ms) ≡ place + length (encoding m ++ flat_map encoding ms) = omega (arith, length-append (encoding m) (flat_map encoding ms)) in
-    ap (λ (l : List Suspect). here ++ l) (along_append places_in encoding next ms ks)
+    ap (λ (l : List Placed). here ++ l) (along_append places_in encoding next ms ks)
     ∙ (sym (append_assoc here (places_along places_in encoding next ms) (places_along places_in encoding (next + length (flat_map encoding ms)) ks))
     ∙ ap (λ (n : ℕ). (here ++ places_along places_in encoding next ms) ++ places_along places_in encoding n ks) at)
 
 -- the messages are recorded, their places are noted, and the rest of the stream is behind them
-pub record AreNoted {M : Type 0} (Recorded : List M → Type 0) (places_in : ℕ → M → List Suspect) (encoding : M → List ℕ) (stream rest : List ℕ) (places : List Suspect) (messages : List M) : Type 0 where
+pub record AreNoted {M : Type 0} (Recorded : List M → Type 0) (places_in : ℕ → M → List Placed) (encoding : M → List ℕ) (stream rest : List ℕ) (places : List Placed) (messages : List M) : Type 0 where
   pub recorded : Recorded messages
   pub places_are : places ≡ places_along places_in encoding 0 messages
   pub reached : length (flat_map encoding messages) + length rest ≡ length stream
 
 -- no message yet
-pub noted_none : {M : Type 0} (Recorded : List M → Type 0) (places_in : ℕ → M → List Suspect) (encoding : M → List ℕ) (stream : List ℕ) (places : List Suspect) → Recorded [] → places ≡ [] → AreNoted Recorded places_in encoding stream stream places []
+pub noted_none : {M : Type 0} (Recorded : List M → Type 0) (places_in : ℕ → M → List Placed) (encoding : M → List ℕ) (stream : List ℕ) (places : List Placed) → Recorded [] → places ≡ [] → AreNoted Recorded places_in encoding stream stream places []
 noted_none Recorded places_in encoding stream places recorded none = record { recorded = recorded; places_are = none; reached = omega arith }
 
 -- one message more
-pub noted_more : {M : Type 0} (Recorded Recorded' : List M → Type 0) (places_in : ℕ → M → List Suspect) (encoding : M → List ℕ) (stream rest rest' : List ℕ) (places places' : List Suspect) (place : ℕ) (m : M) →
+pub noted_more : {M : Type 0} (Recorded Recorded' : List M → Type 0) (places_in : ℕ → M → List Placed) (encoding : M → List ℕ) (stream rest rest' : List ℕ) (places places' : List Placed) (place : ℕ) (m : M) →
     place ≡ length stream - length rest → length rest ≡ length (encoding m) + length rest' → places' ≡ places ++ places_in place m →
     ((ms : List M) → Recorded ms → Recorded' (ms ++ m ∷ [])) →
     (ms : List M) → AreNoted Recorded places_in encoding stream rest places ms → AreNoted Recorded' places_in encoding stream rest' places' (ms ++ m ∷ [])
@@ -52,9 +52,9 @@ noted_more {M} Recorded Recorded' places_in encoding stream rest rest' places pl
     ap length (flat_map-append encoding ms (m ∷ [])) ∙ (length-append (flat_map encoding ms) (encoding m ++ []) ∙ ap (λ (t : List ℕ). ends + length t) (append-nil (encoding m))) in
     record {
       recorded = keep ms so.recorded;
-      places_are = grown ∙ (ap (λ (l : List Suspect). l ++ places_in place m) so.places_are
+      places_are = grown ∙ (ap (λ (l : List Placed). l ++ places_in place m) so.places_are
           ∙ (ap (λ (n : ℕ). places_along places_in encoding 0 ms ++ places_in n m) here
-          ∙ (ap (λ (l : List Suspect). places_along places_in encoding 0 ms ++ l) (sym (append-nil (places_in (0 + ends) m)))
+          ∙ (ap (λ (l : List Placed). places_along places_in encoding 0 ms ++ l) (sym (append-nil (places_in (0 + ends) m)))
           ∙ sym (along_append places_in encoding 0 ms (m ∷ [])))));
       reached = omega (arith, all, reached, size);
     }
@@ -68,7 +68,7 @@ read_length format Recorded stream rest rest' read m law fit far e =
     ap length t.parts ∙ length-append (format.encoding m) rest'
 
 -- no more messages stand there
-pub read_so_far : {S D C P G : Type 0} (basis : Basis S D C P G) (rules : Rules S D C P G) (places_in : ℕ → Activity S D C P G → List Suspect) (stream rest left : List ℕ) (read : ℕ) (stop : Option Error) (detector : Detector S D P G) (places : List Suspect) →
+pub read_so_far : {S D C P G : Type 0} (basis : Basis S D C P G) (rules : Rules S D C P G) (places_in : ℕ → Activity S D C P G → List Placed) (stream rest left : List ℕ) (read : ℕ) (stop : Option Error) (detector : Detector S D P G) (places : List Placed) →
     IsProgress basis.format (AreNoted (λ messages. Recalls rules messages detector) places_in basis.format.encoding stream left places) stream rest read stop →
     AreRead basis rules places_in stream detector places
 read_so_far basis rules places_in stream rest left read stop detector places p = record {

@@ -1,36 +1,60 @@
 -- Which attestations are sought.
-use Rattle.std.proofs.Common.{◌≡◌, ℕ, ◌+◌, ◌<◌, Bool, true, false, cond, List, [], ◌∷◌, ◌++◌, length, get_or, take, refl, sym, ap, ◌∙◌, append-nil}
-use Rattle.std.specs.Prelude.{◌&&◌, filter, nat_lt}
-use Rattle.std.proofs.lemmas.List.Elements.{filter_more}
+use Rattle.std.proofs.Common.{◌≡◌, ℕ, ◌+◌, ◌<◌, Bool, true, false, cond, List, [], ◌∷◌, ◌++◌, length, map, get_or, take, refl, sym, ap, subst, ◌∙◌, append-nil}
+use Rattle.std.specs.Prelude.{◌&&◌, ◌↔◌, if◌then◌else◌, All, Contains, IsTrue, filter, nat_lt}
+use Rattle.std.proofs.lemmas.List.{map-append}
+use Rattle.std.proofs.lemmas.List.Elements.{All-contains, filter_more}
 use Rattle.simplex_base.specs.Positions.{Round}
-use Rattle.simplex_places.specs.Suspects.{is_sought}
+use Rattle.simplex_detector.specs.Suspects.{Suspected}
+use Rattle.simplex_places.specs.Suspects.{is_sought, round_at, sought_of}
+use Rattle.simplex_places.specs.declared.places.Placed.{Placed}
 use Rattle.simplex_places.specs.declared.places.Suspect.{Suspect}
 
 -- two tests of which each follows from the other
-pub same_bool : (a b : Bool) → (a ≡ true → b ≡ true) → (b ≡ true → a ≡ true) → a ≡ b
+same_bool : (a b : Bool) → (a ≡ true → b ≡ true) → (b ≡ true → a ≡ true) → a ≡ b
 same_bool true b f g = sym (f refl)
 same_bool false true f g = g refl
 same_bool false false f g = refl
+
+-- a set holds what a list does, and that is what passes a test
+pub holds_alike : {A : Type 0} (holds test : A → Bool) (xs ys : List A) (x : A) → xs ≡ ys → All (λ y. IsTrue (holds y)) xs → (IsTrue (holds x) → Contains xs x) → (Contains ys x ↔ IsTrue (test x)) → holds x ≡ test x
+holds_alike holds test xs ys x same all only law =
+    same_bool (holds x) (test x) (λ h. law.0 (subst (λ l. Contains l x) same (only h))) (λ h. All-contains (λ y. IsTrue (holds y)) ys x (subst (All (λ y. IsTrue (holds y))) same all) (law.1 h))
 
 -- the same items pass tests that are the same
 filter_alike : {A : Type 0} (p q : A → Bool) → ((x : A) → p x ≡ q x) → (xs : List A) → filter p xs ≡ filter q xs
 filter_alike p q same [] = refl
 filter_alike p q same (x ∷ xs) = rw (same x, filter_alike p q same xs) refl
 
--- the same rounds are suspect
-pub sought_alike : (f h : Round → Bool) (size : ℕ → ℕ) → ((round : Round) → f round ≡ h round) → (places : List Suspect) → filter (is_sought f size) places ≡ filter (is_sought h size) places
-sought_alike f h size same places = filter_alike (is_sought f size) (is_sought h size) (λ p. ap (λ (b : Bool). b && nat_lt p.signer (size p.epoch)) (same (record { epoch = p.epoch; view = p.view }))) places
+-- the same suspects
+pub record AreAlike (s t : Suspected) : Type 0 where
+  pub signers : (round : Round) (signer : ℕ) → s.signers round signer ≡ t.signers round signer
+  pub rounds : (round : Round) → s.rounds round ≡ t.rounds round
 
--- an item that passes the test was found
-pub one_found : (p : Suspect → Bool) (xs : List Suspect) (i : ℕ) (d : Suspect) (found found' : List Suspect) → i < length xs → p (get_or xs i d) ≡ true → found' ≡ found ++ get_or xs i d ∷ [] →
-    found ≡ filter p (take i xs) → found' ≡ filter p (take (i + 1) xs)
-one_found p xs i d found found' lt passes grown so =
-    grown ∙ (ap (λ (l : List Suspect). l ++ get_or xs i d ∷ []) so
-    ∙ (ap (λ (b : Bool). filter p (take i xs) ++ cond b (get_or xs i d ∷ []) []) (sym passes) ∙ sym (filter_more p xs i d lt)))
+-- one attestation is sought for the same suspects
+one_alike : (s t : Suspected) (size : ℕ → ℕ) → AreAlike s t → (p : Placed) → is_sought s size p ≡ is_sought t size p
+one_alike s t size same p =
+    let round = round_at p.suspect in
+    ap (λ (b : Bool). if p.is_listed then b && nat_lt p.suspect.signer (size p.suspect.epoch) else s.signers round p.suspect.signer) (same.rounds round)
+    ∙ ap (λ (b : Bool). if p.is_listed then t.rounds round && nat_lt p.suspect.signer (size p.suspect.epoch) else b) (same.signers round p.suspect.signer)
 
--- an item that does not was left out
-pub one_left : (p : Suspect → Bool) (xs : List Suspect) (i : ℕ) (d : Suspect) (found : List Suspect) → i < length xs → p (get_or xs i d) ≡ false →
-    found ≡ filter p (take i xs) → found ≡ filter p (take (i + 1) xs)
-one_left p xs i d found lt fails so =
-    so ∙ (sym (append-nil (filter p (take i xs)))
+-- and so are the same of many
+pub sought_alike : (s t : Suspected) (size : ℕ → ℕ) → AreAlike s t → (places : List Placed) → sought_of s size places ≡ sought_of t size places
+sought_alike s t size same places = ap (map (λ (p : Placed). p.suspect)) (filter_alike (is_sought s size) (is_sought t size) (one_alike s t size same) places)
+
+-- an attestation that is sought was found
+pub one_found : (s : Suspected) (size : ℕ → ℕ) (xs : List Placed) (i : ℕ) (d : Placed) (found found' : List Suspect) → i < length xs → is_sought s size (get_or xs i d) ≡ true → found' ≡ found ++ (get_or xs i d).suspect ∷ [] →
+    found ≡ sought_of s size (take i xs) → found' ≡ sought_of s size (take (i + 1) xs)
+one_found s size xs i d found found' lt passes grown so =
+    let p = is_sought s size in
+    let place : Placed → Suspect = λ q. q.suspect in
+    grown ∙ (ap (λ (l : List Suspect). l ++ (get_or xs i d).suspect ∷ []) so
+    ∙ (sym (map-append place (filter p (take i xs)) (get_or xs i d ∷ []))
+    ∙ ap (map place) (ap (λ (b : Bool). filter p (take i xs) ++ cond b (get_or xs i d ∷ []) []) (sym passes) ∙ sym (filter_more p xs i d lt))))
+
+-- another was left out
+pub one_left : (s : Suspected) (size : ℕ → ℕ) (xs : List Placed) (i : ℕ) (d : Placed) (found : List Suspect) → i < length xs → is_sought s size (get_or xs i d) ≡ false →
+    found ≡ sought_of s size (take i xs) → found ≡ sought_of s size (take (i + 1) xs)
+one_left s size xs i d found lt fails so =
+    let p = is_sought s size in
+    so ∙ ap (map (λ (q : Placed). q.suspect)) (sym (append-nil (filter p (take i xs)))
     ∙ (ap (λ (b : Bool). filter p (take i xs) ++ cond b (get_or xs i d ∷ []) []) (sym fails) ∙ sym (filter_more p xs i d lt)))

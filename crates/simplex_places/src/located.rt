@@ -5,7 +5,7 @@ ghost use Rattle.simplex_base.specs.Readable.{format_of};
 ghost use Rattle.simplex_evidence.specs.declared.types.activity.Activity.{Activity};
 ghost use Rattle.simplex_plain.specs.Listed.{listed_encoding};
 ghost use Rattle.simplex_places.specs.Places.{message_places};
-ghost use Rattle.simplex_places.specs.declared.places.Suspect.{Suspect};
+ghost use Rattle.simplex_places.specs.declared.places.Placed.{Placed};
 
 use simplex_base::codec::fixed_bytes::Role;
 use simplex_base::codec::{Encoding, Read};
@@ -39,7 +39,7 @@ impl<D: Digest, R: Role<N>, const N: usize> Counted<D> for Vouched<R, N> {
 pub trait Located<D: Digest>: Listing<D> {
     /// The attestations of a message that begins at a place.
     ghost places: { ℕ → Activity Self D Self.Certificate Self.PublicKey Self.Signature →
-        List Suspect };
+        List Placed };
 }
 
 impl<S: Listing<D>, D: Digest> Located<D> for S {

@@ -1,10 +1,10 @@
 //! Where the attestations of a message stand.
 
-ghost use Rattle.std.specs.Prelude.{◌≡◌, ◌+◌, ◌-◌, ◌<◌, ◌^◌, ◌++◌, [], ◌∷◌, IfOk, OnOk, length};
+ghost use Rattle.std.specs.Prelude.{◌≡◌, ◌+◌, ◌-◌, ◌<◌, ◌^◌, ◌++◌, [], ◌∷◌, true, false, IfOk, OnOk, length};
 ghost use Rattle.std.specs.List.{flat_map};
 ghost use Rattle.simplex_base.specs.Readable.{format_of};
 ghost use Rattle.simplex_base.specs.Varint.{number_32};
-ghost use Rattle.simplex_places.specs.Places.{behind, places_from, message_places, suspect_at};
+ghost use Rattle.simplex_places.specs.Places.{behind, places_from, message_places, placed_at};
 
 use crate::located::Counted;
 use simplex_base::codec::varint::size_u32;
@@ -43,13 +43,23 @@ pub struct Suspect {
     pub kind: u32,
 }
 
-/// What was signed, and where its bytes stand.
+/// An attestation of the stream.
+#[derive(Clone, Copy, Debug, PartialEq, Eq)]
+pub struct Placed {
+    /// Where it stands, whether it has to be verified or not.
+    pub suspect: Suspect,
+    /// Whether a certificate lists it. It is a vote by itself if not, or one in evidence.
+    pub is_listed: bool,
+}
+
+/// What was signed, where its bytes stand, and whether a certificate lists its attestations.
 #[derive(Clone, Copy)]
 struct Signed {
     round: Round,
     kind: u32,
     place: usize,
     size: usize,
+    is_listed: bool,
 }
 
 /// Appends the place of an attestation that begins at a place, and returns that behind it.
@@ -57,16 +67,16 @@ fn push_attestation<S: SchemeTypes>(
     signed: &Signed,
     place: usize,
     attestation: &Attestation<S>,
-    places: &mut Vec<Suspect>,
+    places: &mut Vec<Placed>,
 ) -> Result<usize, AllocError>
     requires { behind (format_of ⟦<S::Signature as Read>⟧) place attestation.now < 2 ^ 64 }
     ensures { IfOk result (λ end.
         (end ≡ behind (format_of ⟦<S::Signature as Read>⟧) place attestation.now) ×
         (places.new.items ≡ places.old.items ++
-        suspect_at signed.now attestation.now.signer (end - 1) ∷ [])) }
+        placed_at signed.now attestation.now.signer (end - 1) ∷ [])) }
 {
     let end = place + attestation.encode_size();
-    places.push(Suspect {
+    let suspect = Suspect {
         epoch: signed.round.epoch().get(),
         view: signed.round.view().get(),
         verdict_place: end - 1,
@@ -74,6 +84,10 @@ fn push_attestation<S: SchemeTypes>(
         subject_length: signed.size,
         signer: attestation.signer.get(),
         kind: signed.kind,
+    };
+    places.push(Placed {
+        suspect,
+        is_listed: signed.is_listed,
     })?;
     Ok(end)
 }
@@ -83,7 +97,7 @@ fn push_attestations<S: SchemeTypes>(
     signed: &Signed,
     place: usize,
     attestations: &[Attestation<S>],
-    places: &mut Vec<Suspect>,
+    places: &mut Vec<Placed>,
 ) -> Result<(), AllocError>
     requires { place + length (flat_map ⟦<Attestation<S> as Encoding>⟧.encoding attestations.now) <
         2 ^ 64 }
@@ -103,7 +117,7 @@ fn push_vote<M: EncodeSize + Roundable, S: SchemeTypes>(
     place: usize,
     subject: &M,
     attestation: &Attestation<S>,
-    places: &mut Vec<Suspect>,
+    places: &mut Vec<Placed>,
 ) -> Result<(), AllocError>
     requires { place + length (M.encoding subject.now ++
         ⟦<Attestation<S> as Encoding>⟧.encoding attestation.now) < 2 ^ 64 }
@@ -113,6 +127,7 @@ fn push_vote<M: EncodeSize + Roundable, S: SchemeTypes>(
           kind = kind;
           place = place;
           size = length (M.encoding subject.now);
+          is_listed = false;
         })
         (place + length (M.encoding subject.now)) (attestation.now ∷ [])) }
 {
@@ -122,6 +137,7 @@ fn push_vote<M: EncodeSize + Roundable, S: SchemeTypes>(
         kind,
         place,
         size,
+        is_listed: false,
     };
     let _end = push_attestation(&signed, place + size, attestation, places)?;
     Ok(())
@@ -133,13 +149,19 @@ fn push_certificate<M: EncodeSize + Roundable, S: Counted<D>, D: Digest>(
     place: usize,
     subject: &M,
     certificate: &S::Certificate,
-    places: &mut Vec<Suspect>,
+    places: &mut Vec<Placed>,
 ) -> Result<(), AllocError>
     requires { place + length (M.encoding subject.now ++ S.Certificate.encoding certificate.now) <
         2 ^ 64 }
     ensures { OnOk result (places.new.items ≡ places.old.items ++
         places_from (format_of ⟦<S::Signature as Read>⟧)
-        (record { round = M.round_of subject.now; kind = kind; place = place; size = length (M.encoding subject.now) })
+        (record {
+          round = M.round_of subject.now;
+          kind = kind;
+          place = place;
+          size = length (M.encoding subject.now);
+          is_listed = true;
+        })
         (place + length (M.encoding subject.now) +
         length (number_32.encoding (length (S.listed certificate.now)))) (S.listed certificate.now)) }
 {
@@ -149,6 +171,7 @@ fn push_certificate<M: EncodeSize + Roundable, S: Counted<D>, D: Digest>(
         kind,
         place,
         size,
+        is_listed: true,
     };
     let first = place + size + size_u32(S::count(certificate));
     push_attestations(&signed, first, S::attestations(certificate), places)
@@ -158,7 +181,7 @@ fn push_certificate<M: EncodeSize + Roundable, S: Counted<D>, D: Digest>(
 pub fn push_message<S: Counted<D>, D: Digest>(
     place: usize,
     message: &Activity<S, D>,
-    places: &mut Vec<Suspect>,
+    places: &mut Vec<Placed>,
 ) -> Result<(), AllocError>
     requires { place + length (⟦<Activity<S, D> as Encoding>⟧.encoding message.now) < 2 ^ 64 }
     ensures { OnOk result (places.new.items ≡ places.old.items ++

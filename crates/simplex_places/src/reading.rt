@@ -6,7 +6,7 @@ ghost use Rattle.simplex_detector.specs.declared.judging.Judging.TheVariants.{Cl
 ghost use Rattle.simplex_places.specs.Suspects.{AreRead};
 
 use crate::located::{Counted, Located};
-use crate::places::{Suspect, push_message};
+use crate::places::{Placed, push_message};
 use simplex_audit::basis::Audited;
 use simplex_base::codec::Read;
 use simplex_base::codec::error::Error;
@@ -24,7 +24,7 @@ pub struct Claims<S: SchemeTypes, D: Digest> {
     /// The state of what the votes claim.
     pub detector: Detector<S, D>,
     /// The attestations, in the order of the stream.
-    pub places: Vec<Suspect>,
+    pub places: Vec<Placed>,
 }
 
 /// The bound under which messages are read. The committees judge lawfully.

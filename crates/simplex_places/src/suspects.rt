@@ -1,46 +1,53 @@
 //! The attestations of a stream that have to be verified.
 
-ghost use Rattle.std.specs.Prelude.{◌≡◌, ◌&&◌, ◌↔◌, ℕ, List, Bool, IsTrue, IfOk, filter, nat_lt};
+ghost use Rattle.std.specs.Prelude.{◌≡◌, ◌&&◌, ◌↔◌, ℕ, List, Bool, IsTrue, IfOk, filter, map, nat_lt};
 ghost use Rattle.std.specs.BTreeSet.{contains};
 ghost use Rattle.simplex_base.specs.Positions as positions;
 ghost use Rattle.simplex_evidence.specs.declared.types.activity.Activity as activities;
 ghost use Rattle.simplex_detector.specs.Committees.{Schedule, committee_of, size_by};
 ghost use Rattle.simplex_detector.specs.Detector.{Recalls};
+ghost use Rattle.simplex_detector.specs.Judging.{signer_cmp};
 ghost use Rattle.simplex_detector.specs.Named.{round_cmp};
 ghost use Rattle.simplex_detector.specs.Rules.{AreLawful};
-ghost use Rattle.simplex_detector.specs.Suspects.{is_suspect_round};
+ghost use Rattle.simplex_detector.specs.Suspects.{is_suspect, is_suspect_round};
 ghost use Rattle.simplex_detector.specs.declared.judging.Judging.TheVariants.{Claimed};
-ghost use Rattle.simplex_places.specs.Suspects.{AreSuspects, is_sought};
+ghost use Rattle.simplex_places.specs.Suspects.{AreSuspects, is_sought, sought_of, suspected_by};
 
 use crate::located::{Counted, Located};
-use crate::places::Suspect;
+use crate::places::{Placed, Suspect};
 use crate::reading::{read_claims, reading_bound};
 use simplex_audit::basis::Audited;
-use simplex_base::positions::{Epoch, Round, View};
+use simplex_base::positions::{Epoch, Participant, Round, View};
 use simplex_detector::committees::Committees;
 use simplex_detector::detector::Detector;
-use simplex_detector::judging::suspects_of;
+use simplex_detector::judging::{SuspectSigners, suspects_of};
 use simplex_detector::laws::suspects_suffice;
 use simplex_scheme::scheme::{CertificateScheme, Digest};
 use std::alloc::{AllocError, Global};
-use std::collections::BTreeSet;
 
-/// The suspect rounds: those of what the votes claim.
-fn suspect_rounds<S: Counted<D>, D: Digest>(
+/// The suspects, and the suspect rounds: those of what the votes claim.
+fn claimed_suspects<S: Counted<D>, D: Digest>(
     alloc: Global,
     detector: &Detector<S, D>,
-) -> Result<BTreeSet<Round>, AllocError>
-    ensures { IfOk result (λ rounds. (committees : Schedule S)
+) -> Result<SuspectSigners, AllocError>
+    ensures signers { IfOk result (λ suspects. (committees : Schedule S)
         (messages : List (activities.Activity S D S.Certificate S.PublicKey S.Signature)) →
         AreLawful (⟦<S as Audited<D>>⟧.basis committees).rules →
         Recalls (⟦<S as Audited<D>>⟧.basis_under Claimed committees).rules messages detector.now →
-        (round : positions.Round) → contains round_cmp rounds round ≡
+        (round : positions.Round) (signer : ℕ) →
+        contains signer_cmp suspects.signers (round, signer) ≡
+        is_suspect (⟦<S as Audited<D>>⟧.basis committees).rules messages round signer) }
+    ensures rounds { IfOk result (λ suspects. (committees : Schedule S)
+        (messages : List (activities.Activity S D S.Certificate S.PublicKey S.Signature)) →
+        AreLawful (⟦<S as Audited<D>>⟧.basis committees).rules →
+        Recalls (⟦<S as Audited<D>>⟧.basis_under Claimed committees).rules messages detector.now →
+        (round : positions.Round) → contains round_cmp suspects.rounds round ≡
         is_suspect_round (⟦<S as Audited<D>>⟧.basis committees).rules messages round) }
 {
     suspects_suffice::<S, D>();
     let evidence = detector.evidence(alloc)?;
     let suspects = suspects_of(alloc, &evidence)?;
-    Ok(suspects.rounds)
+    Ok(suspects)
 }
 
 /// Whether a signer is in the committee of an epoch.
@@ -53,43 +60,51 @@ fn is_member<S: CertificateScheme>(committees: &Committees<S>, epoch: u64, signe
     }
 }
 
-/// Whether an attestation has to be verified: it is of one of these rounds, and its signer is in the committee of the epoch.
+/// Whether an attestation has to be verified. One that a certificate lists has to be where its round is suspect, and its
+/// signer is in the committee of the epoch; another where its signer is suspect in its round.
 fn is_sought<S: CertificateScheme>(
     committees: &Committees<S>,
-    rounds: &BTreeSet<Round>,
-    place: &Suspect,
+    suspects: &SuspectSigners,
+    placed: &Placed,
 ) -> bool
-    ensures { result ≡ is_sought (contains round_cmp rounds.now)
-        (λ epoch. size_by S.keys (committee_of committees.now epoch)) place.now }
+    ensures { result ≡ is_sought (suspected_by suspects.now)
+        (λ epoch. size_by S.keys (committee_of committees.now epoch)) placed.now }
 {
+    let place = &placed.suspect;
     let round = Round::new(Epoch::new(place.epoch), View::new(place.view));
-    rounds.contains(&round) && is_member(committees, place.epoch, place.signer)
+    if placed.is_listed {
+        suspects.rounds.contains(&round) && is_member(committees, place.epoch, place.signer)
+    } else {
+        let signer = Participant::new(place.signer);
+        suspects.signers.contains(&(round, signer))
+    }
 }
 
 /// The attestations that have to be verified, of these.
 fn sought<S: CertificateScheme>(
     alloc: Global,
     committees: &Committees<S>,
-    rounds: &BTreeSet<Round>,
-    places: &[Suspect],
+    suspects: &SuspectSigners,
+    places: &[Placed],
 ) -> Result<Vec<Suspect>, AllocError>
-    ensures { IfOk result (λ found. found.items ≡ filter (is_sought (contains round_cmp rounds.now)
-        (λ epoch. size_by S.keys (committee_of committees.now epoch))) places.now) }
+    ensures { IfOk result (λ found. found.items ≡ sought_of (suspected_by suspects.now)
+        (λ epoch. size_by S.keys (committee_of committees.now epoch)) places.now) }
 {
     let mut found = Vec::new(alloc);
     'places: for place in places {
-        if is_sought(committees, rounds, place) {
-            found.push(*place)?;
+        if is_sought(committees, suspects, place) {
+            found.push(place.suspect)?;
         }
     }
     Ok(found)
 }
 
-/// The attestations of a stream that have to be verified before it is audited, in the order of the stream: those of suspect
-/// rounds whose signers are in the committees of the epochs. A round is suspect where two votes contradict that claim one
-/// signer of its committee. No signature of another attestation has a part in the report. Nothing is verified here, so the
-/// stream may hold any verdicts. It is read once, in memory that is bounded by the stream and the sizes of the committees.
-/// `AllocError` comes where memory is refused.
+/// The attestations of a stream that have to be verified before it is audited, in the order of the stream. A signer of a
+/// committee is suspect in a round where two votes contradict that claim to be that signer's, and the round is, too. Listed are
+/// the votes of suspects in their rounds, by themselves and in evidence, and of each certificate of a suspect round all
+/// attestations whose signers are in the committee of the epoch. No signature of another attestation has a part in the report.
+/// Nothing is verified here, so the stream may hold any verdicts. It is read once, in memory that is bounded by the stream and
+/// the sizes of the committees. `AllocError` comes where memory is refused.
 pub fn suspects<S: Counted<D>, D: Digest>(
     alloc: Global,
     committees: &Committees<S>,
@@ -100,7 +115,7 @@ pub fn suspects<S: Counted<D>, D: Digest>(
 {
     let bound = reading_bound::<S, D>(committees);
     let claims = read_claims::<S, D>(alloc, committees, bound, stream)?;
-    let rounds = suspect_rounds(alloc, &claims.detector)?;
-    let found = sought(alloc, committees, &rounds, claims.places.as_slice())?;
+    let suspects = claimed_suspects(alloc, &claims.detector)?;
+    let found = sought(alloc, committees, &suspects, claims.places.as_slice())?;
     Ok(found)
 }

@@ -11,7 +11,7 @@ use Rattle.simplex_audit.specs.Basis.{Basis}
 use Rattle.simplex_audit.proofs.StreamLemmas.{so_far_start, so_far_next, so_far_shorter, progress_at_refusal, progress_at_end, none_left, some_left, fails_whatever}
 use Rattle.simplex_places.specs.Places.{message_places}
 use Rattle.simplex_places.specs.Suspects.{AreRead}
-use Rattle.simplex_places.specs.declared.places.Suspect.{Suspect}
+use Rattle.simplex_places.specs.declared.places.Placed.{Placed}
 use Rattle.simplex_places.proofs.ReadingLemmas.{noted_none, noted_more, read_length, read_so_far}
 use Rattle.simplex_places.proofs.reading.read_claims.Given as given
 use Rattle.simplex_places.proofs.reading.read_claims.Goals as goal
@@ -35,7 +35,7 @@ law : (g : given.Over) (bound : ℕ) → IsLawful (format g bound)
 law g bound = activity_lawful g.D.PartialEq.eq _ _ _ g.met.D.Fixed.lawful (g.met.S.Certificate.Read.lawful bound) g.met.S.Signature.Fixed.lawful
 
 -- the places in a message
-abbrev places_in : (g : given.Over) → ℕ → Message g → List Suspect
+abbrev places_in : (g : given.Over) → ℕ → Message g → List Placed
 places_in g = message_places (payload g) (signature g) g.S.Listing.listed
 
 -- what votes claim

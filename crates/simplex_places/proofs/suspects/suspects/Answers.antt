@@ -1,13 +1,9 @@
 use Rattle.std.proofs.Common.{ℕ, ap, ◌∙◌}
-use Rattle.std.specs.Prelude.{filter}
-use Rattle.std.specs.BTreeSet.{contains}
 use Rattle.simplex_base.specs.Format.{fixed}
 use Rattle.simplex_evidence.specs.Activity.{activity_encoding}
 use Rattle.simplex_detector.specs.Committees.{committee_of, rules_of, size_by}
-use Rattle.simplex_detector.specs.Named.{round_cmp}
-use Rattle.simplex_detector.specs.Suspects.{is_suspect_round}
 use Rattle.simplex_places.specs.Places.{message_places, places_along}
-use Rattle.simplex_places.specs.Suspects.{is_sought}
+use Rattle.simplex_places.specs.Suspects.{sought_of, suspected_by, suspected_in}
 use Rattle.simplex_places.proofs.SuspectLemmas.{sought_alike}
 use Rattle.simplex_places.proofs.suspects.suspects.Goals as goal
 
@@ -20,10 +16,15 @@ returns g c =
     let size : ℕ → ℕ = λ epoch. size_by g.S.CertificateScheme.keys (committee_of committees epoch) in
     let read = c.in_ok-claims.ensures c.reading_bound-bound.ensures.value in
     let places = places_along (message_places payload signature g.S.Listing.listed) (activity_encoding g.D.PartialEq.eq payload g.S.Certificate.Encoding.encoding signature) 0 read.messages in
+    let claimed = suspected_by c.in_ok-suspects.suspects in
+    let lawful = c.reading_bound-bound.ensures.lawful in
     record {
       messages = read.messages;
       rest = read.rest;
       are_messages = read.are_messages;
-      found_are = c.in_ok-found.ensures ∙ (ap (filter (is_sought (contains round_cmp c.in_ok-rounds.rounds) size)) (c.as_slice.ensures.value ∙ read.places_are)
-          ∙ sought_alike (contains round_cmp c.in_ok-rounds.rounds) (is_suspect_round rules read.messages) size (c.in_ok-rounds.ensures committees read.messages c.reading_bound-bound.ensures.lawful read.recalled) places);
+      found_are = c.in_ok-found.ensures ∙ (ap (sought_of claimed size) (c.as_slice.ensures.value ∙ read.places_are)
+          ∙ sought_alike claimed (suspected_in rules read.messages) size (record {
+            signers = c.in_ok-suspects.ensures.signers committees read.messages lawful read.recalled;
+            rounds = c.in_ok-suspects.ensures.rounds committees read.messages lawful read.recalled;
+          }) places);
     }
