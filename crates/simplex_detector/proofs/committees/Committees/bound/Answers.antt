@@ -19,4 +19,4 @@ returns-in-Listed-clause-reached g c =
 pub returns-in-Listed-clause-manned : goal.returns-in-Listed-clause-manned
 returns-in-Listed-clause-manned g c epoch committee h =
     let now = ap schedule_of (sym c.in-Listed.is) ∙ c.self.view_is in
-    manned g.S.CertificateScheme.keys (Listed c.in-Listed.pairs.items) (subst (All (λ p. 1 ≤ length (g.S.CertificateScheme.keys p.1))) c.deref.ensures.value c.greatest.ensures.manned) epoch committee (ap (λ s. committee_of s epoch) now ∙ h)
+    manned g.S.CertificateScheme.keys c.in-Listed.pairs.items (subst (All (λ p. 1 ≤ length (g.S.CertificateScheme.keys p.1))) c.deref.ensures.value c.greatest.ensures.manned) epoch committee (ap (λ s. committee_of s epoch) now ∙ h)
