@@ -1,30 +1,7 @@
 -- Two certified messages that contradict name more participants than may lie.
-use Rattle.std.proofs.Common.{Bool, List, None, Option, Some, [], ap, arith, cond, false, length, length-append, map, refl, subst, sym, true, ℕ, ⊎_elim, ◌++◌, ◌+◌, ◌<◌, ◌||◌, ◌∙◌, ◌∷◌, ◌≡◌, ◌≤◌}
-use Rattle.std.proofs.lemmas.Bool.{and_from, and_parts, eqb-true, not-true, or_cases, or_left, or_parts, or_right}
-use Rattle.std.proofs.lemmas.Cmp.{nat_eq_equiv}
-use Rattle.std.proofs.lemmas.List.{length-map}
-use Rattle.std.proofs.lemmas.List.Elements.{All-append, All-contains, All-filter, All-from_recursion, All-map, filter_passes, recursion_from_All}
-use Rattle.std.proofs.lemmas.List.Filters.{length-filter_both}
-use Rattle.std.proofs.lemmas.Map.Made.{length-le_from_is_member}
-use Rattle.std.proofs.lemmas.Map.Steps.{length-le_from_distinct_below, list_any_congr}
-use Rattle.std.proofs.lemmas.Map.Views.{Contains-from_any, list_any-from_Contains}
-use Rattle.std.proofs.lemmas.Option.{cond_some, same_Some}
-use Rattle.std.specs.List.{AllByRecursion, IsDistinct, list_any}
-use Rattle.std.specs.Prelude.{All, Contains, IsTrue, filter, nat_eq, not}
-use Rattle.std.specs.Set.{distinct_count, is_member, unique_keys}
-use Rattle.simplex_base.specs.Positions.{Round, same_round}
-use Rattle.simplex_scheme.specs.Committee.{faults_of, quorum_of, signers_of}
-use Rattle.simplex_scheme.specs.Subject.{SubjectValue, round_of}
-use Rattle.simplex_scheme.specs.declared.scheme.Attestation.{Attestation}
-use Rattle.simplex_votes.specs.Votes.{SignedVote, is_of}
-use Rattle.simplex_evidence.specs.Activity.{activity_round, votes_in}
-use Rattle.simplex_evidence.specs.Contradiction.{Conflicting_finalize, Conflicting_notarize, Kind, Nullify_finalize, clash}
-use Rattle.simplex_evidence.specs.declared.types.activity.Activity.{Activity}
-use Rattle.simplex_detector.specs.Certificates.{certificate_in, certificates_contradict, excludes}
-use Rattle.simplex_detector.specs.Named.{is_named}
-use Rattle.simplex_detector.specs.Rules.{AreLawful, Rules, valid_votes, vote_on}
-use Rattle.simplex_detector.specs.SplitLaws.{EnoughAreNamed, IsAccountable, SignersAreAccountable, shared_signers}
-use Rattle.simplex_detector.specs.Splits.{certified_in, if_certified, is_named_in, named_count}
+use Rattle.simplex_detector.proofs.Std.{All, All-append, All-contains, All-filter, All-from_recursion, All-map, AllByRecursion, Bool, Contains, Contains-from_any, IsTrue, List, None, Option, Some, [], and_from, and_parts, ap, arith, cond, cond_some, distinct_count, eqb-true, false, filter, filter_passes, is_member, length, length-append, length-filter_both, length-le_from_distinct_below, length-le_from_is_member, length-map, list_any, list_any-from_Contains, list_any_congr, map, nat_eq, nat_eq_equiv, not, not-true, or_cases, or_left, or_parts, or_right, recursion_from_All, refl, same_Some, subst, sym, true, unique_keys, ℕ, ⊎_elim, ◌++◌, ◌+◌, ◌<◌, ◌||◌, ◌∙◌, ◌∷◌, ◌≡◌, ◌≤◌}
+use Rattle.simplex_detector.proofs.Words.{Activity, AreLawful, Attestation, Conflicting_finalize, Conflicting_notarize, EnoughAreNamed, IsAccountable, Kind, Nullify_finalize, Round, Rules, SignedVote, SignersAreAccountable, SubjectValue, activity_round, certificate_in, certificates_contradict, certified_in, clash, excludes, faults_of, if_certified, is_named, is_named_in, is_of, named_count, quorum_of, round_of, same_round, shared_signers, signers_of, valid_votes, vote_on, votes_in}
+use Rattle.std.specs.List.{IsDistinct}
 use Rattle.simplex_detector.proofs.EvidenceLemmas.{named_from_votes, valid_in, votes_from_named}
 use Rattle.simplex_detector.proofs.Lists.{Contains-filter, Contains-from_filter, Contains-from_map, Contains-map, each, some_from_is_some}
 use Rattle.simplex_detector.proofs.Places.{is_of-from, is_of-true, kind_from_excludes, same_round-true}

@@ -1,23 +1,6 @@
 -- The votes of a report's evidence have that report.
-use Rattle.std.proofs.Common.{Bool, List, None, Option, Some, [], ap, arith, cond, false, inl, inr, map, refl, subst, sym, true, ◌∙◌, ◌∷◌, ◌≡◌, ◌⊎◌}
-use Rattle.std.proofs.lemmas.Bool.{and_parts, cond-true, false≢true}
-use Rattle.std.proofs.lemmas.List.Elements.{All-contains, All-from_recursion}
-use Rattle.std.proofs.lemmas.List.Folds.{flat_map-map}
-use Rattle.std.proofs.lemmas.Option.{same_Some}
-use Rattle.std.specs.Cmp.{IsEquivalence}
-use Rattle.std.specs.List.{find, flat_map}
-use Rattle.std.specs.Option.{is_some}
-use Rattle.std.specs.Prelude.{Contains, filter, ◌&&◌}
-use Rattle.simplex_scheme.specs.Subject.{round_of}
-use Rattle.simplex_votes.specs.Votes.{Finalizing, Notarizing, SignedVote, is_at}
-use Rattle.simplex_evidence.specs.Activity.{votes_in}
-use Rattle.simplex_evidence.specs.Contradiction.{Conflicting_finalize, Conflicting_notarize, Evidence, Kind, Nullify_finalize, contradicts, first_sort}
-use Rattle.simplex_evidence.specs.declared.types.activity.Activity.{Activity}
-use Rattle.simplex_detector.specs.Certificates.{excludes}
-use Rattle.simplex_detector.specs.Evidence.{IsEvidence, evidence_of}
-use Rattle.simplex_detector.specs.Named.{Named, is_named, named_by}
-use Rattle.simplex_detector.specs.Rules.{Rules, is_valid, valid_votes}
-use Rattle.simplex_detector.specs.Values.{evidence_value, message_of}
+use Rattle.simplex_detector.proofs.Std.{All-contains, All-from_recursion, Bool, Contains, IsEquivalence, List, None, Option, Some, [], and_parts, ap, arith, cond, cond-true, false, false≢true, filter, find, flat_map, flat_map-map, inl, inr, is_some, map, refl, same_Some, subst, sym, true, ◌&&◌, ◌∙◌, ◌∷◌, ◌≡◌, ◌⊎◌}
+use Rattle.simplex_detector.proofs.Words.{Activity, Conflicting_finalize, Conflicting_notarize, Evidence, Finalizing, IsEvidence, Kind, Named, Notarizing, Nullify_finalize, Rules, SignedVote, contradicts, evidence_of, evidence_value, excludes, first_sort, is_at, is_named, is_valid, message_of, named_by, round_of, valid_votes, votes_in}
 use Rattle.simplex_detector.proofs.EvidenceLemmas.{EvidenceIs, evidence_exists, evidence_is, evidence_made, first_spot, moved_evidence, named_from_votes}
 use Rattle.simplex_detector.proofs.Lists.{Contains-cons, Contains-first, Contains-flat_map, Contains-from_filter, Contains-from_flat_map, Contains-from_map, found}
 use Rattle.simplex_detector.proofs.Places.{Spot, excludes_itself, is_at-from, is_at-true, is_of-from, spot}

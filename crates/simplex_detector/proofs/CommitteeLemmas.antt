@@ -1,28 +1,6 @@
 -- Committees that are listed by epoch, and the rules that they give.
-use Rattle.std.proofs.Common.{Bool, Equal, Err, Greater, IfErr, Less, List, None, Ok, Option, Ordering, Result, Some, [], ap, arith, cond, drop, eqb, false, get_or, inl, inr, length, max, refl, subst, suc, sym, true, zero, ℕ, ◌+◌, ◌-◌, ◌<◌, ◌∙◌, ◌∷◌, ◌≡◌, ◌≤◌}
-use Rattle.std.proofs.lemmas.Bool.{and_parts, cases_lt, cond-false, cond-true, eqb-true, false≢true, ltb-true}
-use Rattle.std.proofs.lemmas.Bool.Decides.{nat_tests}
-use Rattle.std.proofs.lemmas.Cmp.{by_ranked, ranked}
-use Rattle.std.proofs.lemmas.List.{drop_all, drop_more, get_or_default}
-use Rattle.std.proofs.lemmas.List.Elements.{All-cons, All-contains, All-nil}
-use Rattle.std.proofs.lemmas.Option.{same_Some}
-use Rattle.std.specs.BTreeMap.{keys}
-use Rattle.std.specs.BTreeSet.{contains}
-use Rattle.std.specs.Cmp.{IsEquivalence}
-use Rattle.std.specs.List.{find}
-use Rattle.std.specs.List.Sorted.{IsBinarySearchResult, IsNonDecreasingBy, IsSearchInRange}
-use Rattle.std.specs.Ordering.{MatchOrdering, is_le, is_lt, nat_cmp, ord_max, ordering_index}
-use Rattle.std.specs.Prelude.{All, Contains, IfOk, option_map}
-use Rattle.simplex_scheme.specs.Committee.{IsQuorum}
-use Rattle.simplex_scheme.specs.Subject.{SubjectValue, round_of}
-use Rattle.simplex_scheme.specs.declared.scheme.Attestation.{Attestation}
-use Rattle.simplex_detector.specs.Committees.{AreRising, Every, IsSchedule, Listed, Schedule, bound_of, certified_by, committee_of, greatest, rules_of, size_by, valid_by}
-use Rattle.simplex_detector.specs.Judging.{certified_under, signer_cmp, valid_under}
-use Rattle.simplex_detector.specs.Line.{parted}
-use Rattle.simplex_detector.specs.Named.{round_cmp}
-use Rattle.simplex_detector.specs.Rules.{AreLawful, HaveCommittees}
-use Rattle.simplex_detector.specs.declared.judging.Judging.{Judging}
-use Rattle.simplex_detector.specs.declared.judging.Judging.TheVariants.{Claimed, Suspects, Verified}
+use Rattle.simplex_detector.proofs.Std.{All, All-cons, All-contains, All-nil, Bool, Contains, Equal, Err, Greater, IfErr, IfOk, IsBinarySearchResult, IsEquivalence, IsNonDecreasingBy, IsSearchInRange, Less, List, MatchOrdering, None, Ok, Option, Ordering, Result, Some, [], and_parts, ap, arith, by_ranked, cases_lt, cond, cond-false, cond-true, contains, drop, drop_all, drop_more, eqb, eqb-true, false, false≢true, find, get_or, get_or_default, inl, inr, is_le, is_lt, keys, length, ltb-true, max, nat_cmp, nat_tests, option_map, ord_max, ordering_index, ranked, refl, same_Some, subst, suc, sym, true, zero, ℕ, ◌+◌, ◌-◌, ◌<◌, ◌∙◌, ◌∷◌, ◌≡◌, ◌≤◌}
+use Rattle.simplex_detector.proofs.Words.{AreLawful, AreRising, Attestation, Claimed, Every, HaveCommittees, IsQuorum, IsSchedule, Judging, Listed, Schedule, SubjectValue, Suspects, Verified, bound_of, certified_by, certified_under, committee_of, greatest, parted, round_cmp, round_of, rules_of, signer_cmp, size_by, valid_by, valid_under}
 use Rattle.simplex_detector.proofs.Lists.{found, none_found}
 
 -- ---- numbers

@@ -1,36 +1,7 @@
 -- How many votes are recorded, how many are named in a round, and the split that this gives.
-use Rattle.std.proofs.Common.{Bool, Equal, Greater, Less, List, None, Option, Ordering, Some, [], ap, append_assoc, arith, cond, drop, false, get_or, inl, inr, length, map, min, refl, subst, suc, sym, true, ℕ, ⊎_elim, ◌++◌, ◌+◌, ◌-◌, ◌<◌, ◌^◌, ◌||◌, ◌∙◌, ◌∷◌, ◌≡◌, ◌≤◌}
-use Rattle.std.proofs.lemmas.Bool.{cases_lt, cond-false, cond-true, eqb-false, false_from_ne_true, false≢true, not-true}
-use Rattle.std.proofs.lemmas.Cmp.{tied_itself}
-use Rattle.std.proofs.lemmas.List.{drop_more, get_or-map, length-map}
-use Rattle.std.proofs.lemmas.List.Elements.{All-contains, recursion_from_All}
-use Rattle.std.proofs.lemmas.List.Filters.{length-filter_both}
-use Rattle.std.proofs.lemmas.Map.Keys.{Less-from_sorted, le_from_not_gt}
-use Rattle.std.specs.BTreeMap.{IsOrdered}
-use Rattle.std.specs.Cmp.{IsEquivalence}
-use Rattle.std.specs.List.{AllByRecursion, cons_option, filter_map}
-use Rattle.std.specs.List.Sorted.{IsNonDecreasing, IsStrictlySortedBy}
-use Rattle.std.specs.Option.{is_some, option_eq, option_to_list}
-use Rattle.std.specs.Ordering.{is_gt, nat_cmp, ordering_then}
-use Rattle.std.specs.Prelude.{All, Contains, filter, if◌then◌else◌, nat_eq, not}
-use Rattle.std.specs.Set.{distinct_count, is_member, unique_keys}
-use Rattle.simplex_base.specs.Positions.{Round}
-use Rattle.simplex_scheme.specs.Committee.{faults_of}
-use Rattle.simplex_scheme.specs.Subject.{round_of}
-use Rattle.simplex_votes.specs.Votes.{SignedVote}
-use Rattle.simplex_evidence.specs.Contradiction.{Evidence}
-use Rattle.simplex_evidence.specs.declared.types.activity.Activity.{Activity}
-use Rattle.simplex_detector.specs.Detector.{Recalls, RecallsRound}
-use Rattle.simplex_detector.specs.Evidence.{evidence_of}
-use Rattle.simplex_detector.specs.FirstCertified.{RecordsFirsts, certified_subjects}
-use Rattle.simplex_detector.specs.Named.{Named, is_named, kind_rank, named_by, named_cmp, round_cmp}
-use Rattle.simplex_detector.specs.Recorded.{recorded_of, votes_recorded}
-use Rattle.simplex_detector.specs.Rounds.{round_count}
-use Rattle.simplex_detector.specs.Rules.{HaveCommittees, Rules, valid_votes}
-use Rattle.simplex_detector.specs.Splits.{AreSplits, is_named_in, is_split, named_count, split_of}
-use Rattle.simplex_detector.specs.declared.certified_subjects.CertifiedSubjects.{CertifiedSubjects}
-use Rattle.simplex_detector.specs.declared.detector.Detector.{Detector}
-use Rattle.simplex_detector.specs.declared.round_state.RoundState.{RoundState}
+use Rattle.simplex_detector.proofs.Std.{All, All-contains, AllByRecursion, Bool, Contains, Equal, Greater, IsEquivalence, IsNonDecreasing, IsOrdered, Less, Less-from_sorted, List, None, Option, Ordering, Some, [], ap, append_assoc, arith, cases_lt, cond, cond-false, cond-true, cons_option, distinct_count, drop, drop_more, eqb-false, false, false_from_ne_true, false≢true, filter, filter_map, get_or, get_or-map, if◌then◌else◌, inl, inr, is_gt, is_member, is_some, le_from_not_gt, length, length-filter_both, length-map, map, min, nat_cmp, nat_eq, not, not-true, option_eq, option_to_list, ordering_then, recursion_from_All, refl, subst, suc, sym, tied_itself, true, unique_keys, ℕ, ⊎_elim, ◌++◌, ◌+◌, ◌-◌, ◌<◌, ◌^◌, ◌||◌, ◌∙◌, ◌∷◌, ◌≡◌, ◌≤◌}
+use Rattle.simplex_detector.proofs.Words.{Activity, AreSplits, CertifiedSubjects, Detector, Evidence, HaveCommittees, Named, Recalls, RecallsRound, RecordsFirsts, Round, RoundState, Rules, SignedVote, certified_subjects, evidence_of, faults_of, is_named, is_named_in, is_split, kind_rank, named_by, named_cmp, named_count, recorded_of, round_cmp, round_count, round_of, split_of, valid_votes, votes_recorded}
+use Rattle.std.specs.List.Sorted.{IsStrictlySortedBy}
 use Rattle.simplex_detector.proofs.AccountLemmas.{Contains-from_member, counted_signer, distinct_count-below, distinct_count-same, kind_from_named_in, named_in}
 use Rattle.simplex_detector.proofs.CommitteeLemmas.{most}
 use Rattle.simplex_detector.proofs.EvidenceLemmas.{named-from_evidence, valid_from, votes_from_named}

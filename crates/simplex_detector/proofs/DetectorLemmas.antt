@@ -1,31 +1,6 @@
 -- What is recorded, round by round, after one more message.
-use Rattle.std.proofs.Common.{Bool, List, None, Option, Some, [], ap, append-nil, append_assoc, arith, cond, false, length, map, refl, subst, sym, true, ℕ, ◌++◌, ◌∙◌, ◌∷◌, ◌≡◌}
-use Rattle.std.proofs.lemmas.Bool.{and_left, and_parts, and_right, cond-false}
-use Rattle.std.proofs.lemmas.List.Elements.{All-from_recursion, All-map, filter-append, recursion_from_All}
-use Rattle.std.specs.BTreeMap.{BTreeMap, get, is_at as is_key}
-use Rattle.std.specs.Cmp.{IsEquivalence}
-use Rattle.std.specs.List.{AllByRecursion}
-use Rattle.std.specs.Option.{option_to_list}
-use Rattle.std.specs.Prelude.{All, IsTrue, filter}
-use Rattle.simplex_base.specs.Positions.{Round, same_round}
-use Rattle.simplex_scheme.specs.Subject.{SubjectValue, round_of}
-use Rattle.simplex_scheme.specs.declared.scheme.Attestation.{Attestation}
-use Rattle.simplex_votes.specs.Votes.{SignedVote, Sort, finalize_of, is_at, is_of, notarize_of, nullify_of, same_sort, sort_of}
-use Rattle.simplex_evidence.specs.Activity.{activity_round, votes_in}
-use Rattle.simplex_evidence.specs.Contradiction.{Kind, clash, contradicts}
-use Rattle.simplex_evidence.specs.declared.types.activity.Activity.{Activity}
-use Rattle.simplex_detector.specs.Certificates.{certificate_in}
-use Rattle.simplex_detector.specs.Committees.{Schedule, certified_by, committee_of, rules_of, size_by, valid_by}
-use Rattle.simplex_detector.specs.Detector.{Recalls, RecallsAt, RecallsNothing, RecallsRound, TakesIn, TakesMessage}
-use Rattle.simplex_detector.specs.FirstCertified.{RecordsFirsts, certified_subjects, nothing_certified}
-use Rattle.simplex_detector.specs.Named.{round_cmp}
-use Rattle.simplex_detector.specs.Recorded.{is_news, recorded_in, slot_of}
-use Rattle.simplex_detector.specs.Rounds.{HoldsRound, IsSized, no_slot, round_count, slots}
-use Rattle.simplex_detector.specs.Rules.{Rules, is_valid, valid_votes, vote_on}
-use Rattle.simplex_detector.specs.Splits.{if_certified}
-use Rattle.simplex_detector.specs.declared.detector.Detector.{Detector}
-use Rattle.simplex_detector.specs.declared.round_state.RoundState.{RoundState}
-use Rattle.simplex_detector.specs.declared.round_votes.RoundVotes.{RoundVotes}
+use Rattle.simplex_detector.proofs.Std.{All, All-from_recursion, All-map, AllByRecursion, BTreeMap, Bool, IsEquivalence, IsTrue, List, None, Option, Some, [], and_left, and_parts, and_right, ap, append-nil, append_assoc, arith, cond, cond-false, false, filter, filter-append, get, is_key, length, map, option_to_list, recursion_from_All, refl, subst, sym, true, ℕ, ◌++◌, ◌∙◌, ◌∷◌, ◌≡◌}
+use Rattle.simplex_detector.proofs.Words.{Activity, Attestation, Detector, HoldsRound, IsSized, Kind, Recalls, RecallsAt, RecallsNothing, RecallsRound, RecordsFirsts, Round, RoundState, RoundVotes, Rules, Schedule, SignedVote, Sort, SubjectValue, TakesIn, TakesMessage, activity_round, certificate_in, certified_by, certified_subjects, clash, committee_of, contradicts, finalize_of, if_certified, is_at, is_news, is_of, is_valid, no_slot, notarize_of, nothing_certified, nullify_of, recorded_in, round_cmp, round_count, round_of, rules_of, same_round, same_sort, size_by, slot_of, slots, sort_of, valid_by, valid_votes, vote_on, votes_in}
 use Rattle.simplex_detector.proofs.AccountLemmas.{certificate_parts}
 use Rattle.simplex_detector.proofs.EvidenceLemmas.{valid_votes-push}
 use Rattle.simplex_detector.proofs.Places.{is_of-true, key_tells, other_round}

@@ -1,23 +1,6 @@
 -- Who is named, the evidence of everyone who is named, and that the votes determine a report.
-use Rattle.std.proofs.Common.{Bool, List, None, Option, Some, [], ap, append-nil, refl, subst, sym, true, ⊎_elim, ◌++◌, ◌∙◌, ◌∷◌, ◌≡◌}
-use Rattle.std.proofs.lemmas.Bool.{and_from, and_parts}
-use Rattle.std.proofs.lemmas.Grind.{flat_map-append}
-use Rattle.std.proofs.lemmas.List.Elements.{All-contains, Contains-append_left, filter-append}
-use Rattle.std.proofs.lemmas.List.Sorted.{Contains-permutation, IsPermutation-sym}
-use Rattle.std.proofs.lemmas.Option.{same_Some}
-use Rattle.std.specs.Cmp.{IsEquivalence}
-use Rattle.std.specs.List.{find, flat_map, list_any}
-use Rattle.std.specs.Option.{is_some}
-use Rattle.std.specs.Prelude.{All, Contains, IsPermutation, filter, ◌&&◌}
-use Rattle.simplex_scheme.specs.Subject.{round_of}
-use Rattle.simplex_votes.specs.Votes.{SignedVote, is_at, is_of, same_sort, sort_of}
-use Rattle.simplex_evidence.specs.Activity.{votes_in}
-use Rattle.simplex_evidence.specs.Contradiction.{Evidence, clash, contradicts, first_sort}
-use Rattle.simplex_evidence.specs.declared.types.activity.Activity.{Activity}
-use Rattle.simplex_detector.specs.Evidence.{IsEquivocation, IsEvidence, evidence_of, with_first, with_second}
-use Rattle.simplex_detector.specs.Laws.{EvidenceIsUnique, NamedInAnyOrder, NamesExactly}
-use Rattle.simplex_detector.specs.Named.{Named, is_named, named_by, named_cmp}
-use Rattle.simplex_detector.specs.Rules.{Rules, is_valid, valid_votes}
+use Rattle.simplex_detector.proofs.Std.{All, All-contains, Bool, Contains, Contains-append_left, Contains-permutation, IsEquivalence, IsPermutation, IsPermutation-sym, List, None, Option, Some, [], and_from, and_parts, ap, append-nil, filter, filter-append, find, flat_map, flat_map-append, is_some, list_any, refl, same_Some, subst, sym, true, ⊎_elim, ◌&&◌, ◌++◌, ◌∙◌, ◌∷◌, ◌≡◌}
+use Rattle.simplex_detector.proofs.Words.{Activity, Evidence, EvidenceIsUnique, IsEquivocation, IsEvidence, Named, NamedInAnyOrder, NamesExactly, Rules, SignedVote, clash, contradicts, evidence_of, first_sort, is_at, is_named, is_of, is_valid, named_by, named_cmp, round_of, same_sort, sort_of, valid_votes, votes_in, with_first, with_second}
 use Rattle.simplex_detector.proofs.Lists.{Contains-filter, Contains-flat_map, Contains-from_filter, Contains-from_flat_map, Contains-from_list_any, IsListing, any_from_Contains, each, find_from_Contains, found, listed_is_some, listing_is_unique, same_bool, some_from_is_some}
 use Rattle.simplex_detector.proofs.Places.{Spot, clash_parts, clash_with_one, exact_named, is_at-from, is_at-true, is_of-from, is_of-true, named_cmp_total}
 

@@ -1,3 +1,5 @@
+pub mod Std
+pub mod Words
 pub mod Lists
 pub mod Places
 pub mod EvidenceLemmas

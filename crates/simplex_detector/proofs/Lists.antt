@@ -1,19 +1,6 @@
 -- Lists that any crate could have: what they contain, what `find` and `list_any` give, and the listing of a partial map in the order of its keys.
-use Rattle.std.proofs.Common.{◌≡◌, ℕ, Bool, true, false, List, [], ◌∷◌, ◌++◌, Option, Some, None, Ordering, Less, length, get_or, map, sym, refl, ap, ◌∙◌, subst, ◌||◌, ◌<◌, inl, inr, ◌⊎◌, ⊎_elim, arith, append-nil}
-use Rattle.std.specs.Prelude.{All, Contains, cond, filter}
-use Rattle.std.specs.Option.{is_some, option_or, option_to_list}
-use Rattle.std.specs.List.{find, filter_map, cons_option, list_any, flat_map, AllByRecursion}
+use Rattle.simplex_detector.proofs.Std.{All, All-append, All-contains, All-contains_itself, All-filter, All-from_recursion, All-map, AllByRecursion, Any-from_list_any, BTreeSet, Bool, CmpEqualImpliesEq, Contains, Contains-append_cases, Contains-append_left, Contains-append_right, Contains-get_or, IsStrictlySortedBy-filter, IsTotalOrder, Less, List, None, Option, Ordering, Some, [], ap, append-nil, arith, btree_set_contains_iff, btree_set_from_contains, cond, cons_option, false, filter, filter_map, filter_passes, find, find-append, flat_map, get_or, get_or-map, inl, inr, is_some, length, length-map, list_any, list_any-from_Any, map, option_or, option_to_list, recursion_from_All, refl, same_Some, sorted_head, subst, sym, true, ℕ, ⊎_elim, ◌++◌, ◌<◌, ◌||◌, ◌∙◌, ◌∷◌, ◌≡◌, ◌⊎◌}
 use Rattle.std.specs.List.Sorted.{IsStrictlySortedBy}
-use Rattle.std.specs.BTreeSet.{BTreeSet}
-use Rattle.std.specs.Cmp.{IsTotalOrder}
-use Rattle.std.proofs.lemmas.List.{get_or-map, length-map}
-use Rattle.std.proofs.lemmas.List.Folds.{find-append, Any-from_list_any, list_any-from_Any}
-use Rattle.std.proofs.lemmas.List.Elements.{All-from_recursion, recursion_from_All, All-append, All-contains, All-filter, All-map, All-contains_itself, Contains-get_or, Contains-append_cases, Contains-append_left, Contains-append_right, filter_passes}
-use Rattle.std.proofs.lemmas.List.Kept.{IsStrictlySortedBy-filter}
-use Rattle.std.proofs.lemmas.Map.Keys.{sorted_head}
-use Rattle.std.proofs.lemmas.Map.Lookups.{CmpEqualImpliesEq, btree_set_from_contains}
-use Rattle.std.proofs.lemmas.Map.Views.{btree_set_contains_iff}
-use Rattle.std.proofs.lemmas.Option.{same_Some}
 
 -- two tests that imply each other are one
 pub same_bool : (a b : Bool) → (a ≡ true → b ≡ true) → (b ≡ true → a ≡ true) → a ≡ b

@@ -1,20 +1,6 @@
 -- Where votes are: the tests on rounds, signers, sorts and proposals, which subjects exclude each other, and the orders of a report.
-use Rattle.std.proofs.Common.{◌≡◌, ℕ, Bool, true, false, eqb, Ordering, Equal, sym, refl, ap, ◌∙◌, subst, inl, inr, ◌⊎◌, ⊎_elim}
-use Rattle.std.specs.Prelude.{not, ◌&&◌}
-use Rattle.std.specs.BTreeMap.{is_at as is_key}
-use Rattle.std.specs.Cmp.{IsEquivalence, IsTotalOrder}
-use Rattle.std.specs.Ordering.{nat_cmp, is_eq}
-use Rattle.std.proofs.lemmas.Bool.{false≢true, cases_Bool, and_parts, and_from, eqb-true, eq-eqb, false_from_ne_true}
-use Rattle.std.proofs.lemmas.Cmp.{nat_eq_equiv, on_equiv, and_equiv, nat_cmp_total, on_total, then_total, tied_itself}
-use Rattle.std.proofs.lemmas.Map.Lookups.{CmpEqualImpliesEq, exact_pairs, exact_unsigned}
-use Rattle.simplex_base.specs.Positions.{Round, same_round}
-use Rattle.simplex_scheme.specs.declared.proposal.Proposal.{Proposal}
-use Rattle.simplex_scheme.specs.Subject.{SubjectValue, Notarizes, Nullifies, Finalizes, round_of}
-use Rattle.simplex_votes.specs.Votes.{SignedVote, Sort, Notarizing, Nullifying, Finalizing, sort_of, same_sort, is_of, is_at, same_proposal}
-use Rattle.simplex_evidence.specs.Contradiction.{Kind, Conflicting_notarize, Conflicting_finalize, Nullify_finalize, clash, first_sort}
-use Rattle.simplex_detector.specs.Certificates.{excludes}
-use Rattle.simplex_detector.specs.Judging.{signer_cmp}
-use Rattle.simplex_detector.specs.Named.{Named, round_cmp, kind_rank, named_cmp}
+use Rattle.simplex_detector.proofs.Std.{Bool, CmpEqualImpliesEq, Equal, IsEquivalence, IsTotalOrder, Ordering, and_equiv, and_from, and_parts, ap, cases_Bool, eq-eqb, eqb, eqb-true, exact_pairs, exact_unsigned, false, false_from_ne_true, false≢true, inl, inr, is_eq, is_key, nat_cmp, nat_cmp_total, nat_eq_equiv, not, on_equiv, on_total, refl, subst, sym, then_total, tied_itself, true, ℕ, ⊎_elim, ◌&&◌, ◌∙◌, ◌≡◌, ◌⊎◌}
+use Rattle.simplex_detector.proofs.Words.{Conflicting_finalize, Conflicting_notarize, Finalizes, Finalizing, Kind, Named, Notarizes, Notarizing, Nullifies, Nullify_finalize, Nullifying, Proposal, Round, SignedVote, Sort, SubjectValue, clash, excludes, first_sort, is_at, is_of, kind_rank, named_cmp, round_cmp, round_of, same_proposal, same_round, same_sort, signer_cmp, sort_of}
 
 -- ---- rounds, proposals and sorts
 

@@ -1,26 +1,6 @@
 -- Which votes are recorded, vote by vote, slot by slot and round by round, and the evidence in the slots.
-use Rattle.std.proofs.Common.{Bool, List, None, Option, Some, [], ap, append-nil, append_assoc, arith, cond, eqb, false, length, length-append, map, refl, subst, sym, true, ℕ, ◌++◌, ◌+◌, ◌<◌, ◌∙◌, ◌∷◌, ◌≡◌, ◌≤◌}
-use Rattle.std.proofs.lemmas.Bool.{and_from, and_left, and_parts, and_right, cond-false, false_from_ne_true, false≢true}
-use Rattle.std.proofs.lemmas.List.{map-append}
-use Rattle.std.proofs.lemmas.List.Elements.{filter-append}
-use Rattle.std.proofs.lemmas.List.Folds.{find-append}
-use Rattle.std.proofs.lemmas.Option.{same_Some}
-use Rattle.std.specs.Cmp.{IsEquivalence}
-use Rattle.std.specs.List.{find}
-use Rattle.std.specs.Option.{option_or, option_to_list}
-use Rattle.std.specs.Prelude.{Contains, filter, if◌then◌else◌, ◌&&◌}
-use Rattle.simplex_base.specs.Positions.{Round, same_round}
-use Rattle.simplex_scheme.specs.Subject.{Finalizes, Nullifies, SubjectValue, round_of}
-use Rattle.simplex_scheme.specs.declared.scheme.Attestation.{Attestation}
-use Rattle.simplex_votes.specs.Votes.{Finalizing, Notarizing, Nullifying, SignedVote, Sort, is_at, is_of, same_sort, sort_of}
-use Rattle.simplex_evidence.specs.Contradiction.{Conflicting_finalize, Conflicting_notarize, Evidence, Kind, Nullify_finalize, contradicts, first_sort}
-use Rattle.simplex_detector.specs.Certificates.{excludes}
-use Rattle.simplex_detector.specs.Evidence.{evidence_of, with_first, with_second}
-use Rattle.simplex_detector.specs.Named.{Named}
-use Rattle.simplex_detector.specs.Recorded.{RecordedAreSlots, Slot, both, changes, evidence_from, if_differs, is_news, news_after, other_than, recorded_in, recorded_of, slot_of, slot_with, votes_in_slot}
-use Rattle.simplex_detector.specs.Rounds.{HoldsRound, TakesVote, is_for, no_slot, slots}
-use Rattle.simplex_detector.specs.Rules.{vote_on}
-use Rattle.simplex_detector.specs.declared.round_votes.RoundVotes.{RoundVotes}
+use Rattle.simplex_detector.proofs.Std.{Bool, Contains, IsEquivalence, List, None, Option, Some, [], and_from, and_left, and_parts, and_right, ap, append-nil, append_assoc, arith, cond, cond-false, eqb, false, false_from_ne_true, false≢true, filter, filter-append, find, find-append, if◌then◌else◌, length, length-append, map, map-append, option_or, option_to_list, refl, same_Some, subst, sym, true, ℕ, ◌&&◌, ◌++◌, ◌+◌, ◌<◌, ◌∙◌, ◌∷◌, ◌≡◌, ◌≤◌}
+use Rattle.simplex_detector.proofs.Words.{Attestation, Conflicting_finalize, Conflicting_notarize, Evidence, Finalizes, Finalizing, HoldsRound, Kind, Named, Notarizing, Nullifies, Nullify_finalize, Nullifying, RecordedAreSlots, Round, RoundVotes, SignedVote, Slot, Sort, SubjectValue, TakesVote, both, changes, contradicts, evidence_from, evidence_of, excludes, first_sort, if_differs, is_at, is_for, is_news, is_of, news_after, no_slot, other_than, recorded_in, recorded_of, round_of, same_round, same_sort, slot_of, slot_with, slots, sort_of, vote_on, votes_in_slot, with_first, with_second}
 use Rattle.simplex_detector.proofs.EvidenceLemmas.{first_spot}
 use Rattle.simplex_detector.proofs.Lists.{Contains-cons, Contains-filter, Contains-first, Contains-none, find_from_Contains, find_push, found, none_found}
 use Rattle.simplex_detector.proofs.Places.{Spot, clash-excludes, excludes_itself, is_at-from, is_at-true, same_round-from, same_round-true, same_sort-refl, second_sort, spot}

@@ -1,35 +1,7 @@
 -- The evidence in what is recorded, signer by signer and round by round, is the evidence of the votes.
-use Rattle.std.proofs.Common.{Bool, Less, List, None, Option, Some, [], ap, append-nil, append_assoc, arith, eqb, get_or, inl, inr, length, map, map-id, refl, subst, sym, take, true, ℕ, ◌++◌, ◌+◌, ◌<◌, ◌∙◌, ◌∷◌, ◌≡◌, ◌⊎◌}
-use Rattle.std.proofs.lemmas.Bool.{cond-true, eqb-true, false≢true}
-use Rattle.std.proofs.lemmas.Cmp.{nat_cmp_total, tied_itself}
-use Rattle.std.proofs.lemmas.List.{flat_map_more, map-append, take_more}
-use Rattle.std.proofs.lemmas.List.Elements.{All-contains, All-from_recursion, All-push, Contains-append_left, Contains-append_right, filter_map-append, recursion_from_All}
-use Rattle.std.proofs.lemmas.List.Kept.{Contains-dedup_nat}
-use Rattle.std.proofs.lemmas.List.Sorted.{Contains-permutation}
-use Rattle.std.proofs.lemmas.Map.Keys.{IsStrictlyIncreasing-dedup, sorted_from_strictly_increasing}
-use Rattle.std.proofs.lemmas.Map.Views.{btree_map_get_iff}
-use Rattle.std.specs.BTreeMap.{IsOrdered, get}
-use Rattle.std.specs.Cmp.{IsEquivalence}
-use Rattle.std.specs.List.{AllByRecursion, dedup, filter_map, flat_map}
-use Rattle.std.specs.List.Sorted.{IsSorted, IsStrictlySortedBy}
-use Rattle.std.specs.Option.{is_some, option_to_list}
-use Rattle.std.specs.Ordering.{nat_cmp, ordering_then}
-use Rattle.std.specs.Prelude.{All, Contains, IsPermutation, IsTrue, option_map}
-use Rattle.simplex_base.specs.Positions.{Round}
-use Rattle.simplex_scheme.specs.Subject.{round_of}
-use Rattle.simplex_votes.specs.Votes.{SignedVote, Sort}
-use Rattle.simplex_evidence.specs.Contradiction.{Conflicting_finalize, Conflicting_notarize, Evidence, Kind, Nullify_finalize, contradicts}
-use Rattle.simplex_evidence.specs.VoteMap.{item_of}
-use Rattle.simplex_evidence.specs.declared.types.activity.Activity.{Activity}
-use Rattle.simplex_detector.specs.Detector.{Recalls, RecallsAt, RecallsNothing, RecallsRound}
-use Rattle.simplex_detector.specs.Evidence.{IsEvidence, evidence_of}
-use Rattle.simplex_detector.specs.Named.{Named, is_named, kind_rank, named_by, named_cmp, round_cmp}
-use Rattle.simplex_detector.specs.Recorded.{Slot, evidence_from, slot_of}
-use Rattle.simplex_detector.specs.Rounds.{HoldsRound, ListsSigners, found_at, found_of_kind, if_contradicts, no_slot, slots}
-use Rattle.simplex_detector.specs.Rules.{Rules, valid_votes}
-use Rattle.simplex_detector.specs.declared.detector.Detector.{Detector}
-use Rattle.simplex_detector.specs.declared.round_state.RoundState.{RoundState}
-use Rattle.simplex_detector.specs.declared.round_votes.RoundVotes.{RoundVotes}
+use Rattle.simplex_detector.proofs.Std.{All, All-contains, All-from_recursion, All-push, AllByRecursion, Bool, Contains, Contains-append_left, Contains-append_right, Contains-dedup_nat, Contains-permutation, IsEquivalence, IsOrdered, IsPermutation, IsSorted, IsStrictlyIncreasing-dedup, IsTrue, Less, List, None, Option, Some, [], ap, append-nil, append_assoc, arith, btree_map_get_iff, cond-true, dedup, eqb, eqb-true, false≢true, filter_map, filter_map-append, flat_map, flat_map_more, get, get_or, inl, inr, is_some, length, map, map-append, map-id, nat_cmp, nat_cmp_total, option_map, option_to_list, ordering_then, recursion_from_All, refl, sorted_from_strictly_increasing, subst, sym, take, take_more, tied_itself, true, ℕ, ◌++◌, ◌+◌, ◌<◌, ◌∙◌, ◌∷◌, ◌≡◌, ◌⊎◌}
+use Rattle.simplex_detector.proofs.Words.{Activity, Conflicting_finalize, Conflicting_notarize, Detector, Evidence, HoldsRound, IsEvidence, Kind, ListsSigners, Named, Nullify_finalize, Recalls, RecallsAt, RecallsNothing, RecallsRound, Round, RoundState, RoundVotes, Rules, SignedVote, Slot, Sort, contradicts, evidence_from, evidence_of, found_at, found_of_kind, if_contradicts, is_named, item_of, kind_rank, named_by, named_cmp, no_slot, round_cmp, round_of, slot_of, slots, valid_votes}
+use Rattle.std.specs.List.Sorted.{IsStrictlySortedBy}
 use Rattle.simplex_detector.proofs.EvidenceLemmas.{evidence-from_named, evidence_is, from_listing}
 use Rattle.simplex_detector.proofs.Lists.{Contains-flat_map, Contains-from_filter_map, Contains-from_flat_map, Contains-from_map, Contains-map, each, filter_map-joined, found, made_complete, made_ordered, made_sound, some_from_is_some, sorted_joined}
 use Rattle.simplex_detector.proofs.Places.{exact_rounds, round_cmp_total}

@@ -1,27 +1,6 @@
 -- Which rounds are split, by what is recorded of their certificates, and that the messages determine their splits.
-use Rattle.std.proofs.Common.{Bool, List, None, Option, Some, [], ap, append-nil, cond, false, inl, inr, refl, subst, sym, true, ⊎_elim, ◌++◌, ◌+◌, ◌||◌, ◌∙◌, ◌∷◌, ◌≡◌, ◌≤◌, ◌⊎◌}
-use Rattle.std.proofs.lemmas.Bool.{and_from, and_left, and_parts, and_right, cases_Bool, false≢true, or_cases, or_left, or_parts, or_right}
-use Rattle.std.proofs.lemmas.List.Elements.{Contains-append_left, Contains-push, Contains-push_cases, filter_map-append}
-use Rattle.std.proofs.lemmas.Option.{cond_some}
-use Rattle.std.specs.Cmp.{IsEquivalence}
-use Rattle.std.specs.List.{cons_option, filter_map, list_any}
-use Rattle.std.specs.List.Sorted.{IsStrictlySortedBy}
-use Rattle.std.specs.Option.{is_none, is_some, option_or, option_to_list}
-use Rattle.std.specs.Prelude.{All, Contains, if◌then◌else◌, not, ◌&&◌}
-use Rattle.simplex_base.specs.Positions.{Round, same_round}
-use Rattle.simplex_scheme.specs.Committee.{faults_of}
-use Rattle.simplex_scheme.specs.Subject.{SubjectValue, round_of}
-use Rattle.simplex_votes.specs.Votes.{Finalizing, Notarizing, Nullifying, Sort, same_sort, sort_of}
-use Rattle.simplex_evidence.specs.Activity.{activity_round}
-use Rattle.simplex_evidence.specs.declared.types.activity.Activity.{Activity}
-use Rattle.simplex_detector.specs.Certificates.{certificate_in, certificates_contradict, excludes, messages_contradict, subjects_contradict}
-use Rattle.simplex_detector.specs.FirstCertified.{RecordsFirsts, are_split, certified_subjects, changes_firsts, excludes_first, excludes_some, first_certified, first_with, firsts_of}
-use Rattle.simplex_detector.specs.Named.{round_cmp}
-use Rattle.simplex_detector.specs.Rules.{AreLawful, HaveCommittees, Rules, valid_votes}
-use Rattle.simplex_detector.specs.SplitLaws.{SplitsAreUnique}
-use Rattle.simplex_detector.specs.Splits.{AreSplits, certified_in, is_certified, is_split, named_count, split_of}
-use Rattle.simplex_detector.specs.declared.certified_subjects.CertifiedSubjects.{CertifiedSubjects}
-use Rattle.simplex_detector.specs.declared.split.Split.{Split}
+use Rattle.simplex_detector.proofs.Std.{All, Bool, Contains, Contains-append_left, Contains-push, Contains-push_cases, IsEquivalence, IsStrictlySortedBy, List, None, Option, Some, [], and_from, and_left, and_parts, and_right, ap, append-nil, cases_Bool, cond, cond_some, cons_option, false, false≢true, filter_map, filter_map-append, if◌then◌else◌, inl, inr, is_none, is_some, list_any, not, option_or, option_to_list, or_cases, or_left, or_parts, or_right, refl, subst, sym, true, ⊎_elim, ◌&&◌, ◌++◌, ◌+◌, ◌||◌, ◌∙◌, ◌∷◌, ◌≡◌, ◌≤◌, ◌⊎◌}
+use Rattle.simplex_detector.proofs.Words.{Activity, AreLawful, AreSplits, CertifiedSubjects, Finalizing, HaveCommittees, Notarizing, Nullifying, RecordsFirsts, Round, Rules, Sort, Split, SplitsAreUnique, SubjectValue, activity_round, are_split, certificate_in, certificates_contradict, certified_in, certified_subjects, changes_firsts, excludes, excludes_first, excludes_some, faults_of, first_certified, first_with, firsts_of, is_certified, is_split, messages_contradict, named_count, round_cmp, round_of, same_round, same_sort, sort_of, split_of, subjects_contradict, valid_votes}
 use Rattle.simplex_detector.proofs.AccountLemmas.{accountable_for, certificate_parts, certified_parts, certifies_from, enough_for}
 use Rattle.simplex_detector.proofs.Lists.{Contains-from_filter_map, Contains-from_list_any, IsListing, any_from_Contains, find_from_Contains, find_push, found, listing_is_unique, made_complete, made_ordered, made_sound, same_bool}
 use Rattle.simplex_detector.proofs.Places.{exact_rounds, excludes-flip, excludes_itself, excludes_one, round_cmp_total, same_round-from, same_round-true, same_sort-refl, same_sort-true}

@@ -1,34 +1,6 @@
 -- Which signers and rounds are suspect, and that no other signature has a part in the evidence and the splits.
-use Rattle.std.proofs.Common.{Bool, List, None, Option, Some, [], ap, arith, cond, false, map, refl, subst, sym, true, ℕ, ◌+◌, ◌||◌, ◌∙◌, ◌∷◌, ◌≡◌, ◌≤◌}
-use Rattle.std.proofs.Math.Bool.{and-false}
-use Rattle.std.proofs.lemmas.Bool.{and_parts, false≢true, le-ltb, lt-ltb}
-use Rattle.std.proofs.lemmas.List.Elements.{All-contains, All-nil}
-use Rattle.std.specs.BTreeSet.{contains}
-use Rattle.std.specs.Cmp.{IsEquivalence}
-use Rattle.std.specs.List.{cons_option, find, flat_map}
-use Rattle.std.specs.Option.{is_some}
-use Rattle.std.specs.Prelude.{All, Contains, IsTrue, filter, nat_eq, nat_lt, ◌&&◌, ◌↔◌}
-use Rattle.std.specs.Set.{distinct_count}
-use Rattle.simplex_base.specs.Positions.{Round}
-use Rattle.simplex_scheme.specs.Committee.{faults_of}
-use Rattle.simplex_scheme.specs.Subject.{SubjectValue, round_of}
-use Rattle.simplex_scheme.specs.declared.scheme.Attestation.{Attestation}
-use Rattle.simplex_votes.specs.Votes.{SignedVote, is_at, is_of}
-use Rattle.simplex_evidence.specs.Activity.{votes_in}
-use Rattle.simplex_evidence.specs.Contradiction.{Conflicting_finalize, Conflicting_notarize, Evidence, Kind, Nullify_finalize, clash, contradicts, first_sort}
-use Rattle.simplex_evidence.specs.declared.types.activity.Activity.{Activity}
-use Rattle.simplex_detector.specs.Certificates.{certificate_in}
-use Rattle.simplex_detector.specs.Committees.{Schedule, certified_by, committee_of, rules_of, size_by, valid_by}
-use Rattle.simplex_detector.specs.Evidence.{IsEvidence, evidence_of, with_first, with_second}
-use Rattle.simplex_detector.specs.FirstCertified.{are_split, certified_subjects}
-use Rattle.simplex_detector.specs.Judging.{certified_under, rules_under, signer_cmp, valid_under}
-use Rattle.simplex_detector.specs.Named.{Named, is_named, named_by, round_cmp}
-use Rattle.simplex_detector.specs.Rules.{AreLawful, Rules, is_valid, valid_votes}
-use Rattle.simplex_detector.specs.Splits.{AreSplits, certified_in, if_certified, is_named_in, is_split, named_count, split_of}
-use Rattle.simplex_detector.specs.Suspects.{AreSuspect, HasSuspects, JudgeAlike, Suspected, SuspectsSuffice, TellAll, among, claimed, is_suspect, is_suspect_round, judged_by, suspect_of}
-use Rattle.simplex_detector.specs.declared.judging.Judging.TheVariants.{Claimed, Suspects}
-use Rattle.simplex_detector.specs.declared.judging.SuspectSigners.{SuspectSigners}
-use Rattle.simplex_detector.specs.declared.split.Split.{Split}
+use Rattle.simplex_detector.proofs.Std.{All, All-contains, All-nil, Bool, Contains, IsEquivalence, IsTrue, List, None, Option, Some, [], and-false, and_parts, ap, arith, cond, cons_option, contains, distinct_count, false, false≢true, filter, find, flat_map, is_some, le-ltb, lt-ltb, map, nat_eq, nat_lt, refl, subst, sym, true, ℕ, ◌&&◌, ◌+◌, ◌||◌, ◌↔◌, ◌∙◌, ◌∷◌, ◌≡◌, ◌≤◌}
+use Rattle.simplex_detector.proofs.Words.{Activity, AreLawful, AreSplits, AreSuspect, Attestation, Claimed, Conflicting_finalize, Conflicting_notarize, Evidence, HasSuspects, IsEvidence, JudgeAlike, Kind, Named, Nullify_finalize, Round, Rules, Schedule, SignedVote, Split, SubjectValue, SuspectSigners, Suspected, Suspects, SuspectsSuffice, TellAll, among, are_split, certificate_in, certified_by, certified_in, certified_subjects, certified_under, claimed, clash, committee_of, contradicts, evidence_of, faults_of, first_sort, if_certified, is_at, is_named, is_named_in, is_of, is_split, is_suspect, is_suspect_round, is_valid, judged_by, named_by, named_count, round_cmp, round_of, rules_of, rules_under, signer_cmp, size_by, split_of, suspect_of, valid_by, valid_under, valid_votes, votes_in, with_first, with_second}
 use Rattle.simplex_detector.proofs.AccountLemmas.{certified_parts, counted_signer, distinct_count-same, kind_from_named_in, named_in}
 use Rattle.simplex_detector.proofs.EvidenceLemmas.{evidence_exists, first_spot, moved_evidence, named_by_more, named_from_votes, valid_from, valid_in, votes_from_named}
 use Rattle.simplex_detector.proofs.Lists.{Contains-filter, Contains-first, Contains-from_filter, Contains-from_filter_map, Contains-from_list_any, Contains-from_map, Contains-map, Contains-none, any_from_Contains, found, same_bool}

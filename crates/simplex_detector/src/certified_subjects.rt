@@ -139,7 +139,8 @@ impl<D: Digest> CertifiedSubjects<D> {
 
 /// Whether a proposal is another than the first, if there is one.
 fn differs<D: Digest>(first: &Option<Proposal<D>>, proposal: &Proposal<D>) -> bool
-    ensures { result ≡ excludes_first D.eq (option_map Notarizes first.now) (Notarizes proposal.now) }
+    ensures { result ≡
+        excludes_first D.eq (option_map Notarizes first.now) (Notarizes proposal.now) }
 {
     match first {
         None => false,

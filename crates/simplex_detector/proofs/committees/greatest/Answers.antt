@@ -1,7 +1,4 @@
-use Rattle.std.proofs.Common.{◌≤◌, length, ap, ◌∙◌, sym, subst}
-use Rattle.std.specs.Prelude.{All}
-use Rattle.std.proofs.lemmas.List.{take_more, take_all}
-use Rattle.std.proofs.lemmas.List.Elements.{All-push}
+use Rattle.simplex_detector.proofs.Std.{All, All-push, ap, length, subst, sym, take_all, take_more, ◌∙◌, ◌≤◌}
 use Rattle.simplex_detector.proofs.CommitteeLemmas.{greatest_next, greatest_all}
 use Rattle.simplex_detector.proofs.committees.greatest.Goals as goal
 

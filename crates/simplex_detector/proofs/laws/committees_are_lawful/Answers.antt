@@ -1,5 +1,5 @@
+use Rattle.simplex_detector.proofs.Words.{certified_under, valid_under}
 use Rattle.simplex_detector.proofs.CommitteeLemmas.{rules_lawful, rules_committees, members_under}
-use Rattle.simplex_detector.specs.Judging.{valid_under, certified_under}
 use Rattle.simplex_detector.proofs.laws.committees_are_lawful.Goals as goal
 
 pub returns-clause-lawful : goal.returns-clause-lawful

@@ -1,7 +1,5 @@
-use Rattle.std.proofs.Common.{sym, ◌∙◌}
-use Rattle.std.proofs.lemmas.Bool.{false≢true, and_from, and_left, and_right}
-use Rattle.simplex_scheme.specs.Subject.{subject_value, round_of}
-use Rattle.simplex_detector.specs.FirstCertified.{RecordsFirsts}
+use Rattle.simplex_detector.proofs.Std.{and_from, and_left, and_right, false≢true, sym, ◌∙◌}
+use Rattle.simplex_detector.proofs.Words.{RecordsFirsts, round_of, subject_value}
 use Rattle.simplex_detector.proofs.Lists.{if_appended}
 use Rattle.simplex_detector.proofs.SplitLemmas.{records_next, records_no_news}
 use Rattle.simplex_detector.proofs.certified_subjects.CertifiedSubjects.observe.Goals as goal

@@ -1,6 +1,5 @@
-use Rattle.std.proofs.Common.{◌≤◌, length, subst, sym, ap, ◌∙◌}
-use Rattle.std.specs.Prelude.{All}
-use Rattle.simplex_detector.specs.Committees.{Listed, IsSchedule, committee_of, greatest, schedule_of}
+use Rattle.simplex_detector.proofs.Std.{All, ap, length, subst, sym, ◌∙◌, ◌≤◌}
+use Rattle.simplex_detector.proofs.Words.{IsSchedule, Listed, committee_of, greatest, schedule_of}
 use Rattle.simplex_detector.proofs.CommitteeLemmas.{most, reached, manned}
 use Rattle.simplex_detector.proofs.committees.Committees.bound.Goals as goal
 

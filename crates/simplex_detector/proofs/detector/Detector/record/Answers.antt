@@ -1,16 +1,5 @@
-use Rattle.std.proofs.Common.{◌≡◌, ◌++◌, [], ◌∷◌, Some, cond, length, refl, sym, ap, ◌∙◌, subst}
-use Rattle.std.specs.Option.{IsSome}
-use Rattle.std.specs.BTreeMap.{get, is_at as is_key}
-use Rattle.simplex_base.specs.Positions.{Round}
-use Rattle.simplex_evidence.specs.Activity.{activity_round}
-use Rattle.simplex_detector.specs.Committees.{Schedule, committee_of, size_by}
-use Rattle.simplex_detector.specs.Named.{round_cmp}
-use Rattle.simplex_detector.specs.Rounds.{IsSized}
-use Rattle.simplex_detector.specs.Judging.{valid_under, certified_under, rules_under}
-use Rattle.simplex_detector.specs.Rules.{Rules}
-use Rattle.simplex_detector.specs.Detector.{RecallsAt}
-use Rattle.simplex_detector.specs.declared.judging.Judging.{Judging}
-use Rattle.std.proofs.lemmas.Result.{on_ok_weaker}
+use Rattle.simplex_detector.proofs.Std.{IsSome, Some, [], ap, cond, get, is_key, length, on_ok_weaker, refl, subst, sym, ◌++◌, ◌∙◌, ◌∷◌, ◌≡◌}
+use Rattle.simplex_detector.proofs.Words.{IsSized, Judging, RecallsAt, Round, Rules, Schedule, activity_round, certified_under, committee_of, round_cmp, rules_under, size_by, valid_under}
 use Rattle.simplex_detector.proofs.DetectorLemmas.{recalls_changed, recalls_still_none, recalls_new, recalls_taken, recalls_no_committee}
 use Rattle.simplex_detector.proofs.detector.Detector.record.Given as given
 use Rattle.simplex_detector.proofs.detector.Detector.record.Goals as goal

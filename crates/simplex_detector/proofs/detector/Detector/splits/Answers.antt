@@ -1,16 +1,5 @@
-use Rattle.std.proofs.Common.{◌++◌, map, sym, ap, ◌∙◌, subst}
-use Rattle.std.proofs.Common.{rules as std_rules}
-use Rattle.std.specs.BTreeMap.{IsOrdered}
-use Rattle.std.specs.List.{filter_map, AllByRecursion}
-use Rattle.std.proofs.lemmas.List.{append-nil}
-use Rattle.std.proofs.lemmas.List.Elements.{recursion_from_All}
-use Rattle.simplex_detector.specs.Committees.{Schedule}
-use Rattle.simplex_detector.specs.Named.{round_cmp}
-use Rattle.simplex_detector.specs.Judging.{rules_under}
-use Rattle.simplex_detector.specs.Rules.{Rules}
-use Rattle.simplex_detector.specs.Detector.{RecallsRound}
-use Rattle.simplex_detector.specs.Splits.{split_of, AreSplits}
-use Rattle.simplex_detector.specs.declared.judging.Judging.{Judging}
+use Rattle.simplex_detector.proofs.Std.{AllByRecursion, IsOrdered, ap, append-nil, filter_map, map, recursion_from_All, rules as std_rules, subst, sym, ◌++◌, ◌∙◌}
+use Rattle.simplex_detector.proofs.Words.{AreSplits, Judging, RecallsRound, Rules, Schedule, round_cmp, rules_under, split_of}
 use Rattle.simplex_detector.proofs.CountLemmas.{splits_of_detector, splits_next}
 use Rattle.simplex_detector.proofs.ReportLemmas.{recalls_listed}
 use Rattle.simplex_detector.proofs.detector.Detector.splits.Given as given

@@ -1,11 +1,5 @@
-use Rattle.std.proofs.Common.{ap, arith}
-use Rattle.std.proofs.Common.{rules as std_rules}
-use Rattle.std.specs.BTreeMap.{IsOrdered}
-use Rattle.simplex_detector.specs.Committees.{Schedule}
-use Rattle.simplex_detector.specs.Named.{round_cmp}
-use Rattle.simplex_detector.specs.Judging.{rules_under}
-use Rattle.simplex_detector.specs.Rules.{Rules}
-use Rattle.simplex_detector.specs.declared.judging.Judging.{Judging}
+use Rattle.simplex_detector.proofs.Std.{IsOrdered, ap, arith, rules as std_rules}
+use Rattle.simplex_detector.proofs.Words.{Judging, Rules, Schedule, round_cmp, rules_under}
 use Rattle.simplex_detector.proofs.CountLemmas.{rounds_count, counted_votes}
 use Rattle.simplex_detector.proofs.detector.Detector.votes.Given as given
 use Rattle.simplex_detector.proofs.detector.Detector.votes.Goals as goal

@@ -1,12 +1,5 @@
-use Rattle.std.proofs.Common.{map, ap, subst, [], arith}
-use Rattle.std.proofs.Common.{rules as std_rules}
-use Rattle.std.specs.BTreeMap.{IsOrdered}
-use Rattle.simplex_detector.specs.Committees.{Schedule}
-use Rattle.simplex_detector.specs.Named.{round_cmp}
-use Rattle.simplex_detector.specs.Judging.{rules_under}
-use Rattle.simplex_detector.specs.Rules.{Rules}
-use Rattle.simplex_detector.specs.Values.{evidence_value}
-use Rattle.simplex_detector.specs.declared.judging.Judging.{Judging}
+use Rattle.simplex_detector.proofs.Std.{IsOrdered, [], ap, arith, map, rules as std_rules, subst}
+use Rattle.simplex_detector.proofs.Words.{Judging, Rules, Schedule, evidence_value, round_cmp, rules_under}
 use Rattle.simplex_detector.proofs.ReportLemmas.{Walked, walked_next, report_of_walk}
 use Rattle.simplex_detector.proofs.detector.Detector.walk.Given as given
 use Rattle.simplex_detector.proofs.detector.Detector.walk.Goals as goal

@@ -1,5 +1,5 @@
-use Rattle.std.proofs.Common.{map}
-use Rattle.simplex_detector.specs.Values.{evidence_value}
+use Rattle.simplex_detector.proofs.Std.{map}
+use Rattle.simplex_detector.proofs.Words.{evidence_value}
 use Rattle.simplex_detector.proofs.ReportLemmas.{Walked}
 use Rattle.simplex_detector.proofs.detector.Detector.walk.Given as goal
 

@@ -1,13 +1,5 @@
-use Rattle.std.proofs.Common.{sym, ap, subst, ⊎_elim}
-use Rattle.std.specs.Prelude.{OnOk}
-use Rattle.simplex_votes.specs.Votes.{notarize_vote, nullify_vote, finalize_vote}
-use Rattle.simplex_evidence.specs.Contradiction.{Conflicting_notarize, Conflicting_finalize, Nullify_finalize}
-use Rattle.simplex_detector.specs.Committees.{Schedule}
-use Rattle.simplex_detector.specs.Judging.{rules_under}
-use Rattle.simplex_detector.specs.Rules.{Rules}
-use Rattle.simplex_detector.specs.Detector.{TakesMessage}
-use Rattle.simplex_detector.specs.declared.judging.Judging.{Judging}
-use Rattle.std.proofs.lemmas.Result.{on_ok_weaker}
+use Rattle.simplex_detector.proofs.Std.{OnOk, ap, on_ok_weaker, subst, sym, ⊎_elim}
+use Rattle.simplex_detector.proofs.Words.{Conflicting_finalize, Conflicting_notarize, Judging, Nullify_finalize, Rules, Schedule, TakesMessage, finalize_vote, notarize_vote, nullify_vote, rules_under}
 use Rattle.simplex_detector.proofs.DetectorLemmas.{one_round}
 use Rattle.simplex_detector.proofs.DetectorLemmas.{takes_two}
 use Rattle.simplex_detector.proofs.round_state.RoundState.observe.Given as given

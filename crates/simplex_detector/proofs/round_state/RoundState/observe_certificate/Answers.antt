@@ -1,10 +1,6 @@
-use Rattle.std.proofs.Common.{◌≡◌, true, subst, sym, ◌∙◌}
-use Rattle.std.specs.Prelude.{All}
-use Rattle.std.proofs.lemmas.Bool.{and_parts}
-use Rattle.simplex_scheme.specs.Subject.{subject_value}
-use Rattle.simplex_detector.specs.Judging.{valid_under, certified_under}
+use Rattle.simplex_detector.proofs.Std.{All, and_parts, on_ok_weaker, subst, sym, true, ◌∙◌, ◌≡◌}
+use Rattle.simplex_detector.proofs.Words.{certified_under, subject_value, valid_under}
 use Rattle.simplex_detector.proofs.CommitteeLemmas.{certified_by_scheme}
-use Rattle.std.proofs.lemmas.Result.{on_ok_weaker}
 use Rattle.simplex_detector.proofs.DetectorLemmas.{takes_certificate, RecordsValid}
 use Rattle.simplex_detector.proofs.round_state.RoundState.observe_certificate.Goals as goal
 

@@ -1,7 +1,5 @@
-use Rattle.std.proofs.Common.{refl}
-use Rattle.simplex_scheme.specs.Subject.{subject_value}
-use Rattle.simplex_detector.specs.Judging.{valid_under, certified_under}
-use Rattle.std.proofs.lemmas.Result.{on_ok_weaker}
+use Rattle.simplex_detector.proofs.Std.{on_ok_weaker, refl}
+use Rattle.simplex_detector.proofs.Words.{certified_under, subject_value, valid_under}
 use Rattle.simplex_detector.proofs.DetectorLemmas.{takes_vote}
 use Rattle.simplex_detector.proofs.round_state.RoundState.observe_vote.Goals as goal
 

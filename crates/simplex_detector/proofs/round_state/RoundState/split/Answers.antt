@@ -1,15 +1,5 @@
-use Rattle.std.proofs.Common.{◌≡◌, ◌++◌, ◌+◌, ◌-◌, ◌^◌, ◌<◌, length, map, min, sym, ap, ◌∙◌, subst, arith}
-use Rattle.std.specs.Prelude.{nat_eq}
-use Rattle.std.specs.List.{flat_map}
-use Rattle.std.specs.List.Sorted.{IsNonDecreasing}
-use Rattle.std.specs.Set.{distinct_count}
-use Rattle.std.proofs.lemmas.Simd.{map-map}
-use Rattle.simplex_detector.specs.Committees.{Schedule, committee_of, size_by}
-use Rattle.simplex_detector.specs.Rounds.{slots, found_at}
-use Rattle.simplex_detector.specs.Judging.{rules_under}
-use Rattle.simplex_detector.specs.Rules.{Rules, valid_votes}
-use Rattle.simplex_detector.specs.Values.{evidence_value}
-use Rattle.simplex_detector.specs.declared.judging.Judging.{Judging}
+use Rattle.simplex_detector.proofs.Std.{IsNonDecreasing, ap, arith, distinct_count, flat_map, length, map, map-map, min, nat_eq, subst, sym, ◌++◌, ◌+◌, ◌-◌, ◌<◌, ◌^◌, ◌∙◌, ◌≡◌}
+use Rattle.simplex_detector.proofs.Words.{Judging, Rules, Schedule, committee_of, evidence_value, found_at, rules_under, size_by, slots, valid_votes}
 use Rattle.simplex_detector.proofs.CountLemmas.{no_split, no_committee, split_found}
 use Rattle.simplex_detector.proofs.ReportLemmas.{IsEvidenceIn, evidence_in_round}
 use Rattle.simplex_detector.proofs.round_state.RoundState.split.Given as given

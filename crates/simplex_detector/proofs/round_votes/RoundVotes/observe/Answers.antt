@@ -1,9 +1,5 @@
-use Rattle.std.proofs.Common.{length, sym, ◌∙◌}
-use Rattle.simplex_detector.specs.Rules.{vote_on}
-use Rattle.std.proofs.lemmas.Bool.{false≢true}
-use Rattle.std.proofs.lemmas.Result.{on_ok_weaker}
-use Rattle.simplex_scheme.specs.Subject.{subject_value, round_of}
-use Rattle.simplex_detector.specs.Rounds.{HoldsRound}
+use Rattle.simplex_detector.proofs.Std.{false≢true, length, on_ok_weaker, sym, ◌∙◌}
+use Rattle.simplex_detector.proofs.Words.{HoldsRound, round_of, subject_value, vote_on}
 use Rattle.simplex_detector.proofs.CommitteeLemmas.{members_under}
 use Rattle.simplex_detector.proofs.Lists.{if_appended}
 use Rattle.simplex_detector.proofs.RecordedLemmas.{held_no_news, held_after}

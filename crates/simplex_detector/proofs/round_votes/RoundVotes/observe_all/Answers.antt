@@ -1,7 +1,5 @@
-use Rattle.std.proofs.Common.{◌≡◌, true, ◌+◌, [], ◌∷◌, ◌++◌, take, length, sym, ap, subst, ◌∙◌, append-nil}
-use Rattle.std.proofs.lemmas.List.{take_more, take_all}
-use Rattle.simplex_scheme.specs.Subject.{subject_value}
-use Rattle.simplex_detector.specs.Judging.{valid_under}
+use Rattle.simplex_detector.proofs.Std.{[], ap, append-nil, length, subst, sym, take, take_all, take_more, true, ◌++◌, ◌+◌, ◌∙◌, ◌∷◌, ◌≡◌}
+use Rattle.simplex_detector.proofs.Words.{subject_value, valid_under}
 use Rattle.simplex_detector.proofs.RecordedLemmas.{HoldsMore, holds_one_more}
 use Rattle.simplex_detector.proofs.round_votes.RoundVotes.observe_all.Goals as goal
 
