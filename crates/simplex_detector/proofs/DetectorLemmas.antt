@@ -1,157 +1,98 @@
 -- What is recorded, round by round, after one more message.
-use Rattle.std.proofs.Common.{◌≡◌, ℕ, Bool, true, false, cond, List, [], ◌∷◌, ◌++◌, Option, Some, None, sym, refl, ap, ◌∙◌, subst, inl, inr, append_assoc, append-nil}
-use Rattle.std.specs.Prelude.{All, IsTrue, filter}
-use Rattle.std.specs.BTreeMap.{BTreeMap, get, is_at as is_key}
-use Rattle.std.specs.Cmp.{IsEquivalence}
-use Rattle.std.specs.List.{AllByRecursion}
-use Rattle.std.specs.Option.{option_to_list}
-use Rattle.std.proofs.lemmas.Bool.{cases_Bool, and_left, and_right, and_parts, cond-true, cond-false}
-use Rattle.std.proofs.lemmas.List.Elements.{recursion_from_All, All-map, All-cons, All-nil}
-use Rattle.simplex_base.specs.Positions.{Round, same_round}
-use Rattle.simplex_scheme.specs.declared.scheme.Attestation.{Attestation}
-use Rattle.simplex_scheme.specs.Subject.{SubjectValue, round_of}
-use Rattle.simplex_votes.specs.Votes.{SignedVote, Sort, sort_of, same_sort, is_of, is_at, notarize_of, nullify_of, finalize_of, notarize_vote, nullify_vote, finalize_vote}
-use Rattle.simplex_evidence.specs.Activity.{activity_round, votes_in}
-use Rattle.simplex_evidence.specs.Contradiction.{Kind, clash, contradicts}
-use Rattle.simplex_evidence.specs.Conflict.{Conflict}
-use Rattle.simplex_evidence.specs.declared.types.activity.Activity.{Activity}
+use Rattle.simplex_detector.proofs.Std.{All, All-from_recursion, All-map, AllByRecursion, BTreeMap, Bool, IsEquivalence, IsTrue, List, None, Option, Some, [], and_left, and_parts, and_right, ap, append-nil, append_assoc, arith, cond, cond-false, false, filter, filter-append, get, is_key, length, map, option_to_list, recursion_from_All, refl, subst, sym, true, ℕ, ◌++◌, ◌∙◌, ◌∷◌, ◌≡◌}
+use Rattle.simplex_detector.proofs.Words.{Activity, Attestation, Detector, HoldsRound, IsSized, Kind, Recalls, RecallsAt, RecallsNothing, RecallsRound, RecordsFirsts, Round, RoundState, RoundVotes, Rules, Schedule, SignedVote, Sort, SubjectValue, TakesIn, TakesMessage, activity_round, certificate_in, certified_by, certified_subjects, clash, committee_of, contradicts, finalize_of, if_certified, is_at, is_news, is_of, is_valid, no_slot, notarize_of, nothing_certified, nullify_of, recorded_in, round_cmp, round_count, round_of, rules_of, same_round, same_sort, size_by, slot_of, slots, sort_of, valid_by, valid_votes, vote_on, votes_in}
+use Rattle.simplex_detector.proofs.AccountLemmas.{certificate_parts}
+use Rattle.simplex_detector.proofs.EvidenceLemmas.{valid_votes-push}
+use Rattle.simplex_detector.proofs.Places.{is_of-true, key_tells, other_round}
+use Rattle.simplex_detector.proofs.RecordedLemmas.{none_in_round, of_round, recorded_in_push, same_held, slot_after_vote}
+use Rattle.simplex_detector.proofs.SplitLemmas.{records_other_message, subjects_push}
 use Rattle.simplex_evidence.specs.declared.types.activity.Activity.TheVariants as activity
-use Rattle.simplex_votes.specs.declared.types.notarize.Notarize.{Notarize}
-use Rattle.simplex_votes.specs.declared.types.nullify.Nullify.{Nullify}
-use Rattle.simplex_votes.specs.declared.types.finalize.Finalize.{Finalize}
-use Rattle.simplex_detector.specs.Certificates.{certificate_in}
-use Rattle.simplex_detector.specs.Committees.{Schedule, committee_of, valid_by, certified_by, rules_of}
-use Rattle.simplex_detector.specs.FirstCertified.{certified_subjects, nothing_certified, RecordsFirsts}
-use Rattle.simplex_detector.specs.Rounds.{round_count, no_slot, slots, IsSized, HoldsRound}
-use Rattle.simplex_detector.specs.Recorded.{slot_of, recorded_in}
-use Rattle.simplex_detector.specs.Named.{round_cmp}
-use Rattle.simplex_detector.specs.Rules.{Rules, is_valid, valid_votes}
-use Rattle.simplex_detector.specs.Detector.{RecallsRound, RecallsNothing, RecallsAt, Recalls, TakesMessage}
-use Rattle.simplex_detector.specs.Splits.{if_certified}
-use Rattle.simplex_detector.specs.declared.round_state.RoundState.{RoundState}
-use Rattle.simplex_detector.specs.declared.detector.Detector.{Detector}
-use Rattle.simplex_detector.proofs.AccountLemmas.{round_of_certificate}
-use Rattle.simplex_detector.proofs.CertifiedLemmas.{subjects_push, records_other_message}
-use Rattle.simplex_detector.proofs.RecordedLemmas.{slot_after_vote}
-use Rattle.simplex_detector.proofs.RecordedVoteLemmas.{recorded_in_elsewhere, none_in_round}
-use Rattle.simplex_detector.proofs.NamedLemmas.{valid_votes-push}
-use Rattle.simplex_detector.proofs.Places.{is_of-true}
-use Rattle.simplex_detector.proofs.RoundKeys.{key_tells, other_round}
-use Rattle.simplex_detector.proofs.RoundLemmas.{same_held}
 
 -- ---- the votes of a message are of its round
-
--- so are two that contradict
-pub one_round : {D G : Type 0} (eq : D → D → Bool) (kind : Kind) (v w : SignedVote D G) → IsTrue (contradicts eq kind v w) → round_of w.subject ≡ round_of v.subject
-one_round eq kind v w h = (is_of-true (round_of v.subject) v.signer w (and_parts (is_of (round_of v.subject) v.signer w) (clash eq kind v.subject w.subject) h).0).0
-
--- a list of one
-all_one : {X : Type 0} (Q : X → Type 0) (x : X) → Q x → All Q (x ∷ [])
-all_one Q x h = All-cons Q x [] h (All-nil Q)
 
 -- a vote is of a round
 abbrev pub IsHere : {D G : Type 0} → Round → SignedVote D G → Type 0
 IsHere round v = round_of v.subject ≡ round
 
--- those of evidence are where its two are of one round
-pub votes_of_round : {S D C P G : Type 0} (listed : C → List (Attestation S P G)) (m : Activity S D C P G) →
-    ((c : Conflict (Notarize S D P G) (Notarize S D P G)) → m ≡ activity.ConflictingNotarize c → c.second.proposal.round ≡ c.first.proposal.round) →
-    ((c : Conflict (Finalize S D P G) (Finalize S D P G)) → m ≡ activity.ConflictingFinalize c → c.second.proposal.round ≡ c.first.proposal.round) →
-    ((c : Conflict (Nullify S P G) (Finalize S D P G)) → m ≡ activity.NullifyFinalize c → c.second.proposal.round ≡ c.first.round) →
-    All (IsHere (activity_round m)) (votes_in listed m)
-votes_of_round listed (activity.Notarize v) a b d = all_one (IsHere v.proposal.round) (notarize_vote v) refl
+-- two votes that contradict are of one round
+pub one_round : {D G : Type 0} (eq : D → D → Bool) (kind : Kind) (v w : SignedVote D G) → IsTrue (contradicts eq kind v w) → round_of w.subject ≡ round_of v.subject
+one_round eq kind v w h = (is_of-true (round_of v.subject) v.signer w (and_parts (is_of (round_of v.subject) v.signer w) (clash eq kind v.subject w.subject) h).0).0
+
+-- so are those of a message that is no evidence
+pub votes_of_round : {S D C P G : Type 0} (listed : C → List (Attestation S P G)) (m : Activity S D C P G) → ((c : _) → m ≡ activity.ConflictingNotarize c → ⊥) → ((c : _) → m ≡ activity.ConflictingFinalize c → ⊥) → ((c : _) → m ≡ activity.NullifyFinalize c → ⊥) → All (IsHere (activity_round m)) (votes_in listed m)
 votes_of_round listed (activity.Notarization n) a b d = All-map (IsHere n.proposal.round) (notarize_of n.proposal) (listed n.certificate) (λ k e lt. refl)
 votes_of_round listed (activity.Certification n) a b d = All-map (IsHere n.proposal.round) (notarize_of n.proposal) (listed n.certificate) (λ k e lt. refl)
-votes_of_round listed (activity.Nullify v) a b d = all_one (IsHere v.round) (nullify_vote v) refl
 votes_of_round listed (activity.Nullification n) a b d = All-map (IsHere n.round) (nullify_of n.round) (listed n.certificate) (λ k e lt. refl)
-votes_of_round listed (activity.Finalize v) a b d = all_one (IsHere v.proposal.round) (finalize_vote v) refl
 votes_of_round listed (activity.Finalization n) a b d = All-map (IsHere n.proposal.round) (finalize_of n.proposal) (listed n.certificate) (λ k e lt. refl)
-votes_of_round listed (activity.ConflictingNotarize c) a b d = All-cons (IsHere c.first.proposal.round) (notarize_vote c.first) (notarize_vote c.second ∷ []) refl (all_one (IsHere c.first.proposal.round) (notarize_vote c.second) (a c refl))
-votes_of_round listed (activity.ConflictingFinalize c) a b d = All-cons (IsHere c.first.proposal.round) (finalize_vote c.first) (finalize_vote c.second ∷ []) refl (all_one (IsHere c.first.proposal.round) (finalize_vote c.second) (b c refl))
-votes_of_round listed (activity.NullifyFinalize c) a b d = All-cons (IsHere c.first.round) (nullify_vote c.first) (finalize_vote c.second ∷ []) refl (all_one (IsHere c.first.round) (finalize_vote c.second) (d c refl))
+votes_of_round listed (activity.ConflictingNotarize c) a b d = absurd (a c refl)
+votes_of_round listed (activity.ConflictingFinalize c) a b d = absurd (b c refl)
+votes_of_round listed (activity.NullifyFinalize c) a b d = absurd (d c refl)
+votes_of_round listed m a b d = All-from_recursion (IsHere (activity_round m)) (votes_in listed m) (refl, tt)
 
 -- ---- other rounds
 
--- what no vote of a round changes, more such votes leave
-stays : {D G X : Type 0} (f : List (SignedVote D G) → X) (keep : SignedVote D G → Bool) (round : Round) → ((vs : List (SignedVote D G)) (v : SignedVote D G) → round_of v.subject ≡ round → f (vs ++ v ∷ []) ≡ f vs) → (more vs : List (SignedVote D G)) → AllByRecursion (λ v. round_of v.subject ≡ round) more → f (vs ++ filter keep more) ≡ f vs
-stays f keep round one [] vs here = ap f (append-nil vs)
-stays {D} {G} f keep round one (v ∷ more) vs here = by (keep v) refl (λ ws. stays f keep round one more ws here.1)
+-- what one more leaves, more leave
+appended : {X : Type 0} (P : List X → Type 0) (Q : X → Type 0) (keep : X → Bool) → ((xs : List X) (x : X) → Q x → P xs → P (xs ++ x ∷ [])) → (more xs : List X) → AllByRecursion Q more → P xs → P (xs ++ filter keep more)
+appended P Q keep one [] xs q p = subst P (sym (append-nil xs)) p
+appended P Q keep one (x ∷ more) xs q p = by (keep x) (λ ys. appended P Q keep one more ys q.1)
   where
-    by : (b : Bool) → keep v ≡ b → ((ws : List (SignedVote D G)) → f (ws ++ filter keep more) ≡ f ws) → f (vs ++ cond (keep v) (v ∷ filter keep more) (filter keep more)) ≡ f vs
-    by true e rest =
-        ap (λ b. f (vs ++ cond b (v ∷ filter keep more) (filter keep more))) e ∙
-        ap f (sym (append_assoc vs (v ∷ []) (filter keep more))) ∙
-        rest (vs ++ v ∷ []) ∙
-        one vs v here.0
-    by false e rest = ap (λ b. f (vs ++ cond b (v ∷ filter keep more) (filter keep more))) e ∙ rest vs
+    by : (b : Bool) → ((ys : List _) → P ys → P (ys ++ filter keep more)) → P (xs ++ cond b (x ∷ filter keep more) (filter keep more))
+    by true rest = subst P (append_assoc xs (x ∷ []) (filter keep more)) (rest (xs ++ x ∷ []) (one xs x q.0 p))
+    by false rest = rest xs p
 
--- votes of a round leave the slots of other rounds
-others_stay : {D G : Type 0} (eq : D → D → Bool) → IsEquivalence eq → (keep : SignedVote D G → Bool) (round : Round) (more vs : List (SignedVote D G)) → AllByRecursion (λ v. round_of v.subject ≡ round) more → (q : Round) → same_round round q ≡ false → (sort : Sort) (signer : ℕ) → slot_of eq (vs ++ filter keep more) sort q signer ≡ slot_of eq vs sort q signer
-others_stay eq l keep round more vs here q apart sort signer =
-    stays (λ ws. slot_of eq ws sort q signer) keep round
-    (λ ws v is.
-    let away : is_at sort q signer v ≡ false = and_right (same_sort (sort_of v.subject) sort) _ (and_left (same_round (round_of v.subject) q) _ (ap (λ r. same_round r q) is ∙ apart)) in
-    slot_after_vote eq l ws v sort q signer ∙ cond-false (is_at sort q signer v) _ _ away)
-    more vs here
-
--- and as many votes of those are recorded
-as_many_stay : {D G : Type 0} (eq : D → D → Bool) (keep : SignedVote D G → Bool) (round : Round) (more vs : List (SignedVote D G)) → AllByRecursion (λ v. round_of v.subject ≡ round) more → (q : Round) → same_round round q ≡ false → recorded_in eq (vs ++ filter keep more) q ≡ recorded_in eq vs q
-as_many_stay eq keep round more vs here q apart =
-    stays (λ ws. recorded_in eq ws q) keep round (λ ws v is. recorded_in_elsewhere eq ws v q (ap (λ r. same_round r q) is ∙ apart)) more vs here
-
-module _ {S D C P G : Type 0} (rules : Rules S D C P G) (messages : List (Activity S D C P G)) (m : Activity S D C P G) where
+module _ {S D C P G : Type 0} (rules : Rules S D C P G) (l : IsEquivalence rules.eq) (messages : List (Activity S D C P G)) (m : Activity S D C P G) (here : All (IsHere (activity_round m)) (votes_in rules.listed m)) where
   -- what is recorded of the messages and of one more
   abbrev RecallsNext : Round → Option (RoundState S D P G) → Type 0
   RecallsNext round o = RecallsAt rules (messages ++ m ∷ []) round o
 
   -- what is recorded of another round stays
-  elsewhere : IsEquivalence rules.eq → All (λ v. round_of v.subject ≡ activity_round m) (votes_in rules.listed m) → (q : Round) → same_round (activity_round m) q ≡ false → (o : Option (RoundState S D P G)) → RecallsAt rules messages q o → RecallsNext q o
-  elsewhere l here q apart o recalls = by o recalls
+  elsewhere : (q : Round) → same_round (activity_round m) q ≡ false → (o : Option (RoundState S D P G)) → RecallsAt rules messages q o → RecallsNext q o
+  elsewhere q apart o recalls = by o recalls
     where
-      same : (sort : Sort) (signer : ℕ) → slot_of rules.eq (valid_votes rules (messages ++ m ∷ [])) sort q signer ≡ slot_of rules.eq (valid_votes rules messages) sort q signer
-      same sort signer =
-          ap (λ ws. slot_of rules.eq ws sort q signer) (valid_votes-push rules messages m) ∙
-          others_stay rules.eq l (is_valid rules) (activity_round m) (votes_in rules.listed m) (valid_votes rules messages) (recursion_from_All _ (votes_in rules.listed m) here) q apart sort signer
+      slot : (vs : List (SignedVote D G)) (v : SignedVote D G) → IsHere (activity_round m) v → (sort : Sort) (signer : ℕ) → slot_of rules.eq (vs ++ v ∷ []) sort q signer ≡ slot_of rules.eq vs sort q signer
+      slot vs v v_here sort signer =
+          slot_after_vote rules.eq l vs v sort q signer ∙
+          cond-false (is_at sort q signer v) _ _ (and_right (same_sort (sort_of v.subject) sort) _ (and_left (same_round (round_of v.subject) q) _ (ap (λ r. same_round r q) v_here ∙ apart)))
 
-      as_many : recorded_in rules.eq (valid_votes rules (messages ++ m ∷ [])) q ≡ recorded_in rules.eq (valid_votes rules messages) q
-      as_many =
-          ap (λ ws. recorded_in rules.eq ws q) (valid_votes-push rules messages m) ∙
-          as_many_stay rules.eq (is_valid rules) (activity_round m) (votes_in rules.listed m) (valid_votes rules messages) (recursion_from_All _ (votes_in rules.listed m) here) q apart
+      many : (vs : List (SignedVote D G)) (v : SignedVote D G) → IsHere (activity_round m) v → recorded_in rules.eq (vs ++ v ∷ []) q ≡ recorded_in rules.eq vs q
+      many vs v v_here =
+          let none = ap (λ b. length (cond b (v ∷ []) [])) (and_left (of_round q v) (is_news rules.eq vs v) (ap (λ r. same_round r q) v_here ∙ apart)) in
+          omega (arith, none, recorded_in_push rules.eq vs v q)
+
+      votes : (Recorded : List (SignedVote D G) → Type 0) → ((vs : List (SignedVote D G)) (v : SignedVote D G) → IsHere (activity_round m) v → Recorded vs → Recorded (vs ++ v ∷ [])) → Recorded (valid_votes rules messages) → Recorded (valid_votes rules (messages ++ m ∷ []))
+      votes Recorded one r = subst Recorded (sym (valid_votes-push rules messages m)) (appended Recorded (IsHere (activity_round m)) (is_valid rules) one (votes_in rules.listed m) (valid_votes rules messages) (recursion_from_All _ _ here) r)
 
       by : (o : Option (RoundState S D P G)) → RecallsAt rules messages q o → RecallsNext q o
-      by None r = record { votes = λ signer sort. r.votes signer sort ∙ sym (same sort signer); subjects = records_other_message rules rules.eq l messages m q nothing_certified apart r.subjects }
-      by (Some round_state) r = record { votes = same_held rules.eq (rules.size q.epoch) _ _ q round_state.votes same as_many r.votes; subjects = records_other_message rules rules.eq l messages m q round_state.certified apart r.subjects }
+      by None r = record {
+        votes = votes (λ vs. (signer : ℕ) (sort : Sort) → no_slot ≡ slot_of rules.eq vs sort q signer) (λ vs v v_here e signer sort. e signer sort ∙ sym (slot vs v v_here sort signer)) r.votes;
+        subjects = records_other_message rules l messages m q nothing_certified apart r.subjects;
+      }
+      by (Some round_state) r = record {
+        votes = votes (λ vs. HoldsRound rules.eq (rules.size q.epoch) vs q round_state.votes) (λ vs v v_here. same_held rules.eq (rules.size q.epoch) vs (vs ++ v ∷ []) q round_state.votes (slot vs v v_here) (many vs v v_here)) r.votes;
+        subjects = records_other_message rules l messages m q round_state.certified apart r.subjects;
+      }
 
   -- ---- the round of the message
 
   -- what is recorded where its round alone is changed
-  pub recalls_changed : IsEquivalence rules.eq → (round : Round) → round ≡ activity_round m → All (λ v. round_of v.subject ≡ activity_round m) (votes_in rules.listed m) → (after : RoundState S D P G) (old new : BTreeMap Round (RoundState S D P G)) → ((q : Round) → get round_cmp new q ≡ cond (is_key (round_cmp round) q) (Some after) (get round_cmp old q)) → RecallsRound rules (messages ++ m ∷ []) (activity_round m) after → Recalls rules messages (let detector : Detector S D P G = record { rounds = old } in detector) → (q : Round) → RecallsNext q (get round_cmp new q)
-  recalls_changed l round at here after old new is own holds q =
-      elim (cases_Bool (is_key (round_cmp round) q)) [
-        | inl e ↦
-            subst (RecallsNext q) (sym (is q ∙ cond-true (is_key (round_cmp round) q) (Some after) (get round_cmp old q) e))
-            (subst (λ r. RecallsRound rules (messages ++ m ∷ []) r after) (sym at ∙ key_tells round q e) own)
-        | inr e ↦
-            subst (RecallsNext q) (sym (is q ∙ cond-false (is_key (round_cmp round) q) (Some after) (get round_cmp old q) e))
-            (elsewhere l here q (ap (λ r. same_round r q) (sym at) ∙ other_round round q e) (get round_cmp old q) (holds q))
-      ]
+  pub recalls_changed : (round : Round) → round ≡ activity_round m → (after : Option (RoundState S D P G)) (old new : BTreeMap Round (RoundState S D P G)) → ((q : Round) → get round_cmp new q ≡ cond (is_key (round_cmp round) q) after (get round_cmp old q)) → RecallsNext (activity_round m) after → Recalls rules messages (let detector : Detector S D P G = record { rounds = old } in detector) → (q : Round) → RecallsNext q (get round_cmp new q)
+  recalls_changed round at after old new is own holds q = subst (RecallsNext q) (sym (is q)) (by (is_key (round_cmp round) q) refl)
+    where
+      by : (b : Bool) → is_key (round_cmp round) q ≡ b → RecallsNext q (cond b after (get round_cmp old q))
+      by true e = subst (λ r. RecallsNext r after) (sym at ∙ key_tells round q e) own
+      by false e = elsewhere q (ap (λ r. same_round r q) (sym at) ∙ other_round round q e) (get round_cmp old q) (holds q)
 
   -- where nothing is recorded of its round, before and after
-  pub recalls_still_none : IsEquivalence rules.eq → (round : Round) → round ≡ activity_round m → All (λ v. round_of v.subject ≡ activity_round m) (votes_in rules.listed m) → (after : RoundState S D P G) (old : BTreeMap Round (RoundState S D P G)) → get round_cmp old round ≡ None → ((signer : ℕ) (sort : Sort) → slots after.votes signer sort ≡ no_slot) → after.certified ≡ nothing_certified → RecallsRound rules (messages ++ m ∷ []) (activity_round m) after → Recalls rules messages (let detector : Detector S D P G = record { rounds = old } in detector) → (q : Round) → RecallsNext q (get round_cmp old q)
-  recalls_still_none l round at here after old none empty nothing own holds q =
-      elim (cases_Bool (is_key (round_cmp round) q)) [
-        | inl e ↦
-            let own_none : RecallsNothing rules (messages ++ m ∷ []) (activity_round m) = record {
-              votes = λ signer sort. sym (empty signer sort) ∙ own.votes.held signer sort;
-              subjects = subst (RecordsFirsts rules.eq (certified_subjects rules (messages ++ m ∷ [])) (activity_round m)) nothing own.subjects;
-            } in
-            subst (λ r. RecallsNext r (get round_cmp old r)) (sym at ∙ key_tells round q e) (subst (RecallsNext (activity_round m)) (sym (ap (get round_cmp old) (sym at) ∙ none)) own_none)
-        | inr e ↦ elsewhere l here q (ap (λ r. same_round r q) (sym at) ∙ other_round round q e) (get round_cmp old q) (holds q)
-      ]
-
--- what is recorded of a round that is there
-pub recalls_found : {S D C P G : Type 0} (rules : Rules S D C P G) (messages : List (Activity S D C P G)) (rounds : BTreeMap Round (RoundState S D P G)) (round : Round) (round_state : RoundState S D P G) → Some round_state ≡ get round_cmp rounds round → Recalls rules messages (let detector : Detector S D P G = record { rounds = rounds } in detector) → RecallsRound rules messages round round_state
-recalls_found rules messages rounds round round_state found holds = subst (RecallsAt rules messages round) (sym found) (holds round)
+  pub recalls_still_none : (round : Round) → round ≡ activity_round m → (after : RoundState S D P G) (old : BTreeMap Round (RoundState S D P G)) → get round_cmp old round ≡ None → ((signer : ℕ) (sort : Sort) → slots after.votes signer sort ≡ no_slot) → after.certified ≡ nothing_certified → RecallsRound rules (messages ++ m ∷ []) (activity_round m) after → Recalls rules messages (let detector : Detector S D P G = record { rounds = old } in detector) → (q : Round) → RecallsNext q (get round_cmp old q)
+  recalls_still_none round at after old none empty nothing own =
+      recalls_changed round at None old old (λ q. by q (is_key (round_cmp round) q) refl) (record {
+        votes = λ signer sort. sym (empty signer sort) ∙ own.votes.held signer sort;
+        subjects = subst (RecordsFirsts rules.eq (certified_subjects rules (messages ++ m ∷ [])) (activity_round m)) nothing own.subjects;
+      })
+    where
+      by : (q : Round) (b : Bool) → is_key (round_cmp round) q ≡ b → get round_cmp old q ≡ cond b None (get round_cmp old q)
+      by q true e = ap (get round_cmp old) (sym (key_tells round q e)) ∙ none
+      by q false e = refl
 
 -- what is recorded of a round that is not there yet
 pub recalls_new : {S D C P G : Type 0} (rules : Rules S D C P G) → IsEquivalence rules.eq → (messages : List (Activity S D C P G)) (rounds : BTreeMap Round (RoundState S D P G)) (round : Round) (round_state : RoundState S D P G) → None ≡ get round_cmp rounds round → IsSized (rules.size round.epoch) round_state.votes → ((signer : ℕ) (sort : Sort) → slots round_state.votes signer sort ≡ no_slot) → round_count round_state.votes ≡ 0 → round_state.certified ≡ nothing_certified → Recalls rules messages (let detector : Detector S D P G = record { rounds = rounds } in detector) → RecallsRound rules messages round round_state
@@ -166,44 +107,91 @@ recalls_new {S} {D} {C} {P} {G} rules l messages rounds round round_state none s
       subjects = subst (RecordsFirsts rules.eq (certified_subjects rules messages) round) (sym nothing) at.subjects;
     }
 
--- ---- who judges
+-- ---- votes and certificates of a round are judged by the committee of its epoch
 
-module _ {S D C P G : Type 0} (eq : D → D → Bool) (keys : S → List P) (good : S → SubjectValue D → ℕ → G → Bool) (certified : S → SubjectValue D → C → Bool) (listed : C → List (Attestation S P G)) (schedule : Schedule S) (messages : List (Activity S D C P G)) (m : Activity S D C P G) where
+module _ {S D C P G : Type 0} (eq : D → D → Bool) (keys : S → List P) (good : S → SubjectValue D → ℕ → G → Bool) (certified : S → SubjectValue D → C → Bool) (listed : C → List (Attestation S P G)) where
   -- what messages are judged by
-  abbrev rules : Rules S D C P G
-  rules = rules_of eq keys good certified listed schedule
+  abbrev judges : Schedule S → Rules S D C P G
+  judges = rules_of eq keys good certified listed
 
-  -- what is recorded of the message's round, after it
-  pub recalls_taken : (s : S) → committee_of schedule (activity_round m).epoch ≡ Some s → (old new : RoundState S D P G) → TakesMessage (rules_of eq keys good certified listed) s listed m old new → RecallsRound rules messages (activity_round m) old → RecallsRound rules (messages ++ m ∷ []) (activity_round m) new
-  recalls_taken s is old new takes recalls = record {
-    votes = subst (λ vs. HoldsRound eq (rules.size (activity_round m).epoch) vs (activity_round m) new.votes) (sym (valid_votes-push rules messages m)) (takes.cast schedule is (valid_votes rules messages) recalls.votes);
-    subjects = subst (λ xs. RecordsFirsts eq xs (activity_round m) new.certified) (sym (subjects_push rules messages m)) (takes.certified schedule is (certified_subjects rules messages) recalls.subjects);
+  -- what a committee records of the valid ones among votes on a subject
+  abbrev pub RecordsValid : S → SubjectValue D → List (Attestation S P G) → RoundVotes S D P G → RoundVotes S D P G → Type 0
+  RecordsValid s x given before after =
+      (vs : List (SignedVote D G)) → HoldsRound eq (length (keys s)) vs (round_of x) before →
+      HoldsRound eq (length (keys s)) (vs ++ filter (λ v. good s v.subject v.signer v.signature) (map (vote_on x) given)) (round_of x) after
+
+  -- they are recorded, for any other committees
+  cast_by : (s : S) (x : SubjectValue D) (given : List (Attestation S P G)) (before after : RoundVotes S D P G) → RecordsValid s x given before after → (schedule : Schedule S) → committee_of schedule (round_of x).epoch ≡ Some s → (vs : List (SignedVote D G)) → HoldsRound eq ((judges schedule).size (round_of x).epoch) vs (round_of x) before → HoldsRound eq ((judges schedule).size (round_of x).epoch) (vs ++ filter (is_valid (judges schedule)) (map (vote_on x) given)) (round_of x) after
+  cast_by s x given before after records schedule is vs holds =
+      let size : length (keys s) ≡ (judges schedule).size (round_of x).epoch = ap (size_by keys) (sym is) in
+      subst (λ n. HoldsRound eq n (vs ++ filter (is_valid (judges schedule)) (map (vote_on x) given)) (round_of x) after) size
+      (subst (λ ws. HoldsRound eq (length (keys s)) (vs ++ ws) (round_of x) after) (same given)
+      (records vs (subst (λ n. HoldsRound eq n vs (round_of x) before) (sym size) holds)))
+    where
+      same : (given : List (Attestation S P G)) → filter (λ v. good s v.subject v.signer v.signature) (map (vote_on x) given) ≡ filter (is_valid (judges schedule)) (map (vote_on x) given)
+      same [] = refl
+      same (a ∷ given) = λ i. cond (valid_by good (sym is i) x a.signer a.signature) (vote_on x a ∷ same given i) (same given i)
+
+  -- a vote on a subject
+  pub takes_vote : (s : S) (x : SubjectValue D) (a : Attestation S P G) (old new : RoundState S D P G) → new.certified ≡ old.certified → RecordsValid s x (a ∷ []) old.votes new.votes → TakesIn judges s (round_of x) (vote_on x a ∷ []) None old new
+  takes_vote s x a old new same records = record {
+    cast = cast_by s x (a ∷ []) old.votes new.votes records;
+    certified = λ schedule is xs holds. subst (λ ys. RecordsFirsts eq ys (round_of x) new.certified) (sym (append-nil xs)) (subst (RecordsFirsts eq xs (round_of x)) (sym same) holds);
   }
 
-  -- without a committee no vote is valid
-  none_valid : (vs : List (SignedVote D G)) → AllByRecursion (λ v. round_of v.subject ≡ activity_round m) vs → committee_of schedule (activity_round m).epoch ≡ None → filter (is_valid rules) vs ≡ []
-  none_valid [] here none = refl
-  none_valid (v ∷ vs) here none =
-      cond-false (is_valid rules v) (v ∷ filter (is_valid rules) vs) (filter (is_valid rules) vs)
-      (ap (λ r. valid_by good (committee_of schedule r.epoch) v.subject v.signer v.signature) here.0 ∙ ap (λ o. valid_by good o v.subject v.signer v.signature) none) ∙ none_valid vs here.1 none
-
-  -- and nothing is certified
-  none_certified : committee_of schedule (activity_round m).epoch ≡ None → (o : Option (SubjectValue D × C)) → certificate_in m ≡ o → if_certified rules o ≡ None
-  none_certified none None is = refl
-  none_certified none (Some s) is =
-      cond-false (rules.certified s.0 s.1) (Some s.0) None
-      (ap (λ r. certified_by certified (committee_of schedule r.epoch) s.0 s.1) (sym (round_of_certificate m s is)) ∙ ap (λ o. certified_by certified o s.0 s.1) none)
-
-  -- so nothing more is recorded
-  pub recalls_no_committee : All (λ v. round_of v.subject ≡ activity_round m) (votes_in listed m) → None ≡ committee_of schedule (activity_round m).epoch → (q : Round) (o : Option (RoundState S D P G)) → RecallsAt rules messages q o → RecallsAt rules (messages ++ m ∷ []) q o
-  recalls_no_committee here none q o recalls = by o recalls
+  -- a certificate of a subject, with the votes that it lists
+  pub takes_certificate : (s : S) (x : SubjectValue D) (c : C) (old new : RoundState S D P G) → ((xs : List (SubjectValue D)) → RecordsFirsts eq xs (round_of x) old.certified → RecordsFirsts eq (xs ++ cond (certified s x c) (x ∷ []) []) (round_of x) new.certified) → RecordsValid s x (listed c) old.votes new.votes → TakesIn judges s (round_of x) (map (vote_on x) (listed c)) (Some (x, c)) old new
+  takes_certificate s x c old new subjects votes = record {
+    cast = cast_by s x (listed c) old.votes new.votes votes;
+    certified = λ schedule is xs holds. subst (λ ys. RecordsFirsts eq (xs ++ ys) (round_of x) new.certified) (alone (certified s x c) ∙ ap (λ o. option_to_list (cond (certified_by certified o x c) (Some x) None)) (sym is)) (subjects xs holds);
+  }
     where
-      votes : valid_votes rules messages ≡ valid_votes rules (messages ++ m ∷ [])
-      votes = sym (valid_votes-push rules messages m ∙ ap (λ vs. valid_votes rules messages ++ vs) (none_valid (votes_in listed m) (recursion_from_All _ (votes_in listed m) here) (sym none)) ∙ append-nil (valid_votes rules messages))
+      alone : (b : Bool) → cond b (x ∷ []) [] ≡ option_to_list (cond b (Some x) None)
+      alone true = refl
+      alone false = refl
 
-      subjects : certified_subjects rules messages ≡ certified_subjects rules (messages ++ m ∷ [])
-      subjects = sym (subjects_push rules messages m ∙ ap (λ p. certified_subjects rules messages ++ option_to_list p) (none_certified (sym none) (certificate_in m) refl) ∙ append-nil (certified_subjects rules messages))
+  module _ (schedule : Schedule S) (messages : List (Activity S D C P G)) (m : Activity S D C P G) where
+    -- what is recorded of the message's round, after it
+    pub recalls_taken : (s : S) → committee_of schedule (activity_round m).epoch ≡ Some s → (old new : RoundState S D P G) → TakesMessage judges s listed m old new → RecallsRound (judges schedule) messages (activity_round m) old → RecallsRound (judges schedule) (messages ++ m ∷ []) (activity_round m) new
+    recalls_taken s is old new takes recalls = record {
+      votes = subst (λ vs. HoldsRound eq ((judges schedule).size (activity_round m).epoch) vs (activity_round m) new.votes) (sym (valid_votes-push (judges schedule) messages m)) (takes.cast schedule is (valid_votes (judges schedule) messages) recalls.votes);
+      subjects = subst (λ xs. RecordsFirsts eq xs (activity_round m) new.certified) (sym (subjects_push (judges schedule) messages m)) (takes.certified schedule is (certified_subjects (judges schedule) messages) recalls.subjects);
+    }
 
-      by : (o : Option (RoundState S D P G)) → RecallsAt rules messages q o → RecallsAt rules (messages ++ m ∷ []) q o
-      by None r = record { votes = subst (λ vs. (signer : ℕ) (sort : Sort) → no_slot ≡ slot_of eq vs sort q signer) votes r.votes; subjects = subst (λ xs. RecordsFirsts eq xs q nothing_certified) subjects r.subjects }
-      by (Some round_state) r = record { votes = subst (λ vs. HoldsRound eq (rules.size q.epoch) vs q round_state.votes) votes r.votes; subjects = subst (λ xs. RecordsFirsts eq xs q round_state.certified) subjects r.subjects }
+    -- without a committee nothing more is valid or certified, and nothing more is recorded
+    pub recalls_no_committee : All (IsHere (activity_round m)) (votes_in listed m) → None ≡ committee_of schedule (activity_round m).epoch → (q : Round) (o : Option (RoundState S D P G)) → RecallsAt (judges schedule) messages q o → RecallsAt (judges schedule) (messages ++ m ∷ []) q o
+    recalls_no_committee here none q = by
+      where
+        no_vote : (vs : List (SignedVote D G)) → AllByRecursion (IsHere (activity_round m)) vs → filter (is_valid (judges schedule)) vs ≡ []
+        no_vote [] h = refl
+        no_vote (v ∷ vs) h = (λ i. cond (valid_by good ((ap (λ r. committee_of schedule r.epoch) h.0 ∙ sym none) i) v.subject v.signer v.signature) (v ∷ filter (is_valid (judges schedule)) vs) (filter (is_valid (judges schedule)) vs)) ∙ no_vote vs h.1
+
+        no_subject : (o : Option (SubjectValue D × C)) → certificate_in m ≡ o → if_certified (judges schedule) o ≡ None
+        no_subject None is = refl
+        no_subject (Some s) is = λ i. cond (certified_by certified ((ap (λ r. committee_of schedule r.epoch) (sym (certificate_parts listed m s is).0) ∙ sym none) i) s.0 s.1) (Some s.0) None
+
+        votes : valid_votes (judges schedule) messages ≡ valid_votes (judges schedule) (messages ++ m ∷ [])
+        votes = sym (valid_votes-push (judges schedule) messages m ∙ ap (λ vs. valid_votes (judges schedule) messages ++ vs) (no_vote (votes_in listed m) (recursion_from_All _ (votes_in listed m) here)) ∙ append-nil (valid_votes (judges schedule) messages))
+
+        subjects : certified_subjects (judges schedule) messages ≡ certified_subjects (judges schedule) (messages ++ m ∷ [])
+        subjects = sym (subjects_push (judges schedule) messages m ∙ ap (λ p. certified_subjects (judges schedule) messages ++ option_to_list p) (no_subject (certificate_in m) refl) ∙ append-nil (certified_subjects (judges schedule) messages))
+
+        by : (o : Option (RoundState S D P G)) → RecallsAt (judges schedule) messages q o → RecallsAt (judges schedule) (messages ++ m ∷ []) q o
+        by None r = record { votes = subst (λ vs. (signer : ℕ) (sort : Sort) → no_slot ≡ slot_of eq vs sort q signer) votes r.votes; subjects = subst (λ xs. RecordsFirsts eq xs q nothing_certified) subjects r.subjects }
+        by (Some round_state) r = record { votes = subst (λ vs. HoldsRound eq ((judges schedule).size q.epoch) vs q round_state.votes) votes r.votes; subjects = subst (λ xs. RecordsFirsts eq xs q round_state.certified) subjects r.subjects }
+
+-- two votes of one round, one after the other
+pub takes_two : {S D C P G : Type 0} (rules : Schedule S → Rules S D C P G) (s : S) (v v' w w' : SignedVote D G) (old mid new : RoundState S D P G) → v ≡ v' → w ≡ w' → round_of w'.subject ≡ round_of v'.subject → TakesIn rules s (round_of v.subject) (v ∷ []) None old mid → TakesIn rules s (round_of w.subject) (w ∷ []) None mid new → TakesIn rules s (round_of v'.subject) (v' ∷ w' ∷ []) None old new
+takes_two {S} {D} {C} {P} {G} rules s v v' w w' old mid new v_is w_is here one two =
+    both (subst (λ (x : SignedVote D G). TakesIn rules s (round_of x.subject) (x ∷ []) None old mid) v_is one)
+    (subst (λ r. TakesIn rules s r (w' ∷ []) None mid new) here (subst (λ (x : SignedVote D G). TakesIn rules s (round_of x.subject) (x ∷ []) None mid new) w_is two))
+  where
+    both : {round : Round} → TakesIn rules s round (v' ∷ []) None old mid → TakesIn rules s round (w' ∷ []) None mid new → TakesIn rules s round (v' ∷ w' ∷ []) None old new
+    both {round} first second = record {
+      cast = λ schedule is vs holds.
+          let keep = is_valid (rules schedule) in
+          subst (λ ws. HoldsRound (rules schedule).eq ((rules schedule).size round.epoch) ws round new.votes)
+          (append_assoc vs (filter keep (v' ∷ [])) (filter keep (w' ∷ [])) ∙ ap (λ ws. vs ++ ws) (sym (filter-append keep (v' ∷ []) (w' ∷ []))))
+          (second.cast schedule is _ (first.cast schedule is vs holds));
+      certified = λ schedule is xs holds. subst (λ ys. RecordsFirsts (rules schedule).eq (ys ++ []) round new.certified) (append-nil xs) (second.certified schedule is (xs ++ []) (first.certified schedule is xs holds));
+    }

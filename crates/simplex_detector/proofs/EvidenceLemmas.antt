@@ -1,124 +1,143 @@
--- Every signer that is named has evidence, and the votes determine a report.
-use Rattle.std.proofs.Common.{◌≡◌, Bool, true, List, Option, Some, None, map, sym, ap, ◌∙◌, inl, inr, ◌⊎◌, ⊎_elim}
-use Rattle.std.specs.Prelude.{All, Contains, ◌&&◌}
-use Rattle.std.specs.Option.{is_some}
-use Rattle.std.specs.List.{find, list_any}
-use Rattle.std.specs.Cmp.{IsEquivalence}
-use Rattle.std.proofs.lemmas.Bool.{and_parts, and_from}
-use Rattle.std.proofs.lemmas.List.Elements.{recursion_from_All, All-contains, All-map, All-weaker}
-use Rattle.simplex_scheme.specs.Subject.{round_of}
-use Rattle.simplex_votes.specs.Votes.{SignedVote, sort_of, same_sort, is_of, is_at}
-use Rattle.simplex_evidence.specs.Contradiction.{Kind, Evidence, clash, contradicts, first_sort}
-use Rattle.simplex_detector.specs.Named.{Named, is_named, named_by, named_cmp}
-use Rattle.simplex_detector.specs.Evidence.{evidence_of, with_first, with_second, IsEvidence, IsEquivocation}
-use Rattle.simplex_detector.specs.Laws.{EvidenceIsUnique, NamesExactly}
-use Rattle.simplex_detector.proofs.Lists.{same_bool, some_from_is_some, find_from_any, find_passes, find-Contains, any_from_Contains, Contains-from_list_any, unique_by_keys}
-use Rattle.simplex_detector.proofs.Places.{is_of-true, is_of-from, is_of-both, clash-first, clash_with_one, named_cmp_total}
+-- Who is named, the evidence of everyone who is named, and that the votes determine a report.
+use Rattle.simplex_detector.proofs.Std.{All, All-contains, Bool, Contains, Contains-append_left, Contains-permutation, IsEquivalence, IsPermutation, IsPermutation-sym, List, None, Option, Some, [], and_from, and_parts, ap, append-nil, filter, filter-append, find, flat_map, flat_map-append, is_some, list_any, refl, same_Some, subst, sym, true, ⊎_elim, ◌&&◌, ◌++◌, ◌∙◌, ◌∷◌, ◌≡◌}
+use Rattle.simplex_detector.proofs.Words.{Activity, Evidence, EvidenceIsUnique, IsEquivocation, IsEvidence, Named, NamedInAnyOrder, NamesExactly, Rules, SignedVote, clash, contradicts, evidence_of, first_sort, is_at, is_named, is_of, is_valid, named_by, named_cmp, round_of, same_sort, sort_of, valid_votes, votes_in, with_first, with_second}
+use Rattle.simplex_detector.proofs.Lists.{Contains-filter, Contains-flat_map, Contains-from_filter, Contains-from_flat_map, Contains-from_list_any, IsListing, any_from_Contains, each, find_from_Contains, found, listed_is_some, listing_is_unique, same_bool, some_from_is_some}
+use Rattle.simplex_detector.proofs.Places.{Spot, clash_parts, clash_with_one, exact_named, is_at-from, is_at-true, is_of-from, is_of-true, named_cmp_total}
 
--- ---- what an evidence consists of
+-- ---- the valid votes of messages
 
--- an evidence of two votes consists of them
-with_second-Some : {D G : Type 0} (kind : Kind) (v : SignedVote D G) (o : Option (SignedVote D G)) (e : Evidence D G) → with_second kind v o ≡ Some e → (e.kind ≡ kind) × (e.first ≡ v) × (o ≡ Some e.second)
-with_second-Some kind v None e h = cc
-with_second-Some {D} {G} kind v (Some w) e h =
-    let made : Evidence D G = record { kind = kind; first = v; second = w } in
-    let same : made ≡ e = cc in
-    (ap (λ x. x.kind) (sym same), ap (λ x. x.first) (sym same), ap (λ x. Some x.second) same)
+-- a valid vote is one that a message holds
+pub valid_from : {S D C P G : Type 0} (rules : Rules S D C P G) (ms : List (Activity S D C P G)) (v : SignedVote D G) → Contains (valid_votes rules ms) v → (m : Activity S D C P G) × Contains ms m × Contains (votes_in rules.listed m) v × (is_valid rules v ≡ true)
+valid_from rules ms v h =
+    let (v_in, valid) = Contains-from_filter (is_valid rules) (flat_map (votes_in rules.listed) ms) v h in
+    let (m, m_in, own) = Contains-from_flat_map (votes_in rules.listed) ms v v_in in (m, m_in, own, valid)
 
--- its first vote is the earliest of its sort, and its second the earliest that contradicts that
-pub evidence_parts : {D G : Type 0} (eq : D → D → Bool) (vs : List (SignedVote D G)) (kind : Kind) (o : Option (SignedVote D G)) (e : Evidence D G) → with_first eq vs kind o ≡ Some e → (e.kind ≡ kind) × (o ≡ Some e.first) × (find (contradicts eq kind e.first) vs ≡ Some e.second)
-evidence_parts eq vs kind None e h = cc
-evidence_parts eq vs kind (Some v) e h =
-    let p = with_second-Some kind v (find (contradicts eq kind v) vs) e h in
-    (p.0, ap Some (sym p.1), ap (λ x. find (contradicts eq kind x) vs) p.1 ∙ p.2)
+pub valid_in : {S D C P G : Type 0} (rules : Rules S D C P G) (ms : List (Activity S D C P G)) (v : SignedVote D G) (m : Activity S D C P G) → Contains ms m → Contains (votes_in rules.listed m) v → is_valid rules v ≡ true → Contains (valid_votes rules ms) v
+valid_in rules ms v m m_in own valid = Contains-filter (is_valid rules) _ v (Contains-flat_map (votes_in rules.listed) ms m v m_in own) valid
+
+-- those of messages and of those that follow
+pub valid_votes-append : {S D C P G : Type 0} (rules : Rules S D C P G) (ms ks : List (Activity S D C P G)) → valid_votes rules (ms ++ ks) ≡ valid_votes rules ms ++ valid_votes rules ks
+valid_votes-append rules ms ks =
+    ap (filter (is_valid rules)) (flat_map-append (votes_in rules.listed) ms ks) ∙ filter-append (is_valid rules) (flat_map (votes_in rules.listed) ms) (flat_map (votes_in rules.listed) ks)
+
+-- those of messages and of one more
+pub valid_votes-push : {S D C P G : Type 0} (rules : Rules S D C P G) (ms : List (Activity S D C P G)) (m : Activity S D C P G) → valid_votes rules (ms ++ m ∷ []) ≡ valid_votes rules ms ++ filter (is_valid rules) (votes_in rules.listed m)
+valid_votes-push rules ms m = valid_votes-append rules ms (m ∷ []) ∙ ap (λ vs. valid_votes rules ms ++ filter (is_valid rules) vs) (append-nil (votes_in rules.listed m))
 
 -- ---- who is named
 
--- two votes that contradict name their signer
-pub named_from_votes : {D G : Type 0} (eq : D → D → Bool) (vs : List (SignedVote D G)) (n : Named) (v w : SignedVote D G) → Contains vs v → Contains vs w → is_of n.round n.signer v ≡ true → contradicts eq n.kind v w ≡ true → is_named eq vs n ≡ true
-named_from_votes eq vs n v w h k a c =
-    any_from_Contains (λ x. is_of n.round n.signer x && list_any (contradicts eq n.kind x) vs) vs v h (and_from _ _ a (any_from_Contains (contradicts eq n.kind v) vs w k c))
+-- the spot of the first vote of the evidence of whom is named
+abbrev pub first_spot : Named → Spot
+first_spot n = record { sort = first_sort n.kind; round = n.round; signer = n.signer }
 
--- who is named has two such votes
-pub votes_from_named : {D G : Type 0} (eq : D → D → Bool) (vs : List (SignedVote D G)) (n : Named) → is_named eq vs n ≡ true → (v w : SignedVote D G) × Contains vs v × Contains vs w × (is_of n.round n.signer v ≡ true) × (contradicts eq n.kind v w ≡ true)
-votes_from_named eq vs n h =
-    let a = Contains-from_list_any (λ x. is_of n.round n.signer x && list_any (contradicts eq n.kind x) vs) vs h in
-    let p = and_parts (is_of n.round n.signer a.0) (list_any (contradicts eq n.kind a.0) vs) a.2 in
-    let b = Contains-from_list_any (contradicts eq n.kind a.0) vs p.1 in
-    (a.0, b.0, a.1, b.1, p.0, b.2)
+module _ {D G : Type 0} (eq : D → D → Bool) (vs : List (SignedVote D G)) (n : Named) where
+  -- two votes that contradict name their signer
+  pub named_from_votes : (v w : SignedVote D G) → Contains vs v → Contains vs w → is_of n.round n.signer v ≡ true → contradicts eq n.kind v w ≡ true → is_named eq vs n ≡ true
+  named_from_votes v w h k a c =
+      any_from_Contains (λ x. is_of n.round n.signer x && list_any (contradicts eq n.kind x) vs) vs v h (and_from _ _ a (any_from_Contains (contradicts eq n.kind v) vs w k c))
 
--- a vote at the first sort's place contradicts one of two votes there that contradict
-contradicts_one : {D G : Type 0} (eq : D → D → Bool) → IsEquivalence eq → (n : Named) (x v w : SignedVote D G) → is_at (first_sort n.kind) n.round n.signer x ≡ true → is_of n.round n.signer v ≡ true → contradicts eq n.kind v w ≡ true → (contradicts eq n.kind x v ≡ true) ⊎ (contradicts eq n.kind x w ≡ true)
-contradicts_one eq l n x v w h k c =
-    let at = and_parts (same_sort (sort_of x.subject) (first_sort n.kind)) (is_of n.round n.signer x) h in
-    let p = and_parts (is_of (round_of v.subject) v.signer w) (clash eq n.kind v.subject w.subject) c in
-    let of_v = is_of-true n.round n.signer v k in
-    let of_w = is_of-true _ _ w p.0 in
-    let w_here : is_of n.round n.signer w ≡ true = is_of-from _ _ w (of_w.0 ∙ of_v.0) (of_w.1 ∙ of_v.1) in
-    ⊎_elim
-    (λ e. inl (and_from _ _ (is_of-both n.round n.signer x v at.1 k) e))
-    (λ e. inr (and_from _ _ (is_of-both n.round n.signer x w at.1 w_here) e))
-    (clash_with_one eq l n.kind x.subject v.subject w.subject at.0 p.1)
+  -- who is named has two such votes
+  pub votes_from_named : is_named eq vs n ≡ true → (v w : SignedVote D G) × Contains vs v × Contains vs w × (is_of n.round n.signer v ≡ true) × (contradicts eq n.kind v w ≡ true)
+  votes_from_named h =
+      let a = Contains-from_list_any (λ x. is_of n.round n.signer x && list_any (contradicts eq n.kind x) vs) vs h in
+      let p = and_parts (is_of n.round n.signer a.0) (list_any (contradicts eq n.kind a.0) vs) a.2 in
+      let b = Contains-from_list_any (contradicts eq n.kind a.0) vs p.1 in
+      (a.0, b.0, a.1, b.1, p.0, b.2)
 
--- who has evidence is named
-pub named-from_evidence : {D G : Type 0} (eq : D → D → Bool) (vs : List (SignedVote D G)) (n : Named) → is_some (evidence_of eq vs n) ≡ true → is_named eq vs n ≡ true
-named-from_evidence eq vs n h =
-    let e = some_from_is_some (evidence_of eq vs n) h in
-    let p = evidence_parts eq vs n.kind (find (is_at (first_sort n.kind) n.round n.signer) vs) e.0 e.1 in
-    let at = and_parts (same_sort (sort_of e.0.first.subject) (first_sort n.kind)) (is_of n.round n.signer e.0.first) (find_passes _ vs e.0.first p.1) in
-    named_from_votes eq vs n e.0.first e.0.second (find-Contains _ vs _ p.1) (find-Contains _ vs _ p.2) at.1 (find_passes _ vs _ p.2)
+-- a signer who is named by some of the votes is named by all
+pub named_by_more : {D G : Type 0} (eq : D → D → Bool) (vs ws : List (SignedVote D G)) → ((v : SignedVote D G) → Contains ws v → Contains vs v) → (n : Named) → is_named eq ws n ≡ true → is_named eq vs n ≡ true
+named_by_more eq vs ws more n h =
+    let (v, w, in_v, in_w, of_v, against) = votes_from_named eq ws n h in
+    named_from_votes eq vs n v w (more v in_v) (more w in_w) of_v against
 
--- who is named has evidence
-evidence-from_named : {D G : Type 0} (eq : D → D → Bool) → IsEquivalence eq → (vs : List (SignedVote D G)) (n : Named) → is_named eq vs n ≡ true → is_some (evidence_of eq vs n) ≡ true
-evidence-from_named {D} {G} eq l vs n h =
-    let (v, w, in_v, in_w, of_v, against) = votes_from_named eq vs n h in
-    let p = and_parts (is_of (round_of v.subject) v.signer w) (clash eq n.kind v.subject w.subject) against in
-    let at_v : is_at (first_sort n.kind) n.round n.signer v ≡ true = and_from _ _ (clash-first eq n.kind v.subject w.subject p.1) of_v in
-    let a = find_from_any (is_at (first_sort n.kind) n.round n.signer) vs (any_from_Contains _ vs v in_v at_v) in
-    let second : list_any (contradicts eq n.kind a.0) vs ≡ true =
-    ⊎_elim (any_from_Contains (contradicts eq n.kind a.0) vs v in_v) (any_from_Contains (contradicts eq n.kind a.0) vs w in_w)
-    (contradicts_one eq l n a.0 v w (find_passes _ vs a.0 a.1) of_v against) in
-    let b = find_from_any (contradicts eq n.kind a.0) vs second in
-    rw (a.1, b.1)
+-- the same messages in another order name the same
+pub named_in_any_order : {S D C P G : Type 0} (rules : Rules S D C P G) (ms : List (Activity S D C P G)) → NamedInAnyOrder rules ms
+named_in_any_order {S} {D} {C} {P} {G} rules ms ks moved n = same_bool _ _ (named_by_more rules.eq _ _ (also ms ks moved) n) (named_by_more rules.eq _ _ (also ks ms (IsPermutation-sym ms ks moved)) n)
+  where
+    also : (ms ks : List (Activity S D C P G)) → IsPermutation ms ks → (v : SignedVote D G) → Contains (valid_votes rules ms) v → Contains (valid_votes rules ks) v
+    also ms ks moved v h = let (m, m_in, own, valid) = valid_from rules ms v h in valid_in rules ks v m (Contains-permutation ms ks m moved m_in) own valid
 
--- who is named has evidence, and nobody else
-abbrev pub EvidenceExists : {D G : Type 0} → (D → D → Bool) → List (SignedVote D G) → Type 0
-EvidenceExists eq vs = (n : Named) → is_some (evidence_of eq vs n) ≡ is_named eq vs n
+-- who is named stays named, with any messages behind
+pub named_stays : {S D C P G : Type 0} (rules : Rules S D C P G) (ms ks : List (Activity S D C P G)) (n : Named) → is_named rules.eq (valid_votes rules ms) n ≡ true → is_named rules.eq (valid_votes rules (ms ++ ks)) n ≡ true
+named_stays rules ms ks n h =
+    ap (λ vs. is_named rules.eq vs n) (valid_votes-append rules ms ks) ∙ named_by_more rules.eq _ (valid_votes rules ms) (Contains-append_left (valid_votes rules ms) (valid_votes rules ks)) n h
 
--- so it is for any votes
-pub evidence_exists : {D G : Type 0} (eq : D → D → Bool) → IsEquivalence eq → (vs : List (SignedVote D G)) → EvidenceExists eq vs
-evidence_exists eq l vs n = same_bool _ _ (named-from_evidence eq vs n) (evidence-from_named eq l vs n)
+-- ---- the evidence of whom is named
 
--- ---- one report
+-- its first vote is the earliest at its spot, and its second the earliest that contradicts that
+pub record EvidenceIs {D G : Type 0} (eq : D → D → Bool) (vs : List (SignedVote D G)) (n : Named) (e : Evidence D G) : Type 0 where
+  pub named : named_by e ≡ n
+  pub first : find (is_at (first_sort n.kind) n.round n.signer) vs ≡ Some e.first
+  pub second : find (contradicts eq n.kind e.first) vs ≡ Some e.second
 
--- who a report names is named
-pub named-from_report : {D G : Type 0} (eq : D → D → Bool) (vs : List (SignedVote D G)) (es : List (Evidence D G)) → IsEvidence eq vs es → (n : Named) → Contains (map named_by es) n → is_named eq vs n ≡ true
-named-from_report eq vs es r n h =
-    All-contains (λ m. is_named eq vs m ≡ true) (map named_by es) n
-    (All-map (λ m. is_named eq vs m ≡ true) named_by es (λ k d lt. named-from_evidence eq vs _ (ap is_some (r.sound k d lt))))
-    h
+module _ {D G : Type 0} (eq : D → D → Bool) (vs : List (SignedVote D G)) where
+  pub evidence_is : (n : Named) (e : Evidence D G) → evidence_of eq vs n ≡ Some e → EvidenceIs eq vs n e
+  evidence_is n e = by_first (find (is_at (first_sort n.kind) n.round n.signer) vs) refl
+    where
+      by_second : (v : SignedVote D G) → find (is_at (first_sort n.kind) n.round n.signer) vs ≡ Some v → (o : Option (SignedVote D G)) → find (contradicts eq n.kind v) vs ≡ o → with_second n.kind v o ≡ Some e → EvidenceIs eq vs n e
+      by_second v first None second h = absurd cc
+      by_second v first (Some w) second h =
+          let at = is_at-true (first_spot n) v (found _ vs v first).1 in
+          subst (EvidenceIs eq vs n) (same_Some _ e h) (record { named = λ i. record { round = (at i).round; signer = (at i).signer; kind = n.kind }; first = first; second = second })
 
--- the votes determine their evidence
-pub evidence_is_unique : {D G : Type 0} (eq : D → D → Bool) (vs : List (SignedVote D G)) (es : List (Evidence D G)) → IsEvidence eq vs es → EvidenceIsUnique eq vs es
-evidence_is_unique eq vs es r fs s =
-    unique_by_keys named_by named_cmp named_cmp_total (evidence_of eq vs) es fs r.ordered s.ordered
-    (recursion_from_All _ es r.sound) (recursion_from_All _ fs s.sound)
-    (λ n h. s.complete n (named-from_report eq vs es r n h))
-    (λ n h. r.complete n (named-from_report eq vs fs s n h))
+      by_first : (o : Option (SignedVote D G)) → find (is_at (first_sort n.kind) n.round n.signer) vs ≡ o → with_first eq vs n.kind o ≡ Some e → EvidenceIs eq vs n e
+      by_first None first h = absurd cc
+      by_first (Some v) first h = by_second v first (find (contradicts eq n.kind v) vs) refl h
 
--- each evidence of a report is two of the votes that contradict
-pub all_equivocations : {D G : Type 0} (eq : D → D → Bool) (vs : List (SignedVote D G)) (es : List (Evidence D G)) → IsEvidence eq vs es → All (IsEquivocation eq vs) es
-all_equivocations eq vs es is =
-    All-weaker (λ e. evidence_of eq vs (named_by e) ≡ Some e) (IsEquivocation eq vs)
-    (λ e found.
-    let parts = evidence_parts eq vs e.kind (find (is_at (first_sort e.kind) (round_of e.first.subject) e.first.signer) vs) e found in
-    record {
-      first_cast = find-Contains _ vs _ parts.1;
-      second_cast = find-Contains _ vs _ parts.2;
-      contradict = find_passes _ vs _ parts.2;
-    })
-    es is.sound
+  pub evidence_made : (n : Named) (e : Evidence D G) → EvidenceIs eq vs n e → evidence_of eq vs n ≡ Some e
+  evidence_made n e is = (λ i. with_first eq vs n.kind (is.first i)) ∙ (λ i. with_second n.kind e.first (is.second i)) ∙ (λ i. Some (record { kind = (sym is.named i).kind; first = e.first; second = e.second }))
 
--- a report names exactly who is named
-pub names_exactly : {D G : Type 0} (eq : D → D → Bool) (vs : List (SignedVote D G)) (es : List (Evidence D G)) → IsEvidence eq vs es → NamesExactly eq vs es
-names_exactly eq vs es is n = (named-from_report eq vs es is n, is.complete n)
+  -- who has evidence is named
+  pub named-from_evidence : (n : Named) → is_some (evidence_of eq vs n) ≡ true → is_named eq vs n ≡ true
+  named-from_evidence n h =
+      let (e, found_e) = some_from_is_some (evidence_of eq vs n) h in
+      let is = evidence_is n e found_e in
+      let (first_in, at) = found _ vs e.first is.first in
+      let (second_in, against) = found _ vs e.second is.second in
+      named_from_votes eq vs n e.first e.second first_in second_in (and_parts (same_sort (sort_of e.first.subject) (first_sort n.kind)) (is_of n.round n.signer e.first) at).1 against
+
+  -- who is named has evidence
+  pub evidence-from_named : IsEquivalence eq → (n : Named) → is_named eq vs n ≡ true → is_some (evidence_of eq vs n) ≡ true
+  evidence-from_named l n h =
+      let (v, w, v_in, w_in, of_v, against) = votes_from_named eq vs n h in
+      let p = and_parts (is_of (round_of v.subject) v.signer w) (clash eq n.kind v.subject w.subject) against in
+      let v_at = is_of-true n.round n.signer v of_v in
+      let w_at = is_of-true (round_of v.subject) v.signer w p.0 in
+      let a = find_from_Contains (is_at (first_sort n.kind) n.round n.signer) vs v v_in (is_at-from (first_spot n) v (λ i. record { sort = (clash_parts eq n.kind v.subject w.subject p.1).0 i; round = v_at.0 i; signer = v_at.1 i })) in
+      let at = is_at-true (first_spot n) a.0 (found _ vs a.0 a.1).1 in
+      let second : (u : SignedVote D G) → Contains vs u → round_of u.subject ≡ n.round → u.signer ≡ n.signer → clash eq n.kind a.0.subject u.subject ≡ true → (x : SignedVote D G) × (find (contradicts eq n.kind a.0) vs ≡ Some x) =
+      λ u u_in r s c. find_from_Contains (contradicts eq n.kind a.0) vs u u_in (and_from _ _ (is_of-from _ _ u (r ∙ sym (λ i. (at i).round)) (s ∙ sym (λ i. (at i).signer))) c) in
+      let b = ⊎_elim (second v v_in v_at.0 v_at.1) (second w w_in (w_at.0 ∙ v_at.0) (w_at.1 ∙ v_at.1)) (clash_with_one eq l n.kind a.0.subject v.subject w.subject (λ i. (at i).sort) p.1) in
+      rw (a.1, b.1)
+
+  pub evidence_exists : IsEquivalence eq → (n : Named) → is_some (evidence_of eq vs n) ≡ is_named eq vs n
+  evidence_exists l n = same_bool _ _ (named-from_evidence n) (evidence-from_named l n)
+
+  -- ---- one report
+
+  -- the evidence of votes lists the evidence of everyone who is named
+  pub as_listing : (es : List (Evidence D G)) → IsEvidence eq vs es → IsListing named_by named_cmp (evidence_of eq vs) es
+  as_listing es is = record { ordered = is.ordered; sound = is.sound; complete = λ n h. is.complete n (named-from_evidence n h) }
+
+  pub from_listing : IsEquivalence eq → (es : List (Evidence D G)) → IsListing named_by named_cmp (evidence_of eq vs) es → IsEvidence eq vs es
+  from_listing l es is = record { ordered = is.ordered; sound = is.sound; complete = λ n h. is.complete n (evidence-from_named l n h) }
+
+  -- the votes determine their evidence
+  pub evidence_is_unique : (es : List (Evidence D G)) → IsEvidence eq vs es → EvidenceIsUnique eq vs es
+  evidence_is_unique es is fs are = listing_is_unique named_by named_cmp (evidence_of eq vs) named_cmp_total exact_named es fs (as_listing es is) (as_listing fs are)
+
+  -- each evidence of a report is two of the votes that contradict
+  pub all_equivocations : (es : List (Evidence D G)) → IsEvidence eq vs es → All (IsEquivocation eq vs) es
+  all_equivocations es is = each (IsEquivocation eq vs) es (λ e e_in.
+      let own = evidence_is (named_by e) e (All-contains (λ e. evidence_of eq vs (named_by e) ≡ Some e) es e is.sound e_in) in
+      let (first_in, _) = found _ vs e.first own.first in
+      let (second_in, against) = found _ vs e.second own.second in
+      record { first_cast = first_in; second_cast = second_in; contradict = against })
+
+  -- a report names exactly who is named
+  pub names_exactly : (es : List (Evidence D G)) → IsEvidence eq vs es → NamesExactly eq vs es
+  names_exactly es is n = (λ h. named-from_evidence n (listed_is_some named_by named_cmp (evidence_of eq vs) es is.sound n h), is.complete n)
+
+-- votes of which everyone has the same evidence have the same report
+pub moved_evidence : {D G : Type 0} (eq : D → D → Bool) → IsEquivalence eq → (vs ws : List (SignedVote D G)) → ((n : Named) → evidence_of eq ws n ≡ evidence_of eq vs n) → (es : List (Evidence D G)) → IsEvidence eq ws es → IsEvidence eq vs es
+moved_evidence eq l vs ws same es is = from_listing eq vs l es (subst (λ f. IsListing named_by named_cmp f es) (λ i n. same n i) (as_listing eq ws es is))

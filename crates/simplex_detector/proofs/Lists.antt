@@ -1,16 +1,6 @@
--- Lists that any crate could have: what `find`, `list_any`, `filter` and `filter_map` give, and sorted lists with the same keys.
-use Rattle.std.proofs.Common.{◌≡◌, ℕ, Bool, true, false, List, [], ◌∷◌, ◌++◌, Option, Some, None, Ordering, Less, Equal, length, get_or, map, sym, refl, ap, ◌∙◌, subst, ◌||◌, ◌<◌, inl, inr, ◌⊎◌, ⊎_elim, arith}
-use Rattle.std.specs.Prelude.{Contains, cond, filter}
-use Rattle.std.specs.Option.{is_some, option_or}
-use Rattle.std.specs.List.{find, filter_map, cons_option, list_any, flat_map, AllByRecursion}
+-- Lists that any crate could have: what they contain, what `find` and `list_any` give, and the listing of a partial map in the order of its keys.
+use Rattle.simplex_detector.proofs.Std.{All, All-append, All-contains, All-contains_itself, All-filter, All-from_recursion, All-map, AllByRecursion, Any-from_list_any, BTreeSet, Bool, CmpEqualImpliesEq, Contains, Contains-append_cases, Contains-append_left, Contains-append_right, Contains-get_or, IsStrictlySortedBy-filter, IsTotalOrder, Less, List, None, Option, Ordering, Some, [], ap, append-nil, arith, btree_set_contains_iff, btree_set_from_contains, cond, cons_option, false, filter, filter_map, filter_passes, find, find-append, flat_map, get_or, get_or-map, inl, inr, is_some, length, length-map, list_any, list_any-from_Any, map, option_or, option_to_list, recursion_from_All, refl, same_Some, sorted_head, subst, sym, true, ℕ, ⊎_elim, ◌++◌, ◌<◌, ◌||◌, ◌∙◌, ◌∷◌, ◌≡◌, ◌⊎◌}
 use Rattle.std.specs.List.Sorted.{IsStrictlySortedBy}
-use Rattle.std.specs.Cmp.{IsTotalOrder}
-use Rattle.std.specs.Ordering.{ordering_reverse}
-use Rattle.std.proofs.lemmas.Bool.{false≢true, cases_Bool, cond-true, cond-false}
-use Rattle.std.proofs.lemmas.Cmp.{tied_itself}
-use Rattle.std.proofs.lemmas.List.Folds.{find-append, Any-from_list_any, list_any-from_Any}
-use Rattle.std.proofs.lemmas.List.Elements.{All-from_recursion, All-contains, All-filter, All-contains_itself, Contains-append_cases, Contains-append_left, Contains-append_right}
-use Rattle.std.proofs.lemmas.Map.Keys.{sorted_head, sorted_tail}
 
 -- two tests that imply each other are one
 pub same_bool : (a b : Bool) → (a ≡ true → b ≡ true) → (b ≡ true → a ≡ true) → a ≡ b
@@ -18,89 +8,40 @@ same_bool true b f g = sym (f refl)
 same_bool false true f g = g refl
 same_bool false false f g = refl
 
--- ---- `find`
-
--- something is found where something passes
-pub is_some-find : {X : Type 0} (p : X → Bool) (xs : List X) → is_some (find p xs) ≡ list_any p xs
-is_some-find p [] = refl
-is_some-find p (x ∷ xs) =
-    elim (p x) as (λ b. is_some (cond b (Some x) (find p xs)) ≡ (b || list_any p xs)) [ true ↦ refl | false ↦ is_some-find p xs ]
-
 -- an option that is some has a value
 pub some_from_is_some : {X : Type 0} (o : Option X) → is_some o ≡ true → (x : X) × (o ≡ Some x)
-some_from_is_some None h = absurd (false≢true h)
+some_from_is_some None h = absurd cc
 some_from_is_some (Some x) h = (x, refl)
 
--- what passes a test somewhere is found
-pub find_from_any : {X : Type 0} (p : X → Bool) (xs : List X) → list_any p xs ≡ true → (x : X) × (find p xs ≡ Some x)
-find_from_any p xs h = some_from_is_some (find p xs) (is_some-find p xs ∙ h)
+-- what holds of a list, and of it with x where x is appended, holds of it with x under that condition
+pub if_appended : {X : Type 0} (P : List X → Type 0) (xs : List X) (x : X) (b : Bool) → (b ≡ false → P xs) → (b ≡ true → P (xs ++ x ∷ [])) → P (xs ++ cond b (x ∷ []) [])
+if_appended P xs x true without with_x = with_x refl
+if_appended P xs x false without with_x = subst P (sym (append-nil xs)) (without refl)
 
--- what a list contains, a longer one contains
-pub Contains-cons : {X : Type 0} (y : X) (xs : List X) (x : X) → Contains xs x → Contains (y ∷ xs) x
-Contains-cons y xs x h = Contains-append_right (y ∷ []) xs x h
+-- ---- `Contains`
 
--- a list contains its first element
-pub Contains-first : {X : Type 0} (x : X) (xs : List X) → Contains (x ∷ xs) x
-Contains-first x xs = (0, omega arith, refl)
+-- what holds of whatever a list contains holds of each of its elements
+pub each : {X : Type 0} (P : X → Type 0) (xs : List X) → ((x : X) → Contains xs x → P x) → All P xs
+each P xs h = λ k d lt. h (get_or xs k d) (Contains-get_or xs k d lt)
 
--- an element is the first or one of the others
-pub Contains-cons_cases : {X : Type 0} (y : X) (xs : List X) (x : X) → Contains (y ∷ xs) x → (y ≡ x) ⊎ Contains xs x
-Contains-cons_cases y xs x h = ⊎_elim (λ one. inl (All-contains (λ z. y ≡ z) (y ∷ []) x (All-from_recursion (λ z. y ≡ z) (y ∷ []) (refl, tt)) one)) inr (Contains-append_cases (y ∷ []) xs x h)
-
--- the empty list contains nothing
 pub Contains-none : {X : Type 0} (x : X) → Contains [] x → ⊥
 Contains-none x h = absurd (omega (arith, h.1))
 
--- what is found is an element that passes
-pub find_passes : {X : Type 0} (p : X → Bool) (xs : List X) (x : X) → find p xs ≡ Some x → p x ≡ true
-find_passes p [] x h = cc
-find_passes p (y ∷ xs) x h =
-    elim (cases_Bool (p y)) [
-      | inl yes' ↦ let e : Some y ≡ Some x = sym (cond-true (p y) (Some y) (find p xs) yes') ∙ h in let same : y ≡ x = cc in subst (λ z. p z ≡ true) same yes'
-      | inr no' ↦ find_passes p xs x (sym (cond-false (p y) (Some y) (find p xs) no') ∙ h)
-    ]
+pub Contains-first : {X : Type 0} (x : X) (xs : List X) → Contains (x ∷ xs) x
+Contains-first x xs = (0, omega arith, refl)
 
--- what is found is an element
-pub find-Contains : {X : Type 0} (p : X → Bool) (xs : List X) (x : X) → find p xs ≡ Some x → Contains xs x
-find-Contains p [] x h = cc
-find-Contains p (y ∷ xs) x h =
-    elim (cases_Bool (p y)) [
-      | inl yes' ↦ let e : Some y ≡ Some x = sym (cond-true (p y) (Some y) (find p xs) yes') ∙ h in let same : y ≡ x = cc in subst (λ z. Contains (y ∷ xs) z) same (Contains-first y xs)
-      | inr no' ↦ Contains-cons y xs x (find-Contains p xs x (sym (cond-false (p y) (Some y) (find p xs) no') ∙ h))
-    ]
+pub Contains-cons : {X : Type 0} (y : X) (xs : List X) (x : X) → Contains xs x → Contains (y ∷ xs) x
+Contains-cons y xs x h = Contains-append_right (y ∷ []) xs x h
 
--- ---- `list_any`
+pub Contains-cons_cases : {X : Type 0} (y : X) (xs : List X) (x : X) → Contains (y ∷ xs) x → (y ≡ x) ⊎ Contains xs x
+Contains-cons_cases y xs x h = ⊎_elim (λ one. inl (All-contains (λ z. y ≡ z) (y ∷ []) x (All-from_recursion (λ z. y ≡ z) (y ∷ []) (refl, tt)) one)) inr (Contains-append_cases (y ∷ []) xs x h)
 
--- some element passes where one that is contained does
-pub any_from_Contains : {X : Type 0} (p : X → Bool) (xs : List X) (x : X) → Contains xs x → p x ≡ true → list_any p xs ≡ true
-any_from_Contains p xs x h e = list_any-from_Any p xs (h.0, x, h.1, h.2, e)
-
--- some element passes
-pub Contains-from_list_any : {X : Type 0} (p : X → Bool) (xs : List X) → list_any p xs ≡ true → (x : X) × Contains xs x × (p x ≡ true)
-Contains-from_list_any {X} p xs h =
-    let a : (k : ℕ) × (x : X) × (k < length xs) × (get_or xs k x ≡ x) × (p x ≡ true) = Any-from_list_any p xs h in (a.1, (a.0, a.2, a.3), a.4)
-
--- ---- `Contains` after `map` and `flat_map`
-
--- the image of an element is an element of the image
 pub Contains-map : {X Y : Type 0} (f : X → Y) (xs : List X) (x : X) → Contains xs x → Contains (map f xs) (f x)
-Contains-map f [] x h = absurd (Contains-none x h)
-Contains-map f (y ∷ xs) x h =
-    ⊎_elim
-    (λ e. subst (λ z. Contains (map f (y ∷ xs)) (f z)) e (Contains-first (f y) (map f xs)))
-    (λ k. Contains-cons (f y) (map f xs) (f x) (Contains-map f xs x k))
-    (Contains-cons_cases y xs x h)
+Contains-map f xs x h = (h.0, omega (arith, h.1, length-map xs f), get_or-map f xs h.0 x (f x) h.1 ∙ ap f h.2)
 
--- an element of a `map` comes from one of the list
 pub Contains-from_map : {X Y : Type 0} (f : X → Y) (xs : List X) (y : Y) → Contains (map f xs) y → (x : X) × Contains xs x × (f x ≡ y)
-Contains-from_map f [] y h = absurd (Contains-none y h)
-Contains-from_map f (x ∷ xs) y h =
-    elim (Contains-cons_cases (f x) (map f xs) y h) [
-      | inl e ↦ (x, Contains-first x xs, e)
-      | inr k ↦ let (z, in_z, e) = Contains-from_map f xs y k in (z, Contains-cons x xs z in_z, e)
-    ]
+Contains-from_map {X} f xs y h = All-contains (λ z. (x : X) × Contains xs x × (f x ≡ z)) (map f xs) y (All-map (λ z. (x : X) × Contains xs x × (f x ≡ z)) f xs (each (λ w. (x : X) × Contains xs x × (f x ≡ f w)) xs (λ x x_in. (x, x_in, refl)))) h
 
--- an element of a piece is an element of the pieces joined
 pub Contains-flat_map : {X Y : Type 0} (f : X → List Y) (xs : List X) (x : X) (y : Y) → Contains xs x → Contains (f x) y → Contains (flat_map f xs) y
 Contains-flat_map f [] x y h k = absurd (Contains-none x h)
 Contains-flat_map f (z ∷ xs) x y h k =
@@ -109,105 +50,160 @@ Contains-flat_map f (z ∷ xs) x y h k =
     (λ l. Contains-append_right (f z) (flat_map f xs) y (Contains-flat_map f xs x y l k))
     (Contains-cons_cases z xs x h)
 
+pub Contains-from_flat_map : {X Y : Type 0} (f : X → List Y) (xs : List X) (y : Y) → Contains (flat_map f xs) y → (x : X) × Contains xs x × Contains (f x) y
+Contains-from_flat_map f [] y h = absurd (Contains-none y h)
+Contains-from_flat_map f (x ∷ xs) y h =
+    elim (Contains-append_cases (f x) (flat_map f xs) y h) [
+      | inl k ↦ (x, Contains-first x xs, k)
+      | inr k ↦ let (z, z_in, l) = Contains-from_flat_map f xs y k in (z, Contains-cons x xs z z_in, l)
+    ]
+
 -- ---- `filter` and `filter_map`
 
--- what two options that are one contain is one
-pub some_same : {X : Type 0} (x y : X) → Some x ≡ Some y → x ≡ y
-some_same x y h = cc
+-- a `filter` joins what it keeps of each element
+filter-joined : {X : Type 0} (p : X → Bool) (xs : List X) → filter p xs ≡ flat_map (λ x. cond (p x) (x ∷ []) []) xs
+filter-joined p [] = refl
+filter-joined p (x ∷ xs) = elim (p x) as (λ b. cond b (x ∷ filter p xs) (filter p xs) ≡ cond b (x ∷ []) [] ++ flat_map (λ x. cond (p x) (x ∷ []) []) xs) [ true ↦ ap (λ ys. x ∷ ys) (filter-joined p xs) | false ↦ filter-joined p xs ]
 
--- an element that passes is among those that do
+-- so does a `filter_map`
+pub filter_map-joined : {X Y : Type 0} (f : X → Option Y) (xs : List X) → filter_map f xs ≡ flat_map (λ x. option_to_list (f x)) xs
+filter_map-joined f [] = refl
+filter_map-joined f (x ∷ xs) = elim (f x) as (λ o. cons_option o (filter_map f xs) ≡ option_to_list o ++ flat_map (λ x. option_to_list (f x)) xs) [ None ↦ filter_map-joined f xs | Some y ↦ ap (λ ys. y ∷ ys) (filter_map-joined f xs) ]
+
 pub Contains-filter : {X : Type 0} (p : X → Bool) (xs : List X) (x : X) → Contains xs x → p x ≡ true → Contains (filter p xs) x
-Contains-filter p [] x h e = absurd (Contains-none x h)
-Contains-filter p (y ∷ xs) x h e =
-    elim (Contains-cons_cases y xs x h) [
-      | inl same ↦
-          let passes : p y ≡ true = ap p same ∙ e in
-          subst (λ zs. Contains zs x) (sym (cond-true (p y) (y ∷ filter p xs) (filter p xs) passes)) (subst (λ z. Contains (y ∷ filter p xs) z) same (Contains-first y (filter p xs)))
-      | inr k ↦
-          elim (p y) as (λ b. Contains (cond b (y ∷ filter p xs) (filter p xs)) x) [
-            | true ↦ Contains-cons y (filter p xs) x (Contains-filter p xs x k e)
-            | false ↦ Contains-filter p xs x k e
-          ]
-    ]
+Contains-filter p xs x h e = subst (λ ys. Contains ys x) (sym (filter-joined p xs)) (Contains-flat_map _ xs x x h (subst (λ b. Contains (cond b (x ∷ []) []) x) (sym e) (Contains-first x [])))
 
--- what passes is an element
-pub Contains-from_filter : {X : Type 0} (p : X → Bool) (xs : List X) (x : X) → Contains (filter p xs) x → Contains xs x
-Contains-from_filter p xs x h = All-contains (Contains xs) (filter p xs) x (All-filter p (Contains xs) xs (All-contains_itself xs)) h
+pub Contains-from_filter : {X : Type 0} (p : X → Bool) (xs : List X) (x : X) → Contains (filter p xs) x → Contains xs x × (p x ≡ true)
+Contains-from_filter p xs x h = (All-contains (Contains xs) (filter p xs) x (All-filter p (Contains xs) xs (All-contains_itself xs)) h, All-contains (λ x. p x ≡ true) (filter p xs) x (filter_passes p xs) h)
 
--- what an element is mapped to is among what a `filter_map` gives
 pub Contains-filter_map : {X Y : Type 0} (f : X → Option Y) (xs : List X) (x : X) (y : Y) → Contains xs x → f x ≡ Some y → Contains (filter_map f xs) y
-Contains-filter_map f [] x y h e = absurd (Contains-none x h)
-Contains-filter_map f (z ∷ xs) x y h e =
-    elim (Contains-cons_cases z xs x h) [
-      | inl same ↦ subst (λ o. Contains (cons_option o (filter_map f xs)) y) (sym (ap f same ∙ e)) (Contains-first y (filter_map f xs))
-      | inr k ↦ with_front (f z) (filter_map f xs) y (Contains-filter_map f xs x y k e)
-    ]
-  where
-    with_front : {Y : Type 0} (o : Option Y) (ys : List Y) (y : Y) → Contains ys y → Contains (cons_option o ys) y
-    with_front None ys y h = h
-    with_front (Some z) ys y h = Contains-append_right (z ∷ []) ys y h
+Contains-filter_map f xs x y h e = subst (λ ys. Contains ys y) (sym (filter_map-joined f xs)) (Contains-flat_map _ xs x y h (subst (λ o. Contains (option_to_list o) y) (sym e) (Contains-first y [])))
 
--- what a `filter_map` gives comes from an element
 pub Contains-from_filter_map : {X Y : Type 0} (f : X → Option Y) (xs : List X) (y : Y) → Contains (filter_map f xs) y → (x : X) × Contains xs x × (f x ≡ Some y)
-Contains-from_filter_map f [] y h = absurd (Contains-none y h)
-Contains-from_filter_map {X} {Y} f (x ∷ xs) y h = at_front (λ k. let (z, z_in, e) = Contains-from_filter_map f xs y k in (z, Contains-append_right (x ∷ []) xs z z_in, e)) (f x) refl h
+Contains-from_filter_map f xs y h = let (x, x_in, k) = Contains-from_flat_map _ xs y (subst (λ ys. Contains ys y) (filter_map-joined f xs) h) in (x, x_in, only (f x) k)
   where
-    at_front : (Contains (filter_map f xs) y → (z : X) × Contains (x ∷ xs) z × (f z ≡ Some y)) → (o : Option Y) → f x ≡ o → Contains (cons_option o (filter_map f xs)) y → (z : X) × Contains (x ∷ xs) z × (f z ≡ Some y)
-    at_front behind None e k = behind k
-    at_front behind (Some z) e k =
-        elim (Contains-cons_cases z (filter_map f xs) y k) [
-          | inl same ↦ (x, Contains-first x xs, e ∙ ap Some same)
-          | inr l ↦ behind l
-        ]
+    only : (o : Option _) → Contains (option_to_list o) y → o ≡ Some y
+    only None k = absurd (Contains-none y k)
+    only (Some z) k = ⊎_elim (λ e. ap Some e) (λ l. absurd (Contains-none y l)) (Contains-cons_cases z [] y k)
+
+-- ---- `find` and `list_any`
+
+-- something is found where something passes
+pub is_some-find : {X : Type 0} (p : X → Bool) (xs : List X) → is_some (find p xs) ≡ list_any p xs
+is_some-find p [] = refl
+is_some-find p (x ∷ xs) = elim (p x) as (λ b. is_some (cond b (Some x) (find p xs)) ≡ (b || list_any p xs)) [ true ↦ refl | false ↦ is_some-find p xs ]
+
+-- what is found is an element that passes
+pub found : {X : Type 0} (p : X → Bool) (xs : List X) (x : X) → find p xs ≡ Some x → Contains xs x × (p x ≡ true)
+found p [] x h = absurd cc
+found {X} p (y ∷ xs) x h = by (p y) refl h (found p xs x)
+  where
+    by : (b : Bool) → p y ≡ b → cond b (Some y) (find p xs) ≡ Some x → (find p xs ≡ Some x → Contains xs x × (p x ≡ true)) → Contains (y ∷ xs) x × (p x ≡ true)
+    by true e is rest = let same = same_Some y x is in (subst (Contains (y ∷ xs)) same (Contains-first y xs), sym (ap p same) ∙ e)
+    by false e is rest = (Contains-cons y xs x (rest is).0, (rest is).1)
+
+-- where nothing passes nothing is found
+pub none_found : {X : Type 0} (p : X → Bool) (xs : List X) → ((x : X) → Contains xs x → p x ≡ true → ⊥) → find p xs ≡ None
+none_found p xs h = by (find p xs) refl
+  where
+    by : (o : Option _) → find p xs ≡ o → o ≡ None
+    by None e = refl
+    by (Some x) e = absurd (h x (found p xs x e).0 (found p xs x e).1)
+
+-- some element passes where one that is contained does
+pub any_from_Contains : {X : Type 0} (p : X → Bool) (xs : List X) (x : X) → Contains xs x → p x ≡ true → list_any p xs ≡ true
+any_from_Contains p xs x h e = list_any-from_Any p xs (h.0, x, h.1, h.2, e)
+
+-- and then one is found
+pub find_from_Contains : {X : Type 0} (p : X → Bool) (xs : List X) (x : X) → Contains xs x → p x ≡ true → (y : X) × (find p xs ≡ Some y)
+find_from_Contains p xs x h e = some_from_is_some (find p xs) (is_some-find p xs ∙ any_from_Contains p xs x h e)
+
+pub Contains-from_list_any : {X : Type 0} (p : X → Bool) (xs : List X) → list_any p xs ≡ true → (x : X) × Contains xs x × (p x ≡ true)
+Contains-from_list_any {X} p xs h =
+    let a : (k : ℕ) × (x : X) × (k < length xs) × (get_or xs k x ≡ x) × (p x ≡ true) = Any-from_list_any p xs h in (a.1, (a.0, a.2, a.3), a.4)
 
 -- the `find` of one more element, by what was found so far
 pub find_push : {X : Type 0} (p : X → Bool) (xs : List X) (x : X) → find p (xs ++ x ∷ []) ≡ cond (p x) (option_or (find p xs) (Some x)) (find p xs)
-find_push p xs x =
-    find-append p xs (x ∷ []) ∙ elim (p x) as (λ b. option_or (find p xs) (cond b (Some x) None) ≡ cond b (option_or (find p xs) (Some x)) (find p xs)) [ true ↦ refl | false ↦ or_none (find p xs) ]
+find_push p xs x = find-append p xs (x ∷ []) ∙ by (p x) (find p xs)
   where
-    or_none : {X : Type 0} (o : Option X) → option_or o None ≡ o
-    or_none None = refl
-    or_none (Some x) = refl
+    by : (b : Bool) (o : Option _) → option_or o (cond b (Some x) None) ≡ cond b (option_or o (Some x)) o
+    by true o = refl
+    by false None = refl
+    by false (Some y) = refl
 
--- ---- sorted lists with the same keys
+-- ---- sorted lists
 
--- a key that is below all of the others is none of them
+-- the first key is below each other
 pub below_all : {K : Type 0} (cmp : K → K → Ordering) (k : K) (ks : List K) → IsStrictlySortedBy cmp (k ∷ ks) → (q : K) → Contains ks q → cmp k q ≡ Less
 below_all cmp k ks s q h = All-contains (λ y. cmp k y ≡ Less) ks q (All-from_recursion _ ks (sorted_head cmp k ks s)) h
 
--- of two keys not each is below the other
-not_both : {K : Type 0} (cmp : K → K → Ordering) (o : IsTotalOrder cmp) (x y : K) → cmp x y ≡ Less → cmp y x ≡ Less → ⊥
-not_both cmp o x y l m = let back : cmp x y ≡ ordering_reverse Less = o.antisymm x y ∙ ap ordering_reverse m in cc
+-- two sorted lists are one where the first is below the second
+sorted_append : {K : Type 0} (cmp : K → K → Ordering) (ks qs : List K) → IsStrictlySortedBy cmp ks → IsStrictlySortedBy cmp qs → ((k q : K) → Contains ks k → Contains qs q → cmp k q ≡ Less) → IsStrictlySortedBy cmp (ks ++ qs)
+unfolding IsStrictlySortedBy
+sorted_append cmp [] qs s t below = t
+sorted_append cmp (k ∷ ks) qs s t below = (
+  recursion_from_All _ (ks ++ qs) (All-append (λ q. cmp k q ≡ Less) ks qs (All-from_recursion _ ks s.0) (each _ qs (λ q q_in. below k q (Contains-first k ks) q_in))),
+  sorted_append cmp ks qs s.1 t (λ l q l_in q_in. below l q (Contains-cons k ks l l_in) q_in),
+)
 
--- the first keys of two such lists are the same
-same_heads : {K : Type 0} (cmp : K → K → Ordering) (o : IsTotalOrder cmp) (e f : K) (es fs : List K) → IsStrictlySortedBy cmp (e ∷ es) → IsStrictlySortedBy cmp (f ∷ fs) → Contains (f ∷ fs) e → Contains (e ∷ es) f → f ≡ e
-same_heads cmp o e f es fs s t h k =
-    elim (Contains-cons_cases f fs e h) [
-      | inl p ↦ p
-      | inr p ↦ elim (Contains-cons_cases e es f k) [
-        | inl q ↦ sym q
-        | inr q ↦ absurd (not_both cmp o e f (below_all cmp e es s f q) (below_all cmp f fs t e p))
-      ]
-    ]
+-- so are sorted lists that are joined in an order of what they are made of
+pub sorted_joined : {X Y K : Type 0} (order : Y → Y → Ordering) (cmp : K → K → Ordering) (key : X → Y) (f : X → List K) → ((x y : X) (k q : K) → order (key x) (key y) ≡ Less → Contains (f x) k → Contains (f y) q → cmp k q ≡ Less) → (xs : List X) → ((x : X) → Contains xs x → IsStrictlySortedBy cmp (f x)) → IsStrictlySortedBy order (map key xs) → IsStrictlySortedBy cmp (flat_map f xs)
+unfolding IsStrictlySortedBy
+sorted_joined order cmp key f rise [] sorted s = tt
+sorted_joined order cmp key f rise (x ∷ xs) sorted s =
+    sorted_append cmp (f x) (flat_map f xs) (sorted x (Contains-first x xs)) (sorted_joined order cmp key f rise xs (λ y y_in. sorted y (Contains-cons x xs y y_in)) s.1)
+    (λ k q k_in q_in. let (y, y_in, q_at) = Contains-from_flat_map f xs q q_in in rise x y k q (below_all order (key x) (map key xs) s (key y) (Contains-map key xs y y_in)) k_in q_at)
 
--- what a tail has, the other tail has
-tail_has : {K : Type 0} (cmp : K → K → Ordering) (o : IsTotalOrder cmp) (e f : K) (es fs : List K) → IsStrictlySortedBy cmp (e ∷ es) → f ≡ e → (k : K) → Contains es k → Contains (f ∷ fs) k → Contains fs k
-tail_has cmp o e f es fs s same k h g =
-    elim (Contains-cons_cases f fs k g) [
-      | inl p ↦ let less : cmp e k ≡ Less = below_all cmp e es s k h in let itself : cmp e k ≡ Equal = subst (λ z. cmp e z ≡ Equal) (sym same ∙ p) (tied_itself o e) in absurd (cc)
-      | inr p ↦ p
-    ]
+-- sorted lists with the same elements are one
+same_keys : {K : Type 0} {cmp : K → K → Ordering} → IsTotalOrder cmp → CmpEqualImpliesEq cmp → (ks qs : List K) → IsStrictlySortedBy cmp ks → IsStrictlySortedBy cmp qs → ((k : K) → Contains ks k → Contains qs k) → ((k : K) → Contains qs k → Contains ks k) → ks ≡ qs
+same_keys {K} o exact ks qs s t to from =
+    let a : BTreeSet K = record { keys = ks } in
+    let b : BTreeSet K = record { keys = qs } in
+    let has = btree_set_contains_iff o exact in
+    btree_set_from_contains o a b s t (λ k. same_bool _ _ (λ h. (has b k).1 (to k ((has a k).0 h))) (λ h. (has a k).1 (from k ((has b k).0 h)))) exact
 
--- elements that their keys determine, in the order of the keys, are determined by which keys they have
-pub unique_by_keys : {X K : Type 0} (key : X → K) (cmp : K → K → Ordering) (o : IsTotalOrder cmp) (at : K → Option X) (es fs : List X) → IsStrictlySortedBy cmp (map key es) → IsStrictlySortedBy cmp (map key fs) → AllByRecursion (λ e. at (key e) ≡ Some e) es → AllByRecursion (λ e. at (key e) ≡ Some e) fs → ((k : K) → Contains (map key es) k → Contains (map key fs) k) → ((k : K) → Contains (map key fs) k → Contains (map key es) k) → es ≡ fs
-unique_by_keys key cmp o at [] [] s t u v to from = refl
-unique_by_keys key cmp o at [] (f ∷ fs) s t u v to from = absurd (Contains-none _ (from (key f) (Contains-first (key f) (map key fs))))
-unique_by_keys key cmp o at (e ∷ es) [] s t u v to from = absurd (Contains-none _ (to (key e) (Contains-first (key e) (map key es))))
-unique_by_keys key cmp o at (e ∷ es) (f ∷ fs) s t u v to from =
-    let heads : key f ≡ key e = same_heads cmp o (key e) (key f) (map key es) (map key fs) s t (to (key e) (Contains-first _ _)) (from (key f) (Contains-first _ _)) in
-    let found : Some f ≡ Some e = sym v.0 ∙ ap at heads ∙ u.0 in
-    let same : f ≡ e = cc in
-    let rest : es ≡ fs = unique_by_keys key cmp o at es fs (sorted_tail cmp (key e) (map key es) s) (sorted_tail cmp (key f) (map key fs) t) u.1 v.1
-    (λ k h. tail_has cmp o (key e) (key f) (map key es) (map key fs) s heads k h (to k (Contains-cons _ _ k h)))
-    (λ k h. tail_has cmp o (key f) (key e) (map key fs) (map key es) t (sym heads) k h (from k (Contains-cons _ _ k h))) in
-    cc
+-- ---- what a partial map has, in the order of its keys
+
+-- each of xs is what `at` has at its key, in order, and no key of which `at` has something is left out
+pub record IsListing {X K : Type 0} (key : X → K) (cmp : K → K → Ordering) (at : K → Option X) (xs : List X) : Type 0 where
+  pub ordered : IsStrictlySortedBy cmp (map key xs)
+  pub sound : All (λ x. at (key x) ≡ Some x) xs
+  pub complete : (k : K) → is_some (at k) ≡ true → Contains (map key xs) k
+
+module _ {X K : Type 0} (key : X → K) (cmp : K → K → Ordering) (at : K → Option X) where
+  -- of a key in a listing the map has something
+  pub listed_is_some : (xs : List X) → All (λ x. at (key x) ≡ Some x) xs → (k : K) → Contains (map key xs) k → is_some (at k) ≡ true
+  listed_is_some xs sound k h = All-contains (λ k. is_some (at k) ≡ true) (map key xs) k (All-map (λ k. is_some (at k) ≡ true) key xs (λ i d lt. ap is_some (sound i d lt))) h
+
+  -- a listing is read back from its keys
+  read_back : (xs : List X) → AllByRecursion (λ x. at (key x) ≡ Some x) xs → filter_map at (map key xs) ≡ xs
+  read_back [] h = refl
+  read_back (x ∷ xs) h = λ i. cons_option (h.0 i) (read_back xs h.1 i)
+
+  -- so there is one listing alone
+  pub listing_is_unique : IsTotalOrder cmp → CmpEqualImpliesEq cmp → (xs ys : List X) → IsListing key cmp at xs → IsListing key cmp at ys → xs ≡ ys
+  listing_is_unique o exact xs ys a b =
+      sym (read_back xs (recursion_from_All _ xs a.sound)) ∙
+      ap (filter_map at) (same_keys o exact (map key xs) (map key ys) a.ordered b.ordered (λ k h. b.complete k (listed_is_some xs a.sound k h)) (λ k h. a.complete k (listed_is_some ys b.sound k h))) ∙
+      read_back ys (recursion_from_All _ ys b.sound)
+
+  module _ (own : (k : K) (x : X) → at k ≡ Some x → key x ≡ k) (ks : List K) where
+    -- what the map has at some keys is sound
+    pub made_sound : All (λ x. at (key x) ≡ Some x) (filter_map at ks)
+    made_sound = each _ _ (λ x x_in. let (k, k_in, is) = Contains-from_filter_map at ks x x_in in ap at (own k x is) ∙ is)
+
+    -- and complete, as far as the keys go
+    pub made_complete : (k : K) → Contains ks k → is_some (at k) ≡ true → Contains (map key (filter_map at ks)) k
+    made_complete k h e = let (x, is) = some_from_is_some (at k) e in subst (Contains (map key (filter_map at ks))) (own k x is) (Contains-map key _ x (Contains-filter_map at ks k x h is))
+
+  -- and in order where the keys are
+  pub made_ordered : ((k : K) (x : X) → at k ≡ Some x → key x ≡ k) → (ks : List K) → IsStrictlySortedBy cmp ks → IsStrictlySortedBy cmp (map key (filter_map at ks))
+  made_ordered own ks sorted = subst (IsStrictlySortedBy cmp) (sym (keys_made ks)) (IsStrictlySortedBy-filter cmp (λ k. is_some (at k)) ks sorted)
+    where
+      keys_made : (ks : List K) → map key (filter_map at ks) ≡ filter (λ k. is_some (at k)) ks
+      keys_made [] = refl
+      keys_made (k ∷ ks) = by (at k) refl (keys_made ks)
+        where
+          by : (o : Option X) → at k ≡ o → map key (filter_map at ks) ≡ filter (λ k. is_some (at k)) ks → map key (cons_option o (filter_map at ks)) ≡ cond (is_some o) (k ∷ filter (λ k. is_some (at k)) ks) (filter (λ k. is_some (at k)) ks)
+          by None e rest = rest
+          by (Some x) e rest = λ i. own k x e i ∷ rest i

@@ -1,38 +1,38 @@
--- What the tests on rounds, signers, sorts and proposals tell.
-use Rattle.std.proofs.Common.{◌≡◌, ℕ, Bool, true, eqb, sym, refl, ap, ◌∙◌, inl, inr, ◌⊎◌}
-use Rattle.std.specs.Prelude.{not}
-use Rattle.std.specs.Cmp.{IsEquivalence, IsTotalOrder}
-use Rattle.std.proofs.lemmas.Bool.{false≢true, cases_Bool, and_parts, and_from, eqb-true, eq-eqb}
-use Rattle.std.proofs.lemmas.Cmp.{nat_eq_equiv, on_equiv, and_equiv, nat_cmp_total, on_total, then_total}
-use Rattle.simplex_base.specs.Positions.{Round, same_round}
-use Rattle.simplex_scheme.specs.declared.proposal.Proposal.{Proposal}
-use Rattle.simplex_scheme.specs.Subject.{SubjectValue, Notarizes, Nullifies, Finalizes, round_of}
-use Rattle.simplex_votes.specs.Votes.{SignedVote, sort_of, same_sort, is_of, same_proposal}
-use Rattle.simplex_evidence.specs.Contradiction.{Kind, Conflicting_notarize, Conflicting_finalize, Nullify_finalize, clash, first_sort}
-use Rattle.simplex_detector.specs.Named.{Named, kind_rank, named_cmp}
+-- Where votes are: the tests on rounds, signers, sorts and proposals, which subjects exclude each other, and the orders of a report.
+use Rattle.simplex_detector.proofs.Std.{Bool, CmpEqualImpliesEq, Equal, IsEquivalence, IsTotalOrder, Ordering, and_equiv, and_from, and_parts, ap, cases_Bool, eq-eqb, eqb, eqb-true, exact_pairs, exact_unsigned, false, false_from_ne_true, false≢true, inl, inr, is_eq, is_key, nat_cmp, nat_cmp_total, nat_eq_equiv, not, on_equiv, on_total, refl, subst, sym, then_total, tied_itself, true, ℕ, ⊎_elim, ◌&&◌, ◌∙◌, ◌≡◌, ◌⊎◌}
+use Rattle.simplex_detector.proofs.Words.{Conflicting_finalize, Conflicting_notarize, Finalizes, Finalizing, Kind, Named, Notarizes, Notarizing, Nullifies, Nullify_finalize, Nullifying, Proposal, Round, SignedVote, Sort, SubjectValue, clash, excludes, first_sort, is_at, is_of, kind_rank, named_cmp, round_cmp, round_of, same_proposal, same_round, same_sort, signer_cmp, sort_of}
 
--- ---- rounds and proposals
+-- ---- rounds, proposals and sorts
 
 -- rounds that pass the test are one
 pub same_round-true : (a b : Round) → same_round a b ≡ true → a ≡ b
 same_round-true a b h =
     let parts = and_parts (eqb a.epoch b.epoch) (eqb a.view b.view) h in
-    let e : a.epoch ≡ b.epoch = eqb-true _ _ parts.0 in
-    let v : a.view ≡ b.view = eqb-true _ _ parts.1 in
-    λ i. record { epoch = e i; view = v i }
-
--- a round passes the test with itself
-pub same_round-refl : (a : Round) → same_round a a ≡ true
-same_round-refl a = and_from (eqb a.epoch a.epoch) (eqb a.view a.view) (eq-eqb _ _ refl) (eq-eqb _ _ refl)
+    λ i. record { epoch = eqb-true a.epoch b.epoch parts.0 i; view = eqb-true a.view b.view parts.1 i }
 
 -- the test of rounds is an equivalence
 same_round_equiv : IsEquivalence same_round
 same_round_equiv = and_equiv (on_equiv (λ (r : Round). r.epoch) nat_eq_equiv) (on_equiv (λ (r : Round). r.view) nat_eq_equiv)
 
+pub same_round-from : (a b : Round) → a ≡ b → same_round a b ≡ true
+same_round-from a b e = ap (same_round a) (sym e) ∙ same_round_equiv.refl a
+
 -- so is that of proposals where that of payloads is
-pub same_proposal_equiv : {D : Type 0} {eq : D → D → Bool} → IsEquivalence eq → IsEquivalence (same_proposal eq)
+same_proposal_equiv : {D : Type 0} {eq : D → D → Bool} → IsEquivalence eq → IsEquivalence (same_proposal eq)
 same_proposal_equiv {D} l =
     and_equiv (on_equiv (λ (p : Proposal D). p.round) same_round_equiv) (and_equiv (on_equiv (λ (p : Proposal D). p.parent) nat_eq_equiv) (on_equiv (λ (p : Proposal D). p.payload) l))
+
+-- sorts that pass the test are one
+pub same_sort-true : (a b : Sort) → same_sort a b ≡ true → a ≡ b
+same_sort-true Notarizing Notarizing h = refl
+same_sort-true Nullifying Nullifying h = refl
+same_sort-true Finalizing Finalizing h = refl
+same_sort-true _ _ h = absurd (false≢true h)
+
+pub same_sort-refl : (a : Sort) → same_sort a a ≡ true
+same_sort-refl Notarizing = refl
+same_sort-refl Nullifying = refl
+same_sort-refl Finalizing = refl
 
 -- ---- where a vote is
 
@@ -44,67 +44,134 @@ is_of-true r s v h =
 
 -- a vote is of its round and signer
 pub is_of-from : {D G : Type 0} (r : Round) (s : ℕ) (v : SignedVote D G) → round_of v.subject ≡ r → v.signer ≡ s → is_of r s v ≡ true
-is_of-from r s v p q =
-    and_from (same_round (round_of v.subject) r) (eqb v.signer s) (ap (λ x. same_round x r) p ∙ same_round-refl r) (eq-eqb _ _ q)
+is_of-from r s v p q = and_from (same_round (round_of v.subject) r) (eqb v.signer s) (same_round-from _ _ p) (eq-eqb _ _ q)
 
--- two votes of one round and signer are each of the other's
-pub is_of-both : {D G : Type 0} (r : Round) (s : ℕ) (v w : SignedVote D G) → is_of r s v ≡ true → is_of r s w ≡ true → is_of (round_of v.subject) v.signer w ≡ true
-is_of-both r s v w h k =
-    let a = is_of-true r s v h in
-    let b = is_of-true r s w k in
-    is_of-from _ _ w (b.0 ∙ sym a.0) (b.1 ∙ sym a.1)
+-- a sort, a round and a signer
+pub record Spot : Type 0 where
+  pub sort : Sort
+  pub round : Round
+  pub signer : ℕ
 
--- ---- which subjects clash
+-- those of a vote
+abbrev pub spot : {D G : Type 0} → SignedVote D G → Spot
+spot v = record { sort = sort_of v.subject; round = round_of v.subject; signer = v.signer }
 
--- a clash begins with a subject of the kind's first sort
-pub clash-first : {D : Type 0} (eq : D → D → Bool) (kind : Kind) (x y : SubjectValue D) → clash eq kind x y ≡ true → same_sort (sort_of x) (first_sort kind) ≡ true
-clash-first eq Conflicting_notarize (Notarizes p) y h = refl
-clash-first eq Conflicting_notarize (Nullifies r) y h = absurd (false≢true h)
-clash-first eq Conflicting_notarize (Finalizes p) y h = absurd (false≢true h)
-clash-first eq Conflicting_finalize (Notarizes p) y h = absurd (false≢true h)
-clash-first eq Conflicting_finalize (Nullifies r) y h = absurd (false≢true h)
-clash-first eq Conflicting_finalize (Finalizes p) y h = refl
-clash-first eq Nullify_finalize (Notarizes p) y h = absurd (false≢true h)
-clash-first eq Nullify_finalize (Nullifies r) y h = refl
-clash-first eq Nullify_finalize (Finalizes p) y h = absurd (false≢true h)
+-- a vote that is at a spot has it
+pub is_at-true : {D G : Type 0} (s : Spot) (v : SignedVote D G) → is_at s.sort s.round s.signer v ≡ true → spot v ≡ s
+is_at-true s v h =
+    let p = and_parts (same_sort (sort_of v.subject) s.sort) (is_of s.round s.signer v) h in
+    let q = is_of-true s.round s.signer v p.1 in
+    λ i. record { sort = same_sort-true (sort_of v.subject) s.sort p.0 i; round = q.0 i; signer = q.1 i }
+
+pub is_at-from : {D G : Type 0} (s : Spot) (v : SignedVote D G) → spot v ≡ s → is_at s.sort s.round s.signer v ≡ true
+is_at-from s v e = subst (λ (t : Spot). is_at t.sort t.round t.signer v ≡ true) e (and_from (same_sort (sort_of v.subject) (sort_of v.subject)) (is_of (round_of v.subject) v.signer v) (same_sort-refl (sort_of v.subject)) (is_of-from _ _ v refl refl))
+
+-- ---- which subjects exclude each other
+
+-- no subject excludes itself
+pub excludes_itself : {D : Type 0} (eq : D → D → Bool) → IsEquivalence eq → (x : SubjectValue D) → excludes eq x x ≡ false
+excludes_itself eq l (Notarizes p) = ap not ((same_proposal_equiv l).refl p)
+excludes_itself eq l (Nullifies r) = refl
+excludes_itself eq l (Finalizes p) = ap not ((same_proposal_equiv l).refl p)
+
+-- which excludes which does not matter
+pub excludes-flip : {D : Type 0} (eq : D → D → Bool) → IsEquivalence eq → (x y : SubjectValue D) → excludes eq x y ≡ excludes eq y x
+excludes-flip eq l (Notarizes p) (Notarizes q) = ap not ((same_proposal_equiv l).symm p q)
+excludes-flip eq l (Finalizes p) (Finalizes q) = ap not ((same_proposal_equiv l).symm p q)
+excludes-flip eq l (Nullifies r) (Finalizes q) = refl
+excludes-flip eq l _ _ = refl
 
 -- of two values that differ, any value differs from one
-pub differs_from_one : {X : Type 0} (same : X → X → Bool) → IsEquivalence same → (x y z : X) → not (same y z) ≡ true → (not (same x y) ≡ true) ⊎ (not (same x z) ≡ true)
-differs_from_one same l x y z h =
-    elim (cases_Bool (same x y)) [
-      | inl e ↦ inr (ap not (l.congr x y z e) ∙ h)
-      | inr e ↦ inl (ap not e)
-    ]
+differs_from_one : {X : Type 0} {same : X → X → Bool} → IsEquivalence same → (x y z : X) → not (same y z) ≡ true → (not (same x y) ≡ true) ⊎ (not (same x z) ≡ true)
+differs_from_one {same = same} l x y z h = elim (cases_Bool (same x y)) [ inl e ↦ inr (ap not (l.congr x y z e) ∙ h) | inr e ↦ inl (ap not e) ]
+
+-- so of two subjects that exclude each other any subject of the first one's sort excludes one
+pub excludes_one : {D : Type 0} (eq : D → D → Bool) → IsEquivalence eq → (a x y : SubjectValue D) → sort_of a ≡ sort_of x → excludes eq x y ≡ true → (excludes eq a x ≡ true) ⊎ (excludes eq a y ≡ true)
+excludes_one eq l (Notarizes p) (Notarizes q) (Notarizes r) s h = differs_from_one (same_proposal_equiv l) p q r h
+excludes_one eq l (Finalizes p) (Finalizes q) (Finalizes r) s h = differs_from_one (same_proposal_equiv l) p q r h
+excludes_one eq l (Finalizes p) (Finalizes q) (Nullifies r) s h = inr refl
+excludes_one eq l (Nullifies p) (Nullifies q) (Finalizes r) s h = inr refl
+excludes_one eq l _ _ _ s h = absurd cc
+
+-- ---- which clash with a kind
+
+-- the sort of the second of two votes that contradict with a kind
+abbrev pub second_sort : Kind → Sort
+second_sort Conflicting_notarize = Notarizing
+second_sort Conflicting_finalize = Finalizing
+second_sort Nullify_finalize = Finalizing
+
+-- those of the kind's sorts, in this order, that exclude each other
+pub clash-excludes : {D : Type 0} (eq : D → D → Bool) (kind : Kind) (x y : SubjectValue D) → clash eq kind x y ≡ (same_sort (sort_of x) (first_sort kind) && (same_sort (sort_of y) (second_sort kind) && excludes eq x y))
+clash-excludes eq Conflicting_notarize (Notarizes p) (Notarizes q) = refl
+clash-excludes eq Conflicting_finalize (Finalizes p) (Finalizes q) = refl
+clash-excludes eq Nullify_finalize (Nullifies r) (Finalizes q) = refl
+clash-excludes eq _ _ _ = refl
+
+pub clash_parts : {D : Type 0} (eq : D → D → Bool) (kind : Kind) (x y : SubjectValue D) → clash eq kind x y ≡ true → (sort_of x ≡ first_sort kind) × (sort_of y ≡ second_sort kind) × (excludes eq x y ≡ true)
+clash_parts eq kind x y h =
+    let p = and_parts (same_sort (sort_of x) (first_sort kind)) _ (sym (clash-excludes eq kind x y) ∙ h) in
+    let q = and_parts (same_sort (sort_of y) (second_sort kind)) (excludes eq x y) p.1 in
+    (same_sort-true _ _ p.0, same_sort-true _ _ q.0, q.1)
+
+clash_from : {D : Type 0} (eq : D → D → Bool) (kind : Kind) (x y : SubjectValue D) → sort_of x ≡ first_sort kind → sort_of y ≡ second_sort kind → excludes eq x y ≡ true → clash eq kind x y ≡ true
+clash_from eq kind x y s t h = clash-excludes eq kind x y ∙ and_from _ _ (ap (same_sort (sort_of x)) (sym s) ∙ same_sort-refl (sort_of x)) (and_from _ _ (ap (same_sort (sort_of y)) (sym t) ∙ same_sort-refl (sort_of y)) h)
+
+-- subjects that exclude each other clash with some kind, in one order
+pub kind_from_excludes : {D : Type 0} (eq : D → D → Bool) (x y : SubjectValue D) → excludes eq x y ≡ true → (kind : Kind) × ((clash eq kind x y ≡ true) ⊎ (clash eq kind y x ≡ true))
+kind_from_excludes eq (Notarizes p) (Notarizes q) h = (Conflicting_notarize, inl h)
+kind_from_excludes eq (Finalizes p) (Finalizes q) h = (Conflicting_finalize, inl h)
+kind_from_excludes eq (Nullifies r) (Finalizes q) h = (Nullify_finalize, inl refl)
+kind_from_excludes eq (Finalizes p) (Nullifies r) h = (Nullify_finalize, inr refl)
+kind_from_excludes eq _ _ h = absurd (false≢true h)
 
 -- a subject of the first sort clashes with one of any two that clash
-pub clash_with_one : {D : Type 0} (eq : D → D → Bool) → IsEquivalence eq → (kind : Kind) (x y z : SubjectValue D) → same_sort (sort_of x) (first_sort kind) ≡ true → clash eq kind y z ≡ true → (clash eq kind x y ≡ true) ⊎ (clash eq kind x z ≡ true)
-clash_with_one eq l Conflicting_notarize (Notarizes p) (Notarizes q) (Notarizes r) s h = differs_from_one (same_proposal eq) (same_proposal_equiv l) p q r h
-clash_with_one eq l Conflicting_notarize (Notarizes p) (Notarizes q) (Nullifies r) s h = absurd (false≢true h)
-clash_with_one eq l Conflicting_notarize (Notarizes p) (Notarizes q) (Finalizes r) s h = absurd (false≢true h)
-clash_with_one eq l Conflicting_notarize (Notarizes p) (Nullifies q) z s h = absurd (false≢true h)
-clash_with_one eq l Conflicting_notarize (Notarizes p) (Finalizes q) z s h = absurd (false≢true h)
-clash_with_one eq l Conflicting_notarize (Nullifies p) y z s h = absurd (false≢true s)
-clash_with_one eq l Conflicting_notarize (Finalizes p) y z s h = absurd (false≢true s)
-clash_with_one eq l Conflicting_finalize (Finalizes p) (Finalizes q) (Finalizes r) s h = differs_from_one (same_proposal eq) (same_proposal_equiv l) p q r h
-clash_with_one eq l Conflicting_finalize (Finalizes p) (Finalizes q) (Nullifies r) s h = absurd (false≢true h)
-clash_with_one eq l Conflicting_finalize (Finalizes p) (Finalizes q) (Notarizes r) s h = absurd (false≢true h)
-clash_with_one eq l Conflicting_finalize (Finalizes p) (Nullifies q) z s h = absurd (false≢true h)
-clash_with_one eq l Conflicting_finalize (Finalizes p) (Notarizes q) z s h = absurd (false≢true h)
-clash_with_one eq l Conflicting_finalize (Nullifies p) y z s h = absurd (false≢true s)
-clash_with_one eq l Conflicting_finalize (Notarizes p) y z s h = absurd (false≢true s)
-clash_with_one eq l Nullify_finalize (Nullifies p) (Nullifies q) (Finalizes r) s h = inr refl
-clash_with_one eq l Nullify_finalize (Nullifies p) (Nullifies q) (Nullifies r) s h = absurd (false≢true h)
-clash_with_one eq l Nullify_finalize (Nullifies p) (Nullifies q) (Notarizes r) s h = absurd (false≢true h)
-clash_with_one eq l Nullify_finalize (Nullifies p) (Notarizes q) z s h = absurd (false≢true h)
-clash_with_one eq l Nullify_finalize (Nullifies p) (Finalizes q) z s h = absurd (false≢true h)
-clash_with_one eq l Nullify_finalize (Notarizes p) y z s h = absurd (false≢true s)
-clash_with_one eq l Nullify_finalize (Finalizes p) y z s h = absurd (false≢true s)
+pub clash_with_one : {D : Type 0} (eq : D → D → Bool) → IsEquivalence eq → (kind : Kind) (x y z : SubjectValue D) → sort_of x ≡ first_sort kind → clash eq kind y z ≡ true → (clash eq kind x y ≡ true) ⊎ (clash eq kind x z ≡ true)
+clash_with_one {D} eq l kind x y z s h =
+    let (first, second, against) = clash_parts eq kind y z h in
+    ⊎_elim (λ e. inl (clash_from eq kind x y s (also_second kind x y s first e) e)) (λ e. inr (clash_from eq kind x z s second e)) (excludes_one eq l x y z (s ∙ sym first) against)
+  where
+    also_second : (kind : Kind) (x y : SubjectValue D) → sort_of x ≡ first_sort kind → sort_of y ≡ first_sort kind → excludes eq x y ≡ true → sort_of y ≡ second_sort kind
+    also_second Nullify_finalize (Nullifies p) (Nullifies q) s t e = absurd (false≢true e)
+    also_second Nullify_finalize _ _ s t e = absurd cc
+    also_second Conflicting_notarize _ _ s t e = t
+    also_second Conflicting_finalize _ _ s t e = t
 
--- ---- the order of a report
+-- ---- orders
 
--- the order of who is named is total
+pub round_cmp_total : IsTotalOrder round_cmp
+round_cmp_total = then_total (on_total (λ (r : Round). r.epoch) nat_cmp_total) (on_total (λ (r : Round). r.view) nat_cmp_total)
+
+pub signer_cmp_total : IsTotalOrder signer_cmp
+signer_cmp_total = then_total (on_total (λ (s : Round × ℕ). s.0) round_cmp_total) (on_total (λ (s : Round × ℕ). s.1) nat_cmp_total)
+
 pub named_cmp_total : IsTotalOrder named_cmp
-named_cmp_total =
-    then_total
-    (on_total (λ (n : Named). n.round) (then_total (on_total (λ (r : Round). r.epoch) nat_cmp_total) (on_total (λ (r : Round). r.view) nat_cmp_total)))
-    (then_total (on_total (λ (n : Named). n.signer) nat_cmp_total) (on_total (λ (n : Named). kind_rank n.kind) nat_cmp_total))
+named_cmp_total = then_total (on_total (λ (n : Named). n.round) round_cmp_total) (then_total (on_total (λ (n : Named). n.signer) nat_cmp_total) (on_total (λ (n : Named). kind_rank n.kind) nat_cmp_total))
+
+-- what an order ties is one
+pub exact_rounds : CmpEqualImpliesEq round_cmp
+exact_rounds a b h = ap (λ (p : _). record { epoch = p.0; view = p.1 }) (exact_pairs nat_cmp nat_cmp exact_unsigned exact_unsigned (a.epoch, a.view) (b.epoch, b.view) h)
+
+pub exact_signers : CmpEqualImpliesEq signer_cmp
+exact_signers = exact_pairs round_cmp nat_cmp exact_rounds exact_unsigned
+
+pub exact_named : CmpEqualImpliesEq named_cmp
+exact_named a b h = ap (λ (p : _). record { round = p.0; signer = p.1.0; kind = p.1.1 }) (exact_pairs round_cmp _ exact_rounds (exact_pairs nat_cmp (λ k l. nat_cmp (kind_rank k) (kind_rank l)) exact_unsigned kinds) (a.round, (a.signer, a.kind)) (b.round, (b.signer, b.kind)) h)
+  where
+    kinds : (k l : Kind) → nat_cmp (kind_rank k) (kind_rank l) ≡ Equal → k ≡ l
+    kinds Conflicting_notarize Conflicting_notarize e = refl
+    kinds Conflicting_finalize Conflicting_finalize e = refl
+    kinds Nullify_finalize Nullify_finalize e = refl
+    kinds _ _ e = absurd cc
+
+-- a round that is found is the one that was sought
+pub key_tells : (p q : Round) → is_key (round_cmp p) q ≡ true → p ≡ q
+key_tells p q h = exact_rounds p q (tied (round_cmp p q) h)
+  where
+    tied : (o : Ordering) → is_eq o ≡ true → o ≡ Equal
+    tied Equal h = refl
+    tied _ h = absurd (false≢true h)
+
+-- a round that is not found is another
+pub other_round : (p q : Round) → is_key (round_cmp p) q ≡ false → same_round p q ≡ false
+other_round p q h = false_from_ne_true _ (λ e. false≢true (sym h ∙ subst (λ r. is_key (round_cmp p) r ≡ true) (same_round-true p q e) (ap is_eq (tied_itself round_cmp_total p))))

@@ -1,177 +1,275 @@
--- The slots after one more vote, the evidence in the slots, and that the news are enough.
-use Rattle.std.proofs.Common.{◌≡◌, ℕ, Bool, true, false, cond, List, [], ◌∷◌, ◌++◌, Option, Some, None, sym, refl, ap, ◌∙◌, inl, inr}
-use Rattle.std.specs.Prelude.{not, ◌&&◌, if◌then◌else◌}
-use Rattle.std.specs.Option.{option_or}
-use Rattle.std.specs.List.{find}
-use Rattle.std.specs.Cmp.{IsEquivalence}
-use Rattle.std.proofs.lemmas.Bool.{false≢true, cases_Bool, and_parts, and_from, and_right, and_left, cond-true, cond-false}
-use Rattle.std.proofs.lemmas.List.Folds.{find-append}
-use Rattle.simplex_base.specs.Positions.{Round}
-use Rattle.simplex_scheme.specs.Subject.{SubjectValue, Notarizes, Nullifies, Finalizes, round_of}
-use Rattle.simplex_votes.specs.Votes.{SignedVote, Sort, Notarizing, Nullifying, Finalizing, sort_of, same_sort, is_of, is_at}
-use Rattle.simplex_evidence.specs.Contradiction.{Kind, Conflicting_notarize, Conflicting_finalize, Nullify_finalize, clash, contradicts, first_sort}
-use Rattle.simplex_detector.specs.Named.{Named}
-use Rattle.simplex_detector.specs.Evidence.{evidence_of, with_first, with_second}
-use Rattle.simplex_detector.specs.Recorded.{differs, Slot, other_than, slot_of, if_differs, slot_with, changes, is_news, both, evidence_from}
-use Rattle.simplex_detector.proofs.Lists.{find_passes, find_push}
-use Rattle.simplex_detector.proofs.Places.{is_of-true, same_proposal_equiv}
-
--- ---- lists
-
--- tests that agree find the same
-pub find_agree : {X : Type 0} (p q : X → Bool) → ((x : X) → p x ≡ q x) → (xs : List X) → find p xs ≡ find q xs
-find_agree p q h xs = λ i. find (λ x. h x i) xs
-
--- a narrower test finds nothing either
-find_none : {X : Type 0} (p q : X → Bool) (xs : List X) → find p xs ≡ None → find (λ x. p x && q x) xs ≡ None
-find_none p q [] h = refl
-find_none p q (x ∷ xs) h =
-    elim (cases_Bool (p x)) [
-      | inl e ↦ let found : Some x ≡ None = sym (cond-true (p x) (Some x) (find p xs) e) ∙ h in cc
-      | inr e ↦
-          cond-false (p x && q x) (Some x) (find (λ y. p y && q y) xs) (and_left (p x) (q x) e) ∙ find_none p q xs (sym (cond-false (p x) (Some x) (find p xs) e) ∙ h)
-    ]
+-- Which votes are recorded, vote by vote, slot by slot and round by round, and the evidence in the slots.
+use Rattle.simplex_detector.proofs.Std.{Bool, Contains, IsEquivalence, List, None, Option, Some, [], and_from, and_left, and_parts, and_right, ap, append-nil, append_assoc, arith, cond, cond-false, eqb, false, false_from_ne_true, false≢true, filter, filter-append, find, find-append, if◌then◌else◌, length, length-append, map, map-append, option_or, option_to_list, refl, same_Some, subst, sym, true, ℕ, ◌&&◌, ◌++◌, ◌+◌, ◌<◌, ◌∙◌, ◌∷◌, ◌≡◌, ◌≤◌}
+use Rattle.simplex_detector.proofs.Words.{Attestation, Conflicting_finalize, Conflicting_notarize, Evidence, Finalizes, Finalizing, HoldsRound, Kind, Named, Notarizing, Nullifies, Nullify_finalize, Nullifying, RecordedAreSlots, Round, RoundVotes, SignedVote, Slot, Sort, SubjectValue, TakesVote, both, changes, contradicts, evidence_from, evidence_of, excludes, first_sort, if_differs, is_at, is_for, is_news, is_of, news_after, no_slot, other_than, recorded_in, recorded_of, round_of, same_round, same_sort, slot_of, slot_with, slots, sort_of, vote_on, votes_in_slot, with_first, with_second}
+use Rattle.simplex_detector.proofs.EvidenceLemmas.{first_spot}
+use Rattle.simplex_detector.proofs.Lists.{Contains-cons, Contains-filter, Contains-first, Contains-none, find_from_Contains, find_push, found, none_found}
+use Rattle.simplex_detector.proofs.Places.{Spot, clash-excludes, excludes_itself, is_at-from, is_at-true, same_round-from, same_round-true, same_sort-refl, second_sort, spot}
 
 -- ---- one more vote
 
--- one more vote changes its own slot alone
-abbrev pub SlotAfterVote : {D G : Type 0} → (D → D → Bool) → List (SignedVote D G) → SignedVote D G → Type 0
-SlotAfterVote eq vs v =
-    (sort : Sort) (round : Round) (signer : ℕ) →
-    slot_of eq (vs ++ v ∷ []) sort round signer ≡ (if is_at sort round signer v then slot_with eq v (slot_of eq vs sort round signer) else slot_of eq vs sort round signer)
+module _ {D G : Type 0} (eq : D → D → Bool) (l : IsEquivalence eq) (vs : List (SignedVote D G)) (v : SignedVote D G) where
+  -- the earliest other vote, after one more vote
+  other_after : (sort : Sort) (round : Round) (signer : ℕ) (o : Option (SignedVote D G)) → find (is_at sort round signer) vs ≡ o → (b : Bool) → is_at sort round signer v ≡ b → other_than eq (vs ++ v ∷ []) sort round signer (cond b (option_or o (Some v)) o) ≡ cond b (option_or (other_than eq vs sort round signer o) (if_differs eq o v)) (other_than eq vs sort round signer o)
+  other_after sort round signer None e true at =
+      let test = λ (w : _). is_at sort round signer w && excludes eq v.subject w.subject in
+      find_push test vs v ∙ cond-false (test v) _ _ (and_right (is_at sort round signer v) _ (excludes_itself eq l v.subject)) ∙
+      none_found test vs (λ w w_in passes. let (u, is) = find_from_Contains (is_at sort round signer) vs w w_in (and_parts (is_at sort round signer w) (excludes eq v.subject w.subject) passes).0 in let both_are : None ≡ Some u = sym e ∙ is in absurd cc)
+  other_after sort round signer None e false at = refl
+  other_after sort round signer (Some a) e true at = let test = λ (w : _). is_at sort round signer w && excludes eq a.subject w.subject in find-append test vs (v ∷ []) ∙ ap (λ c. option_or (find test vs) (cond (c && excludes eq a.subject v.subject) (Some v) None)) at
+  other_after sort round signer (Some a) e false at = let test = λ (w : _). is_at sort round signer w && excludes eq a.subject w.subject in find_push test vs v ∙ cond-false (test v) _ _ (and_left _ _ at)
 
--- two lists of votes have the same slots
-abbrev pub SameSlots : {D G : Type 0} → (D → D → Bool) → List (SignedVote D G) → List (SignedVote D G) → Type 0
-SameSlots eq vs ws = (sort : Sort) (round : Round) (signer : ℕ) → slot_of eq vs sort round signer ≡ slot_of eq ws sort round signer
+  -- one more vote changes its own slot alone
+  pub slot_after_vote : (sort : Sort) (round : Round) (signer : ℕ) → slot_of eq (vs ++ v ∷ []) sort round signer ≡ (if is_at sort round signer v then slot_with eq v (slot_of eq vs sort round signer) else slot_of eq vs sort round signer)
+  slot_after_vote sort round signer =
+      let found_first = find_push (is_at sort round signer) vs v in
+      slot_if (is_at sort round signer v) _ _ _ found_first
+      (ap (other_than eq (vs ++ v ∷ []) sort round signer) found_first ∙ other_after sort round signer (find (is_at sort round signer) vs) refl (is_at sort round signer v) refl)
+    where
+      slot_if : (b : Bool) (z x y : Slot D G) → z.earliest ≡ cond b x.earliest y.earliest → z.other ≡ cond b x.other y.other → z ≡ cond b x y
+      slot_if true z x y e o = λ i. record { earliest = e i; other = o i }
+      slot_if false z x y e o = λ i. record { earliest = e i; other = o i }
 
--- a subject does not differ from itself
-pub differs_itself : {D : Type 0} (eq : D → D → Bool) → IsEquivalence eq → (x : SubjectValue D) → differs eq x x ≡ false
-differs_itself eq l (Notarizes p) = ap not ((same_proposal_equiv l).refl p)
-differs_itself eq l (Nullifies r) = refl
-differs_itself eq l (Finalizes p) = ap not ((same_proposal_equiv l).refl p)
+  -- the slot of a vote's own sort, round and signer, by other names of them
+  pub own_slot : (s : Spot) → is_at s.sort s.round s.signer v ≡ true → slot_of eq vs (sort_of v.subject) (round_of v.subject) v.signer ≡ slot_of eq vs s.sort s.round s.signer
+  own_slot s at = ap (λ (t : Spot). slot_of eq vs t.sort t.round t.signer) (is_at-true s v at)
 
--- the earliest other vote, after one more vote
-other_after : {D G : Type 0} (eq : D → D → Bool) → IsEquivalence eq → (vs : List (SignedVote D G)) (v : SignedVote D G) (sort : Sort) (round : Round) (signer : ℕ) (o : Option (SignedVote D G)) → find (is_at sort round signer) vs ≡ o → (b : Bool) → is_at sort round signer v ≡ b → other_than eq (vs ++ v ∷ []) sort round signer (cond b (option_or o (Some v)) o) ≡ cond b (option_or (other_than eq vs sort round signer o) (if_differs eq o v)) (other_than eq vs sort round signer o)
-other_after eq l vs v sort round signer None e true at =
-    let test = λ (w : _). is_at sort round signer w && differs eq v.subject w.subject in
-    let none : find test vs ≡ None = find_none (is_at sort round signer) (λ w. differs eq v.subject w.subject) vs e in
-    let itself : test v ≡ false = and_right (is_at sort round signer v) _ (differs_itself eq l v.subject) in
-    find_push test vs v ∙ cond-false (test v) _ _ itself ∙ none
-other_after eq l vs v sort round signer None e false at = refl
-other_after eq l vs v sort round signer (Some a) e true at =
-    let test = λ (w : _). is_at sort round signer w && differs eq a.subject w.subject in
-    find-append test vs (v ∷ []) ∙ ap (λ c. option_or (find test vs) (cond c (Some v) None)) (ap (λ c. c && differs eq a.subject v.subject) at)
-other_after eq l vs v sort round signer (Some a) e false at =
-    let test = λ (w : _). is_at sort round signer w && differs eq a.subject w.subject in
-    find_push test vs v ∙ cond-false (test v) _ _ (and_left _ _ at)
+  -- a vote that is no news changes no slot
+  pub no_news : is_news eq vs v ≡ false → (s : Spot) → slot_of eq (vs ++ v ∷ []) s.sort s.round s.signer ≡ slot_of eq vs s.sort s.round s.signer
+  no_news h s = slot_after_vote s.sort s.round s.signer ∙ by (is_at s.sort s.round s.signer v) refl
+    where
+      stays : (first other : Option (SignedVote D G)) → changes eq first other v.subject ≡ false → slot_with eq v (record { earliest = first; other = other }) ≡ record { earliest = first; other = other }
+      stays None other e = absurd (false≢true (sym e))
+      stays (Some a) (Some w) e = refl
+      stays (Some a) None e = ap (λ b. record { earliest = Some a; other = cond b (Some v) None }) (by_and (excludes eq a.subject v.subject) e)
+        where
+          by_and : (b : Bool) → (b && true) ≡ false → b ≡ false
+          by_and true e = e
+          by_and false e = e
 
--- a slot is given by its two votes
-slot_if : {D G : Type 0} (b : Bool) (z x y : Slot D G) → z.earliest ≡ cond b x.earliest y.earliest → z.other ≡ cond b x.other y.other → z ≡ cond b x y
-slot_if true z x y e o = λ i. record { earliest = e i; other = o i }
-slot_if false z x y e o = λ i. record { earliest = e i; other = o i }
-
--- one more vote changes its own slot alone
-pub slot_after_vote : {D G : Type 0} (eq : D → D → Bool) → IsEquivalence eq → (vs : List (SignedVote D G)) (v : SignedVote D G) → SlotAfterVote eq vs v
-slot_after_vote eq l vs v sort round signer =
-    let found = find_push (is_at sort round signer) vs v in
-    slot_if (is_at sort round signer v) _ _ _ found
-    (ap (other_than eq (vs ++ v ∷ []) sort round signer) found ∙ other_after eq l vs v sort round signer (find (is_at sort round signer) vs) refl (is_at sort round signer v) refl)
-
--- ---- no news
-
--- sorts that pass the test are one
-pub same_sort-true : (a b : Sort) → same_sort a b ≡ true → a ≡ b
-same_sort-true Notarizing Notarizing h = refl
-same_sort-true Notarizing Nullifying h = absurd (false≢true h)
-same_sort-true Notarizing Finalizing h = absurd (false≢true h)
-same_sort-true Nullifying Notarizing h = absurd (false≢true h)
-same_sort-true Nullifying Nullifying h = refl
-same_sort-true Nullifying Finalizing h = absurd (false≢true h)
-same_sort-true Finalizing Notarizing h = absurd (false≢true h)
-same_sort-true Finalizing Nullifying h = absurd (false≢true h)
-same_sort-true Finalizing Finalizing h = refl
-
--- a vote that is no news leaves its slot
-slot_recorded : {D G : Type 0} (eq : D → D → Bool) (v : SignedVote D G) (first other : Option (SignedVote D G)) → changes eq first other v.subject ≡ false → slot_with eq v (record { earliest = first; other = other }) ≡ record { earliest = first; other = other }
-slot_recorded eq v None other h = absurd (false≢true (sym h))
-slot_recorded eq v (Some a) (Some w) h = refl
-slot_recorded eq v (Some a) None h =
-    elim (cases_Bool (differs eq a.subject v.subject)) [
-      | inl e ↦ absurd (false≢true (sym h ∙ and_from _ true e refl))
-      | inr e ↦ λ i. record { earliest = Some a; other = cond (e i) (Some v) None }
-    ]
-
--- the slot of a vote's own round, signer and sort, by other names of them
-pub own_slot : {D G : Type 0} (eq : D → D → Bool) (vs : List (SignedVote D G)) (v : SignedVote D G) (sort : Sort) (round : Round) (signer : ℕ) → is_at sort round signer v ≡ true → slot_of eq vs (sort_of v.subject) (round_of v.subject) v.signer ≡ slot_of eq vs sort round signer
-own_slot eq vs v sort round signer at =
-    let p = and_parts (same_sort (sort_of v.subject) sort) (is_of round signer v) at in
-    let of_v = is_of-true round signer v p.1 in
-    λ i. slot_of eq vs (same_sort-true _ sort p.0 i) (of_v.0 i) (of_v.1 i)
-
--- a vote that is no news changes no slot
-pub no_news : {D G : Type 0} (eq : D → D → Bool) → IsEquivalence eq → (vs : List (SignedVote D G)) (v : SignedVote D G) → is_news eq vs v ≡ false → SameSlots eq (vs ++ v ∷ []) vs
-no_news eq l vs v h sort round signer =
-    slot_after_vote eq l vs v sort round signer ∙
-    elim (cases_Bool (is_at sort round signer v)) [
-      | inl e ↦
-          let k = slot_of eq vs sort round signer in
-          let old : changes eq k.earliest k.other v.subject ≡ false = ap (λ x. changes eq x.earliest x.other v.subject) (sym (own_slot eq vs v sort round signer e)) ∙ h in
-          cond-true (is_at sort round signer v) _ _ e ∙ slot_recorded eq v k.earliest k.other old
-      | inr e ↦ cond-false (is_at sort round signer v) _ _ e
-    ]
+      by : (b : Bool) → is_at s.sort s.round s.signer v ≡ b → (if b then slot_with eq v (slot_of eq vs s.sort s.round s.signer) else slot_of eq vs s.sort s.round s.signer) ≡ slot_of eq vs s.sort s.round s.signer
+      by true e = stays _ _ (ap (λ (k : Slot D G). changes eq k.earliest k.other v.subject) (sym (own_slot s e)) ∙ h)
+      by false e = refl
 
 -- ---- the evidence in the slots
 
--- a test on two subjects of a kind is the test on their sorts and proposals
-notarizes_test : {D : Type 0} (eq : D → D → Bool) (here : Bool) (x y : SubjectValue D) → same_sort (sort_of x) Notarizing ≡ true → (here && clash eq Conflicting_notarize x y) ≡ ((same_sort (sort_of y) Notarizing && here) && differs eq x y)
-notarizes_test eq here (Notarizes p) (Notarizes q) h = refl
-notarizes_test eq here (Notarizes p) (Nullifies q) h = and_right here false refl
-notarizes_test eq here (Notarizes p) (Finalizes q) h = and_right here false refl
-notarizes_test eq here (Nullifies p) y h = absurd (false≢true h)
-notarizes_test eq here (Finalizes p) y h = absurd (false≢true h)
+-- the evidence of two votes consists of them
+pub both-Some : {D G : Type 0} (kind : Kind) (o p : Option (SignedVote D G)) (e : Evidence D G) → both kind o p ≡ Some e → (o ≡ Some e.first) × (p ≡ Some e.second)
+both-Some kind None p e h = absurd cc
+both-Some kind (Some v) None e h = absurd cc
+both-Some kind (Some v) (Some w) e h = (ap (λ x. Some x.first) (same_Some _ e h), ap (λ x. Some x.second) (same_Some _ e h))
 
--- the same for finalizes
-finalizes_test : {D : Type 0} (eq : D → D → Bool) (here : Bool) (x y : SubjectValue D) → same_sort (sort_of x) Finalizing ≡ true → (here && clash eq Conflicting_finalize x y) ≡ ((same_sort (sort_of y) Finalizing && here) && differs eq x y)
-finalizes_test eq here (Finalizes p) (Finalizes q) h = refl
-finalizes_test eq here (Finalizes p) (Nullifies q) h = and_right here false refl
-finalizes_test eq here (Finalizes p) (Notarizes q) h = and_right here false refl
-finalizes_test eq here (Nullifies p) y h = absurd (false≢true h)
-finalizes_test eq here (Notarizes p) y h = absurd (false≢true h)
+module _ {D G : Type 0} (eq : D → D → Bool) where
+  -- the test on the second vote, by its spot and its subject
+  second_test : (n : Named) (v w : SignedVote D G) → spot v ≡ first_spot n → contradicts eq n.kind v w ≡ (is_at (second_sort n.kind) n.round n.signer w && excludes eq v.subject w.subject)
+  second_test n v w at =
+      (λ i. is_of (at i).round (at i).signer w && clash-excludes eq n.kind v.subject w.subject i) ∙
+      regroup (same_sort (sort_of v.subject) (first_sort n.kind)) (is_of n.round n.signer w) (same_sort (sort_of w.subject) (second_sort n.kind)) (excludes eq v.subject w.subject) (ap (λ (s : Spot). same_sort (sort_of v.subject) s.sort) (sym at) ∙ same_sort-refl (sort_of v.subject))
+    where
+      regroup : (f a s e : Bool) → f ≡ true → (a && (f && (s && e))) ≡ ((s && a) && e)
+      regroup false a s e h = absurd (false≢true h)
+      regroup true a true e h = refl
+      regroup true a false e h = and_right a false refl
 
--- the same for a nullify and a finalize
-nullifies_test : {D : Type 0} (eq : D → D → Bool) (here : Bool) (x y : SubjectValue D) → same_sort (sort_of x) Nullifying ≡ true → (here && clash eq Nullify_finalize x y) ≡ (same_sort (sort_of y) Finalizing && here)
-nullifies_test eq here (Nullifies p) (Finalizes q) h = elim here as (λ b. (b && true) ≡ b) [ true ↦ refl | false ↦ refl ]
-nullifies_test eq here (Nullifies p) (Nullifies q) h = and_right here false refl
-nullifies_test eq here (Nullifies p) (Notarizes q) h = and_right here false refl
-nullifies_test eq here (Notarizes p) y h = absurd (false≢true h)
-nullifies_test eq here (Finalizes p) y h = absurd (false≢true h)
+  -- so it asks for another vote where the first is, and for any finalize beside a nullify
+  abbrev pub second_by : Kind → Round → ℕ → SignedVote D G → SignedVote D G → Bool
+  second_by Conflicting_notarize round signer v w = is_at Notarizing round signer w && excludes eq v.subject w.subject
+  second_by Conflicting_finalize round signer v w = is_at Finalizing round signer w && excludes eq v.subject w.subject
+  second_by Nullify_finalize round signer v w = is_at Finalizing round signer w
 
--- the evidence that begins with v, the earliest of its slot
-second_is : {D G : Type 0} (eq : D → D → Bool) (vs : List (SignedVote D G)) (kind : Kind) (round : Round) (signer : ℕ) (v : SignedVote D G) → is_at (first_sort kind) round signer v ≡ true → (test : SignedVote D G → Bool) → ((w : SignedVote D G) → (is_of round signer w && clash eq kind v.subject w.subject) ≡ test w) → with_second kind v (find (contradicts eq kind v) vs) ≡ with_second kind v (find test vs)
-second_is eq vs kind round signer v at test agree =
-    let p = and_parts (same_sort (sort_of v.subject) (first_sort kind)) (is_of round signer v) at in
-    let of_v = is_of-true round signer v p.1 in
-    ap (with_second kind v) (find_agree (contradicts eq kind v) test (λ w. (λ i. is_of (of_v.0 i) (of_v.1 i) w && clash eq kind v.subject w.subject) ∙ agree w) vs)
+  pub second_agrees : (kind : Kind) (round : Round) (signer : ℕ) (v : SignedVote D G) → spot v ≡ first_spot (record { round = round; signer = signer; kind = kind }) → (w : SignedVote D G) → contradicts eq kind v w ≡ second_by kind round signer v w
+  second_agrees Conflicting_notarize round signer v at w = second_test (record { round = round; signer = signer; kind = Conflicting_notarize }) v w at
+  second_agrees Conflicting_finalize round signer v at w = second_test (record { round = round; signer = signer; kind = Conflicting_finalize }) v w at
+  second_agrees Nullify_finalize round signer v at w = second_test (record { round = round; signer = signer; kind = Nullify_finalize }) v w at ∙ any v.subject w.subject (is_of round signer w) (λ i. (at i).sort)
+    where
+      any : (x y : SubjectValue D) (a : Bool) → sort_of x ≡ Nullifying → ((same_sort (sort_of y) Finalizing && a) && excludes eq x y) ≡ (same_sort (sort_of y) Finalizing && a)
+      any (Nullifies r) (Finalizes q) true e = refl
+      any (Nullifies r) (Finalizes q) false e = refl
+      any (Nullifies r) _ a e = refl
+      any _ y a e = absurd cc
 
--- a vote of a sort, round and signer is of that sort
-sort_from_at : {D G : Type 0} (sort : Sort) (round : Round) (signer : ℕ) (v : SignedVote D G) → is_at sort round signer v ≡ true → same_sort (sort_of v.subject) sort ≡ true
-sort_from_at sort round signer v at = (and_parts (same_sort (sort_of v.subject) sort) (is_of round signer v) at).0
+module _ {D G : Type 0} (eq : D → D → Bool) (vs : List (SignedVote D G)) where
+  -- the evidence of whom is named follows from the slots
+  pub evidence_of-slots : (n : Named) → evidence_of eq vs n ≡ evidence_from (λ sort. slot_of eq vs sort n.round n.signer) n.kind
+  evidence_of-slots n = by (find (is_at (first_sort n.kind) n.round n.signer) vs) refl ∙ slots_of n.kind
+    where
+      -- the second vote, where there is a first
+      second : Kind → Option (SignedVote D G) → Option (SignedVote D G)
+      second kind None = None
+      second kind (Some v) = find (second_by eq kind n.round n.signer v) vs
 
--- the evidence that begins with the earliest vote follows from the slots
-from_slots : {D G : Type 0} (eq : D → D → Bool) (vs : List (SignedVote D G)) (kind : Kind) (round : Round) (signer : ℕ) (o : Option (SignedVote D G)) → find (is_at (first_sort kind) round signer) vs ≡ o → with_first eq vs kind o ≡ evidence_from (λ sort. slot_of eq vs sort round signer) kind
-from_slots eq vs Conflicting_notarize round signer None e = ap (λ o. both Conflicting_notarize o (other_than eq vs Notarizing round signer o)) (sym e)
-from_slots eq vs Conflicting_notarize round signer (Some v) e =
-    let at = find_passes (is_at Notarizing round signer) vs v e in
-    second_is eq vs Conflicting_notarize round signer v at _ (λ w. notarizes_test eq (is_of round signer w) v.subject w.subject (sort_from_at Notarizing round signer v at)) ∙ ap (λ o. both Conflicting_notarize o (other_than eq vs Notarizing round signer o)) (sym e)
-from_slots eq vs Conflicting_finalize round signer None e = ap (λ o. both Conflicting_finalize o (other_than eq vs Finalizing round signer o)) (sym e)
-from_slots eq vs Conflicting_finalize round signer (Some v) e =
-    let at = find_passes (is_at Finalizing round signer) vs v e in
-    second_is eq vs Conflicting_finalize round signer v at _ (λ w. finalizes_test eq (is_of round signer w) v.subject w.subject (sort_from_at Finalizing round signer v at)) ∙ ap (λ o. both Conflicting_finalize o (other_than eq vs Finalizing round signer o)) (sym e)
-from_slots eq vs Nullify_finalize round signer None e = ap (λ o. both Nullify_finalize o (find (is_at Finalizing round signer) vs)) (sym e)
-from_slots eq vs Nullify_finalize round signer (Some v) e =
-    let at = find_passes (is_at Nullifying round signer) vs v e in
-    second_is eq vs Nullify_finalize round signer v at (is_at Finalizing round signer) (λ w. nullifies_test eq (is_of round signer w) v.subject w.subject (sort_from_at Nullifying round signer v at)) ∙ ap (λ o. both Nullify_finalize o (find (is_at Finalizing round signer) vs)) (sym e)
+      by : (o : Option (SignedVote D G)) → find (is_at (first_sort n.kind) n.round n.signer) vs ≡ o → with_first eq vs n.kind o ≡ both n.kind o (second n.kind o)
+      by None e = refl
+      by (Some v) e = λ i. with_second n.kind v (find (λ w. second_agrees eq n.kind n.round n.signer v (is_at-true (first_spot n) v (found _ vs v e).1) w i) vs)
 
--- what is evidence of whom follows from the slots
-pub evidence_of-slots : {D G : Type 0} (eq : D → D → Bool) (vs : List (SignedVote D G)) (n : Named) → evidence_of eq vs n ≡ evidence_from (λ sort. slot_of eq vs sort n.round n.signer) n.kind
-evidence_of-slots eq vs n = from_slots eq vs n.kind n.round n.signer (find (is_at (first_sort n.kind) n.round n.signer) vs) refl
+      slots_of : (kind : Kind) → both kind (find (is_at (first_sort kind) n.round n.signer) vs) (second kind (find (is_at (first_sort kind) n.round n.signer) vs)) ≡ evidence_from (λ sort. slot_of eq vs sort n.round n.signer) kind
+      slots_of Conflicting_notarize = elim (find (is_at Notarizing n.round n.signer) vs) as (λ o. both Conflicting_notarize o (second Conflicting_notarize o) ≡ both Conflicting_notarize o (other_than eq vs Notarizing n.round n.signer o)) [ None ↦ refl | Some v ↦ refl ]
+      slots_of Conflicting_finalize = elim (find (is_at Finalizing n.round n.signer) vs) as (λ o. both Conflicting_finalize o (second Conflicting_finalize o) ≡ both Conflicting_finalize o (other_than eq vs Finalizing n.round n.signer o)) [ None ↦ refl | Some v ↦ refl ]
+      slots_of Nullify_finalize = elim (find (is_at Nullifying n.round n.signer) vs) as (λ o. both Nullify_finalize o (second Nullify_finalize o) ≡ both Nullify_finalize o (find (is_at Finalizing n.round n.signer) vs)) [ None ↦ refl | Some v ↦ refl ]
+
+-- ---- what is recorded, vote by vote
+
+-- whether a vote is of a round
+abbrev pub of_round : {D G : Type 0} → Round → SignedVote D G → Bool
+of_round round v = same_round (round_of v.subject) round
+
+-- a vote, if it is news
+abbrev if_news : {D G : Type 0} → (D → D → Bool) → List (SignedVote D G) → SignedVote D G → List (SignedVote D G)
+if_news eq vs v = cond (is_news eq vs v) (v ∷ []) []
+
+-- a list of one at most, filtered
+filter_if : {X : Type 0} (p : X → Bool) (b : Bool) (x : X) → filter p (cond b (x ∷ []) []) ≡ cond (p x && b) (x ∷ []) []
+filter_if p true x = elim (p x) as (λ c. cond c (x ∷ []) [] ≡ cond (c && true) (x ∷ []) []) [ true ↦ refl | false ↦ refl ]
+filter_if p false x = elim (p x) as (λ c. [] ≡ cond (c && false) (x ∷ []) []) [ true ↦ refl | false ↦ refl ]
+
+-- the news with one more vote
+news_push : {D G : Type 0} (eq : D → D → Bool) (before vs : List (SignedVote D G)) (v : SignedVote D G) → news_after eq before (vs ++ v ∷ []) ≡ news_after eq before vs ++ if_news eq (before ++ vs) v
+news_push eq before [] v = append-nil (if_news eq before v) ∙ ap (λ ws. if_news eq ws v) (sym (append-nil before))
+news_push eq before (w ∷ vs) v =
+    ap (λ ws. if_news eq before w ++ ws) (news_push eq (before ++ w ∷ []) vs v ∙ ap (λ ws. news_after eq (before ++ w ∷ []) vs ++ if_news eq ws v) (append_assoc before (w ∷ []) vs)) ∙
+    sym (append_assoc (if_news eq before w) (news_after eq (before ++ w ∷ []) vs) (if_news eq (before ++ w ∷ vs) v))
+
+-- of a round as many are recorded as before, and one more if it is news of that round
+pub recorded_in_push : {D G : Type 0} (eq : D → D → Bool) (vs : List (SignedVote D G)) (v : SignedVote D G) (round : Round) → recorded_in eq (vs ++ v ∷ []) round ≡ recorded_in eq vs round + length (cond (of_round round v && is_news eq vs v) (v ∷ []) [])
+recorded_in_push eq vs v round =
+    ap (λ ws. length (filter (of_round round) ws)) (news_push eq [] vs v) ∙
+    ap length (filter-append (of_round round) (recorded_of eq vs) (if_news eq vs v) ∙ ap (λ ws. filter (of_round round) (recorded_of eq vs) ++ ws) (filter_if (of_round round) (is_news eq vs v) v)) ∙
+    length-append (filter (of_round round) (recorded_of eq vs)) (cond (of_round round v && is_news eq vs v) (v ∷ []) [])
+
+-- ---- what is recorded, slot by slot
+
+module _ {D G : Type 0} (eq : D → D → Bool) (l : IsEquivalence eq) (s : Spot) where
+  -- the votes in the slot of a list
+  abbrev in_slot : List (SignedVote D G) → List (SignedVote D G)
+  in_slot vs = votes_in_slot (slot_of eq vs s.sort s.round s.signer)
+
+  -- a slot with one more vote has that vote too, if it changes the slot
+  votes_with : (v : SignedVote D G) (first other : Option (SignedVote D G)) → (first ≡ None → other ≡ None) → votes_in_slot (slot_with eq v (record { earliest = first; other = other })) ≡ votes_in_slot (record { earliest = first; other = other }) ++ cond (changes eq first other v.subject) (v ∷ []) []
+  votes_with v None None h = refl
+  votes_with v None (Some w) h = let none : Some w ≡ None = h refl in absurd cc
+  votes_with v (Some a) None h = elim (excludes eq a.subject v.subject) as (λ b. votes_in_slot (record { earliest = Some a; other = cond b (Some v) None }) ≡ (a ∷ []) ++ cond (b && true) (v ∷ []) []) [ true ↦ refl | false ↦ refl ]
+  votes_with v (Some a) (Some w) h = elim (excludes eq a.subject v.subject) as (λ b. (a ∷ w ∷ []) ≡ (a ∷ w ∷ []) ++ cond (b && false) (v ∷ []) []) [ true ↦ refl | false ↦ refl ]
+
+  -- those with one more vote
+  in_slot_push : (vs : List (SignedVote D G)) (v : SignedVote D G) → in_slot (vs ++ v ∷ []) ≡ in_slot vs ++ filter (is_at s.sort s.round s.signer) (if_news eq vs v)
+  in_slot_push vs v = ap votes_in_slot (slot_after_vote eq l vs v s.sort s.round s.signer) ∙ by (is_at s.sort s.round s.signer v) refl ∙ ap (λ ws. in_slot vs ++ ws) (sym (filter_if (is_at s.sort s.round s.signer) (is_news eq vs v) v))
+    where
+      k : Slot D G
+      k = slot_of eq vs s.sort s.round s.signer
+
+      by : (b : Bool) → is_at s.sort s.round s.signer v ≡ b → votes_in_slot (cond b (slot_with eq v k) k) ≡ votes_in_slot k ++ cond (b && is_news eq vs v) (v ∷ []) []
+      by true e =
+          votes_with v (find (is_at s.sort s.round s.signer) vs) (other_than eq vs s.sort s.round s.signer (find (is_at s.sort s.round s.signer) vs)) (ap (other_than eq vs s.sort s.round s.signer)) ∙
+          ap (λ (x : Slot D G). votes_in_slot (slot_of eq vs s.sort s.round s.signer) ++ cond (changes eq x.earliest x.other v.subject) (v ∷ []) []) (sym (own_slot eq l vs v s e))
+      by false e = sym (append-nil (in_slot vs))
+
+  -- the votes in the slot of a list are those before it and the news that go there
+  in_slot_after : (before vs : List (SignedVote D G)) → in_slot (before ++ vs) ≡ in_slot before ++ filter (is_at s.sort s.round s.signer) (news_after eq before vs)
+  in_slot_after before [] = ap in_slot (append-nil before) ∙ sym (append-nil (in_slot before))
+  in_slot_after before (v ∷ vs) =
+      let at = is_at s.sort s.round s.signer in
+      ap in_slot (sym (append_assoc before (v ∷ []) vs)) ∙ in_slot_after (before ++ v ∷ []) vs ∙
+      ap (λ ws. ws ++ filter at (news_after eq (before ++ v ∷ []) vs)) (in_slot_push before v) ∙
+      append_assoc (in_slot before) (filter at (if_news eq before v)) (filter at (news_after eq (before ++ v ∷ []) vs)) ∙
+      ap (λ ws. in_slot before ++ ws) (sym (filter-append at (if_news eq before v) (news_after eq (before ++ v ∷ []) vs)))
+
+-- those that are recorded of a sort, round and signer are the votes in its slot
+pub recorded_are_slots : {D G : Type 0} (eq : D → D → Bool) → IsEquivalence eq → (vs : List (SignedVote D G)) → RecordedAreSlots eq vs
+recorded_are_slots eq l vs sort round signer = sym (in_slot_after eq l (record { sort = sort; round = round; signer = signer }) [] vs)
+
+module _ {D G : Type 0} (eq : D → D → Bool) (l : IsEquivalence eq) (vs : List (SignedVote D G)) (round : Round) where
+  -- nullifies differ from none: there is no other one
+  no_other_nullify : (signer : ℕ) (o : Option (SignedVote D G)) → find (is_at Nullifying round signer) vs ≡ o → other_than eq vs Nullifying round signer o ≡ None
+  no_other_nullify signer None is = refl
+  no_other_nullify signer (Some v) is = none_found (λ w. is_at Nullifying round signer w && excludes eq v.subject w.subject) vs (λ w w_in passes.
+      let p = and_parts (is_at Nullifying round signer w) (excludes eq v.subject w.subject) passes in
+      let at : Spot = record { sort = Nullifying; round = round; signer = signer } in
+      agree v.subject w.subject (λ i. (is_at-true at v (found _ vs v is).1 i).sort) (λ i. (is_at-true at w p.0 i).sort) p.1)
+    where
+      agree : (x y : SubjectValue D) → sort_of x ≡ Nullifying → sort_of y ≡ Nullifying → excludes eq x y ≡ true → ⊥
+      agree (Nullifies p) (Nullifies q) s t h = false≢true h
+      agree _ _ s t h = absurd cc
+
+  -- the votes of a signer in a round, sort by sort
+  by_sorts : (signer : ℕ) (ws : List (SignedVote D G)) → length (filter (is_of round signer) ws) ≡ length (filter (is_at Notarizing round signer) ws) + (length (filter (is_at Nullifying round signer) ws) + length (filter (is_at Finalizing round signer) ws))
+  by_sorts signer [] = omega arith
+  by_sorts signer (w ∷ ws) = of_one (sort_of w.subject) (is_of round signer w) w (filter (is_of round signer) ws) (filter (is_at Notarizing round signer) ws) (filter (is_at Nullifying round signer) ws) (filter (is_at Finalizing round signer) ws) (by_sorts signer ws)
+    where
+      of_one : (s : Sort) (b : Bool) (x : SignedVote D G) (all ns us fs : List (SignedVote D G)) → length all ≡ length ns + (length us + length fs) → length (cond b (x ∷ all) all) ≡ length (cond (same_sort s Notarizing && b) (x ∷ ns) ns) + (length (cond (same_sort s Nullifying && b) (x ∷ us) us) + length (cond (same_sort s Finalizing && b) (x ∷ fs) fs))
+      of_one Notarizing true x all ns us fs h = omega (arith, h)
+      of_one Notarizing false x all ns us fs h = h
+      of_one _ true x all ns us fs h = omega (arith, h)
+      of_one _ false x all ns us fs h = h
+
+  -- of one signer in the round at most five votes are recorded
+  pub few_are_recorded : (signer : ℕ) → length (filter (is_of round signer) (recorded_of eq vs)) ≤ 5
+  few_are_recorded signer =
+      let in_slot = λ (sort : Sort). slot_of eq vs sort round signer in
+      let has = λ (sort : Sort). ap length (recorded_are_slots eq l vs sort round signer) ∙ length-append (option_to_list (in_slot sort).earliest) (option_to_list (in_slot sort).other) in
+      let one = ap (λ o. length (option_to_list o)) (no_other_nullify signer (find (is_at Nullifying round signer) vs) refl) in
+      omega (arith, by_sorts signer (recorded_of eq vs), has Notarizing, has Nullifying, has Finalizing, at_most (in_slot Notarizing).earliest, at_most (in_slot Notarizing).other, at_most (in_slot Nullifying).earliest, one, at_most (in_slot Finalizing).earliest, at_most (in_slot Finalizing).other)
+    where
+      at_most : {X : Type 0} (o : Option X) → length (option_to_list o) ≤ 1
+      at_most None = omega arith
+      at_most (Some x) = omega arith
+
+  -- where its slots are empty none of its votes is recorded
+  pub none_of_round : ((signer : ℕ) (sort : Sort) → no_slot ≡ slot_of eq vs sort round signer) → (v : SignedVote D G) → Contains (recorded_of eq vs) v → round_of v.subject ≡ round → ⊥
+  none_of_round empty v v_in is =
+      let at = is_at-from (record { sort = sort_of v.subject; round = round; signer = v.signer }) v (λ i. record { sort = sort_of v.subject; round = is i; signer = v.signer }) in
+      Contains-none v (subst (λ ws. Contains ws v) (recorded_are_slots eq l vs (sort_of v.subject) round v.signer ∙ ap votes_in_slot (sym (empty v.signer (sort_of v.subject)))) (Contains-filter (is_at (sort_of v.subject) round v.signer) (recorded_of eq vs) v v_in at))
+
+  pub none_in_round : ((signer : ℕ) (sort : Sort) → no_slot ≡ slot_of eq vs sort round signer) → recorded_in eq vs round ≡ 0
+  none_in_round empty = ap length (filter_none (of_round round) (recorded_of eq vs) (λ v v_in. false_from_ne_true _ (λ e. none_of_round empty v v_in (same_round-true (round_of v.subject) round e))))
+    where
+      filter_none : {X : Type 0} (p : X → Bool) (xs : List X) → ((x : X) → Contains xs x → p x ≡ false) → filter p xs ≡ []
+      filter_none p [] h = refl
+      filter_none p (x ∷ xs) h = cond-false (p x) (x ∷ filter p xs) (filter p xs) (h x (Contains-first x xs)) ∙ filter_none p xs (λ y y_in. h y (Contains-cons x xs y y_in))
+
+-- ---- what is held of a round
+
+-- it is determined by the slots, and by how many votes are recorded
+pub same_held : {S D P G : Type 0} (eq : D → D → Bool) (n : ℕ) (vs ws : List (SignedVote D G)) (round : Round) (recorded : RoundVotes S D P G) → ((sort : Sort) (signer : ℕ) → slot_of eq ws sort round signer ≡ slot_of eq vs sort round signer) → recorded_in eq ws round ≡ recorded_in eq vs round → HoldsRound eq n vs round recorded → HoldsRound eq n ws round recorded
+same_held eq n vs ws round recorded same many holds = record { sized = holds.sized; held = λ signer sort. holds.held signer sort ∙ sym (same sort signer); counted = holds.counted ∙ sym many }
+
+module _ {S D P G : Type 0} (eq : D → D → Bool) (l : IsEquivalence eq) (n : ℕ) (vs : List (SignedVote D G)) (v : SignedVote D G) (before : RoundVotes S D P G) (holds : HoldsRound eq n vs (round_of v.subject) before) where
+  -- whether a vote is news is determined by its slot
+  news_held : changes eq (slots before v.signer (sort_of v.subject)).earliest (slots before v.signer (sort_of v.subject)).other v.subject ≡ is_news eq vs v
+  news_held = ap (λ (slot : Slot D G). changes eq slot.earliest slot.other v.subject) (holds.held v.signer (sort_of v.subject))
+
+  -- a vote that is no news changes nothing
+  pub held_no_news : changes eq (slots before v.signer (sort_of v.subject)).earliest (slots before v.signer (sort_of v.subject)).other v.subject ≡ false → HoldsRound eq n (vs ++ v ∷ []) (round_of v.subject) before
+  held_no_news old =
+      let no = sym news_held ∙ old in
+      let many = ap (λ b. length (cond b (v ∷ []) [])) (and_right (of_round (round_of v.subject) v) (is_news eq vs v) no) in
+      same_held eq n vs (vs ++ v ∷ []) (round_of v.subject) before (λ sort signer. no_news eq l vs v no (record { sort = sort; round = round_of v.subject; signer = signer })) (omega (arith, many, recorded_in_push eq vs v (round_of v.subject))) holds
+
+  -- a vote that is news is taken
+  pub held_after : (after : RoundVotes S D P G) → v.signer < n → changes eq (slots before v.signer (sort_of v.subject)).earliest (slots before v.signer (sort_of v.subject)).other v.subject ≡ true → TakesVote eq v before after → HoldsRound eq n (vs ++ v ∷ []) (round_of v.subject) after
+  held_after after lt news takes = record {
+    sized = takes.sized n holds.sized;
+    held = λ signer sort.
+        takes.taken n holds.sized lt news signer sort ∙
+        (λ i. cond (at_round sort signer i) (slot_with eq v (holds.held signer sort i)) (holds.held signer sort i)) ∙
+        sym (slot_after_vote eq l vs v sort (round_of v.subject) signer);
+    counted = takes.more n holds.sized lt news ∙ (λ i. holds.counted i + length (cond (sym (and_from _ _ here (sym news_held ∙ news)) i) (v ∷ []) [])) ∙ sym (recorded_in_push eq vs v (round_of v.subject));
+  }
+    where
+      here : of_round (round_of v.subject) v ≡ true
+      here = same_round-from (round_of v.subject) (round_of v.subject) refl
+
+      at_round : (sort : Sort) (signer : ℕ) → is_for v signer sort ≡ is_at sort (round_of v.subject) signer v
+      at_round sort signer = ap (λ b. same_sort (sort_of v.subject) sort && (b && eqb v.signer signer)) (sym here)
+
+-- what is held of the valid ones of some more votes on a subject
+abbrev pub HoldsMore : {S D P G : Type 0} → (D → D → Bool) → ℕ → (SubjectValue D → ℕ → G → Bool) → SubjectValue D → List (Attestation S P G) → RoundVotes S D P G → RoundVotes S D P G → Type 0
+HoldsMore {D = D} {G = G} eq n good x given before after =
+    (vs : List (SignedVote D G)) → HoldsRound eq n vs (round_of x) before → HoldsRound eq n (vs ++ filter (λ v. good v.subject v.signer v.signature) (map (vote_on x) given)) (round_of x) after
+
+-- one attestation more
+pub holds_one_more : {S D P G : Type 0} (eq : D → D → Bool) (n : ℕ) (good : SubjectValue D → ℕ → G → Bool) (x : SubjectValue D) (given : List (Attestation S P G)) (a : Attestation S P G) (before recorded after : RoundVotes S D P G) → HoldsMore eq n good x given before recorded → HoldsMore eq n good x (a ∷ []) recorded after → HoldsMore eq n good x (given ++ a ∷ []) before after
+holds_one_more {D = D} {G = G} eq n good x given a before recorded after some one vs holds =
+    let keep : SignedVote D G → Bool = λ v. good v.subject v.signer v.signature in
+    subst (λ ws. HoldsRound eq n ws (round_of x) after)
+    (append_assoc vs (filter keep (map (vote_on x) given)) (filter keep (map (vote_on x) (a ∷ []))) ∙
+    ap (λ ws. vs ++ ws) (sym (filter-append keep (map (vote_on x) given) (map (vote_on x) (a ∷ []))) ∙ ap (filter keep) (sym (map-append (vote_on x) given (a ∷ [])))))
+    (one _ (some vs holds))

@@ -1,245 +1,256 @@
--- The evidence of what is recorded, place by place, is the evidence of the votes.
-use Rattle.std.proofs.Common.{◌≡◌, Bool, List, [], ◌∷◌, ◌++◌, Option, Some, None, Ordering, Less, Equal, Greater, map, sym, refl, ap, ◌∙◌, subst, inl, inr, ⊎_elim}
-use Rattle.std.specs.Prelude.{All, Contains}
-use Rattle.std.specs.Option.{option_to_list}
-use Rattle.std.specs.List.{find, flat_map, AllByRecursion}
+-- The evidence in what is recorded, signer by signer and round by round, is the evidence of the votes.
+use Rattle.simplex_detector.proofs.Std.{All, All-contains, All-from_recursion, All-push, AllByRecursion, Bool, Contains, Contains-append_left, Contains-append_right, Contains-dedup_nat, Contains-permutation, IsEquivalence, IsOrdered, IsPermutation, IsSorted, IsStrictlyIncreasing-dedup, IsTrue, Less, List, None, Option, Some, [], ap, append-nil, append_assoc, arith, btree_map_get_iff, cond-true, dedup, eqb, eqb-true, false≢true, filter_map, filter_map-append, flat_map, flat_map_more, get, get_or, inl, inr, is_some, length, map, map-append, map-id, nat_cmp, nat_cmp_total, option_map, option_to_list, ordering_then, recursion_from_All, refl, sorted_from_strictly_increasing, subst, sym, take, take_more, tied_itself, true, ℕ, ◌++◌, ◌+◌, ◌<◌, ◌∙◌, ◌∷◌, ◌≡◌, ◌⊎◌}
+use Rattle.simplex_detector.proofs.Words.{Activity, Conflicting_finalize, Conflicting_notarize, Detector, Evidence, HoldsRound, IsEvidence, Kind, ListsSigners, Named, Nullify_finalize, Recalls, RecallsAt, RecallsNothing, RecallsRound, Round, RoundState, RoundVotes, Rules, SignedVote, Slot, Sort, contradicts, evidence_from, evidence_of, found_at, found_of_kind, if_contradicts, is_named, item_of, kind_rank, named_by, named_cmp, no_slot, round_cmp, round_of, slot_of, slots, valid_votes}
 use Rattle.std.specs.List.Sorted.{IsStrictlySortedBy}
-use Rattle.std.specs.Cmp.{IsEquivalence, IsTotalOrder}
-use Rattle.std.specs.Ordering.{ordering_then, nat_cmp}
-use Rattle.std.proofs.lemmas.Bool.{and_parts}
-use Rattle.std.proofs.lemmas.Cmp.{tied_itself, nat_cmp_total, on_total, then_total}
-use Rattle.std.proofs.lemmas.List.{map-append}
-use Rattle.std.proofs.lemmas.List.Elements.{All-from_recursion, recursion_from_All, All-contains, All-append, All-weaker, All-contains_itself, Contains-append_left, Contains-append_right, Contains-append_cases}
-use Rattle.std.proofs.lemmas.Map.Keys.{sorted_head, sorted_tail}
-use Rattle.simplex_base.specs.Positions.{Round}
-use Rattle.simplex_votes.specs.Votes.{SignedVote, Sort, sort_of, same_sort, is_of, is_at}
-use Rattle.simplex_evidence.specs.Contradiction.{Kind, Conflicting_notarize, Conflicting_finalize, Nullify_finalize, Evidence, first_sort}
-use Rattle.simplex_detector.specs.Named.{Named, named_by, round_cmp, kind_rank, named_cmp}
-use Rattle.simplex_detector.specs.Evidence.{evidence_of, IsEvidence}
-use Rattle.simplex_detector.specs.Recorded.{slot_of, evidence_from}
-use Rattle.simplex_detector.proofs.Entries.{Place, place_cmp, place_of, Entry, AreRecorded, evidence_at, report_of}
-use Rattle.simplex_detector.proofs.Lists.{some_from_is_some, find_passes, Contains-first, Contains-cons_cases, Contains-none, Contains-map, Contains-from_map, Contains-flat_map, below_all}
-use Rattle.simplex_detector.proofs.Places.{is_of-true}
-use Rattle.simplex_detector.proofs.EvidenceLemmas.{evidence_exists, evidence_parts}
-use Rattle.simplex_detector.proofs.RecordedLemmas.{evidence_of-slots}
+use Rattle.simplex_detector.proofs.EvidenceLemmas.{evidence-from_named, evidence_is, from_listing}
+use Rattle.simplex_detector.proofs.Lists.{Contains-flat_map, Contains-from_filter_map, Contains-from_flat_map, Contains-from_map, Contains-map, each, filter_map-joined, found, made_complete, made_ordered, made_sound, some_from_is_some, sorted_joined}
+use Rattle.simplex_detector.proofs.Places.{exact_rounds, round_cmp_total}
+use Rattle.simplex_detector.proofs.RecordedLemmas.{both-Some, evidence_of-slots}
 
--- ---- sorted lists
+-- es is the evidence of the votes in this round: in order, each that of whom it names, and nobody named there left out
+pub record IsEvidenceIn {D G : Type 0} (eq : D → D → Bool) (vs : List (SignedVote D G)) (round : Round) (es : List (Evidence D G)) : Type 0 where
+  pub ordered : IsStrictlySortedBy named_cmp (map named_by es)
+  pub here : All (λ e. round_of e.first.subject ≡ round) es
+  pub sound : All (λ e. evidence_of eq vs (named_by e) ≡ Some e) es
+  pub complete : (n : Named) → n.round ≡ round → IsTrue (is_named eq vs n) → Contains (map named_by es) n
 
--- the empty list is sorted
-pub sorted_none : {K : Type 0} (cmp : K → K → Ordering) → IsStrictlySortedBy cmp []
+-- ---- the rounds of a detector
+
+module _ {S D C P G : Type 0} (rules : Rules S D C P G) (messages : List (Activity S D C P G)) (detector : Detector S D P G) (ordered : IsOrdered round_cmp detector.rounds) (holds : Recalls rules messages detector) where
+  -- what is recorded of a listed round
+  pub recalls_listed : All (λ e. RecallsRound rules messages e.0 e.1) detector.rounds.entries
+  recalls_listed = each _ _ (λ e e_in. subst (RecallsAt rules messages e.0) ((btree_map_get_iff round_cmp_total exact_rounds detector.rounds ordered e.0 e.1).1 e_in) (holds e.0))
+
+  -- a round is listed, or nothing is recorded of it
+  pub recalled : (round : Round) → RecallsNothing rules messages round ⊎ ((round_state : RoundState S D P G) × Contains detector.rounds.entries (round, round_state))
+  recalled round = by (get round_cmp detector.rounds round) refl (holds round)
+    where
+      by : (o : Option (RoundState S D P G)) → get round_cmp detector.rounds round ≡ o → RecallsAt rules messages round o → RecallsNothing rules messages round ⊎ ((round_state : RoundState S D P G) × Contains detector.rounds.entries (round, round_state))
+      by None at r = inl r
+      by (Some round_state) at r = inr (round_state, (btree_map_get_iff round_cmp_total exact_rounds detector.rounds ordered round round_state).0 at)
+
+-- ---- who may be named, in order
+
+abbrev names_at : Round → ℕ → List Named
+names_at round signer = record { round = round; signer = signer; kind = Conflicting_notarize } ∷ record { round = round; signer = signer; kind = Conflicting_finalize } ∷ record { round = round; signer = signer; kind = Nullify_finalize } ∷ []
+
+abbrev pub names_in : Round → List ℕ → List Named
+names_in round signers = flat_map (names_at round) signers
+
+-- they are of their signer and round
+at_name : (round : Round) (signer : ℕ) (n : Named) → Contains (names_at round signer) n → (n.round ≡ round) × (n.signer ≡ signer)
+at_name round signer n h = All-contains (λ (m : Named). (m.round ≡ round) × (m.signer ≡ signer)) (names_at round signer) n (All-from_recursion (λ (m : Named). (m.round ≡ round) × (m.signer ≡ signer)) (names_at round signer) ((refl, refl), ((refl, refl), ((refl, refl), tt)))) h
+
+in_name : (round : Round) (signers : List ℕ) (n : Named) → Contains (names_in round signers) n → n.round ≡ round
+in_name round signers n h = let (signer, _, at) = Contains-from_flat_map (names_at round) signers n h in (at_name round signer n at).0
+
+-- and everyone is among those of its own signer and round
+own_name : (n : Named) → Contains (names_at n.round n.signer) n
+own_name n = by n.kind
+  where
+    by : (kind : Kind) → Contains (names_at n.round n.signer) (record { round = n.round; signer = n.signer; kind = kind })
+    by Conflicting_notarize = (0, omega arith, refl)
+    by Conflicting_finalize = (1, omega arith, refl)
+    by Nullify_finalize = (2, omega arith, refl)
+
+-- of one signer they are in the order of kinds
+ordered_at : (round : Round) (signer : ℕ) → IsStrictlySortedBy named_cmp (names_at round signer)
 unfolding IsStrictlySortedBy
-sorted_none cmp = tt
+ordered_at round signer = ((rise Conflicting_notarize Conflicting_finalize refl, (rise Conflicting_notarize Nullify_finalize refl, tt)), ((rise Conflicting_finalize Nullify_finalize refl, tt), (tt, tt)))
+  where
+    rise : (k l : Kind) → nat_cmp (kind_rank k) (kind_rank l) ≡ Less → ordering_then (round_cmp round round) (ordering_then (nat_cmp signer signer) (nat_cmp (kind_rank k) (kind_rank l))) ≡ Less
+    rise k l less = λ i. ordering_then (tied_itself round_cmp_total round i) (ordering_then (tied_itself nat_cmp_total signer i) (less i))
 
--- a key below the others goes before them
-sorted_cons : {K : Type 0} (cmp : K → K → Ordering) (k : K) (ks : List K) → AllByRecursion (λ q. cmp k q ≡ Less) ks → IsStrictlySortedBy cmp ks → IsStrictlySortedBy cmp (k ∷ ks)
-unfolding IsStrictlySortedBy
-sorted_cons cmp k ks below sorted = (below, sorted)
+-- of one round in the order of signers
+ordered_in : (round : Round) (signers : List ℕ) → IsStrictlySortedBy nat_cmp signers → IsStrictlySortedBy named_cmp (names_in round signers)
+ordered_in round signers sorted =
+    sorted_joined nat_cmp named_cmp (λ s. s) (names_at round)
+    (λ s q n m less n_in m_in.
+    let (n_here, n_is) = at_name round s n n_in in
+    let (m_here, m_is) = at_name round q m m_in in
+    (λ i. ordering_then (round_cmp (n_here i) (m_here i)) (ordering_then (nat_cmp (n_is i) (m_is i)) (nat_cmp (kind_rank n.kind) (kind_rank m.kind)))) ∙
+    (λ i. ordering_then (tied_itself round_cmp_total round i) (ordering_then (less i) (nat_cmp (kind_rank n.kind) (kind_rank m.kind)))))
+    signers (λ s s_in. ordered_at round s) (subst (IsStrictlySortedBy nat_cmp) (sym (map-id signers)) sorted)
 
--- two sorted lists are one where the first is below the second
-pub sorted_append : {K : Type 0} (cmp : K → K → Ordering) (ks qs : List K) → IsStrictlySortedBy cmp ks → IsStrictlySortedBy cmp qs → ((k q : K) → Contains ks k → Contains qs q → cmp k q ≡ Less) → IsStrictlySortedBy cmp (ks ++ qs)
-sorted_append cmp [] qs s t below = t
-sorted_append cmp (k ∷ ks) qs s t below =
-    let Above : _ → Type 0 = λ q. cmp k q ≡ Less in
-    sorted_cons cmp k (ks ++ qs)
-    (recursion_from_All Above (ks ++ qs) (All-append Above ks qs (All-from_recursion Above ks (sorted_head cmp k ks s)) (All-weaker (Contains qs) Above (λ q q_in. below k q (Contains-first k ks) q_in) qs (All-contains_itself qs))))
-    (sorted_append cmp ks qs (sorted_tail cmp k ks s) t (λ l q l_in q_in. below l q (Contains-append_right (k ∷ []) ks l l_in) q_in))
+-- ---- what is found in the slots
 
--- ---- the order of a report
+module _ {D G : Type 0} (eq : D → D → Bool) (vs : List (SignedVote D G)) where
+  -- the evidence of whom is named names that
+  pub names_own : (n : Named) (e : Evidence D G) → evidence_of eq vs n ≡ Some e → named_by e ≡ n
+  names_own n e is = (evidence_is eq vs n e is).named
 
--- whom a place and a kind name
-named_at : Place → Kind → Named
-named_at p kind = record { round = p.round; signer = p.signer; kind = kind }
+  -- its votes contradict
+  contradicts-evidence : (n : Named) → if_contradicts eq (evidence_of eq vs n) ≡ evidence_of eq vs n
+  contradicts-evidence n = by (evidence_of eq vs n) refl
+    where
+      by : (o : Option (Evidence D G)) → evidence_of eq vs n ≡ o → if_contradicts eq o ≡ o
+      by None is = refl
+      by (Some e) is = cond-true (contradicts eq e.kind e.first e.second) (Some e) None (ap (λ (m : Named). contradicts eq m.kind e.first e.second) (names_own n e is) ∙ (found _ vs e.second (evidence_is eq vs n e is).second).1)
 
--- comparisons one after another group as one likes
-then_assoc : (x y z : Ordering) → ordering_then x (ordering_then y z) ≡ ordering_then (ordering_then x y) z
-then_assoc Less y z = refl
-then_assoc Equal y z = refl
-then_assoc Greater y z = refl
+  -- so from the slots of the votes the evidence is found, kind by kind
+  found_at-evidence : (round : Round) (signer : ℕ) (slot : Sort → Slot D G) → ((sort : Sort) → slot sort ≡ slot_of eq vs sort round signer) → found_at eq slot ≡ filter_map (evidence_of eq vs) (names_at round signer)
+  found_at-evidence round signer slot is =
+      (λ i. option_to_list (of_kind Conflicting_notarize i) ++ (option_to_list (of_kind Conflicting_finalize i) ++ sym (append-nil (option_to_list (of_kind Nullify_finalize i))) i)) ∙
+      sym (filter_map-joined (evidence_of eq vs) (names_at round signer))
+    where
+      of_kind : (kind : Kind) → found_of_kind eq slot kind ≡ evidence_of eq vs (record { round = round; signer = signer; kind = kind })
+      of_kind kind =
+          let n : Named = record { round = round; signer = signer; kind = kind } in
+          ap (if_contradicts eq) ((λ i. evidence_from (λ sort. is sort i) kind) ∙ sym (evidence_of-slots eq vs n)) ∙ contradicts-evidence n
 
--- the order of places is total
-pub place_cmp_total : IsTotalOrder place_cmp
-place_cmp_total =
-    then_total
-    (on_total (λ (p : Place). p.round) (then_total (on_total (λ (r : Round). r.epoch) nat_cmp_total) (on_total (λ (r : Round). r.view) nat_cmp_total)))
-    (on_total (λ (p : Place). p.signer) nat_cmp_total)
+  -- ---- one round
 
--- by place, and then by kind
-by_place : (p q : Place) (k l : Kind) → named_cmp (named_at p k) (named_at q l) ≡ ordering_then (place_cmp p q) (nat_cmp (kind_rank k) (kind_rank l))
-unfolding named_at
-by_place p q k l = then_assoc (round_cmp p.round q.round) (nat_cmp p.signer q.signer) (nat_cmp (kind_rank k) (kind_rank l))
+  module _ {S P : Type 0} (size : ℕ) (round : Round) (recorded : RoundVotes S D P G) (holds : HoldsRound eq size vs round recorded) where
+    -- what is found of some signers
+    pub found_in_round : (signers : List ℕ) → flat_map (λ signer. found_at eq (slots recorded signer)) signers ≡ filter_map (evidence_of eq vs) (names_in round signers)
+    found_in_round [] = refl
+    found_in_round (s ∷ signers) = (λ i. found_at-evidence round s (slots recorded s) (holds.held s) i ++ found_in_round signers i) ∙ sym (filter_map-append (evidence_of eq vs) (names_at round s) (names_in round signers))
 
--- what is named at a lower place comes first
-place_first : (p q : Place) (k l : Kind) → place_cmp p q ≡ Less → named_cmp (named_at p k) (named_at q l) ≡ Less
-place_first p q k l h = by_place p q k l ∙ ap (λ o. ordering_then o (nat_cmp (kind_rank k) (kind_rank l))) h
+    -- who has evidence in the round is among the listed signers
+    pub listed_in_round : (signers : List ℕ) → ListsSigners recorded signers → (n : Named) → n.round ≡ round → is_some (evidence_of eq vs n) ≡ true → Contains (names_in round signers) n
+    listed_in_round signers lists n here h =
+        let (x, is) = some_from_is_some (evidence_of eq vs n) h in
+        let from_slots = (λ i. evidence_from (λ sort. (holds.held n.signer sort ∙ ap (λ r. slot_of eq vs sort r n.signer) (sym here)) i) n.kind) ∙ sym (evidence_of-slots eq vs n) ∙ is in
+        Contains-flat_map (names_at round) signers n.signer n (of_kind n.kind x from_slots) (subst (λ r. Contains (names_at r n.signer) n) here (own_name n))
+      where
+        item : {V : Type 0} (signer : V → ℕ) (vote : V → SignedVote D G) (items : List V) (y : SignedVote D G) → ((v : V) → Contains items v → Contains signers (signer v)) → option_map vote (item_of signer items n.signer) ≡ Some y → Contains signers n.signer
+        item {V} signer vote items y all at = by (item_of signer items n.signer) refl at
+          where
+            by : (o : Option V) → item_of signer items n.signer ≡ o → option_map vote o ≡ Some y → Contains signers n.signer
+            by None is at = absurd cc
+            by (Some v) is at = let (v_in, e) = found (λ v. eqb (signer v) n.signer) items v is in subst (Contains signers) (eqb-true _ _ e) (all v v_in)
 
--- at one place the kinds decide
-then_kind : (p : Place) (k l : Kind) → nat_cmp (kind_rank k) (kind_rank l) ≡ Less → named_cmp (named_at p k) (named_at p l) ≡ Less
-then_kind p k l h = by_place p p k l ∙ ap (λ o. ordering_then o (nat_cmp (kind_rank k) (kind_rank l))) (tied_itself place_cmp_total p) ∙ h
+        of_kind : (kind : Kind) (x : Evidence D G) → evidence_from (slots recorded n.signer) kind ≡ Some x → Contains signers n.signer
+        of_kind Conflicting_notarize x is = item _ _ recorded.notarizes.others.items x.second lists.notarizers (both-Some _ _ _ x is).1
+        of_kind Conflicting_finalize x is = item _ _ recorded.finalizes.others.items x.second lists.finalizers (both-Some _ _ _ x is).1
+        of_kind Nullify_finalize x is = item _ _ recorded.nullifies.items x.first lists.nullifiers (both-Some _ _ _ x is).0
 
--- ---- what stands in a report
+    -- so what is found of the listed signers is the evidence of the round
+    pub evidence_in_round : IsEquivalence eq → (signers : List ℕ) → ListsSigners recorded signers → IsEvidenceIn eq vs round (flat_map (λ signer. found_at eq (slots recorded signer)) signers)
+    evidence_in_round l signers lists = subst (IsEvidenceIn eq vs round) (sym (found_in_round signers)) (record {
+      ordered = made_ordered named_by named_cmp (evidence_of eq vs) names_own (names_in round signers) (ordered_in round signers lists.ascending);
+      here = each _ _ (λ e e_in. let (n, n_in, is) = Contains-from_filter_map (evidence_of eq vs) (names_in round signers) e e_in in ap (λ (m : Named). m.round) (names_own n e is) ∙ in_name round signers n n_in);
+      sound = made_sound named_by named_cmp (evidence_of eq vs) names_own (names_in round signers);
+      complete = λ n here h. let e = evidence-from_named eq vs l n h in made_complete named_by named_cmp (evidence_of eq vs) names_own (names_in round signers) n (listed_in_round signers lists n here e) e;
+    })
 
--- the list of an option contains its value alone
-Contains-from_option : {X : Type 0} (o : Option X) (x : X) → Contains (option_to_list o) x → o ≡ Some x
-Contains-from_option None x h = absurd (Contains-none x h)
-Contains-from_option (Some y) x h = ⊎_elim (λ e. ap Some e) (λ k. absurd (Contains-none x k)) (Contains-cons_cases y [] x h)
+-- ---- the walk over the rounds
 
--- the list of an option contains its value
-Contains-option : {X : Type 0} (o : Option X) (x : X) → o ≡ Some x → Contains (option_to_list o) x
-Contains-option o x h = subst (λ p. Contains (option_to_list p) x) (sym h) (Contains-first x [])
+-- a round that was walked over
+pub record Step (S D P G : Type 0) : Type 0 where
+  pub round : Round
+  pub round_state : RoundState S D P G
+  pub signers : List ℕ
 
--- the list of an option is sorted
-sorted_option : {X K : Type 0} (cmp : K → K → Ordering) (f : X → K) (o : Option X) → IsStrictlySortedBy cmp (map f (option_to_list o))
-sorted_option cmp f None = sorted_none cmp
-sorted_option cmp f (Some x) = sorted_cons cmp (f x) [] tt (sorted_none cmp)
+-- what is found in a step
+abbrev pub found_in : {S D P G : Type 0} → (D → D → Bool) → Step S D P G → List (Evidence D G)
+found_in eq step = flat_map (λ signer. found_at eq (slots step.round_state.votes signer)) step.signers
 
--- an element of the pieces joined is one of a piece
-pub Contains-from_flat_map : {X Y : Type 0} (f : X → List Y) (xs : List X) (y : Y) → Contains (flat_map f xs) y → (x : X) × Contains xs x × Contains (f x) y
-Contains-from_flat_map f [] y h = absurd (Contains-none y h)
-Contains-from_flat_map f (x ∷ xs) y h =
-    elim (Contains-append_cases (f x) (flat_map f xs) y h) [
-      | inl k ↦ (x, Contains-first x xs, k)
-      | inr k ↦ let (z, z_in, l) = Contains-from_flat_map f xs y k in (z, Contains-append_right (x ∷ []) xs z z_in, l)
-    ]
+-- the round of a step, with what is recorded of it
+abbrev pub entry_of : {S D P G : Type 0} → Step S D P G → Round × RoundState S D P G
+entry_of step = (step.round, step.round_state)
 
--- an evidence of an entry is of some kind
-kind_at : {D G : Type 0} (e : Entry D G) (x : Evidence D G) → Contains (evidence_at e) x → (kind : Kind) × (evidence_from e.slots kind ≡ Some x)
-kind_at e x h =
-    let one = option_to_list (evidence_from e.slots Conflicting_notarize) in
-    let two = option_to_list (evidence_from e.slots Conflicting_finalize) in
-    let three = option_to_list (evidence_from e.slots Nullify_finalize) in
-    ⊎_elim (λ k. (Conflicting_notarize, Contains-from_option _ x k))
-    (λ k. ⊎_elim (λ l. (Conflicting_finalize, Contains-from_option _ x l)) (λ l. (Nullify_finalize, Contains-from_option _ x l)) (Contains-append_cases two three x k))
-    (Contains-append_cases one (two ++ three) x h)
+-- the evidence found so far is that of the entries before the rest
+pub record Walked {S D P G : Type 0} (eq : D → D → Bool) (entries rest : List (Round × RoundState S D P G)) (found : List (Evidence D G)) : Type 0 where
+  pub steps : List (Step S D P G)
+  pub over : map entry_of steps ++ rest ≡ entries
+  pub listed : All (λ step. ListsSigners step.round_state.votes step.signers) steps
+  pub is : found ≡ flat_map (found_in eq) steps
 
--- the evidence of each kind is evidence of the entry
-at_kind : {D G : Type 0} (e : Entry D G) (x : Evidence D G) (kind : Kind) → evidence_from e.slots kind ≡ Some x → Contains (evidence_at e) x
-at_kind e x Conflicting_notarize h = Contains-append_left _ _ x (Contains-option _ x h)
-at_kind e x Conflicting_finalize h =
-    Contains-append_right (option_to_list (evidence_from e.slots Conflicting_notarize)) _ x (Contains-append_left (option_to_list (evidence_from e.slots Conflicting_finalize)) _ x (Contains-option _ x h))
-at_kind e x Nullify_finalize h =
-    Contains-append_right (option_to_list (evidence_from e.slots Conflicting_notarize)) _ x (Contains-append_right (option_to_list (evidence_from e.slots Conflicting_finalize)) _ x (Contains-option _ x h))
+-- one step more
+pub walked_next : {S D P G : Type 0} (eq : D → D → Bool) (entries rest later : List (Round × RoundState S D P G)) (round : Round) (round_state : RoundState S D P G) (signers : List ℕ) (found new : List (Evidence D G)) → rest ≡ (round, round_state) ∷ later → ListsSigners round_state.votes signers → new ≡ found ++ flat_map (λ signer. found_at eq (slots round_state.votes signer)) signers → Walked eq entries rest found → Walked eq entries later new
+walked_next {S} {D} {P} {G} eq entries rest later round round_state signers found new first lists is walked =
+    let step : Step S D P G = record { round = round; round_state = round_state; signers = signers } in
+    record {
+      steps = walked.steps ++ step ∷ [];
+      over = ap (λ es. es ++ later) (map-append entry_of walked.steps (step ∷ [])) ∙ append_assoc (map entry_of walked.steps) ((round, round_state) ∷ []) later ∙ ap (λ es. map entry_of walked.steps ++ es) (sym first) ∙ walked.over;
+      listed = All-push (λ step. ListsSigners step.round_state.votes step.signers) walked.steps step walked.listed lists;
+      is = is ∙ ap (λ es. es ++ found_in eq step) walked.is ∙ flat_map_more (found_in eq) [] walked.steps step;
+    }
 
--- evidence names whom it is asked for
-names_place : {D G : Type 0} (eq : D → D → Bool) (vs : List (SignedVote D G)) (n : Named) (x : Evidence D G) → evidence_of eq vs n ≡ Some x → named_by x ≡ n
-names_place eq vs n x h =
-    let parts = evidence_parts eq vs n.kind (find (is_at (first_sort n.kind) n.round n.signer) vs) x h in
-    let at = and_parts (same_sort (sort_of x.first.subject) (first_sort n.kind)) (is_of n.round n.signer x.first) (find_passes _ vs x.first parts.1) in
-    let of_first = is_of-true n.round n.signer x.first at.1 in
-    λ i. record { round = of_first.0 i; signer = of_first.1 i; kind = parts.0 i }
+-- the walk over all rounds gives the evidence of the messages' valid votes
+pub report_of_walk : {S D C P G : Type 0} (rules : Rules S D C P G) → IsEquivalence rules.eq → (detector : Detector S D P G) → IsOrdered round_cmp detector.rounds → (found : List (Evidence D G)) → Walked rules.eq detector.rounds.entries [] found → (messages : List (Activity S D C P G)) → Recalls rules messages detector → IsEvidence rules.eq (valid_votes rules messages) found
+report_of_walk {S} {D} {C} {P} {G} rules l detector ordered found walked messages holds =
+    subst (IsEvidence eq vs) (sym (walked.is ∙ found_steps steps (recursion_from_All _ steps (each _ steps held)))) (from_listing eq vs l _ (record {
+      ordered = made_ordered named_by named_cmp (evidence_of eq vs) (names_own eq vs) (flat_map names_of steps) (sorted_joined round_cmp named_cmp (λ step. step.round) names_of
+          (λ a b n m less n_in m_in. ap (λ o. ordering_then o (ordering_then (nat_cmp n.signer m.signer) (nat_cmp (kind_rank n.kind) (kind_rank m.kind)))) ((λ i. round_cmp (in_name a.round a.signers n n_in i) (in_name b.round b.signers m m_in i)) ∙ less))
+          steps (λ step step_in. ordered_in step.round step.signers (lists step step_in).ascending) (subst (IsStrictlySortedBy round_cmp) (rounds steps) (subst (λ es. IsStrictlySortedBy round_cmp (map (λ e. e.0) es)) (sym over) ordered)));
+      sound = made_sound named_by named_cmp (evidence_of eq vs) (names_own eq vs) (flat_map names_of steps);
+      complete = λ n h. made_complete named_by named_cmp (evidence_of eq vs) (names_own eq vs) (flat_map names_of steps) n (complete n h) h;
+    }))
+  where
+    eq : D → D → Bool
+    eq = rules.eq
 
--- an entry has the slots of its place
-abbrev HasSlots : {D G : Type 0} → (D → D → Bool) → List (SignedVote D G) → Entry D G → Type 0
-HasSlots eq vs e = (sort : Sort) → e.slots sort ≡ slot_of eq vs sort e.place.round e.place.signer
+    vs : List (SignedVote D G)
+    vs = valid_votes rules messages
 
--- an entry's evidence is that of its place
-own_evidence : {D G : Type 0} (eq : D → D → Bool) (vs : List (SignedVote D G)) (e : Entry D G) → HasSlots eq vs e → (kind : Kind) → evidence_from e.slots kind ≡ evidence_of eq vs (named_at e.place kind)
-unfolding named_at
-own_evidence eq vs e has kind = (λ i. evidence_from (λ sort. has sort i) kind) ∙ sym (evidence_of-slots eq vs (named_at e.place kind))
+    steps : List (Step S D P G)
+    steps = walked.steps
 
--- whom the evidence of an entry names
-named_there : {D G : Type 0} (eq : D → D → Bool) (vs : List (SignedVote D G)) (e : Entry D G) → HasSlots eq vs e → (x : Evidence D G) (kind : Kind) → evidence_from e.slots kind ≡ Some x → named_by x ≡ named_at e.place kind
-named_there eq vs e has x kind h = names_place eq vs (named_at e.place kind) x (sym (own_evidence eq vs e has kind) ∙ h)
+    names_of : Step S D P G → List Named
+    names_of step = names_in step.round step.signers
 
--- ---- in order
+    over : map entry_of steps ≡ detector.rounds.entries
+    over = sym (append-nil (map entry_of steps)) ∙ walked.over
 
--- the names in the evidence of one kind
-name_of_kind : {D G : Type 0} (eq : D → D → Bool) (vs : List (SignedVote D G)) (e : Entry D G) → HasSlots eq vs e → (kind : Kind) (n : Named) → Contains (map named_by (option_to_list (evidence_from e.slots kind))) n → n ≡ named_at e.place kind
-name_of_kind eq vs e has kind n h =
-    let (x, x_in, is) = Contains-from_map named_by (option_to_list (evidence_from e.slots kind)) n h in
-    sym is ∙ named_there eq vs e has x kind (Contains-from_option _ x x_in)
+    rounds : (xs : List (Step S D P G)) → map (λ e. e.0) (map entry_of xs) ≡ map (λ step. step.round) xs
+    rounds [] = refl
+    rounds (step ∷ xs) = ap (λ rs. step.round ∷ rs) (rounds xs)
 
--- the evidence of an entry is in order
-sorted_at : {D G : Type 0} (eq : D → D → Bool) (vs : List (SignedVote D G)) (e : Entry D G) → HasSlots eq vs e → IsStrictlySortedBy named_cmp (map named_by (evidence_at e))
-sorted_at {D} {G} eq vs e has =
-    let of_kind : Kind → List (Evidence D G) = λ kind. option_to_list (evidence_from e.slots kind) in
-    let rise : (k l : Kind) → nat_cmp (kind_rank k) (kind_rank l) ≡ Less → (n m : Named) → Contains (map named_by (of_kind k)) n → Contains (map named_by (of_kind l)) m → named_cmp n m ≡ Less =
-    λ k l less n m n_in m_in. (λ i. named_cmp (name_of_kind eq vs e has k n n_in i) (name_of_kind eq vs e has l m m_in i)) ∙ then_kind e.place k l less in
-    let last_two = sorted_append named_cmp (map named_by (of_kind Conflicting_finalize)) (map named_by (of_kind Nullify_finalize)) (sorted_option named_cmp named_by _) (sorted_option named_cmp named_by _) (rise Conflicting_finalize Nullify_finalize refl) in
-    let all = sorted_append named_cmp (map named_by (of_kind Conflicting_notarize)) (map named_by (of_kind Conflicting_finalize) ++ map named_by (of_kind Nullify_finalize)) (sorted_option named_cmp named_by _) last_two
-    (λ n m n_in m_in. ⊎_elim (rise Conflicting_notarize Conflicting_finalize refl n m n_in) (rise Conflicting_notarize Nullify_finalize refl n m n_in) (Contains-append_cases _ _ m m_in)) in
-    subst (IsStrictlySortedBy named_cmp)
-    (sym (map-append named_by (of_kind Conflicting_notarize) (of_kind Conflicting_finalize ++ of_kind Nullify_finalize) ∙ ap (λ ns. map named_by (of_kind Conflicting_notarize) ++ ns) (map-append named_by (of_kind Conflicting_finalize) (of_kind Nullify_finalize))))
-    all
+    lists : (step : Step S D P G) → Contains steps step → ListsSigners step.round_state.votes step.signers
+    lists step step_in = All-contains (λ s. ListsSigners s.round_state.votes s.signers) steps step walked.listed step_in
 
--- whom a report names: a place of an entry
-name_from_report : {D G : Type 0} (eq : D → D → Bool) (vs : List (SignedVote D G)) (es : List (Entry D G)) → All (HasSlots eq vs) es → (n : Named) → Contains (map named_by (report_of es)) n → (e : Entry D G) × Contains es e × (kind : Kind) × (n ≡ named_at e.place kind)
-name_from_report eq vs es sound n h =
-    let (x, x_in, is) = Contains-from_map named_by (report_of es) n h in
-    let (e, e_in, x_at) = Contains-from_flat_map evidence_at es x x_in in
-    let (kind, found) = kind_at e x x_at in
-    (e, e_in, kind, sym is ∙ named_there eq vs e (All-contains (HasSlots eq vs) es e sound e_in) x kind found)
+    held : (step : Step S D P G) → Contains steps step → HoldsRound eq (rules.size step.round.epoch) vs step.round step.round_state.votes
+    held step step_in =
+        let recalls : RecallsRound rules messages step.round step.round_state = All-contains (λ e. RecallsRound rules messages e.0 e.1) detector.rounds.entries (entry_of step) (recalls_listed rules messages detector ordered holds) (subst (λ es. Contains es (entry_of step)) over (Contains-map entry_of steps step step_in)) in
+        recalls.votes
 
--- so is the whole report
-pub sorted_report : {D G : Type 0} (eq : D → D → Bool) (vs : List (SignedVote D G)) (es : List (Entry D G)) → IsStrictlySortedBy place_cmp (map (λ e. e.place) es) → AllByRecursion (HasSlots eq vs) es → IsStrictlySortedBy named_cmp (map named_by (report_of es))
-sorted_report eq vs [] ordered sound = sorted_none named_cmp
-sorted_report eq vs (e ∷ es) ordered sound =
-    let here : (n : Named) → Contains (map named_by (evidence_at e)) n → (kind : Kind) × (n ≡ named_at e.place kind) =
-    λ n n_in.
-    let (x, x_in, is) = Contains-from_map named_by (evidence_at e) n n_in in
-    let (kind, found) = kind_at e x x_in in
-    (kind, sym is ∙ named_there eq vs e sound.0 x kind found) in
-    let rise : (n m : Named) → Contains (map named_by (evidence_at e)) n → Contains (map named_by (report_of es)) m → named_cmp n m ≡ Less =
-    λ n m n_in m_in.
-    let (k, n_is) = here n n_in in
-    let (f, f_in, l, m_is) = name_from_report eq vs es (All-from_recursion (HasSlots eq vs) es sound.1) m m_in in
-    (λ i. named_cmp (n_is i) (m_is i)) ∙ place_first e.place f.place k l (below_all place_cmp e.place (map (λ x. x.place) es) ordered f.place (Contains-map (λ x. x.place) es f f_in)) in
-    subst (IsStrictlySortedBy named_cmp) (sym (map-append named_by (evidence_at e) (report_of es)))
-    (sorted_append named_cmp (map named_by (evidence_at e)) (map named_by (report_of es)) (sorted_at eq vs e sound.0) (sorted_report eq vs es (sorted_tail place_cmp e.place (map (λ x. x.place) es) ordered) sound.1) rise)
+    found_steps : (xs : List (Step S D P G)) → AllByRecursion (λ step. HoldsRound eq (rules.size step.round.epoch) vs step.round step.round_state.votes) xs → flat_map (found_in eq) xs ≡ filter_map (evidence_of eq vs) (flat_map names_of xs)
+    found_steps [] h = refl
+    found_steps (step ∷ xs) h =
+        (λ i. found_in_round eq vs (rules.size step.round.epoch) step.round step.round_state.votes h.0 step.signers i ++ found_steps xs h.1 i) ∙ sym (filter_map-append (evidence_of eq vs) (names_of step) (flat_map names_of xs))
 
--- ---- the report
+    -- in a round of which nothing is recorded nobody has evidence
+    nothing : (kind : Kind) → evidence_from (λ sort. no_slot {D = D} {G = G}) kind ≡ None
+    nothing Conflicting_notarize = refl
+    nothing Conflicting_finalize = refl
+    nothing Nullify_finalize = refl
 
--- the evidence of what is recorded, place by place, is the evidence of the votes
-pub report_of_recorded : {D G : Type 0} (eq : D → D → Bool) → IsEquivalence eq → (vs : List (SignedVote D G)) (entries : List (Entry D G)) → AreRecorded eq vs entries → IsEvidence eq vs (report_of entries)
-unfolding named_at
-report_of_recorded {D} {G} eq l vs es recorded = record {
-  ordered = sorted_report eq vs es recorded.ordered (recursion_from_All (HasSlots eq vs) es recorded.sound);
-  sound = All-weaker (Contains (report_of es)) (λ x. evidence_of eq vs (named_by x) ≡ Some x)
-      (λ x x_in.
-      let (e, e_in, x_at) = Contains-from_flat_map evidence_at es x x_in in
-      let (kind, found) = kind_at e x x_at in
-      let has = All-contains (HasSlots eq vs) es e recorded.sound e_in in
-      let own = sym (own_evidence eq vs e has kind) ∙ found in
-      subst (λ n. evidence_of eq vs n ≡ Some x) (sym (names_place eq vs (named_at e.place kind) x own)) own)
-      (report_of es) (All-contains_itself (report_of es));
-  complete = λ n h.
-      let (x, found) = some_from_is_some (evidence_of eq vs n) (evidence_exists eq l vs n ∙ h) in
-      let is = names_place eq vs n x found in
-      let (e, e_in, there) = Contains-from_map (λ y. y.place) es (place_of n) (recorded.complete n x found) in
-      let has = All-contains (HasSlots eq vs) es e recorded.sound e_in in
-      let same : named_at e.place n.kind ≡ n = λ i. record { round = (there i).round; signer = (there i).signer; kind = n.kind } in
-      let x_at = at_kind e x n.kind (own_evidence eq vs e has n.kind ∙ ap (evidence_of eq vs) same ∙ found) in
-      subst (λ m. Contains (map named_by (report_of es)) m) is (Contains-map named_by (report_of es) x (Contains-flat_map evidence_at es e x e_in x_at));
+    complete : (n : Named) → is_some (evidence_of eq vs n) ≡ true → Contains (flat_map names_of steps) n
+    complete n h =
+        elim (recalled rules messages detector ordered holds n.round) [
+          | inl none ↦ absurd (false≢true (ap is_some (sym (nothing n.kind) ∙ (λ i. evidence_from (λ sort. none.votes n.signer sort i) n.kind) ∙ sym (evidence_of-slots eq vs n)) ∙ h))
+          | inr there ↦
+              let (step, step_in, is) = Contains-from_map entry_of steps (n.round, there.0) (subst (λ es. Contains es (n.round, there.0)) (sym over) there.1) in
+              Contains-flat_map names_of steps step n step_in (listed_in_round eq vs (rules.size step.round.epoch) step.round step.round_state.votes (held step step_in) step.signers (lists step step_in) n (λ i. (sym is i).0) h)
+        ]
+
+-- ---- the signers of a round
+
+-- signers that were collected, sorted, and rid of what came twice
+pub lists_signers : {S D P G : Type 0} (recorded : RoundVotes S D P G) (none notarizers nullifiers finalizers sorted signers : List ℕ) → none ≡ [] → notarizers ≡ none ++ map (λ v. v.attestation.signer) recorded.notarizes.others.items → nullifiers ≡ notarizers ++ map (λ v. v.attestation.signer) recorded.nullifies.items → finalizers ≡ nullifiers ++ map (λ v. v.attestation.signer) recorded.finalizes.others.items → IsPermutation finalizers sorted → IsSorted nat_cmp sorted → signers ≡ dedup eqb sorted → ListsSigners recorded signers
+lists_signers recorded none notarizers nullifiers finalizers sorted signers e0 e1 e2 e3 moved ordered e5 = record {
+  ascending = subst (IsStrictlySortedBy nat_cmp) (sym e5) (sorted_from_strictly_increasing (dedup eqb sorted) (IsStrictlyIncreasing-dedup sorted ordered));
+  notarizers = λ v v_in. stays v.attestation.signer (Contains-append_left (a ++ b) c _ (Contains-append_left a b _ (Contains-map (λ w. w.attestation.signer) _ v v_in)));
+  nullifiers = λ v v_in. stays v.attestation.signer (Contains-append_left (a ++ b) c _ (Contains-append_right a b _ (Contains-map (λ w. w.attestation.signer) _ v v_in)));
+  finalizers = λ v v_in. stays v.attestation.signer (Contains-append_right (a ++ b) c _ (Contains-map (λ w. w.attestation.signer) _ v v_in));
 }
+  where
+    a : List ℕ
+    a = map (λ v. v.attestation.signer) recorded.notarizes.others.items
 
--- ---- entries of one round
+    b : List ℕ
+    b = map (λ v. v.attestation.signer) recorded.nullifies.items
 
--- each evidence of entries is that of whom it names
-pub report_sound : {D G : Type 0} (eq : D → D → Bool) (vs : List (SignedVote D G)) (es : List (Entry D G)) → All (HasSlots eq vs) es → All (λ x. evidence_of eq vs (named_by x) ≡ Some x) (report_of es)
-report_sound eq vs es sound =
-    All-weaker (Contains (report_of es)) (λ x. evidence_of eq vs (named_by x) ≡ Some x)
-    (λ x x_in.
-    let (e, e_in, x_at) = Contains-from_flat_map evidence_at es x x_in in
-    let (kind, found) = kind_at e x x_at in
-    let own = sym (own_evidence eq vs e (All-contains (HasSlots eq vs) es e sound e_in) kind) ∙ found in
-    subst (λ n. evidence_of eq vs n ≡ Some x) (sym (names_place eq vs (named_at e.place kind) x own)) own)
-    (report_of es) (All-contains_itself (report_of es))
+    c : List ℕ
+    c = map (λ v. v.attestation.signer) recorded.finalizes.others.items
 
--- and of the round of an entry
-pub report_here : {D G : Type 0} (eq : D → D → Bool) (vs : List (SignedVote D G)) (es : List (Entry D G)) (round : Round) → All (HasSlots eq vs) es → All (λ e. e.place.round ≡ round) es → All (λ x. (named_by x).round ≡ round) (report_of es)
-unfolding named_at
-report_here eq vs es round sound here =
-    All-weaker (Contains (report_of es)) (λ x. (named_by x).round ≡ round)
-    (λ x x_in.
-    let (e, e_in, x_at) = Contains-from_flat_map evidence_at es x x_in in
-    let (kind, found) = kind_at e x x_at in
-    ap (λ (n : Named). n.round) (named_there eq vs e (All-contains (HasSlots eq vs) es e sound e_in) x kind found) ∙ All-contains (λ e. e.place.round ≡ round) es e here e_in)
-    (report_of es) (All-contains_itself (report_of es))
+    stays : (s : ℕ) → Contains ((a ++ b) ++ c) s → Contains signers s
+    stays s h = subst (λ xs. Contains xs s) (sym e5) (Contains-dedup_nat sorted s (Contains-permutation finalizers sorted s moved (subst (λ xs. Contains xs s) (sym (e3 ∙ ap (λ xs. xs ++ c) (e2 ∙ ap (λ xs. xs ++ b) (e1 ∙ ap (λ xs. xs ++ a) e0)))) h)))
 
--- who is named at the place of an entry has evidence there
-pub report_complete : {D G : Type 0} (eq : D → D → Bool) (vs : List (SignedVote D G)) (es : List (Entry D G)) → All (HasSlots eq vs) es → (n : Named) (x : Evidence D G) → evidence_of eq vs n ≡ Some x → Contains (map (λ e. e.place) es) (place_of n) → Contains (map named_by (report_of es)) n
-unfolding named_at
-report_complete eq vs es sound n x found listed =
-    let (e, e_in, there) = Contains-from_map (λ y. y.place) es (place_of n) listed in
-    let same : named_at e.place n.kind ≡ n = λ i. record { round = (there i).round; signer = (there i).signer; kind = n.kind } in
-    let x_at = at_kind e x n.kind (own_evidence eq vs e (All-contains (HasSlots eq vs) es e sound e_in) n.kind ∙ ap (evidence_of eq vs) same ∙ found) in
-    subst (λ m. Contains (map named_by (report_of es)) m) (names_place eq vs n x found) (Contains-map named_by (report_of es) x (Contains-flat_map evidence_at es e x e_in x_at))
+-- what is found of one signer more
+pub found_next : {E : Type 0} (f : ℕ → List E) (old found new : List E) (signers : List ℕ) (i s : ℕ) → i < length signers → s ≡ get_or signers i 0 → found ≡ old ++ flat_map f (take i signers) → new ≡ found ++ f s → new ≡ old ++ flat_map f (take (i + 1) signers)
+found_next f old found new signers i s lt at so_far is =
+    is ∙ ap (λ es. es ++ f s) so_far ∙ flat_map_more f old (take i signers) s ∙
+    ap (λ ss. old ++ flat_map f ss) (ap (λ q. take i signers ++ q ∷ []) at ∙ sym (take_more signers i 0 lt))

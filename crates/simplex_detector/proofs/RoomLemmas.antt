@@ -1,21 +1,7 @@
 -- Of messages no more votes are recorded than their encodings have bytes.
-use Rattle.std.proofs.Common.{ℕ, suc, ◌+◌, ◌≤◌, Bool, true, false, cond, List, [], ◌∷◌, ◌++◌, length, arith, length-append}
-use Rattle.std.specs.Prelude.{map}
-use Rattle.std.specs.List.{flat_map}
-use Rattle.std.proofs.lemmas.List.{length-map}
-use Rattle.std.proofs.lemmas.List.Sums.{length-filter, count_by-le-length}
-use Rattle.simplex_base.specs.Format.{Format}
-use Rattle.simplex_base.specs.Positions.{Round, round_format}
-use Rattle.simplex_base.specs.VarintLaws.{groups_some}
-use Rattle.simplex_scheme.specs.declared.proposal.Proposal.{Proposal}
-use Rattle.simplex_scheme.specs.Proposal.{proposal_format}
-use Rattle.simplex_scheme.specs.declared.scheme.Attestation.{Attestation}
-use Rattle.simplex_votes.specs.Votes.{SignedVote, notarize_of, nullify_of, finalize_of}
-use Rattle.simplex_evidence.specs.Activity.{activity_encoding, votes_in}
-use Rattle.simplex_evidence.specs.declared.types.activity.Activity.{Activity}
+use Rattle.simplex_detector.proofs.Std.{Bool, List, [], arith, cond, count_by-le-length, false, flat_map, length, length-append, length-filter, length-map, map, suc, true, ℕ, ◌++◌, ◌+◌, ◌∷◌, ◌≤◌}
+use Rattle.simplex_detector.proofs.Words.{Activity, Attestation, Format, Proposal, Round, Rules, SignedVote, activity_encoding, finalize_of, groups_some, is_news, is_valid, news_after, notarize_of, nullify_of, proposal_format, round_format, valid_votes, votes_in, votes_recorded}
 use Rattle.simplex_evidence.specs.declared.types.activity.Activity.TheVariants as activity
-use Rattle.simplex_detector.specs.Recorded.{is_news, news_after, votes_recorded}
-use Rattle.simplex_detector.specs.Rules.{Rules, is_valid, valid_votes}
 
 -- ---- no more than the votes
 

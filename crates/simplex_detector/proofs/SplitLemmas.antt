@@ -1,131 +1,280 @@
--- Which rounds are split, and that the messages determine their splits.
-use Rattle.std.proofs.Common.{◌≡◌, ◌+◌, ◌≤◌, true, List, Some, None, map, sym, ap, ◌∙◌, subst, inl, inr}
-use Rattle.std.specs.Prelude.{All, Contains, ◌&&◌}
-use Rattle.std.specs.List.{list_any}
-use Rattle.std.specs.Option.{is_some}
-use Rattle.std.proofs.lemmas.Bool.{cases_Bool, and_parts, and_from, cond-true, cond-false}
-use Rattle.std.proofs.lemmas.List.Elements.{recursion_from_All, All-contains, All-map}
-use Rattle.simplex_base.specs.Positions.{Round, same_round}
-use Rattle.simplex_scheme.specs.Committee.{faults_of}
-use Rattle.simplex_scheme.specs.Subject.{SubjectValue, round_of}
-use Rattle.simplex_evidence.specs.Activity.{activity_round}
-use Rattle.simplex_evidence.specs.declared.types.activity.Activity.{Activity}
-use Rattle.simplex_detector.specs.Named.{round_cmp}
-use Rattle.simplex_detector.specs.Rules.{Rules, AreLawful, HaveCommittees, valid_votes}
-use Rattle.simplex_detector.specs.Certificates.{certificate_in, excludes, certificates_contradict, messages_contradict}
-use Rattle.simplex_detector.specs.Splits.{certified_in, is_certified, is_split, named_count, split_of, AreSplits}
-use Rattle.simplex_detector.specs.FirstCertified.{certified_subjects, are_split}
-use Rattle.simplex_detector.specs.SplitLaws.{SplitsAreUnique}
-use Rattle.simplex_detector.specs.declared.split.Split.{Split}
-use Rattle.simplex_detector.proofs.Lists.{same_bool, some_from_is_some, any_from_Contains, Contains-from_list_any, unique_by_keys, some_same, Contains-filter_map, Contains-from_filter_map}
-use Rattle.simplex_detector.proofs.Places.{same_round-true, same_round-refl}
-use Rattle.simplex_detector.proofs.AccountLemmas.{certified_parts, certifies_from, round_of_certificate, enough_for}
-use Rattle.simplex_detector.proofs.RoundKeys.{round_cmp_total}
-use Rattle.simplex_detector.proofs.SplitSteps.{Opposites, opposites, split_by}
+-- Which rounds are split, by what is recorded of their certificates, and that the messages determine their splits.
+use Rattle.simplex_detector.proofs.Std.{All, Bool, Contains, Contains-append_left, Contains-push, Contains-push_cases, IsEquivalence, IsStrictlySortedBy, List, None, Option, Some, [], and_from, and_left, and_parts, and_right, ap, append-nil, cases_Bool, cond, cond_some, cons_option, false, false≢true, filter_map, filter_map-append, if◌then◌else◌, inl, inr, is_none, is_some, list_any, not, option_or, option_to_list, or_cases, or_left, or_parts, or_right, refl, subst, sym, true, ⊎_elim, ◌&&◌, ◌++◌, ◌+◌, ◌||◌, ◌∙◌, ◌∷◌, ◌≡◌, ◌≤◌, ◌⊎◌}
+use Rattle.simplex_detector.proofs.Words.{Activity, AreLawful, AreSplits, CertifiedSubjects, Finalizing, HaveCommittees, Notarizing, Nullifying, RecordsFirsts, Round, Rules, Sort, Split, SplitsAreUnique, SubjectValue, activity_round, are_split, certificate_in, certificates_contradict, certified_in, certified_subjects, changes_firsts, excludes, excludes_first, excludes_some, faults_of, first_certified, first_with, firsts_of, is_certified, is_split, messages_contradict, named_count, round_cmp, round_of, same_round, same_sort, sort_of, split_of, subjects_contradict, valid_votes}
+use Rattle.simplex_detector.proofs.AccountLemmas.{accountable_for, certificate_parts, certified_parts, certifies_from, enough_for}
+use Rattle.simplex_detector.proofs.Lists.{Contains-from_filter_map, Contains-from_list_any, IsListing, any_from_Contains, find_from_Contains, find_push, found, listing_is_unique, made_complete, made_ordered, made_sound, same_bool}
+use Rattle.simplex_detector.proofs.Places.{exact_rounds, excludes-flip, excludes_itself, excludes_one, round_cmp_total, same_round-from, same_round-true, same_sort-refl, same_sort-true}
+
+-- ---- subjects that split a round
+
+-- two of the subjects, of this round, exclude each other
+pub record Opposites {D : Type 0} (eq : D → D → Bool) (xs : List (SubjectValue D)) (round : Round) : Type 0 where
+  pub x : SubjectValue D
+  pub y : SubjectValue D
+  pub x_in : Contains xs x
+  pub y_in : Contains xs y
+  pub x_here : round_of x ≡ round
+  pub y_here : round_of y ≡ round
+  pub against : excludes eq x y ≡ true
+
+-- such two split it
+pub split_by : {D : Type 0} (eq : D → D → Bool) (xs : List (SubjectValue D)) (round : Round) → Opposites eq xs round → are_split eq xs round ≡ true
+split_by eq xs round o =
+    any_from_Contains (λ a. same_round (round_of a) round && list_any (subjects_contradict eq a) xs) xs o.x o.x_in
+    (and_from _ _ (same_round-from _ _ o.x_here) (any_from_Contains (subjects_contradict eq o.x) xs o.y o.y_in (and_from _ _ (same_round-from _ _ (o.x_here ∙ sym o.y_here)) o.against)))
+
+-- a split round has such two
+pub opposites : {D : Type 0} (eq : D → D → Bool) (xs : List (SubjectValue D)) (round : Round) → are_split eq xs round ≡ true → Opposites eq xs round
+opposites eq xs round h =
+    let (x, x_in, e) = Contains-from_list_any (λ a. same_round (round_of a) round && list_any (subjects_contradict eq a) xs) xs h in
+    let p = and_parts (same_round (round_of x) round) (list_any (subjects_contradict eq x) xs) e in
+    let (y, y_in, f) = Contains-from_list_any (subjects_contradict eq x) xs p.1 in
+    let q = and_parts (same_round (round_of x) (round_of y)) (excludes eq x y) f in
+    let here = same_round-true _ _ p.0 in
+    record { x = x; y = y; x_in = x_in; y_in = y_in; x_here = here; y_here = sym (same_round-true _ _ q.0) ∙ here; against = q.1 }
+
+-- ---- one more subject
+
+module _ {D : Type 0} (eq : D → D → Bool) (first : Sort → Option (SubjectValue D)) (y : SubjectValue D) where
+  -- a subject that excludes the first of a sort
+  some_from_first : (sort : Sort) (a : SubjectValue D) → first sort ≡ Some a → excludes eq a y ≡ true → excludes_some eq first y ≡ true
+  some_from_first Notarizing a is h = or_left _ _ (ap (λ o. excludes_first eq o y) is ∙ h)
+  some_from_first Nullifying a is h = or_right _ _ (or_left _ _ (ap (λ o. excludes_first eq o y) is ∙ h))
+  some_from_first Finalizing a is h = or_right _ _ (or_right _ _ (ap (λ o. excludes_first eq o y) is ∙ h))
+
+  -- what excludes the first of some sort excludes such a one
+  first_from_some : excludes_some eq first y ≡ true → (sort : Sort) × (a : SubjectValue D) × (first sort ≡ Some a) × (excludes eq a y ≡ true)
+  first_from_some h = ⊎_elim (at Notarizing (first Notarizing) refl) (λ e. ⊎_elim (at Nullifying (first Nullifying) refl) (at Finalizing (first Finalizing) refl) (or_cases (excludes_first eq (first Nullifying) y) (excludes_first eq (first Finalizing) y) e)) (or_cases (excludes_first eq (first Notarizing) y) _ h)
+    where
+      at : (sort : Sort) (o : Option (SubjectValue D)) → first sort ≡ o → excludes_first eq o y ≡ true → (s : Sort) × (a : SubjectValue D) × (first s ≡ Some a) × (excludes eq a y ≡ true)
+      at sort None is e = absurd (false≢true e)
+      at sort (Some a) is e = (sort, a, is, e)
+
+-- it is the first of its round and sort, if there is none yet, and changes no other
+first_after : {D : Type 0} (xs : List (SubjectValue D)) (y : SubjectValue D) (round : Round) (sort : Sort) → first_certified (xs ++ y ∷ []) round sort ≡ (if same_round (round_of y) round then first_with y sort (first_certified xs round sort) else first_certified xs round sort)
+first_after xs y round sort =
+    find_push (λ x. same_sort (sort_of x) sort && same_round (round_of x) round) xs y ∙
+    by_tests (same_sort (sort_of y) sort) (same_round (round_of y) round) (option_or (first_certified xs round sort) (Some y)) (first_certified xs round sort)
+  where
+    by_tests : {X : Type 0} (s r : Bool) (new old : X) → cond (s && r) new old ≡ cond r (cond s new old) old
+    by_tests true r new old = refl
+    by_tests false true new old = refl
+    by_tests false false new old = refl
+
+module _ {D : Type 0} (eq : D → D → Bool) (laws : IsEquivalence eq) (xs : List (SubjectValue D)) (y : SubjectValue D) (round : Round) where
+  -- whether the round is split by y or before
+  abbrev splits_now : Bool
+  splits_now = are_split eq xs round || (same_round (round_of y) round && excludes_some eq (first_certified xs round) y)
+
+  -- an earlier subject that y excludes: y excludes the first of its sort too, or the two split the round before
+  met : (x : SubjectValue D) → Contains xs x → round_of x ≡ round → round_of y ≡ round → excludes eq x y ≡ true → splits_now ≡ true
+  met x x_in x_here y_here h =
+      let test = λ (z : _). same_sort (sort_of z) (sort_of x) && same_round (round_of z) round in
+      let (a, is) = find_from_Contains test xs x x_in (and_from _ _ (same_sort-refl (sort_of x)) (same_round-from _ _ x_here)) in
+      let (a_in, passes) = found test xs a is in
+      let p = and_parts (same_sort (sort_of a) (sort_of x)) (same_round (round_of a) round) passes in
+      ⊎_elim
+      (λ e. or_left _ _ (split_by eq xs round (record { x = a; y = x; x_in = a_in; y_in = x_in; x_here = same_round-true _ _ p.1; y_here = x_here; against = e })))
+      (λ e. or_right (are_split eq xs round) _ (and_from _ _ (same_round-from _ _ y_here) (some_from_first eq (first_certified xs round) y (sort_of x) a is e)))
+      (excludes_one eq laws a x y (same_sort-true _ _ p.0) h)
+
+  split_to : are_split eq (xs ++ y ∷ []) round ≡ true → splits_now ≡ true
+  split_to h =
+      let o = opposites eq (xs ++ y ∷ []) round h in
+      elim (Contains-push_cases xs y o.x o.x_in) [
+        | inl x_in ↦ elim (Contains-push_cases xs y o.y o.y_in) [
+          | inl y_in ↦ or_left _ _ (split_by eq xs round (record { x = o.x; y = o.y; x_in = x_in; y_in = y_in; x_here = o.x_here; y_here = o.y_here; against = o.against }))
+          | inr e ↦ met o.x x_in o.x_here (ap round_of e ∙ o.y_here) (ap (excludes eq o.x) e ∙ o.against)
+        ]
+        | inr e ↦ elim (Contains-push_cases xs y o.y o.y_in) [
+          | inl y_in ↦ met o.y y_in o.y_here (ap round_of e ∙ o.x_here) (ap (excludes eq o.y) e ∙ excludes-flip eq laws o.y o.x ∙ o.against)
+          | inr f ↦ absurd (false≢true (sym (excludes_itself eq laws y) ∙ (λ i. excludes eq (e i) (f i)) ∙ o.against))
+        ]
+      ]
+
+  split_from : splits_now ≡ true → are_split eq (xs ++ y ∷ []) round ≡ true
+  split_from h = split_by eq (xs ++ y ∷ []) round (⊎_elim before now (or_cases (are_split eq xs round) _ h))
+    where
+      before : are_split eq xs round ≡ true → Opposites eq (xs ++ y ∷ []) round
+      before e = let o = opposites eq xs round e in record { x = o.x; y = o.y; x_in = Contains-append_left xs (y ∷ []) o.x o.x_in; y_in = Contains-append_left xs (y ∷ []) o.y o.y_in; x_here = o.x_here; y_here = o.y_here; against = o.against }
+
+      now : (same_round (round_of y) round && excludes_some eq (first_certified xs round) y) ≡ true → Opposites eq (xs ++ y ∷ []) round
+      now e =
+          let p = and_parts (same_round (round_of y) round) (excludes_some eq (first_certified xs round) y) e in
+          let (sort, a, is, against) = first_from_some eq (first_certified xs round) y p.1 in
+          let (a_in, passes) = found _ xs a is in
+          record { x = a; y = y; x_in = Contains-append_left xs (y ∷ []) a a_in; y_in = Contains-push xs y; x_here = same_round-true _ _ (and_parts (same_sort (sort_of a) sort) (same_round (round_of a) round) passes).1; y_here = same_round-true _ _ p.0; against = against }
+
+  -- one more certified subject splits its round where it excludes the first of some sort
+  split_after : are_split eq (xs ++ y ∷ []) round ≡ splits_now
+  split_after = same_bool _ _ split_to split_from
+
+  -- what is recorded after one more subject, in the words of what was recorded; b is whether it is of the round
+  records_push : (old new : CertifiedSubjects D) (b : Bool) → same_round (round_of y) round ≡ b → (old.split ≡ false → (sort : Sort) → firsts_of new sort ≡ cond b (first_with y sort (firsts_of old sort)) (firsts_of old sort)) → new.split ≡ (old.split || (b && excludes_some eq (firsts_of old) y)) → RecordsFirsts eq xs round old → RecordsFirsts eq (xs ++ y ∷ []) round new
+  records_push old new b is firsts split records = record {
+    split = split ∙ by_split (cases_Bool old.split) ∙ sym split_after;
+    firsts = λ whole sort.
+        let before = (or_parts old.split _ (sym split ∙ whole)).0 in
+        firsts before sort ∙ (λ i. cond (sym is i) (first_with y sort (records.firsts before sort i)) (records.firsts before sort i)) ∙ sym (first_after xs y round sort);
+  }
+    where
+      by_split : (old.split ≡ true) ⊎ (old.split ≡ false) → (old.split || (b && excludes_some eq (firsts_of old) y)) ≡ splits_now
+      by_split (inl e) = ap (λ c. c || (b && excludes_some eq (firsts_of old) y)) e ∙ sym (ap (λ c. c || (same_round (round_of y) round && excludes_some eq (first_certified xs round) y)) (sym records.split ∙ e))
+      by_split (inr e) = λ i. records.split i || (sym is i && excludes_some eq (λ sort. records.firsts e sort i) y)
+
+  -- a subject of another round changes nothing
+  pub records_elsewhere : (recorded : CertifiedSubjects D) → same_round (round_of y) round ≡ false → RecordsFirsts eq xs round recorded → RecordsFirsts eq (xs ++ y ∷ []) round recorded
+  records_elsewhere recorded away = records_push recorded recorded false away (λ whole sort. refl) (or_none recorded.split)
+    where
+      or_none : (b : Bool) → b ≡ (b || false)
+      or_none true = refl
+      or_none false = refl
+
+-- ---- one more subject of the round
+
+module _ {D : Type 0} (eq : D → D → Bool) (laws : IsEquivalence eq) (xs : List (SubjectValue D)) (y : SubjectValue D) where
+  pub records_next : (old new : CertifiedSubjects D) → ((sort : Sort) → firsts_of new sort ≡ first_with y sort (firsts_of old sort)) → new.split ≡ (old.split || excludes_some eq (firsts_of old) y) → RecordsFirsts eq xs (round_of y) old → RecordsFirsts eq (xs ++ y ∷ []) (round_of y) new
+  records_next old new firsts split = records_push eq laws xs y (round_of y) old new true (same_round-from (round_of y) (round_of y) refl) (λ whole. firsts) split
+
+  -- what changes nothing is recorded without a change
+  pub records_no_news : (recorded : CertifiedSubjects D) → changes_firsts eq (firsts_of recorded) recorded.split y ≡ false → RecordsFirsts eq xs (round_of y) recorded → RecordsFirsts eq (xs ++ y ∷ []) (round_of y) recorded
+  records_no_news recorded same =
+      records_push eq laws xs y (round_of y) recorded recorded true (same_round-from (round_of y) (round_of y) refl)
+      (λ whole sort. stays sort (same_sort (sort_of y) sort) refl (or_parts (is_none (firsts_of recorded (sort_of y))) (excludes_some eq (firsts_of recorded) y) (sym (ap (λ b. not b && (is_none (firsts_of recorded (sort_of y)) || excludes_some eq (firsts_of recorded) y)) whole) ∙ same)).0)
+      (split_stays recorded.split (is_none (firsts_of recorded (sort_of y))) (excludes_some eq (firsts_of recorded) y) same)
+    where
+      there : (o : Option (SubjectValue D)) → is_none o ≡ false → o ≡ option_or o (Some y)
+      there None h = absurd (false≢true (sym h))
+      there (Some a) h = refl
+
+      -- a first that is there stays
+      stays : (sort : Sort) (b : Bool) → same_sort (sort_of y) sort ≡ b → is_none (firsts_of recorded (sort_of y)) ≡ false → firsts_of recorded sort ≡ cond b (option_or (firsts_of recorded sort) (Some y)) (firsts_of recorded sort)
+      stays sort true own h = there (firsts_of recorded sort) (subst (λ s. is_none (firsts_of recorded s) ≡ false) (same_sort-true (sort_of y) sort own) h)
+      stays sort false other h = refl
+
+      split_stays : (split none against : Bool) → (not split && (none || against)) ≡ false → split ≡ (split || against)
+      split_stays true none against h = refl
+      split_stays false true against h = absurd (false≢true (sym h))
+      split_stays false false against h = sym h
 
 -- ---- from messages to what they certify
 
--- a message that certifies a subject is of its round
-pub certified_round : {S D C P G : Type 0} (rules : Rules S D C P G) (m : Activity S D C P G) (x : SubjectValue D) → certified_in rules m ≡ Some x → activity_round m ≡ round_of x
-certified_round rules m x is = let (c, has, certifies) = certified_parts rules (certificate_in m) x is in round_of_certificate m (x, c) has
+-- whether what is there passes
+abbrev passes : {X : Type 0} → (X → Bool) → Option X → Bool
+passes p None = false
+passes p (Some x) = p x
 
--- messages that certify subjects contradict where these are of one round and exclude each other
-contradict-subjects : {S D C P G : Type 0} (rules : Rules S D C P G) (m k : Activity S D C P G) (x y : SubjectValue D) → certified_in rules m ≡ Some x → certified_in rules k ≡ Some y → messages_contradict rules.eq m k ≡ (same_round (round_of x) (round_of y) && excludes rules.eq x y)
-contradict-subjects rules m k x y m_is k_is =
-    let (c, m_has, _) = certified_parts rules (certificate_in m) x m_is in
-    let (d, k_has, _) = certified_parts rules (certificate_in k) y k_is in
-    λ i. certificates_contradict rules.eq (m_has i) (k_has i)
+list_any-filter_map : {X Y : Type 0} (p : Y → Bool) (f : X → Option Y) (xs : List X) → list_any p (filter_map f xs) ≡ list_any (λ x. passes p (f x)) xs
+list_any-filter_map p f [] = refl
+list_any-filter_map p f (x ∷ xs) = elim (f x) as (λ o. list_any p (cons_option o (filter_map f xs)) ≡ (passes p o || list_any (λ x. passes p (f x)) xs)) [ None ↦ list_any-filter_map p f xs | Some y ↦ ap (λ b. p y || b) (list_any-filter_map p f xs) ]
 
--- two messages that split a round certify subjects of it that exclude each other
-pub split_to_subjects : {S D C P G : Type 0} (rules : Rules S D C P G) (messages : List (Activity S D C P G)) (round : Round) → is_split rules messages round ≡ true → Opposites rules.eq (certified_subjects rules messages) round
-split_to_subjects rules messages round h =
-    let (m, m_in, e) = Contains-from_list_any (λ m. (same_round (activity_round m) round && is_certified rules m) && list_any (λ k. is_certified rules k && messages_contradict rules.eq m k) messages) messages h in
-    let p = and_parts (same_round (activity_round m) round && is_certified rules m) (list_any (λ k. is_certified rules k && messages_contradict rules.eq m k) messages) e in
-    let q = and_parts (same_round (activity_round m) round) (is_certified rules m) p.0 in
-    let (k, k_in, f) = Contains-from_list_any (λ k. is_certified rules k && messages_contradict rules.eq m k) messages p.1 in
-    let r = and_parts (is_certified rules k) (messages_contradict rules.eq m k) f in
-    let (x, x_is) = some_from_is_some (certified_in rules m) q.1 in
-    let (y, y_is) = some_from_is_some (certified_in rules k) r.0 in
-    let against = and_parts (same_round (round_of x) (round_of y)) (excludes rules.eq x y) (sym (contradict-subjects rules m k x y x_is y_is) ∙ r.1) in
-    let here = sym (certified_round rules m x x_is) ∙ same_round-true _ _ q.0 in
-    record {
-      x = x;
-      y = y;
-      x_in = Contains-filter_map (certified_in rules) messages m x m_in x_is;
-      y_in = Contains-filter_map (certified_in rules) messages k y k_in y_is;
-      x_here = here;
-      y_here = sym (same_round-true _ _ against.0) ∙ here;
-      against = against.1;
-    }
+module _ {S D C P G : Type 0} (rules : Rules S D C P G) where
+  -- a message that certifies a subject is of its round
+  pub certified_round : (m : Activity S D C P G) (x : SubjectValue D) → certified_in rules m ≡ Some x → activity_round m ≡ round_of x
+  certified_round m x is = let (c, has, certifies) = certified_parts rules (certificate_in m) x is in (certificate_parts rules.listed m (x, c) has).0
 
--- subjects of a round that exclude each other are certified by messages that split it
-pub split_from_subjects : {S D C P G : Type 0} (rules : Rules S D C P G) (messages : List (Activity S D C P G)) (round : Round) → Opposites rules.eq (certified_subjects rules messages) round → is_split rules messages round ≡ true
-split_from_subjects rules messages round o =
-    let (m, m_in, m_is) = Contains-from_filter_map (certified_in rules) messages o.x o.x_in in
-    let (k, k_in, k_is) = Contains-from_filter_map (certified_in rules) messages o.y o.y_in in
-    let same = ap (same_round (round_of o.x)) (o.y_here ∙ sym o.x_here) ∙ same_round-refl (round_of o.x) in
-    let here = ap (λ r. same_round r round) (certified_round rules m o.x m_is ∙ o.x_here) ∙ same_round-refl round in
-    any_from_Contains (λ m. (same_round (activity_round m) round && is_certified rules m) && list_any (λ k. is_certified rules k && messages_contradict rules.eq m k) messages) messages m m_in
-    (and_from _ _ (and_from _ _ here (ap is_some m_is))
-    (any_from_Contains (λ k. is_certified rules k && messages_contradict rules.eq m k) messages k k_in
-    (and_from _ _ (ap is_some k_is) (contradict-subjects rules m k o.x o.y m_is k_is ∙ and_from _ _ same o.against))))
+  -- messages that certify subjects contradict where these do
+  contradict-subjects : (m k : Activity S D C P G) (x y : SubjectValue D) → certified_in rules m ≡ Some x → certified_in rules k ≡ Some y → messages_contradict rules.eq m k ≡ subjects_contradict rules.eq x y
+  contradict-subjects m k x y m_is k_is =
+      let (c, m_has, _) = certified_parts rules (certificate_in m) x m_is in
+      let (d, k_has, _) = certified_parts rules (certificate_in k) y k_is in
+      λ i. certificates_contradict rules.eq (m_has i) (k_has i)
 
--- what messages split follows from what they certify
-abbrev SplitsFromSubjects : {S D C P G : Type 0} → Rules S D C P G → List (Activity S D C P G) → Type 0
-SplitsFromSubjects rules messages = (round : Round) → is_split rules messages round ≡ are_split rules.eq (certified_subjects rules messages) round
+  -- what messages split follows from what they certify
+  pub from_subjects : (messages : List (Activity S D C P G)) (round : Round) → is_split rules messages round ≡ are_split rules.eq (certified_subjects rules messages) round
+  from_subjects messages round =
+      (λ i. list_any (λ m. of_message m (certified_in rules m) refl i) messages) ∙ sym (list_any-filter_map (λ x. same_round (round_of x) round && list_any (subjects_contradict rules.eq x) (certified_subjects rules messages)) (certified_in rules) messages)
+    where
+      of_other : (m k : Activity S D C P G) (x : SubjectValue D) → certified_in rules m ≡ Some x → (o : Option (SubjectValue D)) → certified_in rules k ≡ o → (is_certified rules k && messages_contradict rules.eq m k) ≡ passes (subjects_contradict rules.eq x) o
+      of_other m k x m_is None is = and_left (is_certified rules k) (messages_contradict rules.eq m k) (ap is_some is)
+      of_other m k x m_is (Some y) is = λ i. is_some (is i) && contradict-subjects m k x y m_is is i
 
-pub from_subjects : {S D C P G : Type 0} (rules : Rules S D C P G) (messages : List (Activity S D C P G)) → SplitsFromSubjects rules messages
-from_subjects rules messages round =
-    same_bool _ _ (λ h. split_by rules.eq _ round (split_to_subjects rules messages round h)) (λ h. split_from_subjects rules messages round (opposites rules.eq _ round h))
+      and_true : (a b : Bool) → ((a && true) && b) ≡ (a && b)
+      and_true true b = refl
+      and_true false b = refl
+
+      of_message : (m : Activity S D C P G) (o : Option (SubjectValue D)) → certified_in rules m ≡ o → ((same_round (activity_round m) round && is_certified rules m) && list_any (λ k. is_certified rules k && messages_contradict rules.eq m k) messages) ≡ passes (λ x. same_round (round_of x) round && list_any (subjects_contradict rules.eq x) (certified_subjects rules messages)) o
+      of_message m None is = and_left _ _ (and_right (same_round (activity_round m) round) (is_certified rules m) (ap is_some is))
+      of_message m (Some x) is =
+          (λ i. (same_round (certified_round m x is i) round && is_some (is i)) && list_any (λ k. of_other m k x is (certified_in rules k) refl i) messages) ∙
+          and_true (same_round (round_of x) round) _ ∙ ap (λ b. same_round (round_of x) round && b) (sym (list_any-filter_map (subjects_contradict rules.eq x) (certified_in rules) messages))
+
+  -- what the messages and one more certify
+  pub subjects_push : (messages : List (Activity S D C P G)) (m : Activity S D C P G) → certified_subjects rules (messages ++ m ∷ []) ≡ certified_subjects rules messages ++ option_to_list (certified_in rules m)
+  subjects_push messages m = filter_map-append (certified_in rules) messages (m ∷ []) ∙ ap (λ xs. certified_subjects rules messages ++ xs) (alone (certified_in rules m))
+    where
+      alone : {X : Type 0} (o : Option X) → cons_option o [] ≡ option_to_list o
+      alone None = refl
+      alone (Some x) = refl
+
+  -- a message of another round changes nothing
+  pub records_other_message : IsEquivalence rules.eq → (messages : List (Activity S D C P G)) (m : Activity S D C P G) (round : Round) (recorded : CertifiedSubjects D) → same_round (activity_round m) round ≡ false → RecordsFirsts rules.eq (certified_subjects rules messages) round recorded → RecordsFirsts rules.eq (certified_subjects rules (messages ++ m ∷ [])) round recorded
+  records_other_message l messages m round recorded other records = subst (λ xs. RecordsFirsts rules.eq xs round recorded) (sym (subjects_push messages m)) (by (certified_in rules m) refl)
+    where
+      by : (o : Option (SubjectValue D)) → certified_in rules m ≡ o → RecordsFirsts rules.eq (certified_subjects rules messages ++ option_to_list o) round recorded
+      by None is = subst (λ xs. RecordsFirsts rules.eq xs round recorded) (sym (append-nil (certified_subjects rules messages))) records
+      by (Some x) is = records_elsewhere rules.eq l (certified_subjects rules messages) x round recorded (ap (λ r. same_round r round) (sym (certified_round m x is)) ∙ other) records
 
 -- ---- the splits are determined
 
--- only a split round has a split
-pub split-Some : {S D C P G : Type 0} (rules : Rules S D C P G) (messages : List (Activity S D C P G)) (round : Round) (s : Split) → split_of rules messages round ≡ Some s → is_split rules messages round ≡ true
-split-Some rules messages round s h =
-    elim (cases_Bool (is_split rules messages round)) [
-      | inl e ↦ e
-      | inr e ↦ let none : None ≡ Some s = sym (cond-false (is_split rules messages round) _ None e) ∙ h in cc
-    ]
+module _ {S D C P G : Type 0} (rules : Rules S D C P G) (messages : List (Activity S D C P G)) where
+  -- two subjects that the messages of a split round certify exclude each other
+  pub split_opposites : (round : Round) → is_split rules messages round ≡ true → Opposites rules.eq (certified_subjects rules messages) round
+  split_opposites round h = opposites rules.eq _ round (sym (from_subjects rules messages round) ∙ h)
 
--- whose round is listed is split
-split-from_listed : {S D C P G : Type 0} (rules : Rules S D C P G) (messages : List (Activity S D C P G)) (ss : List Split) → AreSplits rules messages ss → (round : Round) → Contains (map (λ s. s.round) ss) round → is_split rules messages round ≡ true
-split-from_listed rules messages ss a round h =
-    All-contains (λ r. is_split rules messages r ≡ true) (map (λ s. s.round) ss) round
-    (All-map (λ r. is_split rules messages r ≡ true) (λ s. s.round) ss (λ k d lt. split-Some rules messages _ _ (a.sound k d lt)))
-    h
+  -- the split of a round is there where it is split, and of that round
+  pub split_exists : (round : Round) → is_some (split_of rules messages round) ≡ is_split rules messages round
+  split_exists round = by (is_split rules messages round) _
+    where
+      by : (b : Bool) (s : Split) → is_some (if b then Some s else None) ≡ b
+      by true s = refl
+      by false s = refl
 
-pub unique : {S D C P G : Type 0} (rules : Rules S D C P G) (messages : List (Activity S D C P G)) (ss : List Split) → AreSplits rules messages ss → SplitsAreUnique rules messages ss
-unique rules messages ss a ts b =
-    unique_by_keys (λ s. s.round) round_cmp round_cmp_total (split_of rules messages) ss ts a.ordered b.ordered
-    (recursion_from_All _ ss a.sound) (recursion_from_All _ ts b.sound)
-    (λ r h. b.complete r (split-from_listed rules messages ss a r h))
-    (λ r h. a.complete r (split-from_listed rules messages ts b r h))
+  pub split_own : (round : Round) (s : Split) → split_of rules messages round ≡ Some s → s.round ≡ round
+  split_own round s h = ap (λ (x : Split). x.round) (sym (cond_some (is_split rules messages round) _ s h).1)
 
--- ---- each split names enough
+  -- the splits of messages list the split of each round
+  pub splits_listing : (ss : List Split) → AreSplits rules messages ss → IsListing (λ s. s.round) round_cmp (split_of rules messages) ss
+  splits_listing ss are = record { ordered = are.ordered; sound = are.sound; complete = λ r h. are.complete r (sym (split_exists r) ∙ h) }
 
--- in a split round more are named than may lie
-pub enough_in_split : {S D C P G : Type 0} (rules : Rules S D C P G) → AreLawful rules → (messages : List (Activity S D C P G)) (round : Round) → is_split rules messages round ≡ true → faults_of (rules.size round.epoch) + 1 ≤ named_count rules.eq (valid_votes rules messages) round
-enough_in_split rules l messages round h =
-    let o = split_to_subjects rules messages round h in
-    let (m, m_in, m_is) = Contains-from_filter_map (certified_in rules) messages o.x o.x_in in
-    let (k, k_in, k_is) = Contains-from_filter_map (certified_in rules) messages o.y o.y_in in
-    enough_for rules l messages round o.x o.y (certifies_from rules messages m o.x m_in m_is) (certifies_from rules messages k o.y k_in k_is) o.x_here o.y_here o.against
+  pub splits_from_listing : (ss : List Split) → IsListing (λ s. s.round) round_cmp (split_of rules messages) ss → AreSplits rules messages ss
+  splits_from_listing ss are = record { ordered = are.ordered; sound = are.sound; complete = λ r h. are.complete r (split_exists r ∙ h) }
 
--- the committee of a split round has a participant
-pub someone_in_split : {S D C P G : Type 0} (rules : Rules S D C P G) → HaveCommittees rules → (messages : List (Activity S D C P G)) (round : Round) → is_split rules messages round ≡ true → 1 ≤ rules.size round.epoch
-someone_in_split rules l messages round h =
-    let o = split_to_subjects rules messages round h in
-    let (m, m_in, m_is) = Contains-from_filter_map (certified_in rules) messages o.x o.x_in in
-    let (c, has, certifies) = certified_parts rules (certificate_in m) o.x m_is in
-    subst (λ r. 1 ≤ rules.size r.epoch) o.x_here (l.someone o.x c certifies)
+  pub unique : (ss : List Split) → AreSplits rules messages ss → SplitsAreUnique rules messages ss
+  unique ss a ts b = listing_is_unique (λ s. s.round) round_cmp (split_of rules messages) round_cmp_total exact_rounds ss ts (splits_listing ss a) (splits_listing ts b)
 
--- so its split says
-pub have_names : {S D C P G : Type 0} (rules : Rules S D C P G) → AreLawful rules → (messages : List (Activity S D C P G)) (ss : List Split) → AreSplits rules messages ss → All (λ s. s.least ≤ s.named) ss
-have_names rules l messages ss a = λ k d lt. has_names _ _ (a.sound k d lt)
-  where
-    has_names : (round : Round) (s : Split) → split_of rules messages round ≡ Some s → s.least ≤ s.named
-    has_names round s h =
-        let is = split-Some rules messages round s h in
-        let made = some_same _ s (sym (cond-true (is_split rules messages round) _ None is) ∙ h) in
-        subst (λ (x : Split). x.least ≤ x.named) made (enough_in_split rules l messages round is)
+  -- the splits of rounds in order, among which are all that are split, are the splits of the messages
+  pub splits_of_rounds : (rs : List Round) → IsStrictlySortedBy round_cmp rs → ((round : Round) → is_split rules messages round ≡ true → Contains rs round) → AreSplits rules messages (filter_map (split_of rules messages) rs)
+  splits_of_rounds rs sorted all = record {
+    ordered = made_ordered (λ s. s.round) round_cmp (split_of rules messages) split_own rs sorted;
+    sound = made_sound (λ s. s.round) round_cmp (split_of rules messages) split_own rs;
+    complete = λ r h. made_complete (λ s. s.round) round_cmp (split_of rules messages) split_own rs r (all r h) (split_exists r ∙ h);
+  }
+
+  -- ---- each split names enough
+
+  -- in a split round more are named than may lie
+  pub enough_in_split : AreLawful rules → (round : Round) → is_split rules messages round ≡ true → faults_of (rules.size round.epoch) + 1 ≤ named_count rules.eq (valid_votes rules messages) round
+  enough_in_split l round h =
+      let o = split_opposites round h in
+      let (m, m_in, m_is) = Contains-from_filter_map (certified_in rules) messages o.x o.x_in in
+      let (k, k_in, k_is) = Contains-from_filter_map (certified_in rules) messages o.y o.y_in in
+      enough_for rules l messages round _ _ (accountable_for rules l messages round o.x o.y (certifies_from rules messages m o.x m_in m_is) (certifies_from rules messages k o.y k_in k_is) o.x_here o.y_here o.against)
+
+  -- the committee of a split round has a participant
+  pub someone_in_split : HaveCommittees rules → (round : Round) → is_split rules messages round ≡ true → 1 ≤ rules.size round.epoch
+  someone_in_split l round h =
+      let o = split_opposites round h in
+      let (m, m_in, m_is) = Contains-from_filter_map (certified_in rules) messages o.x o.x_in in
+      let (c, has, certifies) = certified_parts rules (certificate_in m) o.x m_is in
+      subst (λ r. 1 ≤ rules.size r.epoch) o.x_here (l.someone o.x c certifies)
+
+  -- so its split says
+  pub have_names : AreLawful rules → (ss : List Split) → AreSplits rules messages ss → All (λ s. s.least ≤ s.named) ss
+  have_names l ss are = λ k d lt.
+      let (is, made) = cond_some (is_split rules messages _) _ _ (are.sound k d lt) in
+      subst (λ (x : Split). x.least ≤ x.named) made (enough_in_split l _ is)
+
+-- messages that have the same split of each round have the same splits
+pub moved_splits : {S D C P G : Type 0} (rules others : Rules S D C P G) (messages : List (Activity S D C P G)) → ((round : Round) → split_of others messages round ≡ split_of rules messages round) → (ss : List Split) → AreSplits others messages ss → AreSplits rules messages ss
+moved_splits rules others messages same ss are = splits_from_listing rules messages ss (subst (λ f. IsListing (λ s. s.round) round_cmp f ss) (λ i r. same r i) (splits_listing others messages ss are))

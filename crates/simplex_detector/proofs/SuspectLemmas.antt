@@ -1,291 +1,192 @@
--- Rules that judge suspects alone tell all, where each signer who is named is suspect in its round; and claims give such
--- suspects.
-use Rattle.std.proofs.Common.{◌≡◌, ℕ, ◌+◌, ◌≤◌, Bool, true, false, List, [], ◌∷◌, Option, Some, None, cond, map, sym, refl, ap, ◌∙◌, subst, inl, inr, arith}
-use Rattle.std.specs.Prelude.{All, Contains, ◌&&◌, ◌||◌, filter, nat_eq, nat_lt, IsTrue}
-use Rattle.std.specs.Option.{is_some}
-use Rattle.std.specs.List.{find, filter_map, flat_map}
-use Rattle.std.specs.Cmp.{IsEquivalence}
-use Rattle.std.specs.Set.{distinct_count}
-use Rattle.std.proofs.lemmas.Bool.{false≢true, cases_Bool, and_parts, and_from, cond-true, lt-ltb, ltb-true}
-use Rattle.std.proofs.lemmas.List.Elements.{All-weaker, All-contains, All-nil, filter_passes}
-use Rattle.simplex_base.specs.Positions.{Round}
-use Rattle.simplex_scheme.specs.Committee.{faults_of}
-use Rattle.simplex_scheme.specs.Subject.{SubjectValue, round_of}
-use Rattle.simplex_votes.specs.Votes.{SignedVote, sort_of, same_sort, is_of, is_at}
-use Rattle.simplex_evidence.specs.Activity.{votes_in}
-use Rattle.simplex_evidence.specs.Contradiction.{Kind, Conflicting_notarize, Conflicting_finalize, Nullify_finalize, Evidence, clash, contradicts, first_sort}
-use Rattle.simplex_evidence.specs.declared.types.activity.Activity.{Activity}
-use Rattle.simplex_scheme.specs.declared.scheme.Attestation.{Attestation}
-use Rattle.std.specs.BTreeSet.{contains}
-use Rattle.std.proofs.Math.Bool.{and-false}
-use Rattle.simplex_detector.specs.Certificates.{certificate_in}
-use Rattle.simplex_detector.specs.Committees.{Schedule, committee_of, size_by, valid_by, certified_by, rules_of}
-use Rattle.simplex_detector.specs.Judging.{signer_cmp, valid_under, certified_under, rules_under}
-use Rattle.simplex_detector.specs.declared.judging.Judging.TheVariants.{Claimed, Suspects}
-use Rattle.simplex_detector.specs.declared.judging.SuspectSigners.{SuspectSigners}
-use Rattle.simplex_detector.specs.Evidence.{evidence_of, with_first, with_second, IsEvidence}
-use Rattle.simplex_detector.specs.Named.{Named, is_named, named_by, round_cmp}
-use Rattle.simplex_detector.specs.Rules.{Rules, AreLawful, is_valid, valid_votes}
-use Rattle.simplex_detector.specs.Splits.{if_certified, certified_in, is_split, is_named_in, named_count, split_of, AreSplits}
-use Rattle.simplex_detector.specs.Suspects.{claimed, Suspected, among, AreSuspect, suspect_of, HasSuspects, TellAll}
-use Rattle.simplex_detector.specs.declared.split.Split.{Split}
-use Rattle.simplex_detector.proofs.AccountLemmas.{certified_parts, kind_from_named_in, counted_signer}
-use Rattle.simplex_detector.proofs.CountingLemmas.{distinct_count-same}
-use Rattle.simplex_detector.proofs.EvidenceLemmas.{named_from_votes, votes_from_named, evidence_exists}
-use Rattle.simplex_detector.proofs.Lists.{same_bool, find_passes, Contains-none, Contains-map, Contains-first, Contains-from_map, Contains-filter, Contains-from_filter, Contains-filter_map, Contains-from_filter_map}
-use Rattle.simplex_detector.proofs.Places.{is_of-true}
-use Rattle.simplex_detector.proofs.SplitLemmas.{split_to_subjects, split_from_subjects, split-Some, enough_in_split}
+-- Which signers and rounds are suspect, and that no other signature has a part in the evidence and the splits.
+use Rattle.simplex_detector.proofs.Std.{All, All-contains, All-nil, Bool, Contains, IsEquivalence, IsTrue, List, None, Option, Some, [], and-false, and_parts, ap, arith, cond, cons_option, contains, distinct_count, false, false≢true, filter, find, flat_map, is_some, le-ltb, lt-ltb, map, nat_eq, nat_lt, refl, subst, sym, true, ℕ, ◌&&◌, ◌+◌, ◌||◌, ◌↔◌, ◌∙◌, ◌∷◌, ◌≡◌, ◌≤◌}
+use Rattle.simplex_detector.proofs.Words.{Activity, AreLawful, AreSplits, AreSuspect, Attestation, Claimed, Conflicting_finalize, Conflicting_notarize, Evidence, HasSuspects, IsEvidence, JudgeAlike, Kind, Named, Nullify_finalize, Round, Rules, Schedule, SignedVote, Split, SubjectValue, SuspectSigners, Suspected, Suspects, SuspectsSuffice, TellAll, among, are_split, certificate_in, certified_by, certified_in, certified_subjects, certified_under, claimed, clash, committee_of, contradicts, evidence_of, faults_of, first_sort, if_certified, is_at, is_named, is_named_in, is_of, is_split, is_suspect, is_suspect_round, is_valid, judged_by, named_by, named_count, round_cmp, round_of, rules_of, rules_under, signer_cmp, size_by, split_of, suspect_of, valid_by, valid_under, valid_votes, votes_in, with_first, with_second}
+use Rattle.simplex_detector.proofs.AccountLemmas.{certified_parts, counted_signer, distinct_count-same, kind_from_named_in, named_in}
+use Rattle.simplex_detector.proofs.EvidenceLemmas.{evidence_exists, first_spot, moved_evidence, named_by_more, named_from_votes, valid_from, valid_in, votes_from_named}
+use Rattle.simplex_detector.proofs.Lists.{Contains-filter, Contains-first, Contains-from_filter, Contains-from_filter_map, Contains-from_list_any, Contains-from_map, Contains-map, Contains-none, any_from_Contains, found, same_bool}
+use Rattle.simplex_detector.proofs.Places.{is_at-true, is_of-true}
+use Rattle.simplex_detector.proofs.SplitLemmas.{enough_in_split, from_subjects, moved_splits, opposites, split_by, split_exists, split_opposites}
 
--- ---- lists
-
--- two tests one after the other
-filter_twice : {X : Type 0} (p q : X → Bool) (xs : List X) → filter (λ x. p x && q x) xs ≡ filter p (filter q xs)
-filter_twice p q [] = refl
-filter_twice p q (x ∷ xs) = by (q x) (p x) refl refl (filter_twice p q xs)
-  where
-    by : (b a : Bool) → q x ≡ b → p x ≡ a → filter (λ y. p y && q y) xs ≡ filter p (filter q xs) → filter (λ y. p y && q y) (x ∷ xs) ≡ filter p (filter q (x ∷ xs))
-    by true true e d rest = rw (e, d) (ap (λ ys. x ∷ ys) rest)
-    by true false e d rest = rw (e, d) rest
-    by false true e d rest = rw (e, d) rest
-    by false false e d rest = rw (e, d) rest
+-- ---- votes of suspects
 
 -- what is found passes: a filter by less loses nothing of it
 find_filtered : {X : Type 0} (p q : X → Bool) → ((x : X) → p x ≡ true → q x ≡ true) → (xs : List X) → find p (filter q xs) ≡ find p xs
 find_filtered p q weaker [] = refl
 find_filtered p q weaker (x ∷ xs) = by (p x) (q x) refl refl (find_filtered p q weaker xs)
   where
-    by : (a b : Bool) → p x ≡ a → q x ≡ b → find p (filter q xs) ≡ find p xs → find p (filter q (x ∷ xs)) ≡ find p (x ∷ xs)
-    by true true e d rest = rw (d, e) refl
+    by : (a b : Bool) → p x ≡ a → q x ≡ b → find p (filter q xs) ≡ find p xs → find p (cond b (x ∷ filter q xs) (filter q xs)) ≡ cond a (Some x) (find p xs)
+    by true true e d rest = ap (λ c. cond c (Some x) (find p (filter q xs))) e
     by true false e d rest = absurd (false≢true (sym d ∙ weaker x e))
-    by false true e d rest = rw (d, e) rest
-    by false false e d rest = rw (d, e) rest
-
--- a list of which something is counted has an element
-some_counted : (xs : List ℕ) → 1 ≤ distinct_count nat_eq xs → (x : ℕ) × Contains xs x
-some_counted [] h = absurd (omega (arith, h))
-some_counted (x ∷ xs) h = (x, Contains-first x xs)
-
--- ---- votes of suspects
+    by false true e d rest = ap (λ c. cond c (Some x) (find p (filter q xs))) e ∙ rest
+    by false false e d rest = rest
 
 -- whether a vote is of a suspect in its round
 abbrev here : {D G : Type 0} → (Round → ℕ → Bool) → SignedVote D G → Bool
 here f v = f (round_of v.subject) v.signer
 
--- the valid votes by rules among suspects are those of suspects
-votes_among : {S D C P G : Type 0} (rules : Rules S D C P G) (messages : List (Activity S D C P G)) (s : Suspected) → valid_votes (among s rules) messages ≡ filter (here s.signers) (valid_votes rules messages)
-votes_among rules messages s = filter_twice (here s.signers) (is_valid rules) (flat_map (votes_in rules.listed) messages)
+module _ {D G : Type 0} (eq : D → D → Bool) (l : IsEquivalence eq) (vs : List (SignedVote D G)) (f : Round → ℕ → Bool) (covers : (n : Named) → is_named eq vs n ≡ true → f n.round n.signer ≡ true) where
+  -- the votes of suspects
+  abbrev ws : List (SignedVote D G)
+  ws = filter (here f) vs
 
--- a signer who is named by some of the votes is named by all
-named_by_more : {D G : Type 0} (eq : D → D → Bool) (vs ws : List (SignedVote D G)) → ((v : SignedVote D G) → Contains ws v → Contains vs v) → (n : Named) → is_named eq ws n ≡ true → is_named eq vs n ≡ true
-named_by_more eq vs ws more n h =
-    let (v, w, in_v, in_w, of_v, against) = votes_from_named eq ws n h in
-    named_from_votes eq vs n v w (more v in_v) (more w in_w) of_v against
+  -- of two votes that contradict both are of suspects where one is
+  here_both : (kind : Kind) (v w : SignedVote D G) → contradicts eq kind v w ≡ true → here f w ≡ here f v
+  here_both kind v w h = let at = is_of-true _ _ w (and_parts (is_of (round_of v.subject) v.signer w) (clash eq kind v.subject w.subject) h).0 in λ i. f (at.0 i) (at.1 i)
 
--- of two votes that contradict both are of suspects where one is
-here_both : {D G : Type 0} (eq : D → D → Bool) (f : Round → ℕ → Bool) (kind : Kind) (v w : SignedVote D G) → contradicts eq kind v w ≡ true → here f w ≡ here f v
-here_both eq f kind v w h = let at = is_of-true _ _ w (and_parts (is_of (round_of v.subject) v.signer w) (clash eq kind v.subject w.subject) h).0 in λ i. f (at.0 i) (at.1 i)
+  -- the same are named
+  same_names : (n : Named) → is_named eq ws n ≡ is_named eq vs n
+  same_names n = same_bool _ _ (named_by_more eq vs ws (λ v h. (Contains-from_filter (here f) vs v h).0) n) (λ h.
+      let (v, w, in_v, in_w, of_v, against) = votes_from_named eq vs n h in
+      let at = is_of-true n.round n.signer v of_v in
+      let v_here : here f v ≡ true = (λ i. f (at.0 i) (at.1 i)) ∙ covers n h in
+      named_from_votes eq ws n v w (Contains-filter (here f) vs v in_v v_here) (Contains-filter (here f) vs w in_w (here_both n.kind v w against ∙ v_here)) of_v against)
 
--- a suspect who is named is named by the votes of suspects
-named_here : {D G : Type 0} (eq : D → D → Bool) (vs : List (SignedVote D G)) (f : Round → ℕ → Bool) (n : Named) → f n.round n.signer ≡ true → is_named eq vs n ≡ true → is_named eq (filter (here f) vs) n ≡ true
-named_here eq vs f n suspect h =
-    let (v, w, in_v, in_w, of_v, against) = votes_from_named eq vs n h in
-    let at = is_of-true n.round n.signer v of_v in
-    let v_here : here f v ≡ true = (λ i. f (at.0 i) (at.1 i)) ∙ suspect in
-    named_from_votes eq (filter (here f) vs) n v w (Contains-filter (here f) vs v in_v v_here) (Contains-filter (here f) vs w in_w (here_both eq f n.kind v w against ∙ v_here)) of_v against
+  -- with the same evidence
+  same_evidence : (n : Named) → evidence_of eq ws n ≡ evidence_of eq vs n
+  same_evidence n = by (is_named eq vs n) refl
+    where
+      none : (o : Option (Evidence D G)) → is_some o ≡ false → o ≡ None
+      none None h = refl
+      none (Some e) h = absurd (false≢true (sym h))
 
--- Each signer who is named is suspect in its round.
-abbrev Covers : {D G : Type 0} → (D → D → Bool) → List (SignedVote D G) → (Round → ℕ → Bool) → Type 0
-Covers eq vs f = (n : Named) → is_named eq vs n ≡ true → f n.round n.signer ≡ true
+      at : SignedVote D G → Bool
+      at = is_at (first_sort n.kind) n.round n.signer
 
--- the same are named
-same_names : {D G : Type 0} (eq : D → D → Bool) (vs : List (SignedVote D G)) (f : Round → ℕ → Bool) → Covers eq vs f → (n : Named) → is_named eq (filter (here f) vs) n ≡ is_named eq vs n
-same_names eq vs f covers n =
-    same_bool _ _ (named_by_more eq vs (filter (here f) vs) (λ v h. Contains-from_filter (here f) vs v h) n) (λ h. named_here eq vs f n (covers n h) h)
+      there : f n.round n.signer ≡ true → (v : SignedVote D G) → at v ≡ true → here f v ≡ true
+      there suspect v h = let s = is_at-true (first_spot n) v h in (λ i. f (s i).round (s i).signer) ∙ suspect
 
--- of a suspect the second votes are the same
-same_second : {D G : Type 0} (eq : D → D → Bool) (vs : List (SignedVote D G)) (f : Round → ℕ → Bool) (kind : Kind) (o : Option (SignedVote D G)) → ((v : SignedVote D G) → o ≡ Some v → here f v ≡ true) → with_first eq (filter (here f) vs) kind o ≡ with_first eq vs kind o
-same_second eq vs f kind None suspect = refl
-same_second eq vs f kind (Some v) suspect =
-    ap (with_second kind v) (find_filtered (contradicts eq kind v) (here f) (λ w h. here_both eq f kind v w h ∙ suspect v refl) vs)
+      second : f n.round n.signer ≡ true → (o : Option (SignedVote D G)) → find at vs ≡ o → with_first eq ws n.kind o ≡ with_first eq vs n.kind o
+      second suspect None is = refl
+      second suspect (Some v) is = ap (with_second n.kind v) (find_filtered (contradicts eq n.kind v) (here f) (λ w h. here_both n.kind v w h ∙ there suspect v (found at vs v is).1) vs)
 
--- of a suspect the evidence is the same
-evidence_here : {D G : Type 0} (eq : D → D → Bool) (vs : List (SignedVote D G)) (f : Round → ℕ → Bool) (n : Named) → f n.round n.signer ≡ true → evidence_of eq (filter (here f) vs) n ≡ evidence_of eq vs n
-evidence_here {D} {G} eq vs f n suspect =
-    let at : SignedVote D G → Bool = is_at (first_sort n.kind) n.round n.signer in
-    let there : (v : SignedVote D G) → at v ≡ true → here f v ≡ true = λ v h. let of_v = is_of-true n.round n.signer v (and_parts (same_sort (sort_of v.subject) (first_sort n.kind)) (is_of n.round n.signer v) h).1 in (λ i. f (of_v.0 i) (of_v.1 i)) ∙ suspect in
-    ap (with_first eq (filter (here f) vs) n.kind) (find_filtered at (here f) there vs) ∙
-    same_second eq vs f n.kind (find at vs) (λ v e. there v (find_passes at vs v e))
+      by : (b : Bool) → is_named eq vs n ≡ b → evidence_of eq ws n ≡ evidence_of eq vs n
+      by true h = ap (with_first eq ws n.kind) (find_filtered at (here f) (there (covers n h)) vs) ∙ second (covers n h) (find at vs) refl
+      by false h = none _ (evidence_exists eq ws l n ∙ same_names n ∙ h) ∙ sym (none _ (evidence_exists eq vs l n ∙ h))
 
--- nobody has evidence who is not named
-no_evidence : {X : Type 0} (o : Option X) → is_some o ≡ false → o ≡ None
-no_evidence None h = refl
-no_evidence (Some x) h = absurd (false≢true (sym h))
-
--- the evidence is the same
-same_evidence : {D G : Type 0} (eq : D → D → Bool) → IsEquivalence eq → (vs : List (SignedVote D G)) (f : Round → ℕ → Bool) → Covers eq vs f → (n : Named) → evidence_of eq (filter (here f) vs) n ≡ evidence_of eq vs n
-same_evidence eq l vs f covers n =
-    elim (cases_Bool (is_named eq vs n)) [
-      | inl yes' ↦ evidence_here eq vs f n (covers n yes')
-      | inr no' ↦
-          no_evidence _ (evidence_exists eq l (filter (here f) vs) n ∙ same_names eq vs f covers n ∙ no') ∙
-          sym (no_evidence _ (evidence_exists eq l vs n ∙ no'))
-    ]
-
--- the evidence of votes whose names and evidence are the same
-moved_evidence : {D G : Type 0} (eq : D → D → Bool) (vs ws : List (SignedVote D G)) → ((n : Named) → is_named eq ws n ≡ is_named eq vs n) → ((n : Named) → evidence_of eq ws n ≡ evidence_of eq vs n) → (es : List (Evidence D G)) → IsEvidence eq ws es → IsEvidence eq vs es
-moved_evidence eq vs ws names evidence es is = record {
-  ordered = is.ordered;
-  sound = All-weaker (λ e. evidence_of eq ws (named_by e) ≡ Some e) (λ e. evidence_of eq vs (named_by e) ≡ Some e) (λ e h. sym (evidence (named_by e)) ∙ h) es is.sound;
-  complete = λ n h. is.complete n (names n ∙ h);
-}
-
--- ---- splits
-
--- as many are named in a round
+-- as many are named in a round by votes that name the same
 same_count : {D G : Type 0} (eq : D → D → Bool) (vs ws : List (SignedVote D G)) → ((n : Named) → is_named eq ws n ≡ is_named eq vs n) → (round : Round) → named_count eq ws round ≡ named_count eq vs round
-same_count {D} {G} eq vs ws names round =
-    distinct_count-same _ _ (moved ws vs (same round)) (moved vs ws (λ q. sym (same round q)))
+same_count eq vs ws names round =
+    distinct_count-same _ _
+    (λ q h. counted_signer eq vs round q (sym (same q) ∙ (Contains-from_filter (is_named_in eq ws round) _ q h).1))
+    (λ q h. counted_signer eq ws round q (same q ∙ (Contains-from_filter (is_named_in eq vs round) _ q h).1))
   where
-    same : (round : Round) (q : ℕ) → is_named_in eq ws round q ≡ is_named_in eq vs round q
-    same round q =
-        λ i. names (record { round = round; signer = q; kind = Conflicting_notarize }) i || (names (record { round = round; signer = q; kind = Conflicting_finalize }) i || names (record { round = round; signer = q; kind = Nullify_finalize }) i)
-
-    moved : (xs ys : List (SignedVote D G)) → ((q : ℕ) → is_named_in eq xs round q ≡ is_named_in eq ys round q) → (q : ℕ) → Contains (filter (is_named_in eq xs round) (map (λ v. v.signer) xs)) q → Contains (filter (is_named_in eq ys round) (map (λ v. v.signer) ys)) q
-    moved xs ys one q h =
-        counted_signer eq ys round q (sym (one q) ∙ All-contains (λ q. is_named_in eq xs round q ≡ true) _ q (filter_passes (is_named_in eq xs round) (map (λ v. v.signer) xs)) h)
-
--- what is certified among suspects is certified, and of a suspect round
-certified_more : {S D C P G : Type 0} (rules : Rules S D C P G) (s : Suspected) (o : Option (SubjectValue D × C)) (x : SubjectValue D) → if_certified (among s rules) o ≡ Some x → (if_certified rules o ≡ Some x) × (s.rounds (round_of x) ≡ true)
-certified_more rules s o x h =
-    let (c, is, certifies) = certified_parts (among s rules) o x h in
-    let parts = and_parts (s.rounds (round_of x)) (rules.certified x c) certifies in
-    (ap (if_certified rules) is ∙ cond-true (rules.certified x c) (Some x) None parts.1, parts.0)
-
--- what is certified of a suspect round is certified among suspects
-certified_here : {S D C P G : Type 0} (rules : Rules S D C P G) (s : Suspected) (o : Option (SubjectValue D × C)) (x : SubjectValue D) → s.rounds (round_of x) ≡ true → if_certified rules o ≡ Some x → if_certified (among s rules) o ≡ Some x
-certified_here rules s o x suspect h =
-    let (c, is, certifies) = certified_parts rules o x h in
-    ap (if_certified (among s rules)) is ∙ cond-true (s.rounds (round_of x) && rules.certified x c) (Some x) None (and_from _ _ suspect certifies)
-
--- a round that is split is suspect
-split_is_suspect : {S D C P G : Type 0} (rules : Rules S D C P G) → AreLawful rules → (messages : List (Activity S D C P G)) (s : Suspected) → AreSuspect rules messages s → (round : Round) → is_split rules messages round ≡ true → s.rounds round ≡ true
-split_is_suspect rules l messages s covers round h =
-    let vs = valid_votes rules messages in
-    let many = enough_in_split rules l messages round h in
-    let (q, q_in) = some_counted (filter (is_named_in rules.eq vs round) (map (λ v. v.signer) vs)) (omega (arith, many)) in
-    let (kind, named) = kind_from_named_in rules.eq vs round q (All-contains (λ q. is_named_in rules.eq vs round q ≡ true) _ q (filter_passes (is_named_in rules.eq vs round) (map (λ v. v.signer) vs)) q_in) in
-    (covers (record { round = round; signer = q; kind = kind }) named).1
-
--- the same rounds are split
-same_splits : {S D C P G : Type 0} (rules : Rules S D C P G) → AreLawful rules → (messages : List (Activity S D C P G)) (s : Suspected) → AreSuspect rules messages s → (round : Round) → is_split (among s rules) messages round ≡ is_split rules messages round
-same_splits {S} {D} {C} {P} {G} rules l messages s covers round = same_bool _ _ more less
-  where
-    more : is_split (among s rules) messages round ≡ true → is_split rules messages round ≡ true
-    more h =
-        let o = split_to_subjects (among s rules) messages round h in
-        let certified : (x : SubjectValue D) → Contains (filter_map (certified_in (among s rules)) messages) x → Contains (filter_map (certified_in rules) messages) x = λ x x_in.
-        let (m, m_in, m_is) = Contains-from_filter_map (certified_in (among s rules)) messages x x_in in
-        Contains-filter_map (certified_in rules) messages m x m_in (certified_more rules s (certificate_in m) x m_is).0 in
-        split_from_subjects rules messages round (record { x = o.x; y = o.y; x_in = certified o.x o.x_in; y_in = certified o.y o.y_in; x_here = o.x_here; y_here = o.y_here; against = o.against })
-
-    less : is_split rules messages round ≡ true → is_split (among s rules) messages round ≡ true
-    less h =
-        let suspect = split_is_suspect rules l messages s covers round h in
-        let o = split_to_subjects rules messages round h in
-        let certified : (x : SubjectValue D) → Contains (filter_map (certified_in rules) messages) x → round_of x ≡ round → Contains (filter_map (certified_in (among s rules)) messages) x = λ x x_in at.
-        let (m, m_in, m_is) = Contains-from_filter_map (certified_in rules) messages x x_in in
-        Contains-filter_map (certified_in (among s rules)) messages m x m_in (certified_here rules s (certificate_in m) x (ap s.rounds at ∙ suspect) m_is) in
-        split_from_subjects (among s rules) messages round (record { x = o.x; y = o.y; x_in = certified o.x o.x_in o.x_here; y_in = certified o.y o.y_in o.y_here; x_here = o.x_here; y_here = o.y_here; against = o.against })
-
--- with the same numbers
-same_split_of : {S D C P G : Type 0} (rules : Rules S D C P G) → AreLawful rules → (messages : List (Activity S D C P G)) (s : Suspected) → AreSuspect rules messages s → (round : Round) → split_of (among s rules) messages round ≡ split_of rules messages round
-same_split_of rules l messages s covers round =
-    let names : (n : Named) → is_named rules.eq (valid_votes (among s rules) messages) n ≡ is_named rules.eq (valid_votes rules messages) n =
-    λ n. ap (λ vs. is_named rules.eq vs n) (votes_among rules messages s) ∙ same_names rules.eq (valid_votes rules messages) s.signers (λ n h. (covers n h).0) n in
-    λ i. cond (same_splits rules l messages s covers round i) (Some (record { round = round; named = same_count rules.eq (valid_votes rules messages) (valid_votes (among s rules) messages) names round i; least = faults_of (rules.size round.epoch) + 1 })) None
-
--- the splits of messages whose rounds are split alike
-moved_splits : {S D C P G : Type 0} (rules others : Rules S D C P G) (messages : List (Activity S D C P G)) → ((round : Round) → is_split others messages round ≡ is_split rules messages round) → ((round : Round) → split_of others messages round ≡ split_of rules messages round) → (splits : List Split) → AreSplits others messages splits → AreSplits rules messages splits
-moved_splits rules others messages same split splits are = record {
-  ordered = are.ordered;
-  sound = All-weaker (λ s. split_of others messages s.round ≡ Some s) (λ s. split_of rules messages s.round ≡ Some s) (λ s h. sym (split s.round) ∙ h) splits are.sound;
-  complete = λ round h. are.complete round (same round ∙ h);
-}
+    same : (q : ℕ) → is_named_in eq ws round q ≡ is_named_in eq vs round q
+    same q = λ i. names (record { round = round; signer = q; kind = Conflicting_notarize }) i || (names (record { round = round; signer = q; kind = Conflicting_finalize }) i || names (record { round = round; signer = q; kind = Nullify_finalize }) i)
 
 -- ---- suspects tell all
 
-pub suspects_tell_all : {S D C P G : Type 0} (rules : Rules S D C P G) → AreLawful rules → (messages : List (Activity S D C P G)) (s : Suspected) → AreSuspect rules messages s → TellAll rules messages s
-suspects_tell_all rules l messages s covers =
-    let vs = valid_votes rules messages in
-    let ws = valid_votes (among s rules) messages in
-    let names : (n : Named) → is_named rules.eq ws n ≡ is_named rules.eq vs n = λ n. ap (λ us. is_named rules.eq us n) (votes_among rules messages s) ∙ same_names rules.eq vs s.signers (λ n h. (covers n h).0) n in
-    let evidence : (n : Named) → evidence_of rules.eq ws n ≡ evidence_of rules.eq vs n = λ n. ap (λ us. evidence_of rules.eq us n) (votes_among rules messages s) ∙ same_evidence rules.eq l.payloads vs s.signers (λ n h. (covers n h).0) n in
-    let is = same_splits rules l messages s covers in
-    let of = same_split_of rules l messages s covers in
-    record {
-      evidence = λ es. (moved_evidence rules.eq vs ws names evidence es, moved_evidence rules.eq ws vs (λ n. sym (names n)) (λ n. sym (evidence n)) es);
-      splits = λ splits. (moved_splits rules (among s rules) messages is of splits, moved_splits (among s rules) rules messages (λ r. sym (is r)) (λ r. sym (of r)) splits);
-    }
+module _ {S D C P G : Type 0} (rules : Rules S D C P G) (l : AreLawful rules) (messages : List (Activity S D C P G)) (s : Suspected) (covers : AreSuspect rules messages s) where
+  -- the valid votes among suspects are those of suspects
+  votes_among : valid_votes (among s rules) messages ≡ filter (here s.signers) (valid_votes rules messages)
+  votes_among = twice (flat_map (votes_in rules.listed) messages)
+    where
+      twice : (vs : List (SignedVote D G)) → filter (is_valid (among s rules)) vs ≡ filter (here s.signers) (filter (is_valid rules) vs)
+      twice [] = refl
+      twice (v ∷ vs) = by (is_valid rules v) (here s.signers v) refl (twice vs)
+        where
+          by : (b a : Bool) → here s.signers v ≡ a → filter (is_valid (among s rules)) vs ≡ filter (here s.signers) (filter (is_valid rules) vs) → cond (a && b) (v ∷ filter (is_valid (among s rules)) vs) (filter (is_valid (among s rules)) vs) ≡ filter (here s.signers) (cond b (v ∷ filter (is_valid rules) vs) (filter (is_valid rules) vs))
+          by true true e rest = ap (λ ys. v ∷ ys) rest ∙ ap (λ c. cond c (v ∷ filter (here s.signers) (filter (is_valid rules) vs)) (filter (here s.signers) (filter (is_valid rules) vs))) (sym e)
+          by true false e rest = rest ∙ ap (λ c. cond c (v ∷ filter (here s.signers) (filter (is_valid rules) vs)) (filter (here s.signers) (filter (is_valid rules) vs))) (sym e)
+          by false true e rest = rest
+          by false false e rest = rest
+
+  -- what is certified among suspects are the subjects of suspect rounds
+  certified_among : (ms : List (Activity S D C P G)) → certified_subjects (among s rules) ms ≡ filter (λ x. s.rounds (round_of x)) (certified_subjects rules ms)
+  certified_among [] = refl
+  certified_among (m ∷ ms) = by (certificate_in m) (certified_among ms)
+    where
+      one : (a b : Bool) (x : SubjectValue D) (xs ys : List (SubjectValue D)) → s.rounds (round_of x) ≡ a → xs ≡ filter (λ x. s.rounds (round_of x)) ys → cons_option (cond (a && b) (Some x) None) xs ≡ filter (λ x. s.rounds (round_of x)) (cons_option (cond b (Some x) None) ys)
+      one true true x xs ys e rest = ap (λ zs. x ∷ zs) rest ∙ ap (λ c. cond c (x ∷ filter (λ x. s.rounds (round_of x)) ys) (filter (λ x. s.rounds (round_of x)) ys)) (sym e)
+      one false true x xs ys e rest = rest ∙ ap (λ c. cond c (x ∷ filter (λ x. s.rounds (round_of x)) ys) (filter (λ x. s.rounds (round_of x)) ys)) (sym e)
+      one true false x xs ys e rest = rest
+      one false false x xs ys e rest = rest
+
+      by : (o : Option (SubjectValue D × C)) → certified_subjects (among s rules) ms ≡ filter (λ x. s.rounds (round_of x)) (certified_subjects rules ms) → cons_option (if_certified (among s rules) o) (certified_subjects (among s rules) ms) ≡ filter (λ x. s.rounds (round_of x)) (cons_option (if_certified rules o) (certified_subjects rules ms))
+      by None rest = rest
+      by (Some c) rest = one (s.rounds (round_of c.0)) (rules.certified c.0 c.1) c.0 _ _ refl rest
+
+  -- a round that is split is suspect
+  split_is_suspect : (round : Round) → is_split rules messages round ≡ true → s.rounds round ≡ true
+  split_is_suspect round h =
+      let (q, q_in) = some (filter (is_named_in rules.eq (valid_votes rules messages) round) (map (λ v. v.signer) (valid_votes rules messages))) (omega (arith, enough_in_split rules messages l round h)) in
+      let (kind, named) = kind_from_named_in rules.eq (valid_votes rules messages) round q (Contains-from_filter (is_named_in rules.eq (valid_votes rules messages) round) _ q q_in).1 in
+      (covers (record { round = round; signer = q; kind = kind }) named).1
+    where
+      some : (xs : List ℕ) → 1 ≤ distinct_count nat_eq xs → (x : ℕ) × Contains xs x
+      some [] h = absurd (omega (arith, h))
+      some (x ∷ xs) h = (x, Contains-first x xs)
+
+  -- the same rounds are split
+  same_splits : (round : Round) → is_split (among s rules) messages round ≡ is_split rules messages round
+  same_splits round = from_subjects (among s rules) messages round ∙ ap (λ xs. are_split rules.eq xs round) (certified_among messages) ∙ same_bool _ _ more less ∙ sym (from_subjects rules messages round)
+    where
+      xs : List (SubjectValue D)
+      xs = certified_subjects rules messages
+
+      suspect : SubjectValue D → Bool
+      suspect x = s.rounds (round_of x)
+
+      more : are_split rules.eq (filter suspect xs) round ≡ true → are_split rules.eq xs round ≡ true
+      more h = let o = opposites rules.eq (filter suspect xs) round h in split_by rules.eq xs round (record { x = o.x; y = o.y; x_in = (Contains-from_filter suspect xs o.x o.x_in).0; y_in = (Contains-from_filter suspect xs o.y o.y_in).0; x_here = o.x_here; y_here = o.y_here; against = o.against })
+
+      less : are_split rules.eq xs round ≡ true → are_split rules.eq (filter suspect xs) round ≡ true
+      less h =
+          let o = opposites rules.eq xs round h in
+          let is = split_is_suspect round (from_subjects rules messages round ∙ h) in
+          split_by rules.eq (filter suspect xs) round (record { x = o.x; y = o.y; x_in = Contains-filter suspect xs o.x o.x_in (ap s.rounds o.x_here ∙ is); y_in = Contains-filter suspect xs o.y o.y_in (ap s.rounds o.y_here ∙ is); x_here = o.x_here; y_here = o.y_here; against = o.against })
+
+  pub suspects_tell_all : TellAll rules messages s
+  suspects_tell_all =
+      let vs = valid_votes rules messages in
+      let us = valid_votes (among s rules) messages in
+      let shown = λ (n : Named) (h : is_named rules.eq vs n ≡ true). (covers n h).0 in
+      let names : (n : Named) → is_named rules.eq us n ≡ is_named rules.eq vs n = λ n. ap (λ ws. is_named rules.eq ws n) votes_among ∙ same_names rules.eq l.payloads vs s.signers shown n in
+      let evidence : (n : Named) → evidence_of rules.eq us n ≡ evidence_of rules.eq vs n = λ n. ap (λ ws. evidence_of rules.eq ws n) votes_among ∙ same_evidence rules.eq l.payloads vs s.signers shown n in
+      let split : (r : Round) → split_of (among s rules) messages r ≡ split_of rules messages r = λ r i. cond (same_splits r i) (Some (record { round = r; named = same_count rules.eq vs us names r i; least = faults_of (rules.size r.epoch) + 1 })) None in
+      record {
+        evidence = λ es. (moved_evidence rules.eq l.payloads vs us evidence es, moved_evidence rules.eq l.payloads us vs (λ n. sym (evidence n)) es);
+        splits = λ splits. (moved_splits rules (among s rules) messages split splits, moved_splits (among s rules) rules messages (λ r. sym (split r)) splits);
+      }
 
 -- ---- claims
 
--- what votes claim is lawful
-pub claims_are_lawful : {S D C P G : Type 0} (rules : Rules S D C P G) → IsEquivalence rules.eq → AreLawful (claimed rules)
-claims_are_lawful rules payloads = record {
-  payloads = payloads;
-  members = λ x signer signature h. ltb-true _ _ h;
-  someone = λ x certificate h. absurd (false≢true h);
-  quorums = λ x certificate h. absurd (false≢true h);
-}
+module _ {S D C P G : Type 0} (rules : Rules S D C P G) (l : AreLawful rules) (messages : List (Activity S D C P G)) where
+  -- each signer who is named is claimed to be
+  pub named_is_claimed : (n : Named) → is_named rules.eq (valid_votes rules messages) n ≡ true → is_named rules.eq (valid_votes (claimed rules) messages) n ≡ true
+  named_is_claimed n h = named_by_more rules.eq (valid_votes (claimed rules) messages) (valid_votes rules messages) (λ v v_in.
+      let (m, m_in, own, valid) = valid_from rules messages v v_in in
+      valid_in (claimed rules) messages v m m_in own (lt-ltb _ _ (l.members v.subject v.signer v.signature valid))) n h
 
--- the signer of a valid vote is in the committee
-good_is_claimed : {S D C P G : Type 0} (rules : Rules S D C P G) → AreLawful rules → (messages : List (Activity S D C P G)) (v : SignedVote D G) → Contains (valid_votes rules messages) v → Contains (valid_votes (claimed rules) messages) v
-good_is_claimed rules l messages v h =
-    let all = flat_map (votes_in rules.listed) messages in
-    let good : is_valid rules v ≡ true = All-contains (λ w. is_valid rules w ≡ true) _ v (filter_passes (is_valid rules) all) h in
-    Contains-filter (is_valid (claimed rules)) all v (Contains-from_filter (is_valid rules) all v h) (lt-ltb _ _ (l.members v.subject v.signer v.signature good))
+  -- the signers of the evidence that the votes claim are suspect
+  pub claims_are_suspect : (claims : List (Evidence D G)) (s : Suspected) → IsEvidence rules.eq (valid_votes (claimed rules) messages) claims → HasSuspects claims s → AreSuspect rules messages s
+  claims_are_suspect claims s is has n h =
+      let (e, e_in, e_is) = Contains-from_map named_by claims n (is.complete n (named_is_claimed n h)) in
+      let (signer, round) = has e e_in in
+      (ap (λ (m : Named). s.signers m.round m.signer) (sym e_is) ∙ signer, ap (λ (m : Named). s.rounds m.round) (sym e_is) ∙ round)
 
--- each signer who is named is claimed to be
-pub named_is_claimed : {S D C P G : Type 0} (rules : Rules S D C P G) → AreLawful rules → (messages : List (Activity S D C P G)) (n : Named) → is_named rules.eq (valid_votes rules messages) n ≡ true → is_named rules.eq (valid_votes (claimed rules) messages) n ≡ true
-named_is_claimed rules l messages n h = named_by_more rules.eq (valid_votes (claimed rules) messages) (valid_votes rules messages) (good_is_claimed rules l messages) n h
+  -- where nobody is claimed to contradict there is no evidence and no split
+  pub nothing_claimed : (splits : List Split) → IsEvidence rules.eq (valid_votes (claimed rules) messages) [] → AreSplits (claimed rules) messages splits → IsEvidence rules.eq (valid_votes rules messages) [] × AreSplits rules messages splits
+  nothing_claimed splits is are = (
+    record { ordered = is.ordered; sound = All-nil (λ e. evidence_of rules.eq (valid_votes rules messages) (named_by e) ≡ Some e); complete = λ n h. absurd (false≢true (suspect n h).0) },
+    record {
+      ordered = are.ordered;
+      sound = λ k d lt. absurd (no_split _ (sym (split_exists (claimed rules) messages _) ∙ ap is_some (are.sound k d lt)));
+      complete = λ r h. absurd (false≢true (split_is_suspect rules l messages nobody suspect r h));
+    },
+  )
+    where
+      nobody : Suspected
+      nobody = record { signers = λ _ _. false; rounds = λ _. false }
 
--- the signers of the evidence that the votes claim are suspect
-pub claims_are_suspect : {S D C P G : Type 0} (rules : Rules S D C P G) → AreLawful rules → (messages : List (Activity S D C P G)) (claims : List (Evidence D G)) (s : Suspected) → IsEvidence rules.eq (valid_votes (claimed rules) messages) claims → HasSuspects claims s → AreSuspect rules messages s
-claims_are_suspect rules l messages claims s is has n h =
-    let (e, e_in, e_is) = Contains-from_map named_by claims n (is.complete n (named_is_claimed rules l messages n h)) in
-    let found = has e e_in in (ap (λ m. s.signers m.round m.signer) (sym e_is) ∙ found.0, ap (λ m. s.rounds m.round) (sym e_is) ∙ found.1)
+      suspect : AreSuspect rules messages nobody
+      suspect = claims_are_suspect [] nobody is (λ e h. absurd (Contains-none e h))
 
--- nobody is suspect
-abbrev nobody : Suspected
-nobody = record { signers = λ _ _. false; rounds = λ _. false }
-
--- where nothing is claimed there is no evidence
-nothing_is_named : {S D C P G : Type 0} (rules : Rules S D C P G) → AreLawful rules → (messages : List (Activity S D C P G)) → IsEvidence rules.eq (valid_votes (claimed rules) messages) [] → AreSuspect rules messages nobody
-nothing_is_named rules l messages is = claims_are_suspect rules l messages [] nobody is (λ e h. absurd (Contains-none e h))
-
--- claims certify nothing
-no_claimed_split : {S D C P G : Type 0} (rules : Rules S D C P G) (messages : List (Activity S D C P G)) (round : Round) → is_split (claimed rules) messages round ≡ true → ⊥
-no_claimed_split rules messages round h =
-    let o = split_to_subjects (claimed rules) messages round h in
-    let (m, m_in, m_is) = Contains-from_filter_map (certified_in (claimed rules)) messages o.x o.x_in in
-    let (c, has, certifies) = certified_parts (claimed rules) (certificate_in m) o.x m_is in
-    false≢true certifies
-
--- where nobody is claimed to contradict there is no evidence and no split
-pub nothing_claimed : {S D C P G : Type 0} (rules : Rules S D C P G) → AreLawful rules → (messages : List (Activity S D C P G)) (splits : List Split) → IsEvidence rules.eq (valid_votes (claimed rules) messages) [] → AreSplits (claimed rules) messages splits → IsEvidence rules.eq (valid_votes rules messages) [] × AreSplits rules messages splits
-nothing_claimed {S} {D} {C} {P} {G} rules l messages splits is are = (
-  record {
-    ordered = is.ordered;
-    sound = All-nil (λ e. evidence_of rules.eq (valid_votes rules messages) (named_by e) ≡ Some e);
-    complete = λ n h. absurd (false≢true (nothing_is_named rules l messages is n h).0);
-  },
-  record {
-    ordered = are.ordered;
-    sound = All-weaker (λ s. split_of (claimed rules) messages s.round ≡ Some s) (λ s. split_of rules messages s.round ≡ Some s)
-        (λ s h. absurd (no_claimed_split rules messages s.round (split-Some (claimed rules) messages s.round s h))) splits are.sound;
-    complete = λ round h. absurd (false≢true (split_is_suspect rules l messages nobody (nothing_is_named rules l messages is) round h));
-  },
-)
+      no_split : (round : Round) → is_split (claimed rules) messages round ≡ true → ⊥
+      no_split round h =
+          let o = split_opposites (claimed rules) messages round h in
+          let (m, m_in, m_is) = Contains-from_filter_map (certified_in (claimed rules)) messages o.x o.x_in in
+          let (c, has, certifies) = certified_parts (claimed rules) (certificate_in m) o.x m_is in
+          false≢true certifies
 
 -- ---- committees that judge so
 
@@ -294,44 +195,44 @@ module _ {S D C P G : Type 0} (eq : D → D → Bool) (keys : S → List P) (goo
   rules = rules_of eq keys good certified listed schedule
 
   -- a committee's claims, also where there is none
-  good_by_claims : (o : Option S) (x : SubjectValue D) (signer : ℕ) (signature : G) → valid_by (valid_under keys good Claimed) o x signer signature ≡ nat_lt signer (size_by keys o)
-  good_by_claims None x signer signature = same_bool _ _ (λ h. absurd (false≢true h)) (λ h. let lt = ltb-true signer 0 h in absurd (omega (arith, lt)))
-  good_by_claims (Some committee) x signer signature = refl
-
-  certified_by_claims : (o : Option S) (x : SubjectValue D) (certificate : C) → certified_by (certified_under certified Claimed) o x certificate ≡ false
-  certified_by_claims None x certificate = refl
-  certified_by_claims (Some committee) x certificate = refl
-
   pub claims_are_claimed : rules_under eq keys good certified listed Claimed schedule ≡ claimed rules
   claims_are_claimed = λ i. record {
     eq = eq;
-    good = λ x signer signature. good_by_claims (committee_of schedule (round_of x).epoch) x signer signature i;
-    certified = λ x certificate. certified_by_claims (committee_of schedule (round_of x).epoch) x certificate i;
+    good = λ x signer signature. claims (committee_of schedule (round_of x).epoch) x signer signature i;
+    certified = λ x certificate. nothing (committee_of schedule (round_of x).epoch) x certificate i;
     listed = listed;
     size = λ epoch. size_by keys (committee_of schedule epoch);
   }
+    where
+      claims : (o : Option S) (x : SubjectValue D) (signer : ℕ) (signature : G) → valid_by (valid_under keys good Claimed) o x signer signature ≡ nat_lt signer (size_by keys o)
+      claims None x signer signature = sym (le-ltb signer 0 (omega arith))
+      claims (Some committee) x signer signature = refl
+
+      nothing : (o : Option S) (x : SubjectValue D) (certificate : C) → certified_by (certified_under certified Claimed) o x certificate ≡ false
+      nothing None x certificate = refl
+      nothing (Some committee) x certificate = refl
 
   -- the suspects that a judging has
   abbrev suspects_in : SuspectSigners → Suspected
   suspects_in suspects = record { signers = λ round signer. contains signer_cmp suspects.signers (round, signer); rounds = contains round_cmp suspects.rounds }
 
   -- a committee's judgement of suspects, also where there is none
-  good_by_suspects : (suspects : SuspectSigners) (o : Option S) (x : SubjectValue D) (signer : ℕ) (signature : G) → valid_by (valid_under keys good (Suspects suspects)) o x signer signature ≡ (contains signer_cmp suspects.signers (round_of x, signer) && valid_by good o x signer signature)
-  good_by_suspects suspects None x signer signature = sym (and-false (contains signer_cmp suspects.signers (round_of x, signer)))
-  good_by_suspects suspects (Some committee) x signer signature = refl
-
-  certified_by_suspects : (suspects : SuspectSigners) (o : Option S) (x : SubjectValue D) (certificate : C) → certified_by (certified_under certified (Suspects suspects)) o x certificate ≡ (contains round_cmp suspects.rounds (round_of x) && certified_by certified o x certificate)
-  certified_by_suspects suspects None x certificate = sym (and-false (contains round_cmp suspects.rounds (round_of x)))
-  certified_by_suspects suspects (Some committee) x certificate = refl
-
-  pub suspects_are_among : (suspects : SuspectSigners) → rules_under eq keys good certified listed (Suspects suspects) schedule ≡ among (suspects_in suspects) rules
+  suspects_are_among : (suspects : SuspectSigners) → rules_under eq keys good certified listed (Suspects suspects) schedule ≡ among (suspects_in suspects) rules
   suspects_are_among suspects = λ i. record {
     eq = eq;
-    good = λ x signer signature. good_by_suspects suspects (committee_of schedule (round_of x).epoch) x signer signature i;
-    certified = λ x certificate. certified_by_suspects suspects (committee_of schedule (round_of x).epoch) x certificate i;
+    good = λ x signer signature. votes (committee_of schedule (round_of x).epoch) x signer signature i;
+    certified = λ x certificate. certificates (committee_of schedule (round_of x).epoch) x certificate i;
     listed = listed;
     size = λ epoch. size_by keys (committee_of schedule epoch);
   }
+    where
+      votes : (o : Option S) (x : SubjectValue D) (signer : ℕ) (signature : G) → valid_by (valid_under keys good (Suspects suspects)) o x signer signature ≡ (contains signer_cmp suspects.signers (round_of x, signer) && valid_by good o x signer signature)
+      votes None x signer signature = sym (and-false (contains signer_cmp suspects.signers (round_of x, signer)))
+      votes (Some committee) x signer signature = refl
+
+      certificates : (o : Option S) (x : SubjectValue D) (certificate : C) → certified_by (certified_under certified (Suspects suspects)) o x certificate ≡ (contains round_cmp suspects.rounds (round_of x) && certified_by certified o x certificate)
+      certificates None x certificate = sym (and-false (contains round_cmp suspects.rounds (round_of x)))
+      certificates (Some committee) x certificate = refl
 
   pub nobody_claimed : AreLawful rules → (messages : List (Activity S D C P G)) (splits : List Split) → IsEvidence eq (valid_votes (rules_under eq keys good certified listed Claimed schedule) messages) [] → AreSplits (rules_under eq keys good certified listed Claimed schedule) messages splits → IsEvidence eq (valid_votes rules messages) [] × AreSplits rules messages splits
   nobody_claimed l messages splits is are =
@@ -342,13 +243,76 @@ module _ {S D C P G : Type 0} (eq : D → D → Bool) (keys : S → List P) (goo
       All (λ suspect. IsTrue (contains signer_cmp suspects.signers suspect)) (map suspect_of claims) →
       (es : List (Evidence D G)) (splits : List Split) → IsEvidence eq (valid_votes (rules_under eq keys good certified listed (Suspects suspects) schedule) messages) es → AreSplits (rules_under eq keys good certified listed (Suspects suspects) schedule) messages splits → IsEvidence eq (valid_votes rules messages) es × AreSplits rules messages splits
   suspects_found l messages claims suspects is has_rounds has_signers es splits es_are splits_are =
-      let s = suspects_in suspects in
-      let suspect = claims_are_suspect rules l messages claims s (subst (λ judged. IsEvidence eq (valid_votes judged messages) claims) claims_are_claimed is)
+      let suspect = claims_are_suspect rules l messages claims (suspects_in suspects) (subst (λ judged. IsEvidence eq (valid_votes judged messages) claims) claims_are_claimed is)
       (λ e e_in. (
         All-contains (λ suspect. contains signer_cmp suspects.signers suspect ≡ true) (map suspect_of claims) (suspect_of e) has_signers (Contains-map suspect_of claims e e_in),
         All-contains (λ round. contains round_cmp suspects.rounds round ≡ true) (map (λ e. round_of e.first.subject) claims) (round_of e.first.subject) has_rounds (Contains-map (λ e. round_of e.first.subject) claims e e_in),
       )) in
-      let tell = suspects_tell_all rules l messages s suspect in (
+      let tell = suspects_tell_all rules l messages (suspects_in suspects) suspect in (
         (tell.evidence es).0 (subst (λ judged. IsEvidence eq (valid_votes judged messages) es) (suspects_are_among suspects) es_are),
         (tell.splits splits).0 (subst (λ judged. AreSplits judged messages splits) (suspects_are_among suspects) splits_are),
       )
+
+-- ---- the suspects of messages
+
+module _ {S D C P G : Type 0} (rules : Rules S D C P G) (messages : List (Activity S D C P G)) where
+  abbrev suspected : Suspected
+  suspected = record { signers = is_suspect rules messages; rounds = is_suspect_round rules messages }
+
+  -- a signer who is claimed to contradict is suspect, and so is the round
+  claimed_is_suspect : (n : Named) → is_named rules.eq (valid_votes (claimed rules) messages) n ≡ true → (is_suspect rules messages n.round n.signer ≡ true) × (is_suspect_round rules messages n.round ≡ true)
+  claimed_is_suspect n h =
+      let vs = valid_votes (claimed rules) messages in
+      let suspect = named_in rules.eq vs n.round n.signer n.kind h in
+      let (v, w, v_in, w_in, of_v, against) = votes_from_named rules.eq vs n h in
+      (suspect, any_from_Contains (λ v. is_suspect rules messages n.round v.signer) vs v v_in (ap (is_suspect rules messages n.round) (is_of-true n.round n.signer v of_v).1 ∙ suspect))
+
+  module _ (payloads : IsEquivalence rules.eq) (claims : List (Evidence D G)) (is : IsEvidence rules.eq (valid_votes (claimed rules) messages) claims) where
+    -- whom the claims name is suspect
+    claim_is_suspect : (e : Evidence D G) → Contains claims e → (is_suspect rules messages (round_of e.first.subject) e.first.signer ≡ true) × (is_suspect_round rules messages (round_of e.first.subject) ≡ true)
+    claim_is_suspect e e_in =
+        let vs = valid_votes (claimed rules) messages in
+        claimed_is_suspect (named_by e) (sym (evidence_exists rules.eq vs payloads (named_by e)) ∙ ap is_some (All-contains (λ e. evidence_of rules.eq vs (named_by e) ≡ Some e) claims e is.sound e_in))
+
+    -- the signers of what is claimed are those that are suspect
+    pub signers_are_suspect : (round : Round) (signer : ℕ) → Contains (map suspect_of claims) (round, signer) ↔ IsTrue (is_suspect rules messages round signer)
+    signers_are_suspect round signer = (
+      λ h. let (e, e_in, e_is) = Contains-from_map suspect_of claims (round, signer) h in subst (λ (s : Round × ℕ). is_suspect rules messages s.0 s.1 ≡ true) e_is (claim_is_suspect e e_in).0,
+      λ h.
+          let (kind, named) = kind_from_named_in rules.eq (valid_votes (claimed rules) messages) round signer h in
+          let (e, e_in, e_is) = Contains-from_map named_by claims (record { round = round; signer = signer; kind = kind }) (is.complete (record { round = round; signer = signer; kind = kind }) named) in
+          subst (Contains (map suspect_of claims)) (ap (λ (n : Named). (n.round, n.signer)) e_is) (Contains-map suspect_of claims e e_in),
+    )
+
+    -- the rounds of what is claimed are those that are suspect
+    pub rounds_are_suspect : (round : Round) → Contains (map (λ e. round_of e.first.subject) claims) round ↔ IsTrue (is_suspect_round rules messages round)
+    rounds_are_suspect round = (
+      λ h. let (e, e_in, e_is) = Contains-from_map (λ (e : Evidence D G). round_of e.first.subject) claims round h in subst (λ r. is_suspect_round rules messages r ≡ true) e_is (claim_is_suspect e e_in).1,
+      λ h.
+          let (v, v_in, v_named) = Contains-from_list_any (λ v. is_suspect rules messages round v.signer) (valid_votes (claimed rules) messages) h in
+          let (e, e_in, e_is) = Contains-from_map suspect_of claims (round, v.signer) ((signers_are_suspect round v.signer).1 v_named) in
+          subst (Contains (map (λ (e : Evidence D G). round_of e.first.subject) claims)) (ap (λ (s : Round × ℕ). s.0) e_is) (Contains-map (λ (e : Evidence D G). round_of e.first.subject) claims e e_in),
+    )
+
+-- rules that judge suspects alike are the same among suspects
+same_among : {S D C P G : Type 0} (rules : Rules S D C P G) (messages : List (Activity S D C P G)) (good : SubjectValue D → ℕ → G → Bool) (certified : SubjectValue D → C → Bool) → JudgeAlike rules messages good certified → among (suspected rules messages) rules ≡ among (suspected rules messages) (judged_by rules good certified)
+same_among rules messages good certified alike = λ i. record {
+  eq = rules.eq;
+  good = λ x signer signature. where_suspect (is_suspect rules messages (round_of x) signer) (rules.good x signer signature) (good x signer signature) (λ h. sym (alike.votes x signer signature h)) i;
+  certified = λ x certificate. where_suspect (is_suspect_round rules messages (round_of x)) (rules.certified x certificate) (certified x certificate) (λ h. sym (alike.certificates x certificate h)) i;
+  listed = rules.listed;
+  size = rules.size;
+}
+  where
+    where_suspect : (a b c : Bool) → (a ≡ true → b ≡ c) → (a && b) ≡ (a && c)
+    where_suspect true b c h = h refl
+    where_suspect false b c h = refl
+
+pub suspects_suffice : {S D C P G : Type 0} (rules : Rules S D C P G) → AreLawful rules → (messages : List (Activity S D C P G)) → SuspectsSuffice rules messages
+suspects_suffice {S} {D} {C} {P} {G} rules l messages = record {
+  evidence = λ good certified alike es is. ((tell (judged_by rules good certified) alike.lawful).evidence es).0 (subst (λ judged. IsEvidence rules.eq (valid_votes judged messages) es) (same_among rules messages good certified alike) (((tell rules l).evidence es).1 is));
+  splits = λ good certified alike splits are. ((tell (judged_by rules good certified) alike.lawful).splits splits).0 (subst (λ judged. AreSplits judged messages splits) (same_among rules messages good certified alike) (((tell rules l).splits splits).1 are));
+}
+  where
+    tell : (judges : Rules S D C P G) → AreLawful judges → TellAll judges messages (suspected judges messages)
+    tell judges lawful = suspects_tell_all judges lawful messages (suspected judges messages) (λ n h. claimed_is_suspect judges messages n (named_is_claimed judges lawful messages n h))

@@ -4,9 +4,8 @@ use Rattle.std.specs.Prelude.{◌≡◌, Bool, false, not, ◌&&◌, ◌||◌, L
 use Rattle.std.specs.List.{find, filter_map, list_any}
 use Rattle.std.specs.Option.{is_none, option_or}
 use Rattle.simplex_base.specs.Positions.{Round, same_round}
-use Rattle.simplex_scheme.specs.declared.proposal.Proposal.{Proposal}
 use Rattle.simplex_scheme.specs.Subject.{SubjectValue, Notarizes, Nullifies, Finalizes, round_of}
-use Rattle.simplex_votes.specs.Votes.{Sort, Notarizing, Nullifying, Finalizing, sort_of, same_sort, same_proposal}
+use Rattle.simplex_votes.specs.Votes.{Sort, Notarizing, Nullifying, Finalizing, sort_of, same_sort}
 use Rattle.simplex_evidence.specs.declared.types.activity.Activity.{Activity}
 use Rattle.simplex_detector.specs.Certificates.{subjects_contradict, excludes}
 use Rattle.simplex_detector.specs.Rules.{Rules}
@@ -33,11 +32,6 @@ excludes_first eq (Some x) y = excludes eq x y
 -- whether a subject excludes the first of some sort
 abbrev pub excludes_some : {D : Type 0} → (D → D → Bool) → (Sort → Option (SubjectValue D)) → SubjectValue D → Bool
 excludes_some eq first y = excludes_first eq (first Notarizing) y || (excludes_first eq (first Nullifying) y || excludes_first eq (first Finalizing) y)
-
--- whether a proposal is another than the first, if there is one
-abbrev pub differs_from_first : {D : Type 0} → (D → D → Bool) → Option (Proposal D) → Proposal D → Bool
-differs_from_first eq None q = false
-differs_from_first eq (Some p) q = not (same_proposal eq p q)
 
 -- nothing is certified
 abbrev pub nothing_certified : {D : Type 0} → CertifiedSubjects D

@@ -1,18 +1,13 @@
 -- Which votes are recorded: at most two of each round, signer and sort.
-use Rattle.std.specs.Prelude.{ℕ, Bool, true, false, not, ◌&&◌, List, Option, Some, None, if◌then◌else◌, ◌≡◌, ◌≤◌, [], ◌∷◌, ◌++◌, length, filter}
+use Rattle.std.specs.Prelude.{ℕ, Bool, true, ◌&&◌, List, Option, Some, None, if◌then◌else◌, ◌≡◌, ◌≤◌, [], ◌∷◌, ◌++◌, length, filter}
 use Rattle.std.specs.Option.{option_or, is_none, option_to_list}
 use Rattle.std.specs.List.{find}
 use Rattle.simplex_base.specs.Positions.{Round, same_round}
-use Rattle.simplex_scheme.specs.Subject.{SubjectValue, Notarizes, Finalizes, round_of}
-use Rattle.simplex_votes.specs.Votes.{SignedVote, Sort, Notarizing, Nullifying, Finalizing, sort_of, is_at, same_proposal, is_of}
+use Rattle.simplex_scheme.specs.Subject.{SubjectValue, round_of}
+use Rattle.simplex_votes.specs.Votes.{SignedVote, Sort, Notarizing, Nullifying, Finalizing, sort_of, is_at, is_of}
 use Rattle.simplex_evidence.specs.Contradiction.{Kind, Conflicting_notarize, Conflicting_finalize, Nullify_finalize, Evidence}
+use Rattle.simplex_detector.specs.Certificates.{excludes}
 use Rattle.simplex_detector.specs.Evidence.{with_second}
-
--- whether two subjects of one sort have different proposals
-abbrev pub differs : {D : Type 0} → (D → D → Bool) → SubjectValue D → SubjectValue D → Bool
-differs eq (Notarizes p) (Notarizes q) = not (same_proposal eq p q)
-differs eq (Finalizes p) (Finalizes q) = not (same_proposal eq p q)
-differs _ _ _ = false
 
 -- of one round, signer and sort: the earliest vote, and the earliest with another proposal
 pub record Slot (D G : Type 0) : Type 0 where
@@ -22,7 +17,7 @@ pub record Slot (D G : Type 0) : Type 0 where
 -- the earliest vote with another proposal than the first, if there is a first
 abbrev pub other_than : {D G : Type 0} → (D → D → Bool) → List (SignedVote D G) → Sort → Round → ℕ → Option (SignedVote D G) → Option (SignedVote D G)
 other_than eq vs sort round signer None = None
-other_than eq vs sort round signer (Some v) = find (λ w. is_at sort round signer w && differs eq v.subject w.subject) vs
+other_than eq vs sort round signer (Some v) = find (λ w. is_at sort round signer w && excludes eq v.subject w.subject) vs
 
 -- the slot of a round, signer and sort in a list of votes
 abbrev pub slot_of : {D G : Type 0} → (D → D → Bool) → List (SignedVote D G) → Sort → Round → ℕ → Slot D G
@@ -33,7 +28,7 @@ slot_of eq vs sort round signer =
 -- a vote, if it has another proposal than the first
 abbrev pub if_differs : {D G : Type 0} → (D → D → Bool) → Option (SignedVote D G) → SignedVote D G → Option (SignedVote D G)
 if_differs eq None v = None
-if_differs eq (Some first) v = if differs eq first.subject v.subject then Some v else None
+if_differs eq (Some first) v = if excludes eq first.subject v.subject then Some v else None
 
 -- the slot of a vote's own round, signer and sort, after it
 abbrev pub slot_with : {D G : Type 0} → (D → D → Bool) → SignedVote D G → Slot D G → Slot D G
@@ -42,7 +37,7 @@ slot_with eq v slot = record { earliest = option_or slot.earliest (Some v); othe
 -- whether a vote on a subject changes its slot: the slot is empty, or holds one vote, which has another proposal
 abbrev pub changes : {D G : Type 0} → (D → D → Bool) → Option (SignedVote D G) → Option (SignedVote D G) → SubjectValue D → Bool
 changes eq None other subject = true
-changes eq (Some first) other subject = differs eq first.subject subject && is_none other
+changes eq (Some first) other subject = excludes eq first.subject subject && is_none other
 
 -- whether a vote is news to the votes before it
 abbrev pub is_news : {D G : Type 0} → (D → D → Bool) → List (SignedVote D G) → SignedVote D G → Bool

@@ -1,11 +1,11 @@
 //! The recorded certified subjects of a round: enough to tell whether two of its certificates contradict, and no more.
 
-ghost use Rattle.std.specs.Prelude.{◌≡◌, ◌↔◌, ◌&&◌, ◌||◌, ◌++◌, List, [], ◌∷◌, IsTrue, if◌then◌else◌};
+ghost use Rattle.std.specs.Prelude.{◌≡◌, ◌↔◌, ◌&&◌, ◌||◌, ◌++◌, List, [], ◌∷◌, IsTrue, option_map, if◌then◌else◌};
 ghost use Rattle.std.specs.Option.{is_some};
-ghost use Rattle.simplex_scheme.specs.Subject.{SubjectValue, subject_value, round_of};
+ghost use Rattle.simplex_scheme.specs.Subject.{SubjectValue, Notarizes, subject_value, round_of};
 ghost use Rattle.simplex_votes.specs.Votes.{Sort, sort_of};
 ghost use Rattle.simplex_detector.specs.Judging.{certified_under};
-ghost use Rattle.simplex_detector.specs.FirstCertified.{nothing_certified, RecordsFirsts, firsts_of, first_with, changes_firsts, excludes_some, differs_from_first};
+ghost use Rattle.simplex_detector.specs.FirstCertified.{nothing_certified, RecordsFirsts, firsts_of, first_with, changes_firsts, excludes_first, excludes_some};
 
 use crate::judging::Judging;
 use simplex_base::positions::Round;
@@ -139,7 +139,8 @@ impl<D: Digest> CertifiedSubjects<D> {
 
 /// Whether a proposal is another than the first, if there is one.
 fn differs<D: Digest>(first: &Option<Proposal<D>>, proposal: &Proposal<D>) -> bool
-    ensures { result ≡ differs_from_first D.eq first.now proposal.now }
+    ensures { result ≡
+        excludes_first D.eq (option_map Notarizes first.now) (Notarizes proposal.now) }
 {
     match first {
         None => false,

@@ -1,4 +1,4 @@
-use Rattle.std.proofs.Common.{sym, ◌∙◌}
+use Rattle.simplex_detector.proofs.Std.{sym, ◌∙◌}
 use Rattle.simplex_detector.proofs.CommitteeLemmas.{not_le, rising_next}
 use Rattle.simplex_detector.proofs.committees.are_rising.Goals as goal
 

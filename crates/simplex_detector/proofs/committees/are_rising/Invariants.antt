@@ -1,4 +1,4 @@
-use Rattle.std.proofs.Common.{ℕ, ◌<◌, get_or}
+use Rattle.simplex_detector.proofs.Std.{get_or, ℕ, ◌<◌}
 use Rattle.simplex_detector.proofs.committees.are_rising.Given as goal
 
 abbrev pub invariant-pairs : goal.invariant-pairs

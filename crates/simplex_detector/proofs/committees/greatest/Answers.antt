@@ -1,14 +1,12 @@
-use Rattle.std.proofs.Common.{◌≤◌, length, ap, ◌∙◌, subst}
-use Rattle.std.specs.Prelude.{All}
-use Rattle.std.proofs.lemmas.List.{take_all}
-use Rattle.simplex_detector.proofs.CommitteeLemmas.{greatest_next, greatest_all, manned_next}
+use Rattle.simplex_detector.proofs.Std.{All, All-push, ap, length, subst, sym, take_all, take_more, ◌∙◌, ◌≤◌}
+use Rattle.simplex_detector.proofs.CommitteeLemmas.{greatest_next, greatest_all}
 use Rattle.simplex_detector.proofs.committees.greatest.Goals as goal
 
 -- one committee more
 pub pairs-preserved : goal.pairs-preserved
 pairs-preserved g c = record {
   most = greatest_next g.S.CertificateScheme.keys c.args.pairs.now c.pairs.pair-index c.pairs.most c.len.result c.max-most.result c.pair-item.result c.pairs-test.true c.pair-item.is (c.len.ensures ∙ ap length c.participants.ensures.keys) c.max-most.ensures ∙ c.pairs.invariant.most;
-  manned = manned_next g.S.CertificateScheme.keys c.args.pairs.now c.pairs.pair-index c.pair-item.result c.pairs-test.true c.pair-item.is c.participants.ensures.some c.pairs.invariant.manned;
+  manned = rw (take_more c.args.pairs.now c.pairs.pair-index c.pair-item.result c.pairs-test.true, sym c.pair-item.is) (All-push (λ p. 1 ≤ length (g.S.CertificateScheme.keys p.1)) _ c.pair-item.result c.pairs.invariant.manned c.participants.ensures.some);
 }
 
 pub returns-clause-value : goal.returns-clause-value

@@ -1,6 +1,5 @@
-use Rattle.std.proofs.Common.{◌≡◌, ◌≤◌, length, drop, take, max}
-use Rattle.std.specs.Prelude.{All}
-use Rattle.simplex_detector.specs.Committees.{greatest}
+use Rattle.simplex_detector.proofs.Std.{All, drop, length, max, take, ◌≡◌, ◌≤◌}
+use Rattle.simplex_detector.proofs.Words.{greatest}
 use Rattle.simplex_detector.proofs.committees.greatest.Given as goal
 
 abbrev pub invariant-pairs : goal.invariant-pairs

@@ -1,6 +1,4 @@
-use Rattle.std.proofs.Common.{Ok, Err, sym, ap, rules}
-use Rattle.std.specs.Prelude.{option_map}
-use Rattle.std.proofs.lemmas.List.Sorted.{answers_always}
+use Rattle.simplex_detector.proofs.Std.{Err, Ok, answers_always, ap, option_map, rules, sym}
 use Rattle.simplex_detector.proofs.CommitteeLemmas.{searched, entry_read}
 use Rattle.simplex_detector.proofs.committees.listed_committee.Goals as goal
 

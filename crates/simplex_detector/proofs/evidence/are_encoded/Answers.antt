@@ -1,8 +1,5 @@
-use Rattle.std.proofs.Common.{All, sym, subst}
-use Rattle.std.proofs.lemmas.List.{take_more, take_all}
-use Rattle.std.proofs.lemmas.List.Elements.{All-push}
-use Rattle.simplex_base.specs.Format.{fixed}
-use Rattle.simplex_detector.specs.EncodedEvidence.{IsEncoded}
+use Rattle.simplex_detector.proofs.Std.{All, All-push, subst, sym, take_all, take_more}
+use Rattle.simplex_detector.proofs.Words.{IsEncoded, fixed}
 use Rattle.simplex_detector.proofs.evidence.are_encoded.Goals as goal
 
 pub items-preserved : goal.items-preserved

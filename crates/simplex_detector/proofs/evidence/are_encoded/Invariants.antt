@@ -1,6 +1,5 @@
-use Rattle.std.proofs.Common.{All, take}
-use Rattle.simplex_base.specs.Format.{fixed}
-use Rattle.simplex_detector.specs.EncodedEvidence.{IsEncoded}
+use Rattle.simplex_detector.proofs.Std.{All, take}
+use Rattle.simplex_detector.proofs.Words.{IsEncoded, fixed}
 use Rattle.simplex_detector.proofs.evidence.are_encoded.Given as goal
 
 abbrev pub invariant-items : goal.invariant-items

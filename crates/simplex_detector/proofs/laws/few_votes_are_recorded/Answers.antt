@@ -1,4 +1,4 @@
-use Rattle.simplex_detector.proofs.RecordedVoteLemmas.{recorded_are_slots, few_are_recorded}
+use Rattle.simplex_detector.proofs.RecordedLemmas.{recorded_are_slots, few_are_recorded}
 use Rattle.simplex_detector.proofs.laws.few_votes_are_recorded.Goals as goal
 
 pub returns-clause-slots : goal.returns-clause-slots

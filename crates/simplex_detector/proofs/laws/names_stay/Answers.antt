@@ -1,4 +1,4 @@
-use Rattle.simplex_detector.proofs.NamedLemmas.{named_in_any_order, named_stays}
+use Rattle.simplex_detector.proofs.EvidenceLemmas.{named_in_any_order, named_stays}
 use Rattle.simplex_detector.proofs.laws.names_stay.Goals as goal
 
 pub returns-clause-any_order : goal.returns-clause-any_order

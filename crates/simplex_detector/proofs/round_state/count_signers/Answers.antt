@@ -1,7 +1,6 @@
-use Rattle.std.proofs.Common.{◌+◌, ◌-◌, ◌^◌, map, min, sym, ap, ◌∙◌, arith}
-use Rattle.std.proofs.lemmas.List.{drop_all}
-use Rattle.simplex_detector.specs.Values.{evidence_value}
-use Rattle.simplex_detector.proofs.SignerCounts.{changes, counted_item, counted_in_order}
+use Rattle.simplex_detector.proofs.Std.{ap, arith, drop_all, map, min, sym, ◌+◌, ◌-◌, ◌^◌, ◌∙◌}
+use Rattle.simplex_detector.proofs.Words.{evidence_value}
+use Rattle.simplex_detector.proofs.CountLemmas.{changes, counted_item, counted_in_order}
 use Rattle.simplex_detector.proofs.round_state.count_signers.Goals as goal
 
 -- one item more is counted

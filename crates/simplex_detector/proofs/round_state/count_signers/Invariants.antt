@@ -1,7 +1,6 @@
-use Rattle.std.proofs.Common.{◌≡◌, ◌+◌, ◌-◌, ◌^◌, ◌≤◌, map, min, drop}
-use Rattle.std.specs.Prelude.{None}
-use Rattle.simplex_detector.specs.Values.{evidence_value}
-use Rattle.simplex_detector.proofs.SignerCounts.{changes}
+use Rattle.simplex_detector.proofs.Std.{None, drop, map, min, ◌+◌, ◌-◌, ◌^◌, ◌≡◌, ◌≤◌}
+use Rattle.simplex_detector.proofs.Words.{evidence_value}
+use Rattle.simplex_detector.proofs.CountLemmas.{changes}
 use Rattle.simplex_detector.proofs.round_state.count_signers.Given as goal
 
 -- what is counted so far, and what is left to count

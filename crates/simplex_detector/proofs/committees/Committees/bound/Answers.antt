@@ -1,6 +1,5 @@
-use Rattle.std.proofs.Common.{◌≤◌, length, subst, sym, ap, ◌∙◌}
-use Rattle.std.specs.Prelude.{All}
-use Rattle.simplex_detector.specs.Committees.{Listed, IsSchedule, committee_of, greatest, schedule_of}
+use Rattle.simplex_detector.proofs.Std.{All, ap, length, subst, sym, ◌∙◌, ◌≤◌}
+use Rattle.simplex_detector.proofs.Words.{IsSchedule, Listed, committee_of, greatest, schedule_of}
 use Rattle.simplex_detector.proofs.CommitteeLemmas.{most, reached, manned}
 use Rattle.simplex_detector.proofs.committees.Committees.bound.Goals as goal
 
@@ -19,4 +18,4 @@ returns-in-Listed-clause-reached g c =
 pub returns-in-Listed-clause-manned : goal.returns-in-Listed-clause-manned
 returns-in-Listed-clause-manned g c epoch committee h =
     let now = ap schedule_of (sym c.in-Listed.is) ∙ c.self.view_is in
-    manned g.S.CertificateScheme.keys (Listed c.in-Listed.pairs.items) (subst (All (λ p. 1 ≤ length (g.S.CertificateScheme.keys p.1))) c.deref.ensures.value c.greatest.ensures.manned) epoch committee (ap (λ s. committee_of s epoch) now ∙ h)
+    manned g.S.CertificateScheme.keys c.in-Listed.pairs.items (subst (All (λ p. 1 ≤ length (g.S.CertificateScheme.keys p.1))) c.deref.ensures.value c.greatest.ensures.manned) epoch committee (ap (λ s. committee_of s epoch) now ∙ h)

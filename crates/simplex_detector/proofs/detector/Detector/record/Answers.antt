@@ -1,17 +1,6 @@
-use Rattle.std.proofs.Common.{◌≡◌, ◌++◌, [], ◌∷◌, Some, cond, length, refl, sym, ap, ◌∙◌, subst}
-use Rattle.std.specs.Option.{IsSome}
-use Rattle.std.specs.BTreeMap.{get, is_at as is_key}
-use Rattle.simplex_base.specs.Positions.{Round}
-use Rattle.simplex_evidence.specs.Activity.{activity_round}
-use Rattle.simplex_detector.specs.Committees.{Schedule, committee_of, size_by}
-use Rattle.simplex_detector.specs.Named.{round_cmp}
-use Rattle.simplex_detector.specs.Rounds.{IsSized}
-use Rattle.simplex_detector.specs.Judging.{valid_under, certified_under, rules_under}
-use Rattle.simplex_detector.specs.Rules.{Rules}
-use Rattle.simplex_detector.specs.Detector.{RecallsAt}
-use Rattle.simplex_detector.specs.declared.judging.Judging.{Judging}
-use Rattle.simplex_detector.proofs.Results.{on_ok}
-use Rattle.simplex_detector.proofs.DetectorLemmas.{recalls_changed, recalls_still_none, recalls_found, recalls_new, recalls_taken, recalls_no_committee}
+use Rattle.simplex_detector.proofs.Std.{IsSome, Some, [], ap, cond, get, is_key, length, on_ok_weaker, refl, subst, sym, ◌++◌, ◌∙◌, ◌∷◌, ◌≡◌}
+use Rattle.simplex_detector.proofs.Words.{IsSized, Judging, RecallsAt, Round, Rules, Schedule, activity_round, certified_under, committee_of, round_cmp, rules_under, size_by, valid_under}
+use Rattle.simplex_detector.proofs.DetectorLemmas.{recalls_changed, recalls_still_none, recalls_new, recalls_taken, recalls_no_committee}
 use Rattle.simplex_detector.proofs.detector.Detector.record.Given as given
 use Rattle.simplex_detector.proofs.detector.Detector.record.Goals as goal
 
@@ -35,11 +24,10 @@ returns-in-Some-get_mut g c =
     let found = c.in-Some-get_mut.ensures.value in
     let after = c.observe.new.self in
     let updates = c.get_mut.follows.holds after in
-    on_ok _ _ (λ takes messages holds.
-    let before = recalls_found all messages c.args.self.now.rounds (activity_round m) c.in-Some-get_mut.round_state.now (found ∙ ap (get round_cmp c.args.self.now.rounds) at) holds in
+    on_ok_weaker c.observe.result (λ takes messages holds.
+    let before = subst (RecallsAt all messages (activity_round m)) (sym (found ∙ ap (get round_cmp c.args.self.now.rounds) at)) (holds (activity_round m)) in
     let own = recalls_taken g.D.PartialEq.eq g.S.CertificateScheme.keys (valid_under g.S.CertificateScheme.keys g.S.Scheme.good c.args.judging.now) (certified_under g.S.CertificateVerifier.certified c.args.judging.now) g.S.Listing.listed c.args.committees.now messages m c.in-Some.committee.now judge c.in-Some-get_mut.round_state.now after takes before in
-    recalls_changed all messages m g.met.D.Eq.laws c.message_round-round.result at c.message_round-round.ensures.votes after c.args.self.now.rounds (c.get_mut.follows.lender after) (updates.3 (subst IsSome found refl)).0 own holds)
-    c.observe.result c.observe.ensures
+    recalls_changed all g.met.D.Eq.laws messages m c.message_round-round.ensures.votes c.message_round-round.result at (Some after) c.args.self.now.rounds (c.get_mut.follows.lender after) (updates.3 (subst IsSome found refl)).0 own holds) c.observe.ensures
 
 -- nothing was recorded of its round
 pub returns-in_ok-insert : goal.returns-in_ok-insert
@@ -54,7 +42,7 @@ returns-in_ok-insert g c messages holds =
     let after = c.observe-2.new.self in
     let before = recalls_new all g.met.D.Eq.laws messages c.args.self.now.rounds (activity_round m) c.new-round_state.result (none ∙ ap (get round_cmp c.args.self.now.rounds) at) sized c.new-round_state.ensures.empty c.new-round_state.ensures.none c.new-round_state.ensures.certified holds in
     let own = recalls_taken g.D.PartialEq.eq g.S.CertificateScheme.keys (valid_under g.S.CertificateScheme.keys g.S.Scheme.good c.args.judging.now) (certified_under g.S.CertificateVerifier.certified c.args.judging.now) g.S.Listing.listed c.args.committees.now messages m c.in-Some.committee.now judge c.new-round_state.result after c.in_ok-observe.ensures before in
-    recalls_changed all messages m g.met.D.Eq.laws c.message_round-round.result at c.message_round-round.ensures.votes after c.args.self.now.rounds c.insert.new.self
+    recalls_changed all g.met.D.Eq.laws messages m c.message_round-round.ensures.votes c.message_round-round.result at (Some after) c.args.self.now.rounds c.insert.new.self
     (subst (λ rounds. (q : Round) → get round_cmp c.insert.new.self q ≡ cond (is_key (round_cmp c.message_round-round.result) q) (Some after) (get round_cmp rounds q)) c.get_mut.follows.holds-at-none c.in_ok-insert.ensures.updates.0) own holds
 
 -- nothing is recorded of it still
@@ -72,4 +60,4 @@ returns-else-not-is_empty g c messages holds =
     let own = recalls_taken g.D.PartialEq.eq g.S.CertificateScheme.keys (valid_under g.S.CertificateScheme.keys g.S.Scheme.good c.args.judging.now) (certified_under g.S.CertificateVerifier.certified c.args.judging.now) g.S.Listing.listed c.args.committees.now messages m c.in-Some.committee.now judge c.new-round_state.result after c.in_ok-observe.ensures before in
     let empty = c.if-not-is_empty.false in
     subst (λ rounds. (round : Round) → RecallsAt all (messages ++ m ∷ []) round (get round_cmp rounds round)) (sym c.get_mut.follows.holds-at-none)
-    (recalls_still_none all messages m g.met.D.Eq.laws c.message_round-round.result at c.message_round-round.ensures.votes after c.args.self.now.rounds (sym none) (c.is_empty.ensures.votes empty) (c.is_empty.ensures.certified empty) own holds)
+    (recalls_still_none all g.met.D.Eq.laws messages m c.message_round-round.ensures.votes c.message_round-round.result at after c.args.self.now.rounds (sym none) (c.is_empty.ensures.votes empty) (c.is_empty.ensures.certified empty) own holds)

@@ -1,16 +1,7 @@
-use Rattle.std.proofs.Common.{◌++◌, map, sym, ap, ◌∙◌, subst}
-use Rattle.std.proofs.Common.{rules as std_rules}
-use Rattle.std.specs.BTreeMap.{IsOrdered}
-use Rattle.std.specs.List.{filter_map, AllByRecursion}
-use Rattle.std.proofs.lemmas.List.{append-nil}
-use Rattle.simplex_detector.specs.Committees.{Schedule}
-use Rattle.simplex_detector.specs.Named.{round_cmp}
-use Rattle.simplex_detector.specs.Judging.{rules_under}
-use Rattle.simplex_detector.specs.Rules.{Rules}
-use Rattle.simplex_detector.specs.Detector.{RecallsRound}
-use Rattle.simplex_detector.specs.Splits.{split_of, AreSplits}
-use Rattle.simplex_detector.specs.declared.judging.Judging.{Judging}
-use Rattle.simplex_detector.proofs.VerdictLemmas.{recalls_listed, splits_of_detector, found_next}
+use Rattle.simplex_detector.proofs.Std.{AllByRecursion, IsOrdered, ap, append-nil, filter_map, map, recursion_from_All, rules as std_rules, subst, sym, ◌++◌, ◌∙◌}
+use Rattle.simplex_detector.proofs.Words.{AreSplits, Judging, RecallsRound, Rules, Schedule, round_cmp, rules_under, split_of}
+use Rattle.simplex_detector.proofs.CountLemmas.{splits_of_detector, splits_next}
+use Rattle.simplex_detector.proofs.ReportLemmas.{recalls_listed}
 use Rattle.simplex_detector.proofs.detector.Detector.splits.Given as given
 use Rattle.simplex_detector.proofs.detector.Detector.splits.Goals as goal
 
@@ -32,12 +23,12 @@ rounds-preserved g c judging messages l held =
     let here = subst (AllByRecursion (λ e. RecallsRound (rules g judging c.args.committees.now) messages e.0 e.1)) c.in-Some.ensures.steps left in
     let split = c.in_ok-split.ensures judging messages l here.0 in (
       here.1,
-      found_next (split_of (rules g judging c.args.committees.now) messages) c.rounds.splits.items c.push_split.new.splits.items _ c.in-Some.round.now (map (λ e. e.0) c.next.new.self) _ c.in_ok-push_split.ensures split (ap (λ es. c.rounds.splits.items ++ filter_map (split_of (rules g judging c.args.committees.now) messages) (map (λ e. e.0) es)) (sym c.in-Some.ensures.steps) ∙ so_far),
+      splits_next (split_of (rules g judging c.args.committees.now) messages) c.rounds.splits.items c.push_split.new.splits.items _ c.in-Some.round.now (map (λ e. e.0) c.next.new.self) _ c.in_ok-push_split.ensures split (ap (λ es. c.rounds.splits.items ++ filter_map (split_of (rules g judging c.args.committees.now) messages) (map (λ e. e.0) es)) (sym c.in-Some.ensures.steps) ∙ so_far),
     )
 
 -- the splits of all rounds
 pub returns : goal.returns
 returns g c judging messages l holds =
     let ordered : IsOrdered round_cmp c.args.self.now.rounds = search std_rules in
-    let (left, all) = c.rounds.invariant judging messages l (recalls_listed (rules g judging c.args.committees.now) messages c.args.self.now ordered holds) in
+    let (left, all) = c.rounds.invariant judging messages l (recursion_from_All _ _ (recalls_listed (rules g judging c.args.committees.now) messages c.args.self.now ordered holds)) in
     subst (AreSplits (rules g judging c.args.committees.now) messages) (sym (sym (append-nil c.rounds.splits.items) ∙ ap (λ es. c.rounds.splits.items ++ filter_map (split_of (rules g judging c.args.committees.now) messages) (map (λ e. e.0) es)) (sym c.in-None.ensures.steps.0) ∙ all)) (splits_of_detector (rules g judging c.args.committees.now) messages c.args.self.now ordered holds)

@@ -1,11 +1,5 @@
-use Rattle.std.proofs.Common.{◌≡◌, ◌++◌, List, map}
-use Rattle.std.specs.List.{filter_map, AllByRecursion}
-use Rattle.simplex_evidence.specs.declared.types.activity.Activity.{Activity}
-use Rattle.simplex_detector.specs.Judging.{rules_under}
-use Rattle.simplex_detector.specs.Rules.{HaveCommittees}
-use Rattle.simplex_detector.specs.Detector.{RecallsRound}
-use Rattle.simplex_detector.specs.Splits.{split_of}
-use Rattle.simplex_detector.specs.declared.judging.Judging.{Judging}
+use Rattle.simplex_detector.proofs.Std.{AllByRecursion, List, filter_map, map, ◌++◌, ◌≡◌}
+use Rattle.simplex_detector.proofs.Words.{Activity, HaveCommittees, Judging, RecallsRound, rules_under, split_of}
 use Rattle.simplex_detector.proofs.detector.Detector.splits.Given as goal
 
 -- the splits so far, and those of the rounds that are left

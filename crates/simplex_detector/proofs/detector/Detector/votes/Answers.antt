@@ -1,12 +1,6 @@
-use Rattle.std.proofs.Common.{ap, arith}
-use Rattle.std.proofs.Common.{rules as std_rules}
-use Rattle.std.specs.BTreeMap.{IsOrdered}
-use Rattle.simplex_detector.specs.Committees.{Schedule}
-use Rattle.simplex_detector.specs.Named.{round_cmp}
-use Rattle.simplex_detector.specs.Judging.{rules_under}
-use Rattle.simplex_detector.specs.Rules.{Rules}
-use Rattle.simplex_detector.specs.declared.judging.Judging.{Judging}
-use Rattle.simplex_detector.proofs.RoundCounts.{rounds_count, counted_votes}
+use Rattle.simplex_detector.proofs.Std.{IsOrdered, ap, arith, rules as std_rules}
+use Rattle.simplex_detector.proofs.Words.{Judging, Rules, Schedule, round_cmp, rules_under}
+use Rattle.simplex_detector.proofs.CountLemmas.{rounds_count, counted_votes}
 use Rattle.simplex_detector.proofs.detector.Detector.votes.Given as given
 use Rattle.simplex_detector.proofs.detector.Detector.votes.Goals as goal
 
@@ -17,7 +11,7 @@ rules g = rules_under g.D.PartialEq.eq g.S.CertificateScheme.keys g.S.Scheme.goo
 pub returns : goal.returns
 returns g c judging schedule messages holds =
     let ordered : IsOrdered round_cmp c.args.self.now.rounds = search std_rules in
-    let all = counted_votes (rules g judging schedule) g.met.D.Eq.laws c.args.self.now ordered messages holds in
+    let all = counted_votes (rules g judging schedule) messages c.args.self.now ordered holds g.met.D.Eq.laws in
     let walked = c.rounds.invariant.1 in
     let done = ap rounds_count c.in-None.ensures.steps.0 in
     omega (arith, all, walked, done)

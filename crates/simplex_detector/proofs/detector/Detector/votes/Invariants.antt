@@ -1,5 +1,5 @@
-use Rattle.std.proofs.Common.{◌≡◌, ◌<◌, ◌+◌, ◌-◌, ◌^◌, min}
-use Rattle.simplex_detector.proofs.RoundCounts.{rounds_count}
+use Rattle.simplex_detector.proofs.Std.{min, ◌+◌, ◌-◌, ◌<◌, ◌^◌, ◌≡◌}
+use Rattle.simplex_detector.proofs.CountLemmas.{rounds_count}
 use Rattle.simplex_detector.proofs.detector.Detector.votes.Given as goal
 
 abbrev pub invariant-rounds : goal.invariant-rounds

@@ -1,13 +1,6 @@
-use Rattle.std.proofs.Common.{map, sym, ap, subst}
-use Rattle.std.proofs.Common.{rules as std_rules}
-use Rattle.std.specs.BTreeMap.{IsOrdered}
-use Rattle.simplex_detector.specs.Committees.{Schedule}
-use Rattle.simplex_detector.specs.Named.{round_cmp}
-use Rattle.simplex_detector.specs.Judging.{rules_under}
-use Rattle.simplex_detector.specs.Rules.{Rules}
-use Rattle.simplex_detector.specs.Values.{evidence_value}
-use Rattle.simplex_detector.specs.declared.judging.Judging.{Judging}
-use Rattle.simplex_detector.proofs.WalkLemmas.{Walked, walked_start, walked_next, report_of_walk}
+use Rattle.simplex_detector.proofs.Std.{IsOrdered, [], ap, arith, map, rules as std_rules, subst}
+use Rattle.simplex_detector.proofs.Words.{Judging, Rules, Schedule, evidence_value, round_cmp, rules_under}
+use Rattle.simplex_detector.proofs.ReportLemmas.{Walked, walked_next, report_of_walk}
 use Rattle.simplex_detector.proofs.detector.Detector.walk.Given as given
 use Rattle.simplex_detector.proofs.detector.Detector.walk.Goals as goal
 
@@ -16,9 +9,7 @@ abbrev rules : (g : given.Over) → Judging → Schedule g.row.S.Denot → Rules
 rules g = rules_under g.D.PartialEq.eq g.S.CertificateScheme.keys g.S.Scheme.good g.S.CertificateVerifier.certified g.S.Listing.listed
 
 pub rounds-init : goal.rounds-init
-rounds-init g c =
-    subst (λ rest. Walked g.D.PartialEq.eq c.args.self.now.rounds.entries rest (map evidence_value c.new-found.result.items)) (sym c.into_iter-round_state-iterator.ensures.into_iter_gives.0)
-    (walked_start g.D.PartialEq.eq c.args.self.now.rounds.entries (map evidence_value c.new-found.result.items) (ap (map evidence_value) c.new-found.ensures.items))
+rounds-init g c = record { steps = []; over = c.into_iter-round_state-iterator.ensures.into_iter_gives.0; listed = λ k d lt. absurd (omega (arith, lt)); is = ap (map evidence_value) c.new-found.ensures.items }
 
 pub rounds-preserved : goal.rounds-preserved
 rounds-preserved g c =

@@ -1,6 +1,6 @@
-use Rattle.std.proofs.Common.{map}
-use Rattle.simplex_detector.specs.Values.{evidence_value}
-use Rattle.simplex_detector.proofs.WalkLemmas.{Walked}
+use Rattle.simplex_detector.proofs.Std.{map}
+use Rattle.simplex_detector.proofs.Words.{evidence_value}
+use Rattle.simplex_detector.proofs.ReportLemmas.{Walked}
 use Rattle.simplex_detector.proofs.detector.Detector.walk.Given as goal
 
 abbrev pub invariant-rounds : goal.invariant-rounds

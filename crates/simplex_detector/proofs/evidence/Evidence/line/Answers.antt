@@ -1,6 +1,5 @@
-use Rattle.std.proofs.Common.{◌≡◌, IfOk, string_bytes, subst, sym}
-use Rattle.simplex_detector.specs.Line.{line_of}
-use Rattle.simplex_detector.specs.Values.{evidence_value}
+use Rattle.simplex_detector.proofs.Std.{IfOk, string_bytes, subst, sym, ◌≡◌}
+use Rattle.simplex_detector.proofs.Words.{evidence_value, line_of}
 use Rattle.simplex_detector.proofs.evidence.Evidence.line.Goals as goal
 
 pub returns-in-ConflictingNotarize : goal.returns-in-ConflictingNotarize

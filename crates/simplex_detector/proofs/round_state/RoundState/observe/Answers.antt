@@ -1,15 +1,7 @@
-use Rattle.std.proofs.Common.{sym, ap, subst, ⊎_elim}
-use Rattle.std.specs.Prelude.{OnOk}
-use Rattle.simplex_votes.specs.Votes.{notarize_vote, nullify_vote, finalize_vote}
-use Rattle.simplex_evidence.specs.Contradiction.{Conflicting_notarize, Conflicting_finalize, Nullify_finalize}
-use Rattle.simplex_detector.specs.Committees.{Schedule}
-use Rattle.simplex_detector.specs.Judging.{rules_under}
-use Rattle.simplex_detector.specs.Rules.{Rules}
-use Rattle.simplex_detector.specs.Detector.{TakesMessage}
-use Rattle.simplex_detector.specs.declared.judging.Judging.{Judging}
-use Rattle.simplex_detector.proofs.Results.{on_ok}
+use Rattle.simplex_detector.proofs.Std.{OnOk, ap, on_ok_weaker, subst, sym, ⊎_elim}
+use Rattle.simplex_detector.proofs.Words.{Conflicting_finalize, Conflicting_notarize, Judging, Nullify_finalize, Rules, Schedule, TakesMessage, finalize_vote, notarize_vote, nullify_vote, rules_under}
 use Rattle.simplex_detector.proofs.DetectorLemmas.{one_round}
-use Rattle.simplex_detector.proofs.RoundStateLemmas.{takes_two}
+use Rattle.simplex_detector.proofs.DetectorLemmas.{takes_two}
 use Rattle.simplex_detector.proofs.round_state.RoundState.observe.Given as given
 use Rattle.simplex_detector.proofs.round_state.RoundState.observe.Goals as goal
 
@@ -46,22 +38,19 @@ pub returns-in_ok-observe_notarize-in-ConflictingNotarize : goal.returns-in_ok-o
 returns-in_ok-observe_notarize-in-ConflictingNotarize g c =
     let two = c.in-ConflictingNotarize.message in
     subst (λ m. OnOk c.observe_notarize-in-ConflictingNotarize-2.result (TakesMessage (rules g c.args.judging.now) c.args.committee.now g.S.Listing.listed m c.args.self.now c.observe_notarize-in-ConflictingNotarize-2.new.self)) (sym c.in-ConflictingNotarize.is)
-    (on_ok _ _ (takes_two (rules g c.args.judging.now) c.args.committee.now (notarize_vote c.notarize_1.result.now) (notarize_vote two.first) (notarize_vote c.notarize_2.result.now) (notarize_vote two.second) c.args.self.now c.observe_notarize-in-ConflictingNotarize.new.self c.observe_notarize-in-ConflictingNotarize-2.new.self
-    (ap notarize_vote c.notarize_1.ensures.notarize) (ap notarize_vote c.notarize_2.ensures.notarize) (one_round g.D.PartialEq.eq Conflicting_notarize (notarize_vote two.first) (notarize_vote two.second) c.notarize_2.ensures.contradicts) c.in_ok-observe_notarize-in-ConflictingNotarize.ensures)
-    c.observe_notarize-in-ConflictingNotarize-2.result c.observe_notarize-in-ConflictingNotarize-2.ensures)
+    (on_ok_weaker c.observe_notarize-in-ConflictingNotarize-2.result (takes_two (rules g c.args.judging.now) c.args.committee.now (notarize_vote c.notarize_1.result.now) (notarize_vote two.first) (notarize_vote c.notarize_2.result.now) (notarize_vote two.second) c.args.self.now c.observe_notarize-in-ConflictingNotarize.new.self c.observe_notarize-in-ConflictingNotarize-2.new.self
+    (ap notarize_vote c.notarize_1.ensures.notarize) (ap notarize_vote c.notarize_2.ensures.notarize) (one_round g.D.PartialEq.eq Conflicting_notarize (notarize_vote two.first) (notarize_vote two.second) c.notarize_2.ensures.contradicts) c.in_ok-observe_notarize-in-ConflictingNotarize.ensures) c.observe_notarize-in-ConflictingNotarize-2.ensures)
 
 pub returns-in_ok-observe_finalize-in-ConflictingFinalize : goal.returns-in_ok-observe_finalize-in-ConflictingFinalize
 returns-in_ok-observe_finalize-in-ConflictingFinalize g c =
     let two = c.in-ConflictingFinalize.message in
     subst (λ m. OnOk c.observe_finalize-in-ConflictingFinalize-2.result (TakesMessage (rules g c.args.judging.now) c.args.committee.now g.S.Listing.listed m c.args.self.now c.observe_finalize-in-ConflictingFinalize-2.new.self)) (sym c.in-ConflictingFinalize.is)
-    (on_ok _ _ (takes_two (rules g c.args.judging.now) c.args.committee.now (finalize_vote c.finalize_1.result.now) (finalize_vote two.first) (finalize_vote c.finalize_2.result.now) (finalize_vote two.second) c.args.self.now c.observe_finalize-in-ConflictingFinalize.new.self c.observe_finalize-in-ConflictingFinalize-2.new.self
-    (ap finalize_vote c.finalize_1.ensures.finalize) (ap finalize_vote c.finalize_2.ensures.finalize) (one_round g.D.PartialEq.eq Conflicting_finalize (finalize_vote two.first) (finalize_vote two.second) c.finalize_2.ensures.contradicts) c.in_ok-observe_finalize-in-ConflictingFinalize.ensures)
-    c.observe_finalize-in-ConflictingFinalize-2.result c.observe_finalize-in-ConflictingFinalize-2.ensures)
+    (on_ok_weaker c.observe_finalize-in-ConflictingFinalize-2.result (takes_two (rules g c.args.judging.now) c.args.committee.now (finalize_vote c.finalize_1.result.now) (finalize_vote two.first) (finalize_vote c.finalize_2.result.now) (finalize_vote two.second) c.args.self.now c.observe_finalize-in-ConflictingFinalize.new.self c.observe_finalize-in-ConflictingFinalize-2.new.self
+    (ap finalize_vote c.finalize_1.ensures.finalize) (ap finalize_vote c.finalize_2.ensures.finalize) (one_round g.D.PartialEq.eq Conflicting_finalize (finalize_vote two.first) (finalize_vote two.second) c.finalize_2.ensures.contradicts) c.in_ok-observe_finalize-in-ConflictingFinalize.ensures) c.observe_finalize-in-ConflictingFinalize-2.ensures)
 
 pub returns-in_ok-observe_nullify-in-NullifyFinalize : goal.returns-in_ok-observe_nullify-in-NullifyFinalize
 returns-in_ok-observe_nullify-in-NullifyFinalize g c =
     let two = c.in-NullifyFinalize.message in
     subst (λ m. OnOk c.observe_finalize-in-NullifyFinalize.result (TakesMessage (rules g c.args.judging.now) c.args.committee.now g.S.Listing.listed m c.args.self.now c.observe_finalize-in-NullifyFinalize.new.self)) (sym c.in-NullifyFinalize.is)
-    (on_ok _ _ (takes_two (rules g c.args.judging.now) c.args.committee.now (nullify_vote c.nullify.result.now) (nullify_vote two.first) (finalize_vote c.finalize.result.now) (finalize_vote two.second) c.args.self.now c.observe_nullify-in-NullifyFinalize.new.self c.observe_finalize-in-NullifyFinalize.new.self
-    (ap nullify_vote c.nullify.ensures.vote) (ap finalize_vote c.finalize.ensures.vote) (one_round g.D.PartialEq.eq Nullify_finalize (nullify_vote two.first) (finalize_vote two.second) c.finalize.ensures.contradicts) c.in_ok-observe_nullify-in-NullifyFinalize.ensures)
-    c.observe_finalize-in-NullifyFinalize.result c.observe_finalize-in-NullifyFinalize.ensures)
+    (on_ok_weaker c.observe_finalize-in-NullifyFinalize.result (takes_two (rules g c.args.judging.now) c.args.committee.now (nullify_vote c.nullify.result.now) (nullify_vote two.first) (finalize_vote c.finalize.result.now) (finalize_vote two.second) c.args.self.now c.observe_nullify-in-NullifyFinalize.new.self c.observe_finalize-in-NullifyFinalize.new.self
+    (ap nullify_vote c.nullify.ensures.vote) (ap finalize_vote c.finalize.ensures.vote) (one_round g.D.PartialEq.eq Nullify_finalize (nullify_vote two.first) (finalize_vote two.second) c.finalize.ensures.contradicts) c.in_ok-observe_nullify-in-NullifyFinalize.ensures) c.observe_finalize-in-NullifyFinalize.ensures)

@@ -1,11 +1,7 @@
-use Rattle.std.proofs.Common.{◌≡◌, true, subst, sym, ◌∙◌}
-use Rattle.std.specs.Prelude.{All}
-use Rattle.std.proofs.lemmas.Bool.{and_parts}
-use Rattle.simplex_scheme.specs.Subject.{subject_value}
-use Rattle.simplex_detector.specs.Judging.{valid_under, certified_under}
-use Rattle.simplex_detector.proofs.JudgingLemmas.{certified_by_scheme}
-use Rattle.simplex_detector.proofs.Results.{on_ok}
-use Rattle.simplex_detector.proofs.RoundStateLemmas.{takes_certificate, RecordsValid}
+use Rattle.simplex_detector.proofs.Std.{All, and_parts, on_ok_weaker, subst, sym, true, ◌∙◌, ◌≡◌}
+use Rattle.simplex_detector.proofs.Words.{certified_under, subject_value, valid_under}
+use Rattle.simplex_detector.proofs.CommitteeLemmas.{certified_by_scheme}
+use Rattle.simplex_detector.proofs.DetectorLemmas.{takes_certificate, RecordsValid}
 use Rattle.simplex_detector.proofs.round_state.RoundState.observe_certificate.Goals as goal
 
 -- the signatures of the votes that a certificate lists are valid where it certifies
@@ -19,6 +15,5 @@ observe_all-requires g c = λ certifies.
 pub returns : goal.returns
 returns g c =
     let x = subject_value c.args.subject.now in
-    on_ok _ _ (λ votes. takes_certificate g.D.PartialEq.eq g.S.CertificateScheme.keys (valid_under g.S.CertificateScheme.keys g.S.Scheme.good c.args.judging.now) (certified_under g.S.CertificateVerifier.certified c.args.judging.now) g.S.Listing.listed c.args.committee.now x c.args.certificate.now c.args.self.now _ c.observe-certifies.ensures.records
-    (subst (λ given. RecordsValid g.D.PartialEq.eq g.S.CertificateScheme.keys (valid_under g.S.CertificateScheme.keys g.S.Scheme.good c.args.judging.now) (certified_under g.S.CertificateVerifier.certified c.args.judging.now) g.S.Listing.listed c.args.committee.now x given c.args.self.now.votes c.observe_all.new.self) c.attestations-attestations.ensures votes))
-    c.observe_all.result c.observe_all.ensures
+    on_ok_weaker c.observe_all.result (λ votes. takes_certificate g.D.PartialEq.eq g.S.CertificateScheme.keys (valid_under g.S.CertificateScheme.keys g.S.Scheme.good c.args.judging.now) (certified_under g.S.CertificateVerifier.certified c.args.judging.now) g.S.Listing.listed c.args.committee.now x c.args.certificate.now c.args.self.now _ c.observe-certifies.ensures.records
+    (subst (λ given. RecordsValid g.D.PartialEq.eq g.S.CertificateScheme.keys (valid_under g.S.CertificateScheme.keys g.S.Scheme.good c.args.judging.now) (certified_under g.S.CertificateVerifier.certified c.args.judging.now) g.S.Listing.listed c.args.committee.now x given c.args.self.now.votes c.observe_all.new.self) c.attestations-attestations.ensures votes)) c.observe_all.ensures

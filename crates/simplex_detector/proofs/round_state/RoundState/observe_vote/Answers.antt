@@ -1,11 +1,8 @@
-use Rattle.std.proofs.Common.{refl}
-use Rattle.simplex_scheme.specs.Subject.{subject_value}
-use Rattle.simplex_detector.specs.Judging.{valid_under, certified_under}
-use Rattle.simplex_detector.proofs.Results.{on_ok}
-use Rattle.simplex_detector.proofs.RoundStateLemmas.{takes_vote}
+use Rattle.simplex_detector.proofs.Std.{on_ok_weaker, refl}
+use Rattle.simplex_detector.proofs.Words.{certified_under, subject_value, valid_under}
+use Rattle.simplex_detector.proofs.DetectorLemmas.{takes_vote}
 use Rattle.simplex_detector.proofs.round_state.RoundState.observe_vote.Goals as goal
 
 pub returns : goal.returns
 returns g c =
-    on_ok _ _ (takes_vote g.D.PartialEq.eq g.S.CertificateScheme.keys (valid_under g.S.CertificateScheme.keys g.S.Scheme.good c.args.judging.now) (certified_under g.S.CertificateVerifier.certified c.args.judging.now) g.S.Listing.listed c.args.committee.now (subject_value c.args.subject.now) c.args.attestation.now c.args.self.now _ refl)
-    c.observe.result c.observe.ensures
+    on_ok_weaker c.observe.result (takes_vote g.D.PartialEq.eq g.S.CertificateScheme.keys (valid_under g.S.CertificateScheme.keys g.S.Scheme.good c.args.judging.now) (certified_under g.S.CertificateVerifier.certified c.args.judging.now) g.S.Listing.listed c.args.committee.now (subject_value c.args.subject.now) c.args.attestation.now c.args.self.now _ refl) c.observe.ensures

@@ -1,17 +1,7 @@
-use Rattle.std.proofs.Common.{◌≡◌, ◌++◌, ◌+◌, ◌-◌, ◌^◌, ◌<◌, length, map, min, sym, ap, ◌∙◌, subst, arith}
-use Rattle.std.specs.Prelude.{nat_eq}
-use Rattle.std.specs.List.{flat_map}
-use Rattle.std.specs.List.Sorted.{IsNonDecreasing}
-use Rattle.std.specs.Set.{distinct_count}
-use Rattle.std.proofs.lemmas.Simd.{map-map}
-use Rattle.simplex_detector.specs.Committees.{Schedule, committee_of, size_by}
-use Rattle.simplex_detector.specs.Rounds.{slots, found_at}
-use Rattle.simplex_detector.specs.Judging.{rules_under}
-use Rattle.simplex_detector.specs.Rules.{Rules, valid_votes}
-use Rattle.simplex_detector.specs.Values.{evidence_value}
-use Rattle.simplex_detector.specs.declared.judging.Judging.{Judging}
-use Rattle.simplex_detector.proofs.RoundEvidence.{evidence_in_round}
-use Rattle.simplex_detector.proofs.VerdictLemmas.{no_split, no_committee, split_found}
+use Rattle.simplex_detector.proofs.Std.{IsNonDecreasing, ap, arith, distinct_count, flat_map, length, map, map-map, min, nat_eq, subst, sym, ◌++◌, ◌+◌, ◌-◌, ◌<◌, ◌^◌, ◌∙◌, ◌≡◌}
+use Rattle.simplex_detector.proofs.Words.{Judging, Rules, Schedule, committee_of, evidence_value, found_at, rules_under, size_by, slots, valid_votes}
+use Rattle.simplex_detector.proofs.CountLemmas.{no_split, no_committee, split_found}
+use Rattle.simplex_detector.proofs.ReportLemmas.{IsEvidenceIn, evidence_in_round}
 use Rattle.simplex_detector.proofs.round_state.RoundState.split.Given as given
 use Rattle.simplex_detector.proofs.round_state.RoundState.split.Goals as goal
 
@@ -39,8 +29,8 @@ returns g c judging messages l recalls =
     let small : c.len-participants.result < 2 ^ 32 = omega (arith, len, c.participants.ensures.few) in
     let items = c.report_to.new.found.items in
     let (signers, lists, is) = c.in_ok-report_to.ensures in
-    let evidence = evidence_in_round g.D.PartialEq.eq g.met.D.Eq.laws (all.size c.args.round.epoch) (valid_votes all messages) c.args.round c.args.self.now.votes recalls.votes signers lists (map evidence_value items)
-    (is ∙ ap (λ es. map evidence_value es ++ flat_map (λ signer. found_at g.D.PartialEq.eq (slots c.args.self.now.votes signer)) signers) c.new-evidence.ensures.items) in
+    let evidence = subst (IsEvidenceIn g.D.PartialEq.eq (valid_votes all messages) c.args.round) (sym (is ∙ ap (λ es. map evidence_value es ++ flat_map (λ signer. found_at g.D.PartialEq.eq (slots c.args.self.now.votes signer)) signers) c.new-evidence.ensures.items))
+    (evidence_in_round g.D.PartialEq.eq (valid_votes all messages) (all.size c.args.round.epoch) c.args.round c.args.self.now.votes recalls.votes g.met.D.Eq.laws signers lists) in
     let counted = subst (λ es. IsNonDecreasing (map (λ e. (evidence_value e).first.signer) es) → c.count_signers.result ≡ min (distinct_count nat_eq (map (λ e. (evidence_value e).first.signer) es)) (2 ^ 32 - 1)) c.deref.ensures.value c.count_signers.ensures in
     split_found all l messages c.args.round c.args.self.now.certified recalls.subjects (sym c.is_split.ensures ∙ c.if-not-is_split.false) (map evidence_value items) evidence c.len-participants.result size small c.count_signers.result (c.max_faults.result + 1)
     (subst (λ signers. IsNonDecreasing signers → c.count_signers.result ≡ min (distinct_count nat_eq signers) (2 ^ 32 - 1)) (sym (map-map (λ e. e.first.signer) evidence_value items)) counted) (ap (λ k. k + 1) c.max_faults.ensures.value)

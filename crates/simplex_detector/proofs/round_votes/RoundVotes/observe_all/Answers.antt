@@ -1,12 +1,10 @@
-use Rattle.std.proofs.Common.{◌≡◌, true, ◌+◌, [], ◌∷◌, ◌++◌, take, length, sym, ap, subst, ◌∙◌}
-use Rattle.std.proofs.lemmas.List.{take_more, take_all}
-use Rattle.simplex_scheme.specs.Subject.{subject_value}
-use Rattle.simplex_detector.specs.Judging.{valid_under}
-use Rattle.simplex_detector.proofs.RoundLemmas.{HoldsMore, holds_none_more, holds_one_more}
+use Rattle.simplex_detector.proofs.Std.{[], ap, append-nil, length, subst, sym, take, take_all, take_more, true, ◌++◌, ◌+◌, ◌∙◌, ◌∷◌, ◌≡◌}
+use Rattle.simplex_detector.proofs.Words.{subject_value, valid_under}
+use Rattle.simplex_detector.proofs.RecordedLemmas.{HoldsMore, holds_one_more}
 use Rattle.simplex_detector.proofs.round_votes.RoundVotes.observe_all.Goals as goal
 
 pub listed-init : goal.listed-init
-listed-init g c = holds_none_more {S = g.row.S.Denot} {P = g.row.S-PublicKey.Denot} g.D.PartialEq.eq (length (g.S.CertificateScheme.keys c.args.scheme.now)) ((valid_under g.S.CertificateScheme.keys g.S.Scheme.good c.args.judging.now) c.args.scheme.now) (subject_value c.args.subject.now) c.args.self.now
+listed-init g c vs holds = rw (append-nil vs) holds
 
 -- the signature of each is known to be valid where all are
 pub observe-requires : goal.observe-requires

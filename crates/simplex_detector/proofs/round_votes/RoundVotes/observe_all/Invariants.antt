@@ -1,7 +1,6 @@
-use Rattle.std.proofs.Common.{length, take}
-use Rattle.simplex_scheme.specs.Subject.{subject_value}
-use Rattle.simplex_detector.specs.Judging.{valid_under}
-use Rattle.simplex_detector.proofs.RoundLemmas.{HoldsMore}
+use Rattle.simplex_detector.proofs.Std.{length, take}
+use Rattle.simplex_detector.proofs.Words.{subject_value, valid_under}
+use Rattle.simplex_detector.proofs.RecordedLemmas.{HoldsMore}
 use Rattle.simplex_detector.proofs.round_votes.RoundVotes.observe_all.Given as goal
 
 abbrev pub invariant-listed : goal.invariant-listed

@@ -1,9 +1,6 @@
-use Rattle.std.proofs.Common.{◌++◌, map, ap, sym, subst, ◌∙◌}
-use Rattle.std.specs.List.{flat_map}
-use Rattle.std.proofs.lemmas.List.{take_all}
-use Rattle.simplex_detector.specs.Rounds.{slots, found_at, ListsSigners}
-use Rattle.simplex_detector.specs.Values.{evidence_value}
-use Rattle.simplex_detector.proofs.SignerLemmas.{found_next}
+use Rattle.simplex_detector.proofs.Std.{ap, flat_map, map, subst, sym, take_all, ◌++◌, ◌∙◌}
+use Rattle.simplex_detector.proofs.Words.{ListsSigners, evidence_value, found_at, slots}
+use Rattle.simplex_detector.proofs.ReportLemmas.{found_next}
 use Rattle.simplex_detector.proofs.round_votes.RoundVotes.report_to.Goals as goal
 
 pub signers-preserved : goal.signers-preserved

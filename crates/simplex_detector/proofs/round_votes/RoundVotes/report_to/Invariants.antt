@@ -1,7 +1,5 @@
-use Rattle.std.proofs.Common.{◌≡◌, ◌++◌, map, take}
-use Rattle.std.specs.List.{flat_map}
-use Rattle.simplex_detector.specs.Rounds.{slots, found_at}
-use Rattle.simplex_detector.specs.Values.{evidence_value}
+use Rattle.simplex_detector.proofs.Std.{flat_map, map, take, ◌++◌, ◌≡◌}
+use Rattle.simplex_detector.proofs.Words.{evidence_value, found_at, slots}
 use Rattle.simplex_detector.proofs.round_votes.RoundVotes.report_to.Given as goal
 
 abbrev pub invariant-signers : goal.invariant-signers

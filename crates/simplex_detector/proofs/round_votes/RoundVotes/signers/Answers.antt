@@ -1,5 +1,5 @@
-use Rattle.std.proofs.lemmas.List.Filters.{dedup_is}
-use Rattle.simplex_detector.proofs.SignerLemmas.{lists_signers}
+use Rattle.simplex_detector.proofs.Std.{dedup_is}
+use Rattle.simplex_detector.proofs.ReportLemmas.{lists_signers}
 use Rattle.simplex_detector.proofs.round_votes.RoundVotes.signers.Goals as goal
 
 pub returns : goal.returns
