@@ -1,2 +1,4 @@
 pub mod ReadingLemmas
 pub mod SuspectLemmas
+pub mod PlaceLemmas
+pub mod RecordLemmas

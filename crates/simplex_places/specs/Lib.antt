@@ -1,2 +1,6 @@
 pub mod Places
 pub mod Suspects
+pub mod Votes
+pub mod KeyLaws
+pub mod FirstPlaces
+pub mod Records

@@ -1,10 +1,12 @@
 //! Schemes whose certificates say where their attestations stand.
 
-ghost use Rattle.std.specs.Prelude.{◌≡◌, ℕ, List, length, refl};
+ghost use Rattle.std.specs.Prelude.{◌≡◌, ℕ, Bool, List, length, refl};
 ghost use Rattle.simplex_base.specs.Readable.{format_of};
 ghost use Rattle.simplex_evidence.specs.declared.types.activity.Activity.{Activity};
 ghost use Rattle.simplex_plain.specs.Listed.{listed_encoding};
+ghost use Rattle.simplex_votes.specs.Votes.{SignedVote};
 ghost use Rattle.simplex_places.specs.Places.{message_places};
+ghost use Rattle.simplex_places.specs.Votes.{carries};
 ghost use Rattle.simplex_places.specs.declared.places.Placed.{Placed};
 
 use simplex_base::codec::fixed_bytes::Role;
@@ -34,15 +36,21 @@ impl<D: Digest, R: Role<N>, const N: usize> Counted<D> for Vouched<R, N> {
     ghost counted = { λ certificate. refl };
 }
 
-/// A scheme with places of attestations, for contracts alone. Every scheme that lists attestations is one; there is nothing
-/// to implement or to call.
+/// A scheme with places of attestations and of votes, for contracts alone. Every scheme that lists attestations is one; there
+/// is nothing to implement or to call.
 pub trait Located<D: Digest>: Listing<D> {
     /// The attestations of a message that begins at a place.
     ghost places: { ℕ → Activity Self D Self.Certificate Self.PublicKey Self.Signature →
         List Placed };
+
+    /// Whether a message carries a vote.
+    ghost carries: { SignedVote D Self.Signature →
+        Activity Self D Self.Certificate Self.PublicKey Self.Signature → Bool };
 }
 
 impl<S: Listing<D>, D: Digest> Located<D> for S {
     ghost places = { message_places (format_of ⟦<D as Read>⟧)
         (format_of ⟦<S::Signature as Read>⟧) S.listed };
+
+    ghost carries = { carries D.eq S.Signature.eq S.listed };
 }

@@ -37,7 +37,7 @@ pub fn reading_bound<S: Counted<D>, D: Digest>(committees: &Committees<S>) -> u3
 }
 
 /// Whether the error of a reading is an allocation failure.
-fn ended(error: Error) -> Result<(), AllocError>
+pub(crate) fn ended(error: Error) -> Result<(), AllocError>
     ensures { IfOk result (λ _. error ≢ Error.OutOfMemory) }
 {
     match error {

@@ -1,0 +1,54 @@
+-- The evidence of a report as records, with the places of its votes in the stream.
+use Rattle.std.specs.Prelude.{◌≡◌, ℕ, Bool, false, List, ◌∷◌, ◌++◌, length, All, Option, Some, IsTrue}
+use Rattle.std.specs.BTreeMap.{BTreeMap, get}
+use Rattle.std.specs.List.{AllZip, flat_map}
+use Rattle.std.specs.declared.cmp.Ordering.{Ordering}
+use Rattle.simplex_scheme.specs.Subject.{round_of}
+use Rattle.simplex_votes.specs.Votes.{SignedVote}
+use Rattle.simplex_evidence.specs.Contradiction.{Evidence}
+use Rattle.simplex_evidence.specs.declared.types.activity.Activity.{Activity}
+use Rattle.simplex_detector.specs.Named.{kind_rank}
+use Rattle.simplex_audit.specs.Basis.{Basis}
+use Rattle.simplex_audit.specs.Guarantees.{OfMessages}
+use Rattle.simplex_audit.specs.Report.{evidence_in}
+use Rattle.simplex_audit.specs.declared.audit.Report.{Report}
+use Rattle.simplex_places.specs.declared.records.Record.{Record}
+
+-- The place is where the first of the messages begins that passes a test: behind all bytes of the messages before it.
+pub record IsFirstPlace {M : Type 0} (test : M → Bool) (encoding : M → List ℕ) (messages : List M) (place : ℕ) : Type 0 where
+  pub before : List M
+  pub message : M
+  pub others : List M
+  pub messages_are : messages ≡ before ++ message ∷ others
+  pub passes : IsTrue (test message)
+  pub first : All (λ m. test m ≡ false) before
+  pub place_is : place ≡ length (flat_map encoding before)
+
+-- The record is that of an evidence: whom it accuses, of what, and where the first messages begin that carry its votes.
+pub record IsRecord {M D G : Type 0} (carries : SignedVote D G → M → Bool) (encoding : M → List ℕ) (messages : List M) (e : Evidence D G) (found : Record) : Type 0 where
+  pub epoch_is : found.epoch ≡ (round_of e.first.subject).epoch
+  pub view_is : found.view ≡ (round_of e.first.subject).view
+  pub signer_is : found.signer ≡ e.first.signer
+  pub kind_is : found.kind ≡ kind_rank e.kind
+  pub first_stands : IsFirstPlace (carries e.first) encoding messages found.first_place
+  pub second_stands : IsFirstPlace (carries e.second) encoding messages found.second_place
+
+-- they are the records of the report's evidence, one of each in the same order
+abbrev pub AreRecords : {S D C P G : Type 0} → Basis S D C P G → (SignedVote D G → Activity S D C P G → Bool) → List ℕ → Report S D P G → List Record → Type 0
+AreRecords basis carries stream report records = OfMessages basis stream (λ messages. AllZip (IsRecord carries basis.format.encoding messages) (evidence_in report) records)
+
+-- the place that was found of a key
+abbrev pub place_of : Option (Option ℕ) → ℕ
+place_of (Some (Some place)) = place
+place_of _ = 0
+
+-- the record of an evidence, by what was found of its votes
+abbrev pub record_by : {D G K : Type 0} → (K → K → Ordering) → (SignedVote D G → K) → BTreeMap K (Option ℕ) → Evidence D G → Record
+record_by cmp key_of places e = record {
+  epoch = (round_of e.first.subject).epoch;
+  view = (round_of e.first.subject).view;
+  first_place = place_of (get cmp places (key_of e.first));
+  second_place = place_of (get cmp places (key_of e.second));
+  signer = e.first.signer;
+  kind = kind_rank e.kind;
+}

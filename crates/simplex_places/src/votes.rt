@@ -1,0 +1,140 @@
+//! Votes as keys, by which they are looked up.
+
+ghost use Rattle.std.specs.Prelude.{◌≡◌, refl};
+ghost use Rattle.simplex_scheme.specs.Subject.{SubjectValue, Notarizes, Nullifies, Finalizes, subject_value};
+ghost use Rattle.simplex_votes.specs.Votes.{SignedVote, notarize_vote, nullify_vote, finalize_vote};
+ghost use Rattle.simplex_detector.specs.Rules.{vote_on};
+ghost use Rattle.simplex_detector.specs.Values.{evidence_value};
+ghost use Rattle.simplex_places.specs.Votes.{key_of, said_of, same_vote};
+ghost use Rattle.simplex_places.specs.KeyLaws.{keys_alike};
+
+use simplex_base::positions::{Participant, Round};
+use simplex_detector::evidence::Evidence;
+use simplex_scheme::scheme::{Attestation, Digest, Proposal, SchemeTypes, Signature};
+use simplex_scheme::subject::Subject;
+use simplex_votes::types::{Finalize, Notarize, Nullify};
+
+/// What a vote says.
+#[derive(PartialEq, Eq, PartialOrd, Ord, Drop)]
+pub enum Said<D> {
+    Notarizes(Proposal<D>),
+    Nullifies(Round),
+    Finalizes(Proposal<D>),
+}
+
+/// A vote by its value: what it says, its signer and its signature. Votes are ordered only so that they can be looked up.
+#[derive(PartialEq, Eq, PartialOrd, Ord, Drop)]
+pub struct Vote<D, G> {
+    said: Said<D>,
+    signer: Participant,
+    signature: G,
+}
+
+/// A key of votes, by its value.
+pub trait Key<D: Digest, G: Signature>: Ord + Drop {
+    /// The key of a vote.
+    ghost key_of: { SignedVote D G → Self };
+
+    /// The key of the vote on a subject, by its signer and its signature.
+    fn of(subject: &Subject<'_, D>, signer: Participant, signature: G) -> Self
+    where
+        Self: Sized,
+        ensures { result ≡ key_of (record {
+          subject = subject_value subject.now;
+          signer = signer;
+          signature = signature;
+        }) };
+
+    /// Keys are equal where the votes are the same.
+    ghost alike: { (v w : SignedVote D G) →
+        Self.eq (key_of v) (key_of w) ≡ same_vote D.eq G.eq v w };
+}
+
+impl<D: Digest, G: Signature> Key<D, G> for Vote<D, G> {
+    ghost key_of = { key_of };
+
+    fn of(subject: &Subject<'_, D>, signer: Participant, signature: G) -> Self {
+        Vote {
+            said: said_in(subject),
+            signer,
+            signature,
+        }
+    }
+
+    ghost alike = { keys_alike ⟦<Said<D> as PartialEq>⟧.eq D.eq G.eq (elim [
+      | Notarizes _ ↦ elim [ Notarizes _ ↦ refl | Nullifies _ ↦ refl | Finalizes _ ↦ refl ]
+      | Nullifies _ ↦ elim [ Notarizes _ ↦ refl | Nullifies _ ↦ refl | Finalizes _ ↦ refl ]
+      | Finalizes _ ↦ elim [ Notarizes _ ↦ refl | Nullifies _ ↦ refl | Finalizes _ ↦ refl ]
+    ]) };
+}
+
+/// What a subject says.
+fn said_in<D: Digest>(subject: &Subject<'_, D>) -> Said<D>
+    ensures { result ≡ said_of (subject_value subject.now) }
+{
+    match subject {
+        Subject::Notarize { proposal } => Said::Notarizes(**proposal),
+        Subject::Nullify { round } => Said::Nullifies(*round),
+        Subject::Finalize { proposal } => Said::Finalizes(**proposal),
+    }
+}
+
+/// The key of the vote on a subject that an attestation of it is.
+pub fn attested<K: Key<D, S::Signature>, S: SchemeTypes, D: Digest>(
+    subject: &Subject<'_, D>,
+    attestation: &Attestation<S>,
+) -> K
+    ensures { result ≡ K.key_of (vote_on (subject_value subject.now) attestation.now) }
+{
+    K::of(subject, attestation.signer, attestation.signature)
+}
+
+/// The key of a notarize.
+pub fn notarize<K: Key<D, S::Signature>, S: SchemeTypes, D: Digest>(vote: &Notarize<S, D>) -> K
+    ensures { result ≡ K.key_of (notarize_vote vote.now) }
+{
+    let subject = Subject::Notarize {
+        proposal: &vote.proposal,
+    };
+    attested(&subject, &vote.attestation)
+}
+
+/// The key of a nullify.
+pub fn nullify<K: Key<D, S::Signature>, S: SchemeTypes, D: Digest>(vote: &Nullify<S>) -> K
+    ensures { result ≡ K.key_of (nullify_vote vote.now) }
+{
+    let subject: Subject<'_, D> = Subject::Nullify { round: vote.round };
+    attested(&subject, &vote.attestation)
+}
+
+/// The key of a finalize.
+pub fn finalize<K: Key<D, S::Signature>, S: SchemeTypes, D: Digest>(vote: &Finalize<S, D>) -> K
+    ensures { result ≡ K.key_of (finalize_vote vote.now) }
+{
+    let subject = Subject::Finalize {
+        proposal: &vote.proposal,
+    };
+    attested(&subject, &vote.attestation)
+}
+
+/// The key of the first vote of an evidence.
+pub fn first<K: Key<D, S::Signature>, S: SchemeTypes, D: Digest>(evidence: &Evidence<S, D>) -> K
+    ensures { result ≡ K.key_of (evidence_value evidence.now).first }
+{
+    match evidence {
+        Evidence::ConflictingNotarize(conflict) => notarize(conflict.notarize_1()),
+        Evidence::ConflictingFinalize(conflict) => finalize(conflict.finalize_1()),
+        Evidence::NullifyFinalize(conflict) => nullify::<K, S, D>(conflict.nullify()),
+    }
+}
+
+/// The key of the second vote of an evidence.
+pub fn second<K: Key<D, S::Signature>, S: SchemeTypes, D: Digest>(evidence: &Evidence<S, D>) -> K
+    ensures { result ≡ K.key_of (evidence_value evidence.now).second }
+{
+    match evidence {
+        Evidence::ConflictingNotarize(conflict) => notarize(conflict.notarize_2()),
+        Evidence::ConflictingFinalize(conflict) => finalize(conflict.finalize_2()),
+        Evidence::NullifyFinalize(conflict) => finalize(conflict.finalize()),
+    }
+}
