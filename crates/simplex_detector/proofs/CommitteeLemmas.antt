@@ -1,22 +1,17 @@
 -- Committees that are listed by epoch, and the rules that they give.
 use Rattle.simplex_detector.proofs.Std.{All, All-cons, All-contains, All-nil, Bool, Contains, Equal, Err, Greater, IfErr, IfOk, IsBinarySearchResult, IsEquivalence, IsNonDecreasingBy, IsSearchInRange, Less, List, MatchOrdering, None, Ok, Option, Ordering, Result, Some, [], and_parts, ap, arith, by_ranked, cases_lt, cond, cond-false, cond-true, contains, drop, drop_all, drop_more, eqb, eqb-true, false, false≢true, find, get_or, get_or_default, inl, inr, is_le, is_lt, keys, length, ltb-true, max, nat_cmp, nat_tests, option_map, ord_max, ordering_index, ranked, refl, same_Some, subst, suc, sym, true, zero, ℕ, ◌+◌, ◌-◌, ◌<◌, ◌∙◌, ◌∷◌, ◌≡◌, ◌≤◌}
 use Rattle.simplex_detector.proofs.Words.{AreLawful, AreRising, Attestation, Claimed, Every, HaveCommittees, IsQuorum, IsSchedule, Judging, Listed, Schedule, SubjectValue, Suspects, Verified, bound_of, certified_by, certified_under, committee_of, greatest, parted, round_cmp, round_of, rules_of, signer_cmp, size_by, valid_by, valid_under}
-use Rattle.simplex_detector.proofs.Lists.{found, none_found}
+use Rattle.simplex_detector.proofs.Lists.{found, found_mapped, none_found}
 
 -- ---- numbers
 
 -- a number that is not at most another is greater
 pub not_le : (a b : ℕ) → is_le (nat_cmp a b) ≡ false → b < a
-not_le a b h = by_ranked (a < b) (a ≡ b) (b < a) (nat_cmp a b) (ranked a b (nat_cmp a b) refl) (λ e m. absurd (false≢true (sym h ∙ ap is_le e))) (λ e m. absurd (false≢true (sym h ∙ ap is_le e))) (λ e m. m)
+not_le a b h = grind (arith, nat_tests)
 
 -- the greater of two numbers
 max_by_order : (a b : ℕ) → ord_max nat_cmp a b ≡ max a b
-max_by_order a b = by (nat_cmp b a) refl (ranked b a (nat_cmp b a) refl)
-  where
-    by : (o : Ordering) → nat_cmp b a ≡ o → MatchOrdering o (b < a) (b ≡ a) (a < b) → cond (is_lt (nat_cmp b a)) a b ≡ max a b
-    by Less e m = cond-true (is_lt (nat_cmp b a)) a b (ap is_lt e) ∙ omega (arith, m)
-    by Equal e m = cond-false (is_lt (nat_cmp b a)) a b (ap is_lt e) ∙ omega (arith, m)
-    by Greater e m = cond-false (is_lt (nat_cmp b a)) a b (ap is_lt e) ∙ omega (arith, m)
+max_by_order a b = grind (arith, nat_tests)
 
 -- ---- epochs that rise
 
@@ -75,19 +70,11 @@ entry_read ps rising place epoch p lt at = ap (option_map (λ q. q.1)) (ap (entr
 
 -- ---- the greatest committee
 
--- the committee of an epoch is that of an entry
-listed_entry : {S : Type 0} (ps : List (ℕ × S)) (epoch : ℕ) (c : S) → option_map (λ p. p.1) (entry_of ps epoch) ≡ Some c → (p : ℕ × S) × Contains ps p × (p.1 ≡ c)
-listed_entry {S} ps epoch c h = by (entry_of ps epoch) refl h
-  where
-    by : (o : Option (ℕ × S)) → entry_of ps epoch ≡ o → option_map (λ p. p.1) o ≡ Some c → (p : ℕ × S) × Contains ps p × (p.1 ≡ c)
-    by None is e = absurd cc
-    by (Some p) is e = (p, (found (λ q. eqb q.0 epoch) ps p is).0, same_Some p.1 c e)
-
 -- no committee is greater than the bound
 pub most : {S P : Type 0} (keys : S → List P) (schedule : Schedule S) (epoch : ℕ) (c : S) → committee_of schedule epoch ≡ Some c → length (keys c) ≤ bound_of keys schedule
 most keys (Every committee) epoch c h = let len = ap (λ x. length (keys x)) (same_Some committee c h) in omega (arith, len)
 most {S} keys (Listed ps) epoch c h =
-    let (p, p_in, is) = listed_entry ps epoch c h in
+    let (p, p_in, _, is) = found_mapped (λ q. q.1) (λ q. eqb q.0 epoch) ps c h in
     subst (λ s. length (keys s) ≤ greatest keys ps) is (All-contains (λ q. length (keys q.1) ≤ greatest keys ps) ps p (below ps) p_in)
   where
     below : (ps : List (ℕ × S)) → All (λ q. length (keys q.1) ≤ greatest keys ps) ps
@@ -125,7 +112,7 @@ greatest_all keys ps i so_far end = let none = ap (greatest keys) (drop_all i ps
 -- where each entry has a participant the committee of an epoch has one
 pub manned : {S P : Type 0} (keys : S → List P) (ps : List (ℕ × S)) → All (λ p. 1 ≤ length (keys p.1)) ps → (epoch : ℕ) (c : S) → committee_of (Listed ps) epoch ≡ Some c → 1 ≤ length (keys c)
 manned keys ps one epoch c h =
-    let (p, p_in, is) = listed_entry ps epoch c h in
+    let (p, p_in, _, is) = found_mapped (λ q. q.1) (λ q. eqb q.0 epoch) ps c h in
     subst (λ s. 1 ≤ length (keys s)) is (All-contains (λ q. 1 ≤ length (keys q.1)) ps p one p_in)
 
 -- ---- the rules are lawful
@@ -133,29 +120,17 @@ manned keys ps one epoch c h =
 module _ {S D C P G : Type 0} (eq : D → D → Bool) (keys : S → List P) (good : S → SubjectValue D → ℕ → G → Bool) (certified : S → SubjectValue D → C → Bool) (listed : C → List (Attestation S P G)) (schedule : Schedule S) (members : (s : S) (x : SubjectValue D) (signer : ℕ) (signature : G) → good s x signer signature ≡ true → signer < length (keys s)) (someone : (epoch : ℕ) (s : S) → committee_of schedule epoch ≡ Some s → 1 ≤ length (keys s)) where
   pub rules_committees : HaveCommittees (rules_of eq keys good certified listed schedule)
   rules_committees = record {
-    members = λ x signer signature. valid (committee_of schedule (round_of x).epoch) x signer signature;
-    someone = λ x c. one (committee_of schedule (round_of x).epoch) (someone (round_of x).epoch) x c;
+    members = λ x signer signature. elim (committee_of schedule (round_of x).epoch) as (λ o. valid_by good o x signer signature ≡ true → signer < size_by keys o) [ None ↦ λ h. absurd (false≢true h) | Some s ↦ members s x signer signature ];
+    someone = λ x c. (elim (committee_of schedule (round_of x).epoch) as (λ o. ((s : S) → o ≡ Some s → 1 ≤ length (keys s)) → certified_by certified o x c ≡ true → 1 ≤ size_by keys o) [ None ↦ λ some h. absurd (false≢true h) | Some s ↦ λ some h. some s refl ]) (someone (round_of x).epoch);
   }
-    where
-      valid : (o : Option S) (x : SubjectValue D) (signer : ℕ) (signature : G) → valid_by good o x signer signature ≡ true → signer < size_by keys o
-      valid None x signer signature h = absurd (false≢true h)
-      valid (Some s) x signer signature h = members s x signer signature h
-
-      one : (o : Option S) → ((s : S) → o ≡ Some s → 1 ≤ length (keys s)) → (x : SubjectValue D) (c : C) → certified_by certified o x c ≡ true → 1 ≤ size_by keys o
-      one None some x c h = absurd (false≢true h)
-      one (Some s) some x c h = some s refl
 
   pub rules_lawful : IsEquivalence eq → ((s : S) (x : SubjectValue D) (c : C) → certified s x c ≡ true → IsQuorum (length (keys s)) (good s x) (listed c)) → AreLawful (rules_of eq keys good certified listed schedule)
   rules_lawful payloads quorums = record {
     payloads = payloads;
     members = rules_committees.members;
     someone = rules_committees.someone;
-    quorums = λ x c. quorum (committee_of schedule (round_of x).epoch) x c;
+    quorums = λ x c. elim (committee_of schedule (round_of x).epoch) as (λ o. certified_by certified o x c ≡ true → IsQuorum (size_by keys o) (valid_by good o x) (listed c)) [ None ↦ λ h. absurd (false≢true h) | Some s ↦ λ h. let q = quorums s x c h in record { distinct = q.distinct; enough = q.enough; each_good = q.each_good } ];
   }
-    where
-      quorum : (o : Option S) (x : SubjectValue D) (c : C) → certified_by certified o x c ≡ true → IsQuorum (size_by keys o) (valid_by good o x) (listed c)
-      quorum None x c h = absurd (false≢true h)
-      quorum (Some s) x c h = let q = quorums s x c h in record { distinct = q.distinct; enough = q.enough; each_good = q.each_good }
 
 -- ---- however strictly committees judge, what is valid is in a committee
 

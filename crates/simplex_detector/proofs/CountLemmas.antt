@@ -21,13 +21,11 @@ of_rounds (r ∷ rounds) vs = length (filter (of_round r) vs) + of_rounds rounds
 -- a filter by less loses nothing of what passes
 filter_filtered : {X : Type 0} (p q : X → Bool) → ((x : X) → p x ≡ true → q x ≡ true) → (xs : List X) → filter p (filter q xs) ≡ filter p xs
 filter_filtered p q weaker [] = refl
-filter_filtered p q weaker (x ∷ xs) = by (p x) (q x) refl refl (filter_filtered p q weaker xs)
-  where
-    by : (a b : Bool) → p x ≡ a → q x ≡ b → filter p (filter q xs) ≡ filter p xs → filter p (cond b (x ∷ filter q xs) (filter q xs)) ≡ cond a (x ∷ filter p xs) (filter p xs)
-    by true true e d rest = λ i. cond (e i) (x ∷ rest i) (rest i)
-    by true false e d rest = absurd (false≢true (sym d ∙ weaker x e))
-    by false true e d rest = λ i. cond (e i) (x ∷ rest i) (rest i)
-    by false false e d rest = rest
+filter_filtered p q weaker (x ∷ xs) =
+    (elim (q x) as (λ b. q x ≡ b → filter p (cond b (x ∷ filter q xs) (filter q xs)) ≡ cond (p x) (x ∷ filter p xs) (filter p xs)) [
+      | true ↦ λ d i. cond (p x) (x ∷ filter_filtered p q weaker xs i) (filter_filtered p q weaker xs i)
+      | false ↦ λ d. filter_filtered p q weaker xs ∙ sym (cond-false (p x) (x ∷ filter p xs) (filter p xs) (false_from_ne_true (p x) (λ e. false≢true (sym d ∙ weaker x e))))
+    ]) refl
 
 -- votes whose rounds are all among rounds that rise are as many as are of those
 of_all : {D G : Type 0} (rounds : List Round) (vs : List (SignedVote D G)) → IsStrictlySortedBy round_cmp rounds → ((v : SignedVote D G) → Contains vs v → Contains rounds (round_of v.subject)) → of_rounds rounds vs ≡ length vs
@@ -82,11 +80,8 @@ module _ {S D C P G : Type 0} (rules : Rules S D C P G) (messages : List (Activi
 -- what was found, with what one more gives
 pub splits_next : {X Y : Type 0} (f : X → Option Y) (found more all : List Y) (x : X) (xs : List X) (o : Option Y) → more ≡ found ++ option_to_list o → o ≡ f x → found ++ filter_map f (x ∷ xs) ≡ all → more ++ filter_map f xs ≡ all
 splits_next f found more all x xs o more_is o_is so_far =
-    ap (λ ys. ys ++ filter_map f xs) more_is ∙ append_assoc found (option_to_list o) (filter_map f xs) ∙ ap (λ ys. found ++ ys) (joined o (filter_map f xs) ∙ ap (λ p. cons_option p (filter_map f xs)) o_is) ∙ so_far
-  where
-    joined : {Z : Type 0} (p : Option Z) (zs : List Z) → option_to_list p ++ zs ≡ cons_option p zs
-    joined None zs = refl
-    joined (Some z) zs = refl
+    let joined = elim o as (λ p. option_to_list p ++ filter_map f xs ≡ cons_option p (filter_map f xs)) [ None ↦ refl | Some y ↦ refl ] in
+    ap (λ ys. ys ++ filter_map f xs) more_is ∙ append_assoc found (option_to_list o) (filter_map f xs) ∙ ap (λ ys. found ++ ys) (joined ∙ ap (λ p. cons_option p (filter_map f xs)) o_is) ∙ so_far
 
 -- ---- how many are named in a round
 
@@ -135,12 +130,10 @@ signers_in_order {D} {G} round (e ∷ es) ordered here i j d le lt =
     ]
   where
     rise : (n m : Named) → n.round ≡ m.round → named_cmp n m ≡ Less → n.signer ≤ m.signer
-    rise n m same less = le_from_not_gt n.signer m.signer (by (nat_cmp n.signer m.signer) (sym (ap (λ o. ordering_then o (ordering_then (nat_cmp n.signer m.signer) (nat_cmp (kind_rank n.kind) (kind_rank m.kind)))) (ap (λ r. round_cmp r m.round) same ∙ tied_itself round_cmp_total m.round)) ∙ less))
-      where
-        by : (o : Ordering) → ordering_then o (nat_cmp (kind_rank n.kind) (kind_rank m.kind)) ≡ Less → is_gt o ≡ false
-        by Less h = refl
-        by Equal h = refl
-        by Greater h = absurd cc
+    rise n m same less =
+        let kinds = nat_cmp (kind_rank n.kind) (kind_rank m.kind) in
+        let signers : ordering_then (nat_cmp n.signer m.signer) kinds ≡ Less = sym (ap (λ o. ordering_then o (ordering_then (nat_cmp n.signer m.signer) kinds)) (ap (λ r. round_cmp r m.round) same ∙ tied_itself round_cmp_total m.round)) ∙ less in
+        le_from_not_gt n.signer m.signer ((elim (nat_cmp n.signer m.signer) as (λ o. ordering_then o kinds ≡ Less → is_gt o ≡ false) [ Less ↦ λ h. refl | Equal ↦ λ h. refl | Greater ↦ λ h. absurd cc ]) signers)
 
 -- ---- the split of a round
 

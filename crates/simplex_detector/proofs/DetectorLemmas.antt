@@ -76,23 +76,19 @@ module _ {S D C P G : Type 0} (rules : Rules S D C P G) (l : IsEquivalence rules
 
   -- what is recorded where its round alone is changed
   pub recalls_changed : (round : Round) → round ≡ activity_round m → (after : Option (RoundState S D P G)) (old new : BTreeMap Round (RoundState S D P G)) → ((q : Round) → get round_cmp new q ≡ cond (is_key (round_cmp round) q) after (get round_cmp old q)) → RecallsNext (activity_round m) after → Recalls rules messages (let detector : Detector S D P G = record { rounds = old } in detector) → (q : Round) → RecallsNext q (get round_cmp new q)
-  recalls_changed round at after old new is own holds q = subst (RecallsNext q) (sym (is q)) (by (is_key (round_cmp round) q) refl)
-    where
-      by : (b : Bool) → is_key (round_cmp round) q ≡ b → RecallsNext q (cond b after (get round_cmp old q))
-      by true e = subst (λ r. RecallsNext r after) (sym at ∙ key_tells round q e) own
-      by false e = elsewhere q (ap (λ r. same_round r q) (sym at) ∙ other_round round q e) (get round_cmp old q) (holds q)
+  recalls_changed round at after old new is own holds q =
+      subst (RecallsNext q) (sym (is q)) ((elim (is_key (round_cmp round) q) as (λ b. is_key (round_cmp round) q ≡ b → RecallsNext q (cond b after (get round_cmp old q))) [
+        | true ↦ λ e. subst (λ r. RecallsNext r after) (sym at ∙ key_tells round q e) own
+        | false ↦ λ e. elsewhere q (ap (λ r. same_round r q) (sym at) ∙ other_round round q e) (get round_cmp old q) (holds q)
+      ]) refl)
 
   -- where nothing is recorded of its round, before and after
   pub recalls_still_none : (round : Round) → round ≡ activity_round m → (after : RoundState S D P G) (old : BTreeMap Round (RoundState S D P G)) → get round_cmp old round ≡ None → ((signer : ℕ) (sort : Sort) → slots after.votes signer sort ≡ no_slot) → after.certified ≡ nothing_certified → RecallsRound rules (messages ++ m ∷ []) (activity_round m) after → Recalls rules messages (let detector : Detector S D P G = record { rounds = old } in detector) → (q : Round) → RecallsNext q (get round_cmp old q)
   recalls_still_none round at after old none empty nothing own =
-      recalls_changed round at None old old (λ q. by q (is_key (round_cmp round) q) refl) (record {
+      recalls_changed round at None old old (λ q. (elim (is_key (round_cmp round) q) as (λ b. is_key (round_cmp round) q ≡ b → get round_cmp old q ≡ cond b None (get round_cmp old q)) [ true ↦ λ e. ap (get round_cmp old) (sym (key_tells round q e)) ∙ none | false ↦ λ e. refl ]) refl) (record {
         votes = λ signer sort. sym (empty signer sort) ∙ own.votes.held signer sort;
         subjects = subst (RecordsFirsts rules.eq (certified_subjects rules (messages ++ m ∷ [])) (activity_round m)) nothing own.subjects;
       })
-    where
-      by : (q : Round) (b : Bool) → is_key (round_cmp round) q ≡ b → get round_cmp old q ≡ cond b None (get round_cmp old q)
-      by q true e = ap (get round_cmp old) (sym (key_tells round q e)) ∙ none
-      by q false e = refl
 
 -- what is recorded of a round that is not there yet
 pub recalls_new : {S D C P G : Type 0} (rules : Rules S D C P G) → IsEquivalence rules.eq → (messages : List (Activity S D C P G)) (rounds : BTreeMap Round (RoundState S D P G)) (round : Round) (round_state : RoundState S D P G) → None ≡ get round_cmp rounds round → IsSized (rules.size round.epoch) round_state.votes → ((signer : ℕ) (sort : Sort) → slots round_state.votes signer sort ≡ no_slot) → round_count round_state.votes ≡ 0 → round_state.certified ≡ nothing_certified → Recalls rules messages (let detector : Detector S D P G = record { rounds = rounds } in detector) → RecallsRound rules messages round round_state
@@ -143,12 +139,10 @@ module _ {S D C P G : Type 0} (eq : D → D → Bool) (keys : S → List P) (goo
   pub takes_certificate : (s : S) (x : SubjectValue D) (c : C) (old new : RoundState S D P G) → ((xs : List (SubjectValue D)) → RecordsFirsts eq xs (round_of x) old.certified → RecordsFirsts eq (xs ++ cond (certified s x c) (x ∷ []) []) (round_of x) new.certified) → RecordsValid s x (listed c) old.votes new.votes → TakesIn judges s (round_of x) (map (vote_on x) (listed c)) (Some (x, c)) old new
   takes_certificate s x c old new subjects votes = record {
     cast = cast_by s x (listed c) old.votes new.votes votes;
-    certified = λ schedule is xs holds. subst (λ ys. RecordsFirsts eq (xs ++ ys) (round_of x) new.certified) (alone (certified s x c) ∙ ap (λ o. option_to_list (cond (certified_by certified o x c) (Some x) None)) (sym is)) (subjects xs holds);
+    certified = λ schedule is xs holds.
+        let alone = elim (certified s x c) as (λ b. cond b (x ∷ []) [] ≡ option_to_list (cond b (Some x) None)) [ true ↦ refl | false ↦ refl ] in
+        subst (λ ys. RecordsFirsts eq (xs ++ ys) (round_of x) new.certified) (alone ∙ ap (λ o. option_to_list (cond (certified_by certified o x c) (Some x) None)) (sym is)) (subjects xs holds);
   }
-    where
-      alone : (b : Bool) → cond b (x ∷ []) [] ≡ option_to_list (cond b (Some x) None)
-      alone true = refl
-      alone false = refl
 
   module _ (schedule : Schedule S) (messages : List (Activity S D C P G)) (m : Activity S D C P G) where
     -- what is recorded of the message's round, after it

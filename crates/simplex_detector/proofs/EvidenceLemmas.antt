@@ -72,17 +72,16 @@ pub record EvidenceIs {D G : Type 0} (eq : D → D → Bool) (vs : List (SignedV
 
 module _ {D G : Type 0} (eq : D → D → Bool) (vs : List (SignedVote D G)) where
   pub evidence_is : (n : Named) (e : Evidence D G) → evidence_of eq vs n ≡ Some e → EvidenceIs eq vs n e
-  evidence_is n e = by_first (find (is_at (first_sort n.kind) n.round n.signer) vs) refl
-    where
-      by_second : (v : SignedVote D G) → find (is_at (first_sort n.kind) n.round n.signer) vs ≡ Some v → (o : Option (SignedVote D G)) → find (contradicts eq n.kind v) vs ≡ o → with_second n.kind v o ≡ Some e → EvidenceIs eq vs n e
-      by_second v first None second h = absurd cc
-      by_second v first (Some w) second h =
-          let at = is_at-true (first_spot n) v (found _ vs v first).1 in
-          subst (EvidenceIs eq vs n) (same_Some _ e h) (record { named = λ i. record { round = (at i).round; signer = (at i).signer; kind = n.kind }; first = first; second = second })
-
-      by_first : (o : Option (SignedVote D G)) → find (is_at (first_sort n.kind) n.round n.signer) vs ≡ o → with_first eq vs n.kind o ≡ Some e → EvidenceIs eq vs n e
-      by_first None first h = absurd cc
-      by_first (Some v) first h = by_second v first (find (contradicts eq n.kind v) vs) refl h
+  evidence_is n e h =
+      (elim (find (is_at (first_sort n.kind) n.round n.signer) vs) as (λ o. find (is_at (first_sort n.kind) n.round n.signer) vs ≡ o → with_first eq vs n.kind o ≡ Some e → EvidenceIs eq vs n e) [
+        | None ↦ λ first is. absurd cc
+        | Some v ↦ λ first. (elim (find (contradicts eq n.kind v) vs) as (λ o. find (contradicts eq n.kind v) vs ≡ o → with_second n.kind v o ≡ Some e → EvidenceIs eq vs n e) [
+          | None ↦ λ second is. absurd cc
+          | Some w ↦ λ second is.
+              let at = is_at-true (first_spot n) v (found _ vs v first).1 in
+              subst (EvidenceIs eq vs n) (same_Some _ e is) (record { named = λ i. record { round = (at i).round; signer = (at i).signer; kind = n.kind }; first = first; second = second })
+        ]) refl
+      ]) refl h
 
   pub evidence_made : (n : Named) (e : Evidence D G) → EvidenceIs eq vs n e → evidence_of eq vs n ≡ Some e
   evidence_made n e is = (λ i. with_first eq vs n.kind (is.first i)) ∙ (λ i. with_second n.kind e.first (is.second i)) ∙ (λ i. Some (record { kind = (sym is.named i).kind; first = e.first; second = e.second }))
@@ -122,10 +121,6 @@ module _ {D G : Type 0} (eq : D → D → Bool) (vs : List (SignedVote D G)) whe
   pub from_listing : IsEquivalence eq → (es : List (Evidence D G)) → IsListing named_by named_cmp (evidence_of eq vs) es → IsEvidence eq vs es
   from_listing l es is = record { ordered = is.ordered; sound = is.sound; complete = λ n h. is.complete n (evidence-from_named l n h) }
 
-  -- the votes determine their evidence
-  pub evidence_is_unique : (es : List (Evidence D G)) → IsEvidence eq vs es → EvidenceIsUnique eq vs es
-  evidence_is_unique es is fs are = listing_is_unique named_by named_cmp (evidence_of eq vs) named_cmp_total exact_named es fs (as_listing es is) (as_listing fs are)
-
   -- each evidence of a report is two of the votes that contradict
   pub all_equivocations : (es : List (Evidence D G)) → IsEvidence eq vs es → All (IsEquivocation eq vs) es
   all_equivocations es is = each (IsEquivocation eq vs) es (λ e e_in.
@@ -133,10 +128,6 @@ module _ {D G : Type 0} (eq : D → D → Bool) (vs : List (SignedVote D G)) whe
       let (first_in, _) = found _ vs e.first own.first in
       let (second_in, against) = found _ vs e.second own.second in
       record { first_cast = first_in; second_cast = second_in; contradict = against })
-
-  -- a report names exactly who is named
-  pub names_exactly : (es : List (Evidence D G)) → IsEvidence eq vs es → NamesExactly eq vs es
-  names_exactly es is n = (λ h. named-from_evidence n (listed_is_some named_by named_cmp (evidence_of eq vs) es is.sound n h), is.complete n)
 
 -- votes of which everyone has the same evidence have the same report
 pub moved_evidence : {D G : Type 0} (eq : D → D → Bool) → IsEquivalence eq → (vs ws : List (SignedVote D G)) → ((n : Named) → evidence_of eq ws n ≡ evidence_of eq vs n) → (es : List (Evidence D G)) → IsEvidence eq ws es → IsEvidence eq vs es

@@ -166,11 +166,7 @@ exact_named a b h = ap (λ (p : _). record { round = p.0; signer = p.1.0; kind =
 
 -- a round that is found is the one that was sought
 pub key_tells : (p q : Round) → is_key (round_cmp p) q ≡ true → p ≡ q
-key_tells p q h = exact_rounds p q (tied (round_cmp p q) h)
-  where
-    tied : (o : Ordering) → is_eq o ≡ true → o ≡ Equal
-    tied Equal h = refl
-    tied _ h = absurd (false≢true h)
+key_tells p q h = exact_rounds p q ((elim (round_cmp p q) as (λ o. is_eq o ≡ true → o ≡ Equal) [ Equal ↦ λ e. refl | _ ↦ λ e. absurd (false≢true e) ]) h)
 
 -- a round that is not found is another
 pub other_round : (p q : Round) → is_key (round_cmp p) q ≡ false → same_round p q ≡ false

@@ -21,13 +21,10 @@ module _ {D G : Type 0} (eq : D → D → Bool) (l : IsEquivalence eq) (vs : Lis
   -- one more vote changes its own slot alone
   pub slot_after_vote : (sort : Sort) (round : Round) (signer : ℕ) → slot_of eq (vs ++ v ∷ []) sort round signer ≡ (if is_at sort round signer v then slot_with eq v (slot_of eq vs sort round signer) else slot_of eq vs sort round signer)
   slot_after_vote sort round signer =
-      let found_first = find_push (is_at sort round signer) vs v in
-      slot_if (is_at sort round signer v) _ _ _ found_first
-      (ap (other_than eq (vs ++ v ∷ []) sort round signer) found_first ∙ other_after sort round signer (find (is_at sort round signer) vs) refl (is_at sort round signer v) refl)
-    where
-      slot_if : (b : Bool) (z x y : Slot D G) → z.earliest ≡ cond b x.earliest y.earliest → z.other ≡ cond b x.other y.other → z ≡ cond b x y
-      slot_if true z x y e o = λ i. record { earliest = e i; other = o i }
-      slot_if false z x y e o = λ i. record { earliest = e i; other = o i }
+      let first = find_push (is_at sort round signer) vs v in
+      let other = ap (other_than eq (vs ++ v ∷ []) sort round signer) first ∙ other_after sort round signer (find (is_at sort round signer) vs) refl (is_at sort round signer v) refl in
+      (λ i. record { earliest = first i; other = other i }) ∙
+      elim (is_at sort round signer v) as (λ b. record { earliest = cond b (slot_with eq v (slot_of eq vs sort round signer)).earliest (slot_of eq vs sort round signer).earliest; other = cond b (slot_with eq v (slot_of eq vs sort round signer)).other (slot_of eq vs sort round signer).other } ≡ cond b (slot_with eq v (slot_of eq vs sort round signer)) (slot_of eq vs sort round signer)) [ true ↦ refl | false ↦ refl ]
 
   -- the slot of a vote's own sort, round and signer, by other names of them
   pub own_slot : (s : Spot) → is_at s.sort s.round s.signer v ≡ true → slot_of eq vs (sort_of v.subject) (round_of v.subject) v.signer ≡ slot_of eq vs s.sort s.round s.signer
@@ -35,20 +32,15 @@ module _ {D G : Type 0} (eq : D → D → Bool) (l : IsEquivalence eq) (vs : Lis
 
   -- a vote that is no news changes no slot
   pub no_news : is_news eq vs v ≡ false → (s : Spot) → slot_of eq (vs ++ v ∷ []) s.sort s.round s.signer ≡ slot_of eq vs s.sort s.round s.signer
-  no_news h s = slot_after_vote s.sort s.round s.signer ∙ by (is_at s.sort s.round s.signer v) refl
+  no_news h s = slot_after_vote s.sort s.round s.signer ∙ (elim (is_at s.sort s.round s.signer v) as (λ b. is_at s.sort s.round s.signer v ≡ b → cond b (slot_with eq v (slot_of eq vs s.sort s.round s.signer)) (slot_of eq vs s.sort s.round s.signer) ≡ slot_of eq vs s.sort s.round s.signer) [
+      | true ↦ λ e. stays _ _ (ap (λ (k : Slot D G). changes eq k.earliest k.other v.subject) (sym (own_slot s e)) ∙ h)
+      | false ↦ λ e. refl
+    ]) refl
     where
       stays : (first other : Option (SignedVote D G)) → changes eq first other v.subject ≡ false → slot_with eq v (record { earliest = first; other = other }) ≡ record { earliest = first; other = other }
       stays None other e = absurd (false≢true (sym e))
       stays (Some a) (Some w) e = refl
-      stays (Some a) None e = ap (λ b. record { earliest = Some a; other = cond b (Some v) None }) (by_and (excludes eq a.subject v.subject) e)
-        where
-          by_and : (b : Bool) → (b && true) ≡ false → b ≡ false
-          by_and true e = e
-          by_and false e = e
-
-      by : (b : Bool) → is_at s.sort s.round s.signer v ≡ b → (if b then slot_with eq v (slot_of eq vs s.sort s.round s.signer) else slot_of eq vs s.sort s.round s.signer) ≡ slot_of eq vs s.sort s.round s.signer
-      by true e = stays _ _ (ap (λ (k : Slot D G). changes eq k.earliest k.other v.subject) (sym (own_slot s e)) ∙ h)
-      by false e = refl
+      stays (Some a) None e = ap (λ b. record { earliest = Some a; other = cond b (Some v) None }) ((elim (excludes eq a.subject v.subject) as (λ b. (b && true) ≡ false → b ≡ false) [ true ↦ λ f. f | false ↦ λ f. f ]) e)
 
 -- ---- the evidence in the slots
 
@@ -151,16 +143,15 @@ module _ {D G : Type 0} (eq : D → D → Bool) (l : IsEquivalence eq) (s : Spot
 
   -- those with one more vote
   in_slot_push : (vs : List (SignedVote D G)) (v : SignedVote D G) → in_slot (vs ++ v ∷ []) ≡ in_slot vs ++ filter (is_at s.sort s.round s.signer) (if_news eq vs v)
-  in_slot_push vs v = ap votes_in_slot (slot_after_vote eq l vs v s.sort s.round s.signer) ∙ by (is_at s.sort s.round s.signer v) refl ∙ ap (λ ws. in_slot vs ++ ws) (sym (filter_if (is_at s.sort s.round s.signer) (is_news eq vs v) v))
-    where
-      k : Slot D G
-      k = slot_of eq vs s.sort s.round s.signer
-
-      by : (b : Bool) → is_at s.sort s.round s.signer v ≡ b → votes_in_slot (cond b (slot_with eq v k) k) ≡ votes_in_slot k ++ cond (b && is_news eq vs v) (v ∷ []) []
-      by true e =
-          votes_with v (find (is_at s.sort s.round s.signer) vs) (other_than eq vs s.sort s.round s.signer (find (is_at s.sort s.round s.signer) vs)) (ap (other_than eq vs s.sort s.round s.signer)) ∙
-          ap (λ (x : Slot D G). votes_in_slot (slot_of eq vs s.sort s.round s.signer) ++ cond (changes eq x.earliest x.other v.subject) (v ∷ []) []) (sym (own_slot eq l vs v s e))
-      by false e = sym (append-nil (in_slot vs))
+  in_slot_push vs v =
+      let k = slot_of eq vs s.sort s.round s.signer in
+      let first = find (is_at s.sort s.round s.signer) vs in
+      ap votes_in_slot (slot_after_vote eq l vs v s.sort s.round s.signer) ∙
+      (elim (is_at s.sort s.round s.signer v) as (λ b. is_at s.sort s.round s.signer v ≡ b → votes_in_slot (cond b (slot_with eq v k) k) ≡ votes_in_slot k ++ cond (b && is_news eq vs v) (v ∷ []) []) [
+        | true ↦ λ e. votes_with v first (other_than eq vs s.sort s.round s.signer first) (ap (other_than eq vs s.sort s.round s.signer)) ∙ ap (λ (x : Slot D G). in_slot vs ++ cond (changes eq x.earliest x.other v.subject) (v ∷ []) []) (sym (own_slot eq l vs v s e))
+        | false ↦ λ e. sym (append-nil (in_slot vs))
+      ]) refl ∙
+      ap (λ ws. in_slot vs ++ ws) (sym (filter_if (is_at s.sort s.round s.signer) (is_news eq vs v) v))
 
   -- the votes in the slot of a list are those before it and the news that go there
   in_slot_after : (before vs : List (SignedVote D G)) → in_slot (before ++ vs) ≡ in_slot before ++ filter (is_at s.sort s.round s.signer) (news_after eq before vs)

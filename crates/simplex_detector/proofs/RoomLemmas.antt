@@ -5,14 +5,10 @@ use Rattle.simplex_evidence.specs.declared.types.activity.Activity.TheVariants a
 
 -- ---- no more than the votes
 
-one_at_most : {X : Type 0} (b : Bool) (x : X) (xs : List X) → length (cond b (x ∷ []) [] ++ xs) ≤ length xs + 1
-one_at_most true x xs = omega arith
-one_at_most false x xs = omega arith
-
 news_among : {D G : Type 0} (eq : D → D → Bool) (before vs : List (SignedVote D G)) → length (news_after eq before vs) ≤ length vs
 news_among eq before [] = omega arith
 news_among eq before (v ∷ vs) =
-    let first = one_at_most (is_news eq before v) v (news_after eq (before ++ v ∷ []) vs) in
+    let first = elim (is_news eq before v) as (λ b. length (cond b (v ∷ []) [] ++ news_after eq (before ++ v ∷ []) vs) ≤ length (news_after eq (before ++ v ∷ []) vs) + 1) [ true ↦ omega arith | false ↦ omega arith ] in
     let others = news_among eq (before ++ v ∷ []) vs in
     omega arith
 

@@ -13,4 +13,4 @@ pub returns-clause-value : goal.returns-clause-value
 returns-clause-value g c = greatest_all g.S.CertificateScheme.keys c.args.pairs.now c.pairs.pair-index c.pairs.most c.pairs-test.false ∙ c.pairs.invariant.most
 
 pub returns-clause-manned : goal.returns-clause-manned
-returns-clause-manned g c = subst (All (λ p. 1 ≤ length (g.S.CertificateScheme.keys p.1))) (take_all c.pairs.pair-index c.args.pairs.now c.pairs-test.false) c.pairs.invariant.manned
+returns-clause-manned g c = rw (take_all c.pairs.pair-index c.args.pairs.now c.pairs-test.false) at c.pairs.invariant.manned
