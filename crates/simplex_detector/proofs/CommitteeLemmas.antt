@@ -1,9 +1,6 @@
 -- Committees that are listed by epoch, and the rules that they give.
-use Rattle.simplex_detector.proofs.Std.{All, All-cons, All-contains, All-nil, Bool, Contains, Equal, Err, Greater, IfErr, IfOk, IsBinarySearchResult, IsEquivalence, IsNonDecreasingBy, IsSearchInRange, Less, List, MatchOrdering, None, Ok, Option, Ordering, Result, Some, [], and_parts, ap, arith, by_ranked, cases_lt, cond, cond-false, cond-true, contains, drop, drop_all, drop_more, eqb, eqb-true, false, false≢true, find, get_or, get_or_default, inl, inr, is_le, is_lt, keys, length, ltb-true, max, nat_cmp, nat_tests, option_map, ord_max, ordering_index, ranked, refl, same_Some, subst, suc, sym, true, zero, ℕ, ◌+◌, ◌-◌, ◌<◌, ◌∙◌, ◌∷◌, ◌≡◌, ◌≤◌}
-use Rattle.simplex_detector.proofs.Words.{AreLawful, AreRising, Attestation, Claimed, Every, HaveCommittees, IsQuorum, IsSchedule, Judging, Listed, Schedule, SubjectValue, Suspects, Verified, bound_of, certified_by, certified_under, committee_of, greatest, parted, round_cmp, round_of, rules_of, signer_cmp, size_by, valid_by, valid_under}
+use Rattle.simplex_detector.proofs.Prelude.{All, All-cons, All-contains, All-nil, AreLawful, AreRising, Attestation, Bool, Claimed, Contains, Equal, Err, Every, Greater, HaveCommittees, IfErr, IfOk, IsBinarySearchResult, IsEquivalence, IsNonDecreasingBy, IsQuorum, IsSchedule, IsSearchInRange, Judging, Less, List, Listed, MatchOrdering, None, Ok, Option, Ordering, Result, Schedule, Some, SubjectValue, Suspects, Verified, [], and_parts, ap, arith, bound_of, by_ranked, cases_lt, certified_by, certified_under, committee_of, cond, cond-false, cond-true, contains, drop, drop_all, drop_more, eqb, eqb-true, false, false≢true, find, get_or, get_or_default, greatest, inl, inr, is_le, is_lt, keys, length, ltb-true, max, nat_cmp, nat_tests, option_map, ord_max, ordering_index, parted, ranked, refl, round_cmp, round_of, rules_of, same_Some, signer_cmp, size_by, subst, suc, sym, true, valid_by, valid_under, zero, ℕ, ◌+◌, ◌-◌, ◌<◌, ◌∙◌, ◌∷◌, ◌≡◌, ◌≤◌}
 use Rattle.simplex_detector.proofs.Lists.{found, found_mapped, none_found}
-
--- ---- numbers
 
 -- a number that is not at most another is greater
 pub not_le : (a b : ℕ) → is_le (nat_cmp a b) ≡ false → b < a
@@ -12,8 +9,6 @@ not_le a b h = grind (arith, nat_tests)
 -- the greater of two numbers
 max_by_order : (a b : ℕ) → ord_max nat_cmp a b ≡ max a b
 max_by_order a b = grind (arith, nat_tests)
-
--- ---- epochs that rise
 
 -- entries rise further by one that is above the last
 pub rising_next : {S : Type 0} (ps : List (ℕ × S)) (i : ℕ) → ((a b : ℕ) (d : ℕ × S) → a < b → b < i → (get_or ps a d).0 < (get_or ps b d).0) → 1 ≤ i → i < length ps → (p q : ℕ × S) → (get_or ps (i - 1) q).0 < (get_or ps i p).0 → (a b : ℕ) (d : ℕ × S) → a < b → b < i + 1 → (get_or ps a d).0 < (get_or ps b d).0
@@ -37,7 +32,7 @@ abbrev pub entry_of : {S : Type 0} → List (ℕ × S) → ℕ → Option (ℕ �
 entry_of pairs epoch = find (λ p. eqb p.0 epoch) pairs
 
 -- an entry is its epoch's
-entry_at : {S : Type 0} (ps : List (ℕ × S)) → AreRising ps → (i : ℕ) (d : ℕ × S) → i < length ps → entry_of ps (get_or ps i d).0 ≡ Some (get_or ps i d)
+pub entry_at : {S : Type 0} (ps : List (ℕ × S)) → AreRising ps → (i : ℕ) (d : ℕ × S) → i < length ps → entry_of ps (get_or ps i d).0 ≡ Some (get_or ps i d)
 entry_at [] rising i d lt = absurd (omega arith)
 entry_at (p ∷ ps) rising zero d lt = grind (arith, nat_tests)
 entry_at (p ∷ ps) rising (suc i) d lt =
@@ -63,10 +58,6 @@ searched {S} ps rising epoch (Err place) in_range parted = record {
     rise i j d le in_range =
         let up : (get_or ps i d).0 ≤ (get_or ps j d).0 = elim (cases_lt i j) [ inl lt ↦ omega (arith, rising i j d lt in_range) | inr ge ↦ (let e : i ≡ j = omega arith in rw e (omega arith)) ] in
         grind (arith, nat_tests)
-
--- the committee of an entry that was read at a place whose epoch is sought
-pub entry_read : {S : Type 0} (ps : List (ℕ × S)) → AreRising ps → (place epoch : ℕ) (p : ℕ × S) → place < length ps → (get_or ps place p).0 ≡ epoch → option_map (λ q. q.1) (entry_of ps epoch) ≡ Some (get_or ps place p).1
-entry_read ps rising place epoch p lt at = ap (option_map (λ q. q.1)) (ap (entry_of ps) (sym at) ∙ entry_at ps rising place p lt)
 
 -- ---- the greatest committee
 
@@ -104,10 +95,6 @@ greatest_next keys ps i so_far size next p lt is sized maxed =
     let len = ap (greatest keys) (drop_more ps i p lt ∙ ap (λ q. q ∷ drop (i + 1) ps) (sym is)) in
     let most : next ≡ max so_far size = maxed ∙ max_by_order so_far size in
     omega (arith, len, most, sized)
-
--- after the last entry
-pub greatest_all : {S P : Type 0} (keys : S → List P) (ps : List (ℕ × S)) (i so_far : ℕ) → length ps ≤ i → so_far ≡ max so_far (greatest keys (drop i ps))
-greatest_all keys ps i so_far end = let none = ap (greatest keys) (drop_all i ps end) in omega (arith, none)
 
 -- where each entry has a participant the committee of an epoch has one
 pub manned : {S P : Type 0} (keys : S → List P) (ps : List (ℕ × S)) → All (λ p. 1 ≤ length (keys p.1)) ps → (epoch : ℕ) (c : S) → committee_of (Listed ps) epoch ≡ Some c → 1 ≤ length (keys c)

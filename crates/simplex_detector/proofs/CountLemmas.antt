@@ -1,6 +1,5 @@
 -- How many votes are recorded, how many are named in a round, and the split that this gives.
-use Rattle.simplex_detector.proofs.Std.{All, All-contains, AllByRecursion, Bool, Contains, Equal, Greater, IsEquivalence, IsNonDecreasing, IsOrdered, Less, Less-from_sorted, List, None, Option, Ordering, Some, [], ap, append_assoc, arith, cases_lt, cond, cond-false, cond-true, cons_option, distinct_count, drop, drop_more, eqb-false, false, false_from_ne_true, false≢true, filter, filter_map, get_or, get_or-map, if◌then◌else◌, inl, inr, is_gt, is_member, is_some, le_from_not_gt, length, length-filter_both, length-map, map, min, nat_cmp, nat_eq, not, not-true, option_eq, option_to_list, ordering_then, recursion_from_All, refl, subst, suc, sym, tied_itself, true, unique_keys, ℕ, ⊎_elim, ◌++◌, ◌+◌, ◌-◌, ◌<◌, ◌^◌, ◌||◌, ◌∙◌, ◌∷◌, ◌≡◌, ◌≤◌}
-use Rattle.simplex_detector.proofs.Words.{Activity, AreSplits, CertifiedSubjects, Detector, Evidence, HaveCommittees, Named, Recalls, RecallsRound, RecordsFirsts, Round, RoundState, Rules, SignedVote, certified_subjects, evidence_of, faults_of, is_named, is_named_in, is_split, kind_rank, named_by, named_cmp, named_count, recorded_of, round_cmp, round_count, round_of, split_of, valid_votes, votes_recorded}
+use Rattle.simplex_detector.proofs.Prelude.{Activity, All, All-contains, AllByRecursion, AreSplits, Bool, CertifiedSubjects, Contains, Detector, Equal, Evidence, Greater, HaveCommittees, IsEquivalence, IsNonDecreasing, IsOrdered, Less, Less-from_sorted, List, Named, None, Option, Ordering, Recalls, RecallsRound, RecordsFirsts, Round, RoundState, Rules, SignedVote, Some, [], ap, append_assoc, arith, cases_lt, certified_subjects, cond, cond-false, cond-true, cons_option, distinct_count, drop, drop_more, eqb-false, evidence_of, false, false_from_ne_true, false≢true, faults_of, filter, filter_map, get_or, get_or-map, if◌then◌else◌, inl, inr, is_gt, is_member, is_named, is_named_in, is_some, is_split, kind_rank, le_from_not_gt, length, length-filter_both, length-map, map, min, named_by, named_cmp, named_count, nat_cmp, nat_eq, not, not-true, option_eq, option_to_list, ordering_then, recorded_of, recursion_from_All, refl, round_cmp, round_count, round_of, split_of, subst, suc, sym, tied_itself, true, unique_keys, valid_votes, votes_recorded, ℕ, ⊎_elim, ◌++◌, ◌+◌, ◌-◌, ◌<◌, ◌^◌, ◌||◌, ◌∙◌, ◌∷◌, ◌≡◌, ◌≤◌}
 use Rattle.std.specs.List.Sorted.{IsStrictlySortedBy}
 use Rattle.simplex_detector.proofs.AccountLemmas.{Contains-from_member, counted_signer, distinct_count-below, distinct_count-same, kind_from_named_in, named_in}
 use Rattle.simplex_detector.proofs.CommitteeLemmas.{most}
@@ -136,13 +135,6 @@ signers_in_order {D} {G} round (e ∷ es) ordered here i j d le lt =
         le_from_not_gt n.signer m.signer ((elim (nat_cmp n.signer m.signer) as (λ o. ordering_then o kinds ≡ Less → is_gt o ≡ false) [ Less ↦ λ h. refl | Equal ↦ λ h. refl | Greater ↦ λ h. absurd cc ]) signers)
 
 -- ---- the split of a round
-
--- a round that is not known to be split has no split, nor one without a committee
-pub no_split : {S D C P G : Type 0} (rules : Rules S D C P G) (messages : List (Activity S D C P G)) (round : Round) (recorded : CertifiedSubjects D) → RecordsFirsts rules.eq (certified_subjects rules messages) round recorded → recorded.split ≡ false → split_of rules messages round ≡ None
-no_split rules messages round recorded records whole = cond-false (is_split rules messages round) _ None (from_subjects rules messages round ∙ sym records.split ∙ whole)
-
-pub no_committee : {S D C P G : Type 0} (rules : Rules S D C P G) → HaveCommittees rules → (messages : List (Activity S D C P G)) (round : Round) → rules.size round.epoch ≡ 0 → split_of rules messages round ≡ None
-no_committee rules l messages round none = cond-false (is_split rules messages round) _ None (false_from_ne_true _ (λ e. absurd (omega (arith, none, someone_in_split rules messages l round e))))
 
 -- one that is has that of its evidence and its committee
 pub split_found : {S D C P G : Type 0} (rules : Rules S D C P G) → HaveCommittees rules → (messages : List (Activity S D C P G)) (round : Round) (recorded : CertifiedSubjects D) → RecordsFirsts rules.eq (certified_subjects rules messages) round recorded → recorded.split ≡ true → (es : List (Evidence D G)) → IsEvidenceIn rules.eq (valid_votes rules messages) round es → (n : ℕ) → rules.size round.epoch ≡ n → n < 2 ^ 32 → (named least : ℕ) → (IsNonDecreasing (map (λ e. e.first.signer) es) → named ≡ min (distinct_count nat_eq (map (λ e. e.first.signer) es)) (2 ^ 32 - 1)) → least ≡ faults_of n + 1 → Some (record { round = round; named = named; least = least }) ≡ split_of rules messages round

@@ -1,6 +1,5 @@
 -- What is recorded, round by round, after one more message.
-use Rattle.simplex_detector.proofs.Std.{All, All-from_recursion, All-map, AllByRecursion, BTreeMap, Bool, IsEquivalence, IsTrue, List, None, Option, Some, [], and_left, and_parts, and_right, ap, append-nil, append_assoc, arith, cond, cond-false, false, filter, filter-append, get, is_key, length, map, option_to_list, recursion_from_All, refl, subst, sym, true, ℕ, ◌++◌, ◌∙◌, ◌∷◌, ◌≡◌}
-use Rattle.simplex_detector.proofs.Words.{Activity, Attestation, Detector, HoldsRound, IsSized, Kind, Recalls, RecallsAt, RecallsNothing, RecallsRound, RecordsFirsts, Round, RoundState, RoundVotes, Rules, Schedule, SignedVote, Sort, SubjectValue, TakesIn, TakesMessage, activity_round, certificate_in, certified_by, certified_subjects, clash, committee_of, contradicts, finalize_of, if_certified, is_at, is_news, is_of, is_valid, no_slot, notarize_of, nothing_certified, nullify_of, recorded_in, round_cmp, round_count, round_of, rules_of, same_round, same_sort, size_by, slot_of, slots, sort_of, valid_by, valid_votes, vote_on, votes_in}
+use Rattle.simplex_detector.proofs.Prelude.{Activity, All, All-from_recursion, All-map, AllByRecursion, Attestation, BTreeMap, Bool, Detector, HoldsRound, IsEquivalence, IsSized, IsTrue, Kind, List, None, Option, Recalls, RecallsAt, RecallsNothing, RecallsRound, RecordsFirsts, Round, RoundState, RoundVotes, Rules, Schedule, SignedVote, Some, Sort, SubjectValue, TakesIn, TakesMessage, [], activity_round, and_left, and_parts, and_right, ap, append-nil, append_assoc, arith, certificate_in, certified_by, certified_subjects, clash, committee_of, cond, cond-false, contradicts, false, filter, filter-append, finalize_of, get, if_certified, is_at, is_key, is_news, is_of, is_valid, length, map, no_slot, notarize_of, nothing_certified, nullify_of, option_to_list, recorded_in, recursion_from_All, refl, round_cmp, round_count, round_of, rules_of, same_round, same_sort, size_by, slot_of, slots, sort_of, subst, sym, true, valid_by, valid_votes, vote_on, votes_in, ℕ, ◌++◌, ◌∙◌, ◌∷◌, ◌≡◌}
 use Rattle.simplex_detector.proofs.AccountLemmas.{certificate_parts}
 use Rattle.simplex_detector.proofs.EvidenceLemmas.{valid_votes-push}
 use Rattle.simplex_detector.proofs.Places.{is_of-true, key_tells, other_round}
@@ -72,8 +71,6 @@ module _ {S D C P G : Type 0} (rules : Rules S D C P G) (l : IsEquivalence rules
         subjects = records_other_message rules l messages m q round_state.certified apart r.subjects;
       }
 
-  -- ---- the round of the message
-
   -- what is recorded where its round alone is changed
   pub recalls_changed : (round : Round) → round ≡ activity_round m → (after : Option (RoundState S D P G)) (old new : BTreeMap Round (RoundState S D P G)) → ((q : Round) → get round_cmp new q ≡ cond (is_key (round_cmp round) q) after (get round_cmp old q)) → RecallsNext (activity_round m) after → Recalls rules messages (let detector : Detector S D P G = record { rounds = old } in detector) → (q : Round) → RecallsNext q (get round_cmp new q)
   recalls_changed round at after old new is own holds q =
@@ -89,19 +86,6 @@ module _ {S D C P G : Type 0} (rules : Rules S D C P G) (l : IsEquivalence rules
         votes = λ signer sort. sym (empty signer sort) ∙ own.votes.held signer sort;
         subjects = subst (RecordsFirsts rules.eq (certified_subjects rules (messages ++ m ∷ [])) (activity_round m)) nothing own.subjects;
       })
-
--- what is recorded of a round that is not there yet
-pub recalls_new : {S D C P G : Type 0} (rules : Rules S D C P G) → IsEquivalence rules.eq → (messages : List (Activity S D C P G)) (rounds : BTreeMap Round (RoundState S D P G)) (round : Round) (round_state : RoundState S D P G) → None ≡ get round_cmp rounds round → IsSized (rules.size round.epoch) round_state.votes → ((signer : ℕ) (sort : Sort) → slots round_state.votes signer sort ≡ no_slot) → round_count round_state.votes ≡ 0 → round_state.certified ≡ nothing_certified → Recalls rules messages (let detector : Detector S D P G = record { rounds = rounds } in detector) → RecallsRound rules messages round round_state
-recalls_new {S} {D} {C} {P} {G} rules l messages rounds round round_state none sized empty no_votes nothing holds =
-    let at : RecallsNothing rules messages round = subst (RecallsAt rules messages round) (sym none) (holds round) in
-    record {
-      votes = record {
-        sized = sized;
-        held = λ signer sort. empty signer sort ∙ at.votes signer sort;
-        counted = no_votes ∙ sym (none_in_round rules.eq l (valid_votes rules messages) round at.votes);
-      };
-      subjects = subst (RecordsFirsts rules.eq (certified_subjects rules messages) round) (sym nothing) at.subjects;
-    }
 
 -- ---- votes and certificates of a round are judged by the committee of its epoch
 
@@ -151,6 +135,15 @@ module _ {S D C P G : Type 0} (eq : D → D → Bool) (keys : S → List P) (goo
       votes = subst (λ vs. HoldsRound eq ((judges schedule).size (activity_round m).epoch) vs (activity_round m) new.votes) (sym (valid_votes-push (judges schedule) messages m)) (takes.cast schedule is (valid_votes (judges schedule) messages) recalls.votes);
       subjects = subst (λ xs. RecordsFirsts eq xs (activity_round m) new.certified) (sym (subjects_push (judges schedule) messages m)) (takes.certified schedule is (certified_subjects (judges schedule) messages) recalls.subjects);
     }
+
+    -- what is recorded of it where its round is not there yet
+    pub recalls_first : (s : S) → committee_of schedule (activity_round m).epoch ≡ Some s → IsEquivalence eq → (rounds : BTreeMap Round (RoundState S D P G)) (fresh new : RoundState S D P G) → None ≡ get round_cmp rounds (activity_round m) → IsSized (length (keys s)) fresh.votes → ((signer : ℕ) (sort : Sort) → slots fresh.votes signer sort ≡ no_slot) → round_count fresh.votes ≡ 0 → fresh.certified ≡ nothing_certified → TakesMessage judges s listed m fresh new → Recalls (judges schedule) messages (let detector : Detector S D P G = record { rounds = rounds } in detector) → RecallsRound (judges schedule) (messages ++ m ∷ []) (activity_round m) new
+    recalls_first s is l rounds fresh new none sized empty no_votes nothing takes holds =
+        let at : RecallsNothing (judges schedule) messages (activity_round m) = subst (RecallsAt (judges schedule) messages (activity_round m)) (sym none) (holds (activity_round m)) in
+        recalls_taken s is fresh new takes (record {
+          votes = record { sized = subst (λ n. IsSized n fresh.votes) (ap (size_by keys) (sym is)) sized; held = λ signer sort. empty signer sort ∙ at.votes signer sort; counted = no_votes ∙ sym (none_in_round eq l (valid_votes (judges schedule) messages) (activity_round m) at.votes) };
+          subjects = subst (RecordsFirsts eq (certified_subjects (judges schedule) messages) (activity_round m)) (sym nothing) at.subjects;
+        })
 
     -- without a committee nothing more is valid or certified, and nothing more is recorded
     pub recalls_no_committee : All (IsHere (activity_round m)) (votes_in listed m) → None ≡ committee_of schedule (activity_round m).epoch → (q : Round) (o : Option (RoundState S D P G)) → RecallsAt (judges schedule) messages q o → RecallsAt (judges schedule) (messages ++ m ∷ []) q o

@@ -1,6 +1,5 @@
 -- Who is named, the evidence of everyone who is named, and that the votes determine a report.
-use Rattle.simplex_detector.proofs.Std.{All, All-contains, Bool, Contains, Contains-append_left, Contains-permutation, IsEquivalence, IsPermutation, IsPermutation-sym, List, None, Option, Some, [], and_from, and_parts, ap, append-nil, filter, filter-append, find, flat_map, flat_map-append, is_some, list_any, refl, same_Some, subst, sym, true, ⊎_elim, ◌&&◌, ◌++◌, ◌∙◌, ◌∷◌, ◌≡◌}
-use Rattle.simplex_detector.proofs.Words.{Activity, Evidence, EvidenceIsUnique, IsEquivocation, IsEvidence, Named, NamedInAnyOrder, NamesExactly, Rules, SignedVote, clash, contradicts, evidence_of, first_sort, is_at, is_named, is_of, is_valid, named_by, named_cmp, round_of, same_sort, sort_of, valid_votes, votes_in, with_first, with_second}
+use Rattle.simplex_detector.proofs.Prelude.{Activity, All, All-contains, Bool, Contains, Contains-append_left, Contains-permutation, Evidence, EvidenceIsUnique, IsEquivalence, IsEquivocation, IsEvidence, IsPermutation, IsPermutation-sym, List, Named, NamedInAnyOrder, NamesExactly, None, Option, Rules, SignedVote, Some, [], and_from, and_parts, ap, append-nil, clash, contradicts, evidence_of, filter, filter-append, find, first_sort, flat_map, flat_map-append, is_at, is_named, is_of, is_some, is_valid, list_any, named_by, named_cmp, refl, round_of, same_Some, same_sort, sort_of, subst, sym, true, valid_votes, votes_in, with_first, with_second, ⊎_elim, ◌&&◌, ◌++◌, ◌∙◌, ◌∷◌, ◌≡◌}
 use Rattle.simplex_detector.proofs.Lists.{Contains-filter, Contains-flat_map, Contains-from_filter, Contains-from_flat_map, Contains-from_list_any, IsListing, any_from_Contains, each, find_from_Contains, found, listed_is_some, listing_is_unique, same_bool, some_from_is_some}
 use Rattle.simplex_detector.proofs.Places.{Spot, clash_parts, clash_with_one, exact_named, is_at-from, is_at-true, is_of-from, is_of-true, named_cmp_total}
 
@@ -17,8 +16,7 @@ valid_in rules ms v m m_in own valid = Contains-filter (is_valid rules) _ v (Con
 
 -- those of messages and of those that follow
 pub valid_votes-append : {S D C P G : Type 0} (rules : Rules S D C P G) (ms ks : List (Activity S D C P G)) → valid_votes rules (ms ++ ks) ≡ valid_votes rules ms ++ valid_votes rules ks
-valid_votes-append rules ms ks =
-    ap (filter (is_valid rules)) (flat_map-append (votes_in rules.listed) ms ks) ∙ filter-append (is_valid rules) (flat_map (votes_in rules.listed) ms) (flat_map (votes_in rules.listed) ks)
+valid_votes-append rules ms ks = ap (filter (is_valid rules)) (flat_map-append (votes_in rules.listed) ms ks) ∙ filter-append (is_valid rules) (flat_map (votes_in rules.listed) ms) (flat_map (votes_in rules.listed) ks)
 
 -- those of messages and of one more
 pub valid_votes-push : {S D C P G : Type 0} (rules : Rules S D C P G) (ms : List (Activity S D C P G)) (m : Activity S D C P G) → valid_votes rules (ms ++ m ∷ []) ≡ valid_votes rules ms ++ filter (is_valid rules) (votes_in rules.listed m)
@@ -33,8 +31,7 @@ first_spot n = record { sort = first_sort n.kind; round = n.round; signer = n.si
 module _ {D G : Type 0} (eq : D → D → Bool) (vs : List (SignedVote D G)) (n : Named) where
   -- two votes that contradict name their signer
   pub named_from_votes : (v w : SignedVote D G) → Contains vs v → Contains vs w → is_of n.round n.signer v ≡ true → contradicts eq n.kind v w ≡ true → is_named eq vs n ≡ true
-  named_from_votes v w h k a c =
-      any_from_Contains (λ x. is_of n.round n.signer x && list_any (contradicts eq n.kind x) vs) vs v h (and_from _ _ a (any_from_Contains (contradicts eq n.kind v) vs w k c))
+  named_from_votes v w h k a c = any_from_Contains (λ x. is_of n.round n.signer x && list_any (contradicts eq n.kind x) vs) vs v h (and_from _ _ a (any_from_Contains (contradicts eq n.kind v) vs w k c))
 
   -- who is named has two such votes
   pub votes_from_named : is_named eq vs n ≡ true → (v w : SignedVote D G) × Contains vs v × Contains vs w × (is_of n.round n.signer v ≡ true) × (contradicts eq n.kind v w ≡ true)
@@ -57,11 +54,6 @@ named_in_any_order {S} {D} {C} {P} {G} rules ms ks moved n = same_bool _ _ (name
     also : (ms ks : List (Activity S D C P G)) → IsPermutation ms ks → (v : SignedVote D G) → Contains (valid_votes rules ms) v → Contains (valid_votes rules ks) v
     also ms ks moved v h = let (m, m_in, own, valid) = valid_from rules ms v h in valid_in rules ks v m (Contains-permutation ms ks m moved m_in) own valid
 
--- who is named stays named, with any messages behind
-pub named_stays : {S D C P G : Type 0} (rules : Rules S D C P G) (ms ks : List (Activity S D C P G)) (n : Named) → is_named rules.eq (valid_votes rules ms) n ≡ true → is_named rules.eq (valid_votes rules (ms ++ ks)) n ≡ true
-named_stays rules ms ks n h =
-    ap (λ vs. is_named rules.eq vs n) (valid_votes-append rules ms ks) ∙ named_by_more rules.eq _ (valid_votes rules ms) (Contains-append_left (valid_votes rules ms) (valid_votes rules ks)) n h
-
 -- ---- the evidence of whom is named
 
 -- its first vote is the earliest at its spot, and its second the earliest that contradicts that
@@ -82,9 +74,6 @@ module _ {D G : Type 0} (eq : D → D → Bool) (vs : List (SignedVote D G)) whe
               subst (EvidenceIs eq vs n) (same_Some _ e is) (record { named = λ i. record { round = (at i).round; signer = (at i).signer; kind = n.kind }; first = first; second = second })
         ]) refl
       ]) refl h
-
-  pub evidence_made : (n : Named) (e : Evidence D G) → EvidenceIs eq vs n e → evidence_of eq vs n ≡ Some e
-  evidence_made n e is = (λ i. with_first eq vs n.kind (is.first i)) ∙ (λ i. with_second n.kind e.first (is.second i)) ∙ (λ i. Some (record { kind = (sym is.named i).kind; first = e.first; second = e.second }))
 
   -- who has evidence is named
   pub named-from_evidence : (n : Named) → is_some (evidence_of eq vs n) ≡ true → is_named eq vs n ≡ true
@@ -111,8 +100,6 @@ module _ {D G : Type 0} (eq : D → D → Bool) (vs : List (SignedVote D G)) whe
 
   pub evidence_exists : IsEquivalence eq → (n : Named) → is_some (evidence_of eq vs n) ≡ is_named eq vs n
   evidence_exists l n = same_bool _ _ (named-from_evidence n) (evidence-from_named l n)
-
-  -- ---- one report
 
   -- the evidence of votes lists the evidence of everyone who is named
   pub as_listing : (es : List (Evidence D G)) → IsEvidence eq vs es → IsListing named_by named_cmp (evidence_of eq vs) es

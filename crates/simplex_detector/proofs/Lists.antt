@@ -1,5 +1,5 @@
 -- Lists that any crate could have: what they contain, what `find` and `list_any` give, and the listing of a partial map in the order of its keys.
-use Rattle.simplex_detector.proofs.Std.{option_map, All, All-append, All-contains, All-contains_itself, All-filter, All-from_recursion, All-map, AllByRecursion, Any-from_list_any, BTreeSet, Bool, CmpEqualImpliesEq, Contains, Contains-append_cases, Contains-append_left, Contains-append_right, Contains-get_or, IsStrictlySortedBy-filter, IsTotalOrder, Less, List, None, Option, Ordering, Some, [], ap, append-nil, arith, btree_set_contains_iff, btree_set_from_contains, cond, cons_option, false, filter, filter_map, filter_passes, find, find-append, flat_map, get_or, get_or-map, inl, inr, is_some, length, length-map, list_any, list_any-from_Any, map, option_or, option_to_list, recursion_from_All, refl, same_Some, sorted_head, subst, sym, true, ℕ, ⊎_elim, ◌++◌, ◌<◌, ◌||◌, ◌∙◌, ◌∷◌, ◌≡◌, ◌⊎◌}
+use Rattle.simplex_detector.proofs.Prelude.{All, All-append, All-contains, All-contains_itself, All-filter, All-from_recursion, All-map, AllByRecursion, Any-from_list_any, BTreeSet, Bool, CmpEqualImpliesEq, Contains, Contains-append_cases, Contains-append_left, Contains-append_right, Contains-get_or, IsStrictlySortedBy-filter, IsTotalOrder, Less, List, None, Option, Ordering, Some, [], ap, append-nil, arith, btree_set_contains_iff, btree_set_from_contains, cond, cons_option, false, filter, filter_map, filter_passes, find, find-append, flat_map, get_or, get_or-map, inl, inr, is_some, length, length-map, list_any, list_any-from_Any, map, option_map, option_or, option_to_list, recursion_from_All, refl, same_Some, sorted_head, subst, sym, true, ℕ, ⊎_elim, ◌++◌, ◌<◌, ◌||◌, ◌∙◌, ◌∷◌, ◌≡◌, ◌⊎◌}
 use Rattle.std.specs.List.Sorted.{IsStrictlySortedBy}
 
 -- two tests that imply each other are one
@@ -117,8 +117,7 @@ pub find_from_Contains : {X : Type 0} (p : X → Bool) (xs : List X) (x : X) →
 find_from_Contains p xs x h e = some_from_is_some (find p xs) (is_some-find p xs ∙ any_from_Contains p xs x h e)
 
 pub Contains-from_list_any : {X : Type 0} (p : X → Bool) (xs : List X) → list_any p xs ≡ true → (x : X) × Contains xs x × (p x ≡ true)
-Contains-from_list_any {X} p xs h =
-    let a : (k : ℕ) × (x : X) × (k < length xs) × (get_or xs k x ≡ x) × (p x ≡ true) = Any-from_list_any p xs h in (a.1, (a.0, a.2, a.3), a.4)
+Contains-from_list_any {X} p xs h = let a : (k : ℕ) × (x : X) × (k < length xs) × (get_or xs k x ≡ x) × (p x ≡ true) = Any-from_list_any p xs h in (a.1, (a.0, a.2, a.3), a.4)
 
 -- the `find` of one more element, by what was found so far
 pub find_push : {X : Type 0} (p : X → Bool) (xs : List X) (x : X) → find p (xs ++ x ∷ []) ≡ cond (p x) (option_or (find p xs) (Some x)) (find p xs)

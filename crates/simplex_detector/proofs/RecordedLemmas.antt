@@ -1,6 +1,5 @@
 -- Which votes are recorded, vote by vote, slot by slot and round by round, and the evidence in the slots.
-use Rattle.simplex_detector.proofs.Std.{Bool, Contains, IsEquivalence, List, None, Option, Some, [], and_from, and_left, and_parts, and_right, ap, append-nil, append_assoc, arith, cond, cond-false, eqb, false, false_from_ne_true, false≢true, filter, filter-append, find, find-append, if◌then◌else◌, length, length-append, map, map-append, option_or, option_to_list, refl, same_Some, subst, sym, true, ℕ, ◌&&◌, ◌++◌, ◌+◌, ◌<◌, ◌∙◌, ◌∷◌, ◌≡◌, ◌≤◌}
-use Rattle.simplex_detector.proofs.Words.{Attestation, Conflicting_finalize, Conflicting_notarize, Evidence, Finalizes, Finalizing, HoldsRound, Kind, Named, Notarizing, Nullifies, Nullify_finalize, Nullifying, RecordedAreSlots, Round, RoundVotes, SignedVote, Slot, Sort, SubjectValue, TakesVote, both, changes, contradicts, evidence_from, evidence_of, excludes, first_sort, if_differs, is_at, is_for, is_news, is_of, news_after, no_slot, other_than, recorded_in, recorded_of, round_of, same_round, same_sort, slot_of, slot_with, slots, sort_of, vote_on, votes_in_slot, with_first, with_second}
+use Rattle.simplex_detector.proofs.Prelude.{Attestation, Bool, Conflicting_finalize, Conflicting_notarize, Contains, Evidence, Finalizes, Finalizing, HoldsRound, IsEquivalence, Kind, List, Named, None, Notarizing, Nullifies, Nullify_finalize, Nullifying, Option, RecordedAreSlots, Round, RoundVotes, SignedVote, Slot, Some, Sort, SubjectValue, TakesVote, [], and_from, and_left, and_parts, and_right, ap, append-nil, append_assoc, arith, both, changes, cond, cond-false, contradicts, eqb, evidence_from, evidence_of, excludes, false, false_from_ne_true, false≢true, filter, filter-append, find, find-append, first_sort, if_differs, if◌then◌else◌, is_at, is_for, is_news, is_of, length, length-append, map, map-append, news_after, no_slot, option_or, option_to_list, other_than, recorded_in, recorded_of, refl, round_of, same_Some, same_round, same_sort, slot_of, slot_with, slots, sort_of, subst, sym, true, vote_on, votes_in_slot, with_first, with_second, ℕ, ◌&&◌, ◌++◌, ◌+◌, ◌<◌, ◌∙◌, ◌∷◌, ◌≡◌, ◌≤◌}
 use Rattle.simplex_detector.proofs.EvidenceLemmas.{first_spot}
 use Rattle.simplex_detector.proofs.Lists.{Contains-cons, Contains-filter, Contains-first, Contains-none, find_from_Contains, find_push, found, none_found}
 use Rattle.simplex_detector.proofs.Places.{Spot, clash-excludes, excludes_itself, is_at-from, is_at-true, same_round-from, same_round-true, same_sort-refl, second_sort, spot}
@@ -33,9 +32,9 @@ module _ {D G : Type 0} (eq : D → D → Bool) (l : IsEquivalence eq) (vs : Lis
   -- a vote that is no news changes no slot
   pub no_news : is_news eq vs v ≡ false → (s : Spot) → slot_of eq (vs ++ v ∷ []) s.sort s.round s.signer ≡ slot_of eq vs s.sort s.round s.signer
   no_news h s = slot_after_vote s.sort s.round s.signer ∙ (elim (is_at s.sort s.round s.signer v) as (λ b. is_at s.sort s.round s.signer v ≡ b → cond b (slot_with eq v (slot_of eq vs s.sort s.round s.signer)) (slot_of eq vs s.sort s.round s.signer) ≡ slot_of eq vs s.sort s.round s.signer) [
-      | true ↦ λ e. stays _ _ (ap (λ (k : Slot D G). changes eq k.earliest k.other v.subject) (sym (own_slot s e)) ∙ h)
-      | false ↦ λ e. refl
-    ]) refl
+    | true ↦ λ e. stays _ _ (ap (λ (k : Slot D G). changes eq k.earliest k.other v.subject) (sym (own_slot s e)) ∙ h)
+    | false ↦ λ e. refl
+  ]) refl
     where
       stays : (first other : Option (SignedVote D G)) → changes eq first other v.subject ≡ false → slot_with eq v (record { earliest = first; other = other }) ≡ record { earliest = first; other = other }
       stays None other e = absurd (false≢true (sym e))
@@ -253,8 +252,7 @@ module _ {S D P G : Type 0} (eq : D → D → Bool) (l : IsEquivalence eq) (n : 
 
 -- what is held of the valid ones of some more votes on a subject
 abbrev pub HoldsMore : {S D P G : Type 0} → (D → D → Bool) → ℕ → (SubjectValue D → ℕ → G → Bool) → SubjectValue D → List (Attestation S P G) → RoundVotes S D P G → RoundVotes S D P G → Type 0
-HoldsMore {D = D} {G = G} eq n good x given before after =
-    (vs : List (SignedVote D G)) → HoldsRound eq n vs (round_of x) before → HoldsRound eq n (vs ++ filter (λ v. good v.subject v.signer v.signature) (map (vote_on x) given)) (round_of x) after
+HoldsMore {D = D} {G = G} eq n good x given before after = (vs : List (SignedVote D G)) → HoldsRound eq n vs (round_of x) before → HoldsRound eq n (vs ++ filter (λ v. good v.subject v.signer v.signature) (map (vote_on x) given)) (round_of x) after
 
 -- one attestation more
 pub holds_one_more : {S D P G : Type 0} (eq : D → D → Bool) (n : ℕ) (good : SubjectValue D → ℕ → G → Bool) (x : SubjectValue D) (given : List (Attestation S P G)) (a : Attestation S P G) (before recorded after : RoundVotes S D P G) → HoldsMore eq n good x given before recorded → HoldsMore eq n good x (a ∷ []) recorded after → HoldsMore eq n good x (given ++ a ∷ []) before after

@@ -1,6 +1,5 @@
 -- The evidence in what is recorded, signer by signer and round by round, is the evidence of the votes.
-use Rattle.simplex_detector.proofs.Std.{All, All-contains, All-from_recursion, All-push, AllByRecursion, Bool, Contains, Contains-append_left, Contains-append_right, Contains-dedup_nat, Contains-permutation, IsEquivalence, IsOrdered, IsPermutation, IsSorted, IsStrictlyIncreasing-dedup, IsTrue, Less, List, None, Option, Some, [], ap, append-nil, append_assoc, arith, btree_map_get_iff, cond-true, dedup, eqb, eqb-true, false≢true, filter_map, filter_map-append, flat_map, flat_map_more, get, get_or, inl, inr, is_some, length, map, map-append, map-id, nat_cmp, nat_cmp_total, option_map, option_to_list, ordering_then, recursion_from_All, refl, sorted_from_strictly_increasing, subst, sym, take, take_more, tied_itself, true, ℕ, ◌++◌, ◌+◌, ◌<◌, ◌∙◌, ◌∷◌, ◌≡◌, ◌⊎◌}
-use Rattle.simplex_detector.proofs.Words.{Activity, Conflicting_finalize, Conflicting_notarize, Detector, Evidence, HoldsRound, IsEvidence, Kind, ListsSigners, Named, Nullify_finalize, Recalls, RecallsAt, RecallsNothing, RecallsRound, Round, RoundState, RoundVotes, Rules, SignedVote, Slot, Sort, contradicts, evidence_from, evidence_of, found_at, found_of_kind, if_contradicts, is_named, item_of, kind_rank, named_by, named_cmp, no_slot, round_cmp, round_of, slot_of, slots, valid_votes}
+use Rattle.simplex_detector.proofs.Prelude.{Activity, All, All-contains, All-from_recursion, All-push, AllByRecursion, Bool, Conflicting_finalize, Conflicting_notarize, Contains, Contains-append_left, Contains-append_right, Contains-dedup_nat, Contains-permutation, Detector, Evidence, HoldsRound, IsEquivalence, IsEvidence, IsOrdered, IsPermutation, IsSorted, IsStrictlyIncreasing-dedup, IsTrue, Kind, Less, List, ListsSigners, Named, None, Nullify_finalize, Option, Recalls, RecallsAt, RecallsNothing, RecallsRound, Round, RoundState, RoundVotes, Rules, SignedVote, Slot, Some, Sort, [], ap, append-nil, append_assoc, arith, btree_map_get_iff, cond-true, contradicts, dedup, eqb, eqb-true, evidence_from, evidence_of, false≢true, filter_map, filter_map-append, flat_map, flat_map_more, found_at, found_of_kind, get, get_or, if_contradicts, inl, inr, is_named, is_some, item_of, kind_rank, length, map, map-append, map-id, named_by, named_cmp, nat_cmp, nat_cmp_total, no_slot, option_map, option_to_list, ordering_then, recursion_from_All, refl, round_cmp, round_of, slot_of, slots, sorted_from_strictly_increasing, subst, sym, take, take_more, tied_itself, true, valid_votes, ℕ, ◌++◌, ◌+◌, ◌<◌, ◌∙◌, ◌∷◌, ◌≡◌, ◌⊎◌}
 use Rattle.std.specs.List.Sorted.{IsStrictlySortedBy}
 use Rattle.simplex_detector.proofs.EvidenceLemmas.{evidence-from_named, evidence_is, from_listing}
 use Rattle.simplex_detector.proofs.Lists.{found_mapped, Contains-flat_map, Contains-from_filter_map, Contains-from_flat_map, Contains-from_map, Contains-map, each, filter_map-joined, found, made_complete, made_ordered, made_sound, some_from_is_some, sorted_joined}
@@ -84,8 +83,6 @@ module _ {D G : Type 0} (eq : D → D → Bool) (vs : List (SignedVote D G)) whe
       of_kind kind =
           let n : Named = record { round = round; signer = signer; kind = kind } in
           ap (if_contradicts eq) ((λ i. evidence_from (λ sort. is sort i) kind) ∙ sym (evidence_of-slots eq vs n)) ∙ contradicts-evidence n
-
-  -- ---- one round
 
   module _ {S P : Type 0} (size : ℕ) (round : Round) (recorded : RoundVotes S D P G) (holds : HoldsRound eq size vs round recorded) where
     -- what is found of some signers

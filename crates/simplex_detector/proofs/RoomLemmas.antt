@@ -1,9 +1,6 @@
 -- Of messages no more votes are recorded than their encodings have bytes.
-use Rattle.simplex_detector.proofs.Std.{Bool, List, [], arith, cond, count_by-le-length, false, flat_map, length, length-append, length-filter, length-map, map, suc, true, ℕ, ◌++◌, ◌+◌, ◌∷◌, ◌≤◌}
-use Rattle.simplex_detector.proofs.Words.{Activity, Attestation, Format, Proposal, Round, Rules, SignedVote, activity_encoding, finalize_of, groups_some, is_news, is_valid, news_after, notarize_of, nullify_of, proposal_format, round_format, valid_votes, votes_in, votes_recorded}
+use Rattle.simplex_detector.proofs.Prelude.{Activity, Attestation, Bool, Format, List, Proposal, Round, Rules, SignedVote, [], activity_encoding, arith, cond, count_by-le-length, false, finalize_of, flat_map, groups_some, is_news, is_valid, length, length-append, length-filter, length-map, map, news_after, notarize_of, nullify_of, proposal_format, round_format, suc, true, valid_votes, votes_in, votes_recorded, ℕ, ◌++◌, ◌+◌, ◌∷◌, ◌≤◌}
 use Rattle.simplex_evidence.specs.declared.types.activity.Activity.TheVariants as activity
-
--- ---- no more than the votes
 
 news_among : {D G : Type 0} (eq : D → D → Bool) (before vs : List (SignedVote D G)) → length (news_after eq before vs) ≤ length vs
 news_among eq before [] = omega arith
@@ -11,8 +8,6 @@ news_among eq before (v ∷ vs) =
     let first = elim (is_news eq before v) as (λ b. length (cond b (v ∷ []) [] ++ news_after eq (before ++ v ∷ []) vs) ≤ length (news_after eq (before ++ v ∷ []) vs) + 1) [ true ↦ omega arith | false ↦ omega arith ] in
     let others = news_among eq (before ++ v ∷ []) vs in
     omega arith
-
--- ---- no more than the bytes of a message
 
 front_some : (front rest : List ℕ) → 1 ≤ length front → 1 ≤ length (front ++ rest)
 front_some front rest some = omega (arith, length-append front rest)

@@ -1,6 +1,5 @@
 -- Which rounds are split, by what is recorded of their certificates, and that the messages determine their splits.
-use Rattle.simplex_detector.proofs.Std.{All, Bool, Contains, Contains-append_left, Contains-push, Contains-push_cases, IsEquivalence, IsStrictlySortedBy, List, None, Option, Some, [], and_from, and_left, and_parts, and_right, ap, append-nil, cases_Bool, cond, cond_some, cons_option, false, false≢true, filter_map, filter_map-append, if◌then◌else◌, inl, inr, is_none, is_some, list_any, not, option_or, option_to_list, or_cases, or_left, or_parts, or_right, refl, subst, sym, true, ⊎_elim, ◌&&◌, ◌++◌, ◌+◌, ◌||◌, ◌∙◌, ◌∷◌, ◌≡◌, ◌≤◌, ◌⊎◌}
-use Rattle.simplex_detector.proofs.Words.{Activity, AreLawful, AreSplits, CertifiedSubjects, Finalizing, HaveCommittees, Notarizing, Nullifying, RecordsFirsts, Round, Rules, Sort, Split, SplitsAreUnique, SubjectValue, activity_round, are_split, certificate_in, certificates_contradict, certified_in, certified_subjects, changes_firsts, excludes, excludes_first, excludes_some, faults_of, first_certified, first_with, firsts_of, is_certified, is_split, messages_contradict, named_count, round_cmp, round_of, same_round, same_sort, sort_of, split_of, subjects_contradict, valid_votes}
+use Rattle.simplex_detector.proofs.Prelude.{Activity, All, AreLawful, AreSplits, Bool, CertifiedSubjects, Contains, Contains-append_left, Contains-push, Contains-push_cases, Finalizing, HaveCommittees, IsEquivalence, IsStrictlySortedBy, List, None, Notarizing, Nullifying, Option, RecordsFirsts, Round, Rules, Some, Sort, Split, SplitsAreUnique, SubjectValue, [], activity_round, and_from, and_left, and_parts, and_right, ap, append-nil, are_split, cases_Bool, certificate_in, certificates_contradict, certified_in, certified_subjects, changes_firsts, cond, cond_some, cons_option, excludes, excludes_first, excludes_some, false, false≢true, faults_of, filter_map, filter_map-append, first_certified, first_with, firsts_of, if◌then◌else◌, inl, inr, is_certified, is_none, is_some, is_split, list_any, messages_contradict, named_count, not, option_or, option_to_list, or_cases, or_left, or_parts, or_right, refl, round_cmp, round_of, same_round, same_sort, sort_of, split_of, subjects_contradict, subst, sym, true, valid_votes, ⊎_elim, ◌&&◌, ◌++◌, ◌+◌, ◌||◌, ◌∙◌, ◌∷◌, ◌≡◌, ◌≤◌, ◌⊎◌}
 use Rattle.simplex_detector.proofs.AccountLemmas.{accountable_for, certificate_parts, certified_parts, certifies_from, enough_for}
 use Rattle.simplex_detector.proofs.Lists.{Contains-from_filter_map, Contains-from_list_any, IsListing, any_from_Contains, find_from_Contains, find_push, found, listing_is_unique, made_complete, made_ordered, made_sound, same_bool}
 use Rattle.simplex_detector.proofs.Places.{exact_rounds, excludes-flip, excludes_itself, excludes_one, round_cmp_total, same_round-from, same_round-true, same_sort-refl, same_sort-true}
@@ -109,7 +108,7 @@ module _ {D : Type 0} (eq : D → D → Bool) (laws : IsEquivalence eq) (xs : Li
   split_after = same_bool _ _ split_to split_from
 
   -- what is recorded after one more subject, in the words of what was recorded; b is whether it is of the round
-  records_push : (old new : CertifiedSubjects D) (b : Bool) → same_round (round_of y) round ≡ b → (old.split ≡ false → (sort : Sort) → firsts_of new sort ≡ cond b (first_with y sort (firsts_of old sort)) (firsts_of old sort)) → new.split ≡ (old.split || (b && excludes_some eq (firsts_of old) y)) → RecordsFirsts eq xs round old → RecordsFirsts eq (xs ++ y ∷ []) round new
+  pub records_push : (old new : CertifiedSubjects D) (b : Bool) → same_round (round_of y) round ≡ b → (old.split ≡ false → (sort : Sort) → firsts_of new sort ≡ cond b (first_with y sort (firsts_of old sort)) (firsts_of old sort)) → new.split ≡ (old.split || (b && excludes_some eq (firsts_of old) y)) → RecordsFirsts eq xs round old → RecordsFirsts eq (xs ++ y ∷ []) round new
   records_push old new b is firsts split records = record {
     split = split ∙ by_split (cases_Bool old.split) ∙ sym split_after;
     firsts = λ whole sort.
@@ -125,16 +124,10 @@ module _ {D : Type 0} (eq : D → D → Bool) (laws : IsEquivalence eq) (xs : Li
   pub records_elsewhere : (recorded : CertifiedSubjects D) → same_round (round_of y) round ≡ false → RecordsFirsts eq xs round recorded → RecordsFirsts eq (xs ++ y ∷ []) round recorded
   records_elsewhere recorded away = records_push recorded recorded false away (λ whole sort. refl) (elim recorded.split as (λ b. b ≡ (b || false)) [ true ↦ refl | false ↦ refl ])
 
--- ---- one more subject of the round
-
-module _ {D : Type 0} (eq : D → D → Bool) (laws : IsEquivalence eq) (xs : List (SubjectValue D)) (y : SubjectValue D) where
-  pub records_next : (old new : CertifiedSubjects D) → ((sort : Sort) → firsts_of new sort ≡ first_with y sort (firsts_of old sort)) → new.split ≡ (old.split || excludes_some eq (firsts_of old) y) → RecordsFirsts eq xs (round_of y) old → RecordsFirsts eq (xs ++ y ∷ []) (round_of y) new
-  records_next old new firsts split = records_push eq laws xs y (round_of y) old new true (same_round-from (round_of y) (round_of y) refl) (λ whole. firsts) split
-
   -- what changes nothing is recorded without a change
-  pub records_no_news : (recorded : CertifiedSubjects D) → changes_firsts eq (firsts_of recorded) recorded.split y ≡ false → RecordsFirsts eq xs (round_of y) recorded → RecordsFirsts eq (xs ++ y ∷ []) (round_of y) recorded
-  records_no_news recorded same =
-      records_push eq laws xs y (round_of y) recorded recorded true (same_round-from (round_of y) (round_of y) refl)
+  pub records_no_news : (recorded : CertifiedSubjects D) → same_round (round_of y) round ≡ true → changes_firsts eq (firsts_of recorded) recorded.split y ≡ false → RecordsFirsts eq xs round recorded → RecordsFirsts eq (xs ++ y ∷ []) round recorded
+  records_no_news recorded here same =
+      records_push recorded recorded true here
       (λ whole sort. stays sort (same_sort (sort_of y) sort) refl (or_parts (is_none (firsts_of recorded (sort_of y))) (excludes_some eq (firsts_of recorded) y) (sym (ap (λ b. not b && (is_none (firsts_of recorded (sort_of y)) || excludes_some eq (firsts_of recorded) y)) whole) ∙ same)).0)
       ((elim recorded.split as (λ b. (not b && (is_none (firsts_of recorded (sort_of y)) || excludes_some eq (firsts_of recorded) y)) ≡ false → b ≡ (b || excludes_some eq (firsts_of recorded) y)) [ true ↦ λ h. refl | false ↦ λ h. sym (or_parts (is_none (firsts_of recorded (sort_of y))) (excludes_some eq (firsts_of recorded) y) h).1 ]) same)
     where
@@ -223,8 +216,6 @@ module _ {S D C P G : Type 0} (rules : Rules S D C P G) (messages : List (Activi
     sound = made_sound (λ s. s.round) round_cmp (split_of rules messages) split_own rs;
     complete = λ r h. made_complete (λ s. s.round) round_cmp (split_of rules messages) split_own rs r (all r h) (split_exists r ∙ h);
   }
-
-  -- ---- each split names enough
 
   -- in a split round more are named than may lie
   pub enough_in_split : AreLawful rules → (round : Round) → is_split rules messages round ≡ true → faults_of (rules.size round.epoch) + 1 ≤ named_count rules.eq (valid_votes rules messages) round

@@ -1,6 +1,5 @@
 -- Which signers and rounds are suspect, and that no other signature has a part in the evidence and the splits.
-use Rattle.simplex_detector.proofs.Std.{false_from_ne_true, cond-false, All, All-contains, All-nil, Bool, Contains, IsEquivalence, IsTrue, List, None, Option, Some, [], and-false, and_parts, ap, arith, cond, cons_option, contains, distinct_count, false, false≢true, filter, find, flat_map, is_some, le-ltb, lt-ltb, map, nat_eq, nat_lt, refl, subst, sym, true, ℕ, ◌&&◌, ◌+◌, ◌||◌, ◌↔◌, ◌∙◌, ◌∷◌, ◌≡◌, ◌≤◌}
-use Rattle.simplex_detector.proofs.Words.{Activity, AreLawful, AreSplits, AreSuspect, Attestation, Claimed, Conflicting_finalize, Conflicting_notarize, Evidence, HasSuspects, IsEvidence, JudgeAlike, Kind, Named, Nullify_finalize, Round, Rules, Schedule, SignedVote, Split, SubjectValue, SuspectSigners, Suspected, Suspects, SuspectsSuffice, TellAll, among, are_split, certificate_in, certified_by, certified_in, certified_subjects, certified_under, claimed, clash, committee_of, contradicts, evidence_of, faults_of, first_sort, if_certified, is_at, is_named, is_named_in, is_of, is_split, is_suspect, is_suspect_round, is_valid, judged_by, named_by, named_count, round_cmp, round_of, rules_of, rules_under, signer_cmp, size_by, split_of, suspect_of, valid_by, valid_under, valid_votes, votes_in, with_first, with_second}
+use Rattle.simplex_detector.proofs.Prelude.{Activity, All, All-contains, All-nil, AreLawful, AreSplits, AreSuspect, Attestation, Bool, Claimed, Conflicting_finalize, Conflicting_notarize, Contains, Evidence, HasSuspects, IsEquivalence, IsEvidence, IsTrue, JudgeAlike, Kind, List, Named, None, Nullify_finalize, Option, Round, Rules, Schedule, SignedVote, Some, Split, SubjectValue, SuspectSigners, Suspected, Suspects, SuspectsSuffice, TellAll, [], among, and-false, and_parts, ap, are_split, arith, certificate_in, certified_by, certified_in, certified_subjects, certified_under, claimed, clash, committee_of, cond, cond-false, cons_option, contains, contradicts, distinct_count, evidence_of, false, false_from_ne_true, false≢true, faults_of, filter, find, first_sort, flat_map, if_certified, is_at, is_named, is_named_in, is_of, is_some, is_split, is_suspect, is_suspect_round, is_valid, judged_by, le-ltb, lt-ltb, map, named_by, named_count, nat_eq, nat_lt, refl, round_cmp, round_of, rules_of, rules_under, signer_cmp, size_by, split_of, subst, suspect_of, sym, true, valid_by, valid_under, valid_votes, votes_in, with_first, with_second, ℕ, ◌&&◌, ◌+◌, ◌||◌, ◌↔◌, ◌∙◌, ◌∷◌, ◌≡◌, ◌≤◌}
 use Rattle.simplex_detector.proofs.AccountLemmas.{certified_parts, counted_signer, distinct_count-same, kind_from_named_in, named_in}
 use Rattle.simplex_detector.proofs.EvidenceLemmas.{evidence_exists, first_spot, moved_evidence, named_by_more, named_from_votes, valid_from, valid_in, votes_from_named}
 use Rattle.simplex_detector.proofs.Lists.{Contains-filter, Contains-first, Contains-from_filter, Contains-from_filter_map, Contains-from_list_any, Contains-from_map, Contains-map, Contains-none, any_from_Contains, found, same_bool}
@@ -187,11 +186,11 @@ module _ {S D C P G : Type 0} (eq : D → D → Bool) (keys : S → List P) (goo
   }
 
   -- the suspects that a judging has
-  abbrev suspects_in : SuspectSigners → Suspected
+  abbrev pub suspects_in : SuspectSigners → Suspected
   suspects_in suspects = record { signers = λ round signer. contains signer_cmp suspects.signers (round, signer); rounds = contains round_cmp suspects.rounds }
 
   -- a committee's judgement of suspects, also where there is none
-  suspects_are_among : (suspects : SuspectSigners) → rules_under eq keys good certified listed (Suspects suspects) schedule ≡ among (suspects_in suspects) rules
+  pub suspects_are_among : (suspects : SuspectSigners) → rules_under eq keys good certified listed (Suspects suspects) schedule ≡ among (suspects_in suspects) rules
   suspects_are_among suspects = λ i. record {
     eq = eq;
     good = λ x signer signature. (elim (committee_of schedule (round_of x).epoch) as (λ o. valid_by (valid_under keys good (Suspects suspects)) o x signer signature ≡ (contains signer_cmp suspects.signers (round_of x, signer) && valid_by good o x signer signature)) [ None ↦ sym (and-false (contains signer_cmp suspects.signers (round_of x, signer))) | Some s ↦ refl ]) i;
@@ -199,25 +198,6 @@ module _ {S D C P G : Type 0} (eq : D → D → Bool) (keys : S → List P) (goo
     listed = listed;
     size = λ epoch. size_by keys (committee_of schedule epoch);
   }
-
-  pub nobody_claimed : AreLawful rules → (messages : List (Activity S D C P G)) (splits : List Split) → IsEvidence eq (valid_votes (rules_under eq keys good certified listed Claimed schedule) messages) [] → AreSplits (rules_under eq keys good certified listed Claimed schedule) messages splits → IsEvidence eq (valid_votes rules messages) [] × AreSplits rules messages splits
-  nobody_claimed l messages splits is are =
-      nothing_claimed rules l messages splits (subst (λ judged. IsEvidence eq (valid_votes judged messages) []) claims_are_claimed is) (subst (λ judged. AreSplits judged messages splits) claims_are_claimed are)
-
-  pub suspects_found : AreLawful rules → (messages : List (Activity S D C P G)) (claims : List (Evidence D G)) (suspects : SuspectSigners) → IsEvidence eq (valid_votes (rules_under eq keys good certified listed Claimed schedule) messages) claims →
-      All (λ round. IsTrue (contains round_cmp suspects.rounds round)) (map (λ e. round_of e.first.subject) claims) →
-      All (λ suspect. IsTrue (contains signer_cmp suspects.signers suspect)) (map suspect_of claims) →
-      (es : List (Evidence D G)) (splits : List Split) → IsEvidence eq (valid_votes (rules_under eq keys good certified listed (Suspects suspects) schedule) messages) es → AreSplits (rules_under eq keys good certified listed (Suspects suspects) schedule) messages splits → IsEvidence eq (valid_votes rules messages) es × AreSplits rules messages splits
-  suspects_found l messages claims suspects is has_rounds has_signers es splits es_are splits_are =
-      let suspect = claims_are_suspect rules l messages claims (suspects_in suspects) (subst (λ judged. IsEvidence eq (valid_votes judged messages) claims) claims_are_claimed is)
-      (λ e e_in. (
-        All-contains (λ suspect. contains signer_cmp suspects.signers suspect ≡ true) (map suspect_of claims) (suspect_of e) has_signers (Contains-map suspect_of claims e e_in),
-        All-contains (λ round. contains round_cmp suspects.rounds round ≡ true) (map (λ e. round_of e.first.subject) claims) (round_of e.first.subject) has_rounds (Contains-map (λ e. round_of e.first.subject) claims e e_in),
-      )) in
-      let tell = suspects_tell_all rules l messages (suspects_in suspects) suspect in (
-        (tell.evidence es).0 (subst (λ judged. IsEvidence eq (valid_votes judged messages) es) (suspects_are_among suspects) es_are),
-        (tell.splits splits).0 (subst (λ judged. AreSplits judged messages splits) (suspects_are_among suspects) splits_are),
-      )
 
 -- ---- the suspects of messages
 

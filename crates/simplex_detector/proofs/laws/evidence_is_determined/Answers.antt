@@ -1,4 +1,4 @@
-use Rattle.simplex_detector.proofs.Words.{evidence_of, named_by, named_cmp}
+use Rattle.simplex_detector.proofs.Prelude.{evidence_of, named_by, named_cmp}
 use Rattle.simplex_detector.proofs.AgainLemmas.{evidence_again}
 use Rattle.simplex_detector.proofs.EvidenceLemmas.{all_equivocations, as_listing, named-from_evidence}
 use Rattle.simplex_detector.proofs.Lists.{listed_is_some, listing_is_unique}

@@ -1,4 +1,4 @@
-use Rattle.simplex_detector.proofs.Words.{round_cmp, split_of}
+use Rattle.simplex_detector.proofs.Prelude.{round_cmp, split_of}
 use Rattle.simplex_detector.proofs.Lists.{listing_is_unique}
 use Rattle.simplex_detector.proofs.Places.{round_cmp_total, exact_rounds}
 use Rattle.simplex_detector.proofs.SplitLemmas.{splits_listing, have_names}

@@ -1,5 +1,4 @@
-use Rattle.simplex_detector.proofs.Std.{ap, arith, drop_all, map, min, sym, ◌+◌, ◌-◌, ◌^◌, ◌∙◌}
-use Rattle.simplex_detector.proofs.Words.{evidence_value}
+use Rattle.simplex_detector.proofs.Prelude.{ap, arith, drop_all, evidence_value, map, min, sym, ◌+◌, ◌-◌, ◌^◌, ◌∙◌}
 use Rattle.simplex_detector.proofs.CountLemmas.{changes, counted_item, counted_in_order}
 use Rattle.simplex_detector.proofs.round_state.count_signers.Goals as goal
 

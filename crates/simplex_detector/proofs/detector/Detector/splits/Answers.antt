@@ -1,5 +1,4 @@
-use Rattle.simplex_detector.proofs.Std.{AllByRecursion, IsOrdered, ap, append-nil, filter_map, map, recursion_from_All, rules as std_rules, subst, sym, ◌++◌, ◌∙◌}
-use Rattle.simplex_detector.proofs.Words.{AreSplits, Judging, RecallsRound, Rules, Schedule, round_cmp, rules_under, split_of}
+use Rattle.simplex_detector.proofs.Prelude.{AllByRecursion, AreSplits, IsOrdered, Judging, RecallsRound, Rules, Schedule, ap, append-nil, filter_map, map, recursion_from_All, round_cmp, rules as std_rules, rules_under, split_of, subst, sym, ◌++◌, ◌∙◌}
 use Rattle.simplex_detector.proofs.CountLemmas.{splits_of_detector, splits_next}
 use Rattle.simplex_detector.proofs.ReportLemmas.{recalls_listed}
 use Rattle.simplex_detector.proofs.detector.Detector.splits.Given as given

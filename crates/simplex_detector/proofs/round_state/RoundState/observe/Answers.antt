@@ -1,5 +1,4 @@
-use Rattle.simplex_detector.proofs.Std.{ap, on_ok_weaker, ⊎_elim}
-use Rattle.simplex_detector.proofs.Words.{Conflicting_finalize, Conflicting_notarize, Nullify_finalize, finalize_vote, notarize_vote, nullify_vote}
+use Rattle.simplex_detector.proofs.Prelude.{Conflicting_finalize, Conflicting_notarize, Nullify_finalize, ap, finalize_vote, notarize_vote, nullify_vote, on_ok_weaker, ⊎_elim}
 use Rattle.simplex_detector.proofs.DetectorLemmas.{one_round, takes_two}
 use Rattle.simplex_detector.proofs.round_state.RoundState.observe.Goals as goal
 

@@ -1,5 +1,4 @@
-use Rattle.simplex_detector.proofs.Std.{[], ap, append-nil, length, subst, sym, take, take_all, take_more, true, ◌++◌, ◌+◌, ◌∙◌, ◌∷◌, ◌≡◌}
-use Rattle.simplex_detector.proofs.Words.{subject_value, valid_under}
+use Rattle.simplex_detector.proofs.Prelude.{[], ap, append-nil, length, subject_value, subst, sym, take, take_all, take_more, true, valid_under, ◌++◌, ◌+◌, ◌∙◌, ◌∷◌, ◌≡◌}
 use Rattle.simplex_detector.proofs.RecordedLemmas.{HoldsMore, holds_one_more}
 use Rattle.simplex_detector.proofs.round_votes.RoundVotes.observe_all.Goals as goal
 
