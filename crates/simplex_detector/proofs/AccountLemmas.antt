@@ -48,8 +48,6 @@ shared_count n xs ys d e below under =
     let bound = length-le_from_distinct_below (rest ++ ys) n all (λ q h. All-contains Below (rest ++ ys) q (All-append Below rest ys (All-filter other Below xs below) under) (Contains-from_member (rest ++ ys) q h)) in
     omega (arith, bound, length-append rest ys, length-filter_both (is_member nat_eq ys) other (λ x. refl) xs)
 
--- ---- how many distinct numbers a list has
-
 is_member-unique_keys : (xs : List ℕ) (q : ℕ) → is_member nat_eq (unique_keys nat_eq xs) q ≡ is_member nat_eq xs q
 is_member-unique_keys [] q = refl
 is_member-unique_keys (x ∷ xs) q = by (is_member nat_eq xs x) (nat_eq q x) refl refl (is_member-unique_keys xs q)

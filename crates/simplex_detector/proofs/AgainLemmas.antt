@@ -55,10 +55,7 @@ module _ {D G : Type 0} (eq : D → D → Bool) (l : IsEquivalence eq) (vs : Lis
   earliest_again : (s : Spot) (x : SignedVote D G) → find (at s) (flat_map pair es) ≡ Some x → find (at s) vs ≡ Some x
   earliest_again s = find_pairs (at s) (λ v. find (at s) vs ≡ Some v) es (λ e e_in. (
     λ first_at. here s e.first first_at (first_earliest e e_in),
-    λ none second_at. elim (second_there e e_in) [
-      | inl earliest ↦ here s e.second second_at earliest
-      | inr other ↦ absurd (false≢true (sym none ∙ is_at-from s e.first (sym other.0 ∙ is_at-true s e.second second_at)))
-    ],
+    λ none second_at. elim (second_there e e_in) [ inl earliest ↦ here s e.second second_at earliest | inr other ↦ absurd (false≢true (sym none ∙ is_at-from s e.first (sym other.0 ∙ is_at-true s e.second second_at))) ],
   ))
 
   -- so is the earliest that excludes it

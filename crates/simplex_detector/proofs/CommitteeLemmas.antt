@@ -19,13 +19,8 @@ rising_next ps i rise some lt p q above a b d a_lt b_lt =
       | inl lo ↦ rise a b d a_lt lo
       | inr hi ↦
           let is : b ≡ i = omega (arith, hi, b_lt) in
-          elim (cases_lt a (i - 1)) [
-            | inl below ↦ rw is (omega (arith, above, here, before, rise a (i - 1) d below (omega (arith, some))))
-            | inr last ↦ (let at : a ≡ i - 1 = omega (arith, last, a_lt, is) in rw (is, at) (omega (arith, above, here, before)))
-          ]
+          elim (cases_lt a (i - 1)) [ inl below ↦ rw is (omega (arith, above, here, before, rise a (i - 1) d below (omega (arith, some)))) | inr last ↦ (let at : a ≡ i - 1 = omega (arith, last, a_lt, is) in rw (is, at) (omega (arith, above, here, before))) ]
     ]
-
--- ---- what halving finds
 
 -- the entry of an epoch
 abbrev pub entry_of : {S : Type 0} → List (ℕ × S) → ℕ → Option (ℕ × S)
@@ -84,10 +79,7 @@ reached {S} keys (Listed (p ∷ ps)) is =
     at p [] = (0, omega arith, λ d. omega arith)
     at p (q ∷ ps) =
         let (i, lt, is) = at q ps in
-        elim (cases_lt (greatest keys (q ∷ ps)) (length (keys p.1))) [
-          | inl less ↦ (0, omega arith, λ d. omega (arith, less))
-          | inr more ↦ (suc i, omega (arith, lt), λ d. omega (arith, more, is d))
-        ]
+        elim (cases_lt (greatest keys (q ∷ ps)) (length (keys p.1))) [ inl less ↦ (0, omega arith, λ d. omega (arith, less)) | inr more ↦ (suc i, omega (arith, lt), λ d. omega (arith, more, is d)) ]
 
 -- one entry more
 pub greatest_next : {S P : Type 0} (keys : S → List P) (ps : List (ℕ × S)) (i so_far size next : ℕ) (p : ℕ × S) → i < length ps → p ≡ get_or ps i p → size ≡ length (keys p.1) → next ≡ ord_max nat_cmp so_far size → max next (greatest keys (drop (i + 1) ps)) ≡ max so_far (greatest keys (drop i ps))

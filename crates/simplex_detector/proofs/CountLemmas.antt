@@ -10,8 +10,6 @@ use Rattle.simplex_detector.proofs.RecordedLemmas.{none_of_round, of_round}
 use Rattle.simplex_detector.proofs.ReportLemmas.{IsEvidenceIn, recalled, recalls_listed}
 use Rattle.simplex_detector.proofs.SplitLemmas.{from_subjects, someone_in_split, splits_of_rounds}
 
--- ---- votes, round by round
-
 -- how many of some votes are of each of some rounds
 abbrev of_rounds : {D G : Type 0} → List Round → List (SignedVote D G) → ℕ
 of_rounds [] vs = 0
@@ -45,8 +43,6 @@ of_all {D} {G} (r ∷ rounds) vs s h =
     skip (q ∷ rs) less = λ i. length (filter_filtered (of_round q) other (λ v e. ap not (false_from_ne_true (of_round r v) (λ d.
         let tied : round_cmp r q ≡ Equal = ap (λ p. round_cmp p q) (sym (same_round-true _ r d) ∙ same_round-true _ q e) ∙ tied_itself round_cmp_total q in
         let both_are : Less ≡ Equal = sym less.0 ∙ tied in absurd cc))) vs i) + skip rs less.1 i
-
--- ---- what is recorded
 
 -- how many votes there are of some rounds
 abbrev pub rounds_count : {S D P G : Type 0} → List (Round × RoundState S D P G) → ℕ
@@ -154,7 +150,7 @@ changes last [] = 0
 changes last (x ∷ xs) = if option_eq nat_eq last (Some x) then changes (Some x) xs else changes (Some x) xs + 1
 
 -- what is counted behind a first number
-counted_behind : (y : ℕ) (xs : List ℕ) → IsNonDecreasing (y ∷ xs) → changes (Some y) xs + 1 ≡ distinct_count nat_eq (y ∷ xs)
+pub counted_behind : (y : ℕ) (xs : List ℕ) → IsNonDecreasing (y ∷ xs) → changes (Some y) xs + 1 ≡ distinct_count nat_eq (y ∷ xs)
 counted_behind y [] s = refl
 counted_behind y (x ∷ xs) s = by (nat_eq y x) refl (counted_behind x xs (λ i j d le lt. s (suc i) (suc j) d (omega (arith, le)) (omega (arith, lt))))
   where
@@ -164,11 +160,6 @@ counted_behind y (x ∷ xs) s = by (nat_eq y x) refl (counted_behind x xs (λ i 
         let none = false_from_ne_true (is_member nat_eq xs y) (λ m. absurd (omega (arith, eqb-false y x e, s 0 1 x (omega arith) (omega arith), All-contains (λ z. x ≤ z) xs y (λ k d lt. s 1 (suc (suc k)) d (omega arith) (omega (arith, lt))) (Contains-from_member xs y m)))) in
         let more = ap (λ c. length (cond c (unique_keys nat_eq (x ∷ xs)) (y ∷ unique_keys nat_eq (x ∷ xs)))) none in
         omega (arith, rest, more)
-
--- what is counted of numbers in order
-pub counted_in_order : (xs : List ℕ) → IsNonDecreasing xs → changes None xs ≡ distinct_count nat_eq xs
-counted_in_order [] s = refl
-counted_in_order (x ∷ xs) s = counted_behind x xs s
 
 -- one item more, of which a number is counted, with a count that stops at a greatest
 pub counted_item : {X : Type 0} (number : X → ℕ) (xs : List X) (i : ℕ) (x : X) → i < length xs → x ≡ get_or xs i x → (count next most : ℕ) (last : Option ℕ) (n : ℕ) → n ≡ number x → next ≡ cond (option_eq nat_eq last (Some n)) count (min (count + 1) most) → min (next + changes (Some n) (map number (drop (i + 1) xs))) most ≡ min (count + changes last (map number (drop i xs))) most

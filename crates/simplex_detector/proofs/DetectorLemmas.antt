@@ -7,8 +7,6 @@ use Rattle.simplex_detector.proofs.RecordedLemmas.{none_in_round, of_round, reco
 use Rattle.simplex_detector.proofs.SplitLemmas.{records_other_message, subjects_push}
 use Rattle.simplex_evidence.specs.declared.types.activity.Activity.TheVariants as activity
 
--- ---- the votes of a message are of its round
-
 -- a vote is of a round
 abbrev pub IsHere : {D G : Type 0} → Round → SignedVote D G → Type 0
 IsHere round v = round_of v.subject ≡ round

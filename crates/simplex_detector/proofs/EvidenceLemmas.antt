@@ -54,8 +54,6 @@ named_in_any_order {S} {D} {C} {P} {G} rules ms ks moved n = same_bool _ _ (name
     also : (ms ks : List (Activity S D C P G)) → IsPermutation ms ks → (v : SignedVote D G) → Contains (valid_votes rules ms) v → Contains (valid_votes rules ks) v
     also ms ks moved v h = let (m, m_in, own, valid) = valid_from rules ms v h in valid_in rules ks v m (Contains-permutation ms ks m moved m_in) own valid
 
--- ---- the evidence of whom is named
-
 -- its first vote is the earliest at its spot, and its second the earliest that contradicts that
 pub record EvidenceIs {D G : Type 0} (eq : D → D → Bool) (vs : List (SignedVote D G)) (n : Named) (e : Evidence D G) : Type 0 where
   pub named : named_by e ≡ n

@@ -53,10 +53,7 @@ Contains-flat_map f (z ∷ xs) x y h k =
 pub Contains-from_flat_map : {X Y : Type 0} (f : X → List Y) (xs : List X) (y : Y) → Contains (flat_map f xs) y → (x : X) × Contains xs x × Contains (f x) y
 Contains-from_flat_map f [] y h = absurd (Contains-none y h)
 Contains-from_flat_map f (x ∷ xs) y h =
-    elim (Contains-append_cases (f x) (flat_map f xs) y h) [
-      | inl k ↦ (x, Contains-first x xs, k)
-      | inr k ↦ let (z, z_in, l) = Contains-from_flat_map f xs y k in (z, Contains-cons x xs z z_in, l)
-    ]
+    elim (Contains-append_cases (f x) (flat_map f xs) y h) [ inl k ↦ (x, Contains-first x xs, k) | inr k ↦ let (z, z_in, l) = Contains-from_flat_map f xs y k in (z, Contains-cons x xs z z_in, l) ]
 
 -- ---- `filter` and `filter_map`
 
@@ -124,8 +121,6 @@ pub find_push : {X : Type 0} (p : X → Bool) (xs : List X) (x : X) → find p (
 find_push p xs x =
     find-append p xs (x ∷ []) ∙
     elim (p x) as (λ b. option_or (find p xs) (cond b (Some x) None) ≡ cond b (option_or (find p xs) (Some x)) (find p xs)) [ true ↦ refl | false ↦ elim (find p xs) as (λ o. option_or o None ≡ o) [ None ↦ refl | Some y ↦ refl ] ]
-
--- ---- sorted lists
 
 -- the first key is below each other
 pub below_all : {K : Type 0} (cmp : K → K → Ordering) (k : K) (ks : List K) → IsStrictlySortedBy cmp (k ∷ ks) → (q : K) → Contains ks q → cmp k q ≡ Less

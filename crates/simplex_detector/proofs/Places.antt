@@ -91,8 +91,6 @@ excludes_one eq l (Finalizes p) (Finalizes q) (Nullifies r) s h = inr refl
 excludes_one eq l (Nullifies p) (Nullifies q) (Finalizes r) s h = inr refl
 excludes_one eq l _ _ _ s h = absurd cc
 
--- ---- which clash with a kind
-
 -- the sort of the second of two votes that contradict with a kind
 abbrev pub second_sort : Kind → Sort
 second_sort Conflicting_notarize = Notarizing

@@ -4,8 +4,6 @@ use Rattle.simplex_detector.proofs.EvidenceLemmas.{first_spot}
 use Rattle.simplex_detector.proofs.Lists.{Contains-cons, Contains-filter, Contains-first, Contains-none, find_from_Contains, find_push, found, none_found}
 use Rattle.simplex_detector.proofs.Places.{Spot, clash-excludes, excludes_itself, is_at-from, is_at-true, same_round-from, same_round-true, same_sort-refl, second_sort, spot}
 
--- ---- one more vote
-
 module _ {D G : Type 0} (eq : D → D → Bool) (l : IsEquivalence eq) (vs : List (SignedVote D G)) (v : SignedVote D G) where
   -- the earliest other vote, after one more vote
   other_after : (sort : Sort) (round : Round) (signer : ℕ) (o : Option (SignedVote D G)) → find (is_at sort round signer) vs ≡ o → (b : Bool) → is_at sort round signer v ≡ b → other_than eq (vs ++ v ∷ []) sort round signer (cond b (option_or o (Some v)) o) ≡ cond b (option_or (other_than eq vs sort round signer o) (if_differs eq o v)) (other_than eq vs sort round signer o)

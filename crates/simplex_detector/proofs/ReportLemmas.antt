@@ -194,8 +194,6 @@ report_of_walk {S} {D} {C} {P} {G} rules l detector ordered found walked message
               Contains-flat_map names_of walked.steps step n step_in (listed_in_round rules.eq vs (rules.size step.round.epoch) step.round step.round_state.votes (held step step_in) step.signers (lists step step_in) n (λ i. (sym is i).0) h)
         ]
 
--- ---- the signers of a round
-
 -- signers that were collected, sorted, and rid of what came twice
 pub lists_signers : {S D P G : Type 0} (recorded : RoundVotes S D P G) (none notarizers nullifiers finalizers sorted signers : List ℕ) → none ≡ [] → notarizers ≡ none ++ map (λ v. v.attestation.signer) recorded.notarizes.others.items → nullifiers ≡ notarizers ++ map (λ v. v.attestation.signer) recorded.nullifies.items → finalizers ≡ nullifiers ++ map (λ v. v.attestation.signer) recorded.finalizes.others.items → IsPermutation finalizers sorted → IsSorted nat_cmp sorted → signers ≡ dedup eqb sorted → ListsSigners recorded signers
 lists_signers recorded none notarizers nullifiers finalizers sorted signers e0 e1 e2 e3 moved ordered e5 =

@@ -12,12 +12,6 @@ news_among eq before (v ∷ vs) =
 front_some : (front rest : List ℕ) → 1 ≤ length front → 1 ≤ length (front ++ rest)
 front_some front rest some = omega (arith, length-append front rest)
 
-round_some : (r : Round) → 1 ≤ length (round_format.encoding r)
-round_some r = front_some _ _ (groups_some 9 r.epoch)
-
-proposal_some : {D : Type 0} (payload : Format D) (p : Proposal D) → 1 ≤ length ((proposal_format payload).encoding p)
-proposal_some payload p = front_some _ _ (round_some p.round)
-
 -- behind a front, the votes of a list of attestations that the bytes have room for
 votes_behind : {X Y : Type 0} (vote : X → Y) (xs : List X) (front bytes : List ℕ) → length xs ≤ length bytes → length (map vote xs) ≤ suc (length (front ++ bytes))
 votes_behind vote xs front bytes room = omega (arith, length-map xs vote, length-append front bytes)
@@ -35,9 +29,9 @@ module _ {S D C P G : Type 0} (eq : D → D → Bool) (payload : Format D) (cert
   message_has_room (activity.Nullification n) = votes_behind (nullify_of n.round) (listed n.certificate) _ _ (room n.certificate)
   message_has_room (activity.Finalize v) = omega arith
   message_has_room (activity.Finalization n) = votes_behind (finalize_of n.proposal) (listed n.certificate) _ _ (room n.certificate)
-  message_has_room (activity.ConflictingNotarize c) = two_behind _ _ _ (proposal_some payload c.first.proposal)
-  message_has_room (activity.ConflictingFinalize c) = two_behind _ _ _ (proposal_some payload c.first.proposal)
-  message_has_room (activity.NullifyFinalize c) = two_behind _ _ _ (round_some c.first.round)
+  message_has_room (activity.ConflictingNotarize c) = two_behind _ _ _ (front_some _ _ (front_some _ _ (groups_some 9 c.first.proposal.round.epoch)))
+  message_has_room (activity.ConflictingFinalize c) = two_behind _ _ _ (front_some _ _ (front_some _ _ (groups_some 9 c.first.proposal.round.epoch)))
+  message_has_room (activity.NullifyFinalize c) = two_behind _ _ _ (front_some _ _ (groups_some 9 c.first.round.epoch))
 
   messages_have_room : (messages : List (Activity S D C P G)) → length (flat_map (votes_in listed) messages) ≤ length (flat_map (activity_encoding eq payload certificate signature) messages)
   messages_have_room [] = omega arith

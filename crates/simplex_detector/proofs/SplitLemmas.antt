@@ -38,8 +38,6 @@ split_more eq xs ys round all h =
     let o = opposites eq xs round h in
     split_by eq ys round (record { x = o.x; y = o.y; x_in = all o.x o.x_in o.x_here; y_in = all o.y o.y_in o.y_here; x_here = o.x_here; y_here = o.y_here; against = o.against })
 
--- ---- one more subject
-
 module _ {D : Type 0} (eq : D → D → Bool) (first : Sort → Option (SubjectValue D)) (y : SubjectValue D) where
   -- a subject that excludes the first of a sort
   some_from_first : (sort : Sort) (a : SubjectValue D) → first sort ≡ Some a → excludes eq a y ≡ true → excludes_some eq first y ≡ true
@@ -49,11 +47,9 @@ module _ {D : Type 0} (eq : D → D → Bool) (first : Sort → Option (SubjectV
 
   -- what excludes the first of some sort excludes such a one
   first_from_some : excludes_some eq first y ≡ true → (sort : Sort) × (a : SubjectValue D) × (first sort ≡ Some a) × (excludes eq a y ≡ true)
-  first_from_some h = ⊎_elim (at Notarizing (first Notarizing) refl) (λ e. ⊎_elim (at Nullifying (first Nullifying) refl) (at Finalizing (first Finalizing) refl) (or_cases (excludes_first eq (first Nullifying) y) (excludes_first eq (first Finalizing) y) e)) (or_cases (excludes_first eq (first Notarizing) y) _ h)
-    where
-      at : (sort : Sort) (o : Option (SubjectValue D)) → first sort ≡ o → excludes_first eq o y ≡ true → (s : Sort) × (a : SubjectValue D) × (first s ≡ Some a) × (excludes eq a y ≡ true)
-      at sort None is e = absurd (false≢true e)
-      at sort (Some a) is e = (sort, a, is, e)
+  first_from_some h =
+      let at = λ (sort : Sort). (elim (first sort) as (λ o. first sort ≡ o → excludes_first eq o y ≡ true → (s : Sort) × (a : SubjectValue D) × (first s ≡ Some a) × (excludes eq a y ≡ true)) [ None ↦ λ is e. absurd (false≢true e) | Some a ↦ λ is e. (sort, a, is, e) ]) refl in
+      ⊎_elim (at Notarizing) (λ e. ⊎_elim (at Nullifying) (at Finalizing) (or_cases (excludes_first eq (first Nullifying) y) (excludes_first eq (first Finalizing) y) e)) (or_cases (excludes_first eq (first Notarizing) y) _ h)
 
 -- it is the first of its round and sort, if there is none yet, and changes no other
 first_after : {D : Type 0} (xs : List (SubjectValue D)) (y : SubjectValue D) (round : Round) (sort : Sort) → first_certified (xs ++ y ∷ []) round sort ≡ (if same_round (round_of y) round then first_with y sort (first_certified xs round sort) else first_certified xs round sort)

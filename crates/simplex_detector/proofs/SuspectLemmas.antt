@@ -61,8 +61,6 @@ same_count eq vs ws names round =
     same : (q : ℕ) → is_named_in eq ws round q ≡ is_named_in eq vs round q
     same q = λ i. names (record { round = round; signer = q; kind = Conflicting_notarize }) i || (names (record { round = round; signer = q; kind = Conflicting_finalize }) i || names (record { round = round; signer = q; kind = Nullify_finalize }) i)
 
--- ---- suspects tell all
-
 and_right_true : (a : Bool) → (a && true) ≡ a
 and_right_true a = elim a as (λ b. (b && true) ≡ b) [ true ↦ refl | false ↦ refl ]
 
@@ -149,11 +147,7 @@ module _ {S D C P G : Type 0} (rules : Rules S D C P G) (l : AreLawful rules) (m
   pub nothing_claimed : (splits : List Split) → IsEvidence rules.eq (valid_votes (claimed rules) messages) [] → AreSplits (claimed rules) messages splits → IsEvidence rules.eq (valid_votes rules messages) [] × AreSplits rules messages splits
   nothing_claimed splits is are = (
     record { ordered = is.ordered; sound = All-nil (λ e. evidence_of rules.eq (valid_votes rules messages) (named_by e) ≡ Some e); complete = λ n h. absurd (false≢true (suspect n h).0) },
-    record {
-      ordered = are.ordered;
-      sound = λ k d lt. absurd (no_split _ (sym (split_exists (claimed rules) messages _) ∙ ap is_some (are.sound k d lt)));
-      complete = λ r h. absurd (false≢true (split_is_suspect rules l messages nobody suspect r h));
-    },
+    record { ordered = are.ordered; sound = λ k d lt. absurd (no_split _ (sym (split_exists (claimed rules) messages _) ∙ ap is_some (are.sound k d lt))); complete = λ r h. absurd (false≢true (split_is_suspect rules l messages nobody suspect r h)) },
   )
     where
       nobody : Suspected

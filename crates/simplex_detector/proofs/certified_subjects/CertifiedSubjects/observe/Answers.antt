@@ -25,16 +25,11 @@ returns-clause-records g c subjects records =
     rw (sym c.certifies.ensures ∙ c.if-not-certifies.false)
     (records_push g.D.PartialEq.eq g.met.D.Eq.laws subjects y (round_of y) c.args.self.now c.set_first.new.self true (same_round-from (round_of y) (round_of y) refl) (λ whole. c.set_first.ensures.firsts) c.set_first.ensures.split records)
 
--- ---- when it answers that it certifies
-
--- it was not asked
 pub returns-then-not-is_news-clause-verified : goal.returns-then-not-is_news-clause-verified
 returns-then-not-is_news-clause-verified g c = sym (and_left _ _ (sym c.is_news.ensures ∙ c.if-not-is_news.true))
 
--- it was asked, and does not certify
 pub returns-then-not-certifies-clause-verified : goal.returns-then-not-certifies-clause-verified
 returns-then-not-certifies-clause-verified g c = sym (and_right _ _ (sym c.certifies.ensures ∙ c.if-not-certifies.true))
 
--- it was asked, and certifies
 pub returns-clause-verified : goal.returns-clause-verified
 returns-clause-verified g c = sym (and_from _ _ (sym c.is_news.ensures ∙ c.if-not-is_news.false) (sym c.certifies.ensures ∙ c.if-not-certifies.false))

@@ -5,7 +5,6 @@ use Rattle.simplex_detector.proofs.ReportLemmas.{IsEvidenceIn, evidence_in_round
 use Rattle.simplex_detector.proofs.round_state.RoundState.split.Given as given
 use Rattle.simplex_detector.proofs.round_state.RoundState.split.Goals as goal
 
--- what messages are judged by
 abbrev rules : (g : given.Over) → Judging → Schedule g.row.S.Denot → Rules g.row.S.Denot g.row.D.Denot g.row.S-Certificate.Denot g.row.S-PublicKey.Denot g.row.S-Signature.Denot
 rules g = rules_under g.D.PartialEq.eq g.S.CertificateScheme.keys g.S.Scheme.good g.S.CertificateVerifier.certified g.S.Listing.listed
 
