@@ -60,11 +60,7 @@ is_member-unique_keys (x ∷ xs) q = by (is_member nat_eq xs x) (nat_eq q x) ref
 IsDistinct-unique_keys : (xs : List ℕ) → IsDistinct nat_eq (unique_keys nat_eq xs)
 unfolding IsDistinct
 IsDistinct-unique_keys [] = tt
-IsDistinct-unique_keys (x ∷ xs) = by (is_member nat_eq xs x) refl (IsDistinct-unique_keys xs)
-  where
-    by : (b : Bool) → is_member nat_eq xs x ≡ b → IsDistinct nat_eq (unique_keys nat_eq xs) → IsDistinct nat_eq (cond b (unique_keys nat_eq xs) (x ∷ unique_keys nat_eq xs))
-    by true m r = r
-    by false m r = (apart x (unique_keys nat_eq xs) (is_member-unique_keys xs x ∙ m), r)
+IsDistinct-unique_keys (x ∷ xs) = (elim (is_member nat_eq xs x) as (λ b. is_member nat_eq xs x ≡ b → IsDistinct nat_eq (cond b (unique_keys nat_eq xs) (x ∷ unique_keys nat_eq xs))) [ true ↦ λ m. IsDistinct-unique_keys xs | false ↦ λ m. (apart x (unique_keys nat_eq xs) (is_member-unique_keys xs x ∙ m), IsDistinct-unique_keys xs) ]) refl
 
 -- distinct numbers that are all in a list are at most its distinct ones
 pub distinct_count-at_least : (zs xs : List ℕ) → IsDistinct nat_eq zs → ((q : ℕ) → Contains zs q → Contains xs q) → length zs ≤ distinct_count nat_eq xs

@@ -164,9 +164,7 @@ counted_behind y (x ∷ xs) s = by (nat_eq y x) refl (counted_behind x xs (λ i 
 -- one item more, of which a number is counted, with a count that stops at a greatest
 pub counted_item : {X : Type 0} (number : X → ℕ) (xs : List X) (i : ℕ) (x : X) → i < length xs → x ≡ get_or xs i x → (count next most : ℕ) (last : Option ℕ) (n : ℕ) → n ≡ number x → next ≡ cond (option_eq nat_eq last (Some n)) count (min (count + 1) most) → min (next + changes (Some n) (map number (drop (i + 1) xs))) most ≡ min (count + changes last (map number (drop i xs))) most
 counted_item number xs i x lt is count next most last n n_is next_is =
-    ap (λ k. min (k + changes (Some n) (map number (drop (i + 1) xs))) most) next_is ∙ by (option_eq nat_eq last (Some n)) (changes (Some n) (map number (drop (i + 1) xs))) ∙
+    let more = changes (Some n) (map number (drop (i + 1) xs)) in
+    ap (λ k. min (k + more) most) next_is ∙
+    elim (option_eq nat_eq last (Some n)) as (λ b. min (cond b count (min (count + 1) most) + more) most ≡ min (count + cond b more (more + 1)) most) [ true ↦ refl | false ↦ omega arith ] ∙
     (λ j. min (count + changes last (n_is j ∷ map number (drop (i + 1) xs))) most) ∙ sym (ap (λ ys. min (count + changes last (map number ys)) most) (drop_more xs i x lt ∙ (λ j. sym is j ∷ drop (i + 1) xs)))
-  where
-    by : (b : Bool) (more : ℕ) → min (cond b count (min (count + 1) most) + more) most ≡ min (count + cond b more (more + 1)) most
-    by true more = refl
-    by false more = omega arith

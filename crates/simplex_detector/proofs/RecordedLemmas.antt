@@ -191,14 +191,11 @@ module _ {D G : Type 0} (eq : D → D → Bool) (l : IsEquivalence eq) (vs : Lis
   -- of one signer in the round at most five votes are recorded
   pub few_are_recorded : (signer : ℕ) → length (filter (is_of round signer) (recorded_of eq vs)) ≤ 5
   few_are_recorded signer =
+      let at_most : (o : Option (SignedVote D G)) → length (option_to_list o) ≤ 1 = elim [ None ↦ omega arith | Some x ↦ omega arith ] in
       let in_slot = λ (sort : Sort). slot_of eq vs sort round signer in
       let has = λ (sort : Sort). ap length (recorded_are_slots eq l vs sort round signer) ∙ length-append (option_to_list (in_slot sort).earliest) (option_to_list (in_slot sort).other) in
       let one = ap (λ o. length (option_to_list o)) (no_other_nullify signer (find (is_at Nullifying round signer) vs) refl) in
       omega (arith, by_sorts signer (recorded_of eq vs), has Notarizing, has Nullifying, has Finalizing, at_most (in_slot Notarizing).earliest, at_most (in_slot Notarizing).other, at_most (in_slot Nullifying).earliest, one, at_most (in_slot Finalizing).earliest, at_most (in_slot Finalizing).other)
-    where
-      at_most : {X : Type 0} (o : Option X) → length (option_to_list o) ≤ 1
-      at_most None = omega arith
-      at_most (Some x) = omega arith
 
   -- where its slots are empty none of its votes is recorded
   pub none_of_round : ((signer : ℕ) (sort : Sort) → no_slot ≡ slot_of eq vs sort round signer) → (v : SignedVote D G) → Contains (recorded_of eq vs) v → round_of v.subject ≡ round → ⊥
@@ -233,20 +230,14 @@ module _ {S D P G : Type 0} (eq : D → D → Bool) (l : IsEquivalence eq) (n : 
 
   -- a vote that is news is taken
   pub held_after : (after : RoundVotes S D P G) → v.signer < n → changes eq (slots before v.signer (sort_of v.subject)).earliest (slots before v.signer (sort_of v.subject)).other v.subject ≡ true → TakesVote eq v before after → HoldsRound eq n (vs ++ v ∷ []) (round_of v.subject) after
-  held_after after lt news takes = record {
-    sized = takes.sized n holds.sized;
-    held = λ signer sort.
-        takes.taken n holds.sized lt news signer sort ∙
-        (λ i. cond (at_round sort signer i) (slot_with eq v (holds.held signer sort i)) (holds.held signer sort i)) ∙
-        sym (slot_after_vote eq l vs v sort (round_of v.subject) signer);
-    counted = takes.more n holds.sized lt news ∙ (λ i. holds.counted i + length (cond (sym (and_from _ _ here (sym news_held ∙ news)) i) (v ∷ []) [])) ∙ sym (recorded_in_push eq vs v (round_of v.subject));
-  }
-    where
-      here : of_round (round_of v.subject) v ≡ true
-      here = same_round-from (round_of v.subject) (round_of v.subject) refl
-
-      at_round : (sort : Sort) (signer : ℕ) → is_for v signer sort ≡ is_at sort (round_of v.subject) signer v
-      at_round sort signer = ap (λ b. same_sort (sort_of v.subject) sort && (b && eqb v.signer signer)) (sym here)
+  held_after after lt news takes =
+      let here : of_round (round_of v.subject) v ≡ true = same_round-from (round_of v.subject) (round_of v.subject) refl in
+      let at_round : (sort : Sort) (signer : ℕ) → is_for v signer sort ≡ is_at sort (round_of v.subject) signer v = λ sort signer. ap (λ b. same_sort (sort_of v.subject) sort && (b && eqb v.signer signer)) (sym here) in
+      record {
+        sized = takes.sized n holds.sized;
+        held = λ signer sort. takes.taken n holds.sized lt news signer sort ∙ (λ i. cond (at_round sort signer i) (slot_with eq v (holds.held signer sort i)) (holds.held signer sort i)) ∙ sym (slot_after_vote eq l vs v sort (round_of v.subject) signer);
+        counted = takes.more n holds.sized lt news ∙ (λ i. holds.counted i + length (cond (sym (and_from _ _ here (sym news_held ∙ news)) i) (v ∷ []) [])) ∙ sym (recorded_in_push eq vs v (round_of v.subject));
+      }
 
 -- what is held of the valid ones of some more votes on a subject
 abbrev pub HoldsMore : {S D P G : Type 0} → (D → D → Bool) → ℕ → (SubjectValue D → ℕ → G → Bool) → SubjectValue D → List (Attestation S P G) → RoundVotes S D P G → RoundVotes S D P G → Type 0

@@ -176,11 +176,11 @@ module _ {S D C P G : Type 0} (rules : Rules S D C P G) where
 
   -- a message of another round changes nothing
   pub records_other_message : IsEquivalence rules.eq → (messages : List (Activity S D C P G)) (m : Activity S D C P G) (round : Round) (recorded : CertifiedSubjects D) → same_round (activity_round m) round ≡ false → RecordsFirsts rules.eq (certified_subjects rules messages) round recorded → RecordsFirsts rules.eq (certified_subjects rules (messages ++ m ∷ [])) round recorded
-  records_other_message l messages m round recorded other records = subst (λ xs. RecordsFirsts rules.eq xs round recorded) (sym (subjects_push messages m)) (by (certified_in rules m) refl)
-    where
-      by : (o : Option (SubjectValue D)) → certified_in rules m ≡ o → RecordsFirsts rules.eq (certified_subjects rules messages ++ option_to_list o) round recorded
-      by None is = subst (λ xs. RecordsFirsts rules.eq xs round recorded) (sym (append-nil (certified_subjects rules messages))) records
-      by (Some x) is = records_elsewhere rules.eq l (certified_subjects rules messages) x round recorded (ap (λ r. same_round r round) (sym (certified_round m x is)) ∙ other) records
+  records_other_message l messages m round recorded other records =
+      subst (λ xs. RecordsFirsts rules.eq xs round recorded) (sym (subjects_push messages m)) ((elim (certified_in rules m) as (λ o. certified_in rules m ≡ o → RecordsFirsts rules.eq (certified_subjects rules messages ++ option_to_list o) round recorded) [
+        | None ↦ λ is. subst (λ xs. RecordsFirsts rules.eq xs round recorded) (sym (append-nil (certified_subjects rules messages))) records
+        | Some x ↦ λ is. records_elsewhere rules.eq l (certified_subjects rules messages) x round recorded (ap (λ r. same_round r round) (sym (certified_round m x is)) ∙ other) records
+      ]) refl)
 
 -- ---- the splits are determined
 

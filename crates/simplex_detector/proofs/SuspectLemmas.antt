@@ -54,12 +54,10 @@ module _ {D G : Type 0} (eq : D → D → Bool) (l : IsEquivalence eq) (vs : Lis
 -- as many are named in a round by votes that name the same
 same_count : {D G : Type 0} (eq : D → D → Bool) (vs ws : List (SignedVote D G)) → ((n : Named) → is_named eq ws n ≡ is_named eq vs n) → (round : Round) → named_count eq ws round ≡ named_count eq vs round
 same_count eq vs ws names round =
+    let same : (q : ℕ) → is_named_in eq ws round q ≡ is_named_in eq vs round q = λ q i. names (record { round = round; signer = q; kind = Conflicting_notarize }) i || (names (record { round = round; signer = q; kind = Conflicting_finalize }) i || names (record { round = round; signer = q; kind = Nullify_finalize }) i) in
     distinct_count-same _ _
     (λ q h. counted_signer eq vs round q (sym (same q) ∙ (Contains-from_filter (is_named_in eq ws round) _ q h).1))
     (λ q h. counted_signer eq ws round q (same q ∙ (Contains-from_filter (is_named_in eq vs round) _ q h).1))
-  where
-    same : (q : ℕ) → is_named_in eq ws round q ≡ is_named_in eq vs round q
-    same q = λ i. names (record { round = round; signer = q; kind = Conflicting_notarize }) i || (names (record { round = round; signer = q; kind = Conflicting_finalize }) i || names (record { round = round; signer = q; kind = Nullify_finalize }) i)
 
 and_right_true : (a : Bool) → (a && true) ≡ a
 and_right_true a = elim a as (λ b. (b && true) ≡ b) [ true ↦ refl | false ↦ refl ]
@@ -90,29 +88,20 @@ module _ {S D C P G : Type 0} (rules : Rules S D C P G) (l : AreLawful rules) (m
   -- a round that is split is suspect
   split_is_suspect : (round : Round) → is_split rules messages round ≡ true → s.rounds round ≡ true
   split_is_suspect round h =
+      let some : (xs : List ℕ) → 1 ≤ distinct_count nat_eq xs → (x : ℕ) × Contains xs x = elim [ [] ↦ λ e. absurd (omega (arith, e)) | ◌∷◌ x xs ↦ λ e. (x, Contains-first x xs) ] in
       let (q, q_in) = some (filter (is_named_in rules.eq (valid_votes rules messages) round) (map (λ v. v.signer) (valid_votes rules messages))) (omega (arith, enough_in_split rules messages l round h)) in
       let (kind, named) = kind_from_named_in rules.eq (valid_votes rules messages) round q (Contains-from_filter (is_named_in rules.eq (valid_votes rules messages) round) _ q q_in).1 in
       (covers (record { round = round; signer = q; kind = kind }) named).1
-    where
-      some : (xs : List ℕ) → 1 ≤ distinct_count nat_eq xs → (x : ℕ) × Contains xs x
-      some [] h = absurd (omega (arith, h))
-      some (x ∷ xs) h = (x, Contains-first x xs)
 
   -- the same rounds are split
   same_splits : (round : Round) → is_split (among s rules) messages round ≡ is_split rules messages round
-  same_splits round = from_subjects (among s rules) messages round ∙ ap (λ xs. are_split rules.eq xs round) (certified_among messages) ∙ same_bool _ _ more less ∙ sym (from_subjects rules messages round)
-    where
-      xs : List (SubjectValue D)
-      xs = certified_subjects rules messages
-
-      suspect : SubjectValue D → Bool
-      suspect x = s.rounds (round_of x)
-
-      more : are_split rules.eq (filter suspect xs) round ≡ true → are_split rules.eq xs round ≡ true
-      more = split_more rules.eq (filter suspect xs) xs round (λ x x_in at. (Contains-from_filter suspect xs x x_in).0)
-
-      less : are_split rules.eq xs round ≡ true → are_split rules.eq (filter suspect xs) round ≡ true
-      less h = split_more rules.eq xs (filter suspect xs) round (λ x x_in at. Contains-filter suspect xs x x_in (ap s.rounds at ∙ split_is_suspect round (from_subjects rules messages round ∙ h))) h
+  same_splits round =
+      let xs = certified_subjects rules messages in
+      let suspect : SubjectValue D → Bool = λ x. s.rounds (round_of x) in
+      from_subjects (among s rules) messages round ∙ ap (λ zs. are_split rules.eq zs round) (certified_among messages) ∙
+      same_bool _ _ (split_more rules.eq (filter suspect xs) xs round (λ x x_in at. (Contains-from_filter suspect xs x x_in).0))
+      (λ h. split_more rules.eq xs (filter suspect xs) round (λ x x_in at. Contains-filter suspect xs x x_in (ap s.rounds at ∙ split_is_suspect round (from_subjects rules messages round ∙ h))) h) ∙
+      sym (from_subjects rules messages round)
 
   pub suspects_tell_all : TellAll rules messages s
   suspects_tell_all =
@@ -245,10 +234,9 @@ same_among rules messages good certified alike = λ i. record {
 }
 
 pub suspects_suffice : {S D C P G : Type 0} (rules : Rules S D C P G) → AreLawful rules → (messages : List (Activity S D C P G)) → SuspectsSuffice rules messages
-suspects_suffice {S} {D} {C} {P} {G} rules l messages = record {
-  evidence = λ good certified alike es is. ((tell (judged_by rules good certified) alike.lawful).evidence es).0 (subst (λ judged. IsEvidence rules.eq (valid_votes judged messages) es) (same_among rules messages good certified alike) (((tell rules l).evidence es).1 is));
-  splits = λ good certified alike splits are. ((tell (judged_by rules good certified) alike.lawful).splits splits).0 (subst (λ judged. AreSplits judged messages splits) (same_among rules messages good certified alike) (((tell rules l).splits splits).1 are));
-}
-  where
-    tell : (judges : Rules S D C P G) → AreLawful judges → TellAll judges messages (suspected judges messages)
-    tell judges lawful = suspects_tell_all judges lawful messages (suspected judges messages) (λ n h. claimed_is_suspect judges messages n (named_is_claimed judges lawful messages n h))
+suspects_suffice {S} {D} {C} {P} {G} rules l messages =
+    let tell : (judges : Rules S D C P G) → AreLawful judges → TellAll judges messages (suspected judges messages) = λ judges lawful. suspects_tell_all judges lawful messages (suspected judges messages) (λ n h. claimed_is_suspect judges messages n (named_is_claimed judges lawful messages n h)) in
+    record {
+      evidence = λ good certified alike es is. ((tell (judged_by rules good certified) alike.lawful).evidence es).0 (subst (λ judged. IsEvidence rules.eq (valid_votes judged messages) es) (same_among rules messages good certified alike) (((tell rules l).evidence es).1 is));
+      splits = λ good certified alike splits are. ((tell (judged_by rules good certified) alike.lawful).splits splits).0 (subst (λ judged. AreSplits judged messages splits) (same_among rules messages good certified alike) (((tell rules l).splits splits).1 are));
+    }
