@@ -1,6 +1,5 @@
 -- Two certified messages that contradict name more participants than may lie.
-use Rattle.simplex_detector.proofs.Std.{All, All-append, All-contains, All-filter, All-from_recursion, All-map, AllByRecursion, Bool, Contains, Contains-from_any, IsTrue, List, None, Option, Some, [], and_from, and_parts, ap, arith, cond, cond_some, distinct_count, eqb-true, false, filter, filter_passes, is_member, length, length-append, length-filter_both, length-le_from_distinct_below, length-le_from_is_member, length-map, list_any, list_any-from_Contains, list_any_congr, map, nat_eq, nat_eq_equiv, not, not-true, or_cases, or_left, or_parts, or_right, recursion_from_All, refl, same_Some, subst, sym, true, unique_keys, ℕ, ⊎_elim, ◌++◌, ◌+◌, ◌<◌, ◌||◌, ◌∙◌, ◌∷◌, ◌≡◌, ◌≤◌}
-use Rattle.simplex_detector.proofs.Words.{Activity, AreLawful, Attestation, Conflicting_finalize, Conflicting_notarize, EnoughAreNamed, IsAccountable, Kind, Nullify_finalize, Round, Rules, SignedVote, SignersAreAccountable, SubjectValue, activity_round, certificate_in, certificates_contradict, certified_in, clash, excludes, faults_of, if_certified, is_named, is_named_in, is_of, named_count, quorum_of, round_of, same_round, shared_signers, signers_of, valid_votes, vote_on, votes_in}
+use Rattle.simplex_detector.proofs.Prelude.{Activity, All, All-append, All-contains, All-filter, All-from_recursion, All-map, AllByRecursion, AreLawful, Attestation, Bool, Conflicting_finalize, Conflicting_notarize, Contains, Contains-from_any, EnoughAreNamed, IsAccountable, IsTrue, Kind, List, None, Nullify_finalize, Option, Round, Rules, SignedVote, SignersAreAccountable, Some, SubjectValue, [], activity_round, and_from, and_parts, ap, arith, certificate_in, certificates_contradict, certified_in, clash, cond, cond_some, distinct_count, eqb-true, excludes, false, faults_of, filter, filter_passes, if_certified, is_member, is_named, is_named_in, is_of, length, length-append, length-filter_both, length-le_from_distinct_below, length-le_from_is_member, length-map, list_any, list_any-from_Contains, list_any_congr, map, named_count, nat_eq, nat_eq_equiv, not, not-true, or_cases, or_left, or_parts, or_right, quorum_of, recursion_from_All, refl, round_of, same_Some, same_round, shared_signers, signers_of, subst, sym, true, unique_keys, valid_votes, vote_on, votes_in, ℕ, ⊎_elim, ◌++◌, ◌+◌, ◌<◌, ◌||◌, ◌∙◌, ◌∷◌, ◌≡◌, ◌≤◌}
 use Rattle.std.specs.List.{IsDistinct}
 use Rattle.simplex_detector.proofs.EvidenceLemmas.{named_from_votes, valid_in, votes_from_named}
 use Rattle.simplex_detector.proofs.Lists.{Contains-filter, Contains-from_filter, Contains-from_map, Contains-map, each, some_from_is_some}
@@ -49,8 +48,6 @@ shared_count n xs ys d e below under =
     let bound = length-le_from_distinct_below (rest ++ ys) n all (λ q h. All-contains Below (rest ++ ys) q (All-append Below rest ys (All-filter other Below xs below) under) (Contains-from_member (rest ++ ys) q h)) in
     omega (arith, bound, length-append rest ys, length-filter_both (is_member nat_eq ys) other (λ x. refl) xs)
 
--- ---- how many distinct numbers a list has
-
 is_member-unique_keys : (xs : List ℕ) (q : ℕ) → is_member nat_eq (unique_keys nat_eq xs) q ≡ is_member nat_eq xs q
 is_member-unique_keys [] q = refl
 is_member-unique_keys (x ∷ xs) q = by (is_member nat_eq xs x) (nat_eq q x) refl refl (is_member-unique_keys xs q)
@@ -63,11 +60,7 @@ is_member-unique_keys (x ∷ xs) q = by (is_member nat_eq xs x) (nat_eq q x) ref
 IsDistinct-unique_keys : (xs : List ℕ) → IsDistinct nat_eq (unique_keys nat_eq xs)
 unfolding IsDistinct
 IsDistinct-unique_keys [] = tt
-IsDistinct-unique_keys (x ∷ xs) = by (is_member nat_eq xs x) refl (IsDistinct-unique_keys xs)
-  where
-    by : (b : Bool) → is_member nat_eq xs x ≡ b → IsDistinct nat_eq (unique_keys nat_eq xs) → IsDistinct nat_eq (cond b (unique_keys nat_eq xs) (x ∷ unique_keys nat_eq xs))
-    by true m r = r
-    by false m r = (apart x (unique_keys nat_eq xs) (is_member-unique_keys xs x ∙ m), r)
+IsDistinct-unique_keys (x ∷ xs) = (elim (is_member nat_eq xs x) as (λ b. is_member nat_eq xs x ≡ b → IsDistinct nat_eq (cond b (unique_keys nat_eq xs) (x ∷ unique_keys nat_eq xs))) [ true ↦ λ m. IsDistinct-unique_keys xs | false ↦ λ m. (apart x (unique_keys nat_eq xs) (is_member-unique_keys xs x ∙ m), IsDistinct-unique_keys xs) ]) refl
 
 -- distinct numbers that are all in a list are at most its distinct ones
 pub distinct_count-at_least : (zs xs : List ℕ) → IsDistinct nat_eq zs → ((q : ℕ) → Contains zs q → Contains xs q) → length zs ≤ distinct_count nat_eq xs

@@ -1,7 +1,6 @@
 -- The votes of a report's evidence have that report.
-use Rattle.simplex_detector.proofs.Std.{All-contains, All-from_recursion, Bool, Contains, IsEquivalence, List, None, Option, Some, [], and_parts, ap, arith, cond, cond-true, false, false≢true, filter, find, flat_map, flat_map-map, inl, inr, is_some, map, refl, same_Some, subst, sym, true, ◌&&◌, ◌∙◌, ◌∷◌, ◌≡◌, ◌⊎◌}
-use Rattle.simplex_detector.proofs.Words.{Activity, Conflicting_finalize, Conflicting_notarize, Evidence, Finalizing, IsEvidence, Kind, Named, Notarizing, Nullify_finalize, Rules, SignedVote, contradicts, evidence_of, evidence_value, excludes, first_sort, is_at, is_named, is_valid, message_of, named_by, round_of, valid_votes, votes_in}
-use Rattle.simplex_detector.proofs.EvidenceLemmas.{EvidenceIs, evidence_exists, evidence_is, evidence_made, first_spot, moved_evidence, named_from_votes}
+use Rattle.simplex_detector.proofs.Prelude.{with_first, with_second, Activity, All-contains, All-from_recursion, Bool, Conflicting_finalize, Conflicting_notarize, Contains, Evidence, Finalizing, IsEquivalence, IsEvidence, Kind, List, Named, None, Notarizing, Nullify_finalize, Option, Rules, SignedVote, Some, [], and_parts, ap, arith, cond, cond-true, contradicts, evidence_of, evidence_value, excludes, false, false≢true, filter, find, first_sort, flat_map, flat_map-map, inl, inr, is_at, is_named, is_some, is_valid, map, message_of, named_by, refl, round_of, same_Some, subst, sym, true, valid_votes, votes_in, ◌&&◌, ◌∙◌, ◌∷◌, ◌≡◌, ◌⊎◌}
+use Rattle.simplex_detector.proofs.EvidenceLemmas.{EvidenceIs, evidence_exists, evidence_is, first_spot, moved_evidence, named_from_votes}
 use Rattle.simplex_detector.proofs.Lists.{Contains-cons, Contains-first, Contains-flat_map, Contains-from_filter, Contains-from_flat_map, Contains-from_map, found}
 use Rattle.simplex_detector.proofs.Places.{Spot, excludes_itself, is_at-from, is_at-true, is_of-from, spot}
 use Rattle.simplex_detector.proofs.RecordedLemmas.{second_agrees, second_by}
@@ -56,10 +55,7 @@ module _ {D G : Type 0} (eq : D → D → Bool) (l : IsEquivalence eq) (vs : Lis
   earliest_again : (s : Spot) (x : SignedVote D G) → find (at s) (flat_map pair es) ≡ Some x → find (at s) vs ≡ Some x
   earliest_again s = find_pairs (at s) (λ v. find (at s) vs ≡ Some v) es (λ e e_in. (
     λ first_at. here s e.first first_at (first_earliest e e_in),
-    λ none second_at. elim (second_there e e_in) [
-      | inl earliest ↦ here s e.second second_at earliest
-      | inr other ↦ absurd (false≢true (sym none ∙ is_at-from s e.first (sym other.0 ∙ is_at-true s e.second second_at)))
-    ],
+    λ none second_at. elim (second_there e e_in) [ inl earliest ↦ here s e.second second_at earliest | inr other ↦ absurd (false≢true (sym none ∙ is_at-from s e.first (sym other.0 ∙ is_at-true s e.second second_at))) ],
   ))
 
   -- so is the earliest that excludes it
@@ -111,9 +107,8 @@ module _ {D G : Type 0} (eq : D → D → Bool) (l : IsEquivalence eq) (vs : Lis
           let is = evidence_is eq (flat_map pair es) n e h in
           let first = earliest_again (first_spot n) e.first is.first in
           let agrees = second_agrees eq n.kind n.round n.signer e.first (is_at-true (first_spot n) e.first (found _ vs e.first first).1) in
-          evidence_made eq vs n e (record { named = is.named; first = first; second = (λ i. find (λ w. agrees w i) vs) ∙ second n.kind e.first e.second first (sym (λ i. find (λ w. agrees w i) (flat_map pair es)) ∙ is.second) })
-
--- ---- messages
+          (λ i. with_first eq vs n.kind (first i)) ∙ (λ i. with_second n.kind e.first (((λ j. find (λ w. agrees w j) vs) ∙ second n.kind e.first e.second first (sym (λ j. find (λ w. agrees w j) (flat_map pair es)) ∙ is.second)) i)) ∙
+          (λ i. Some (record { kind = (sym is.named i).kind; first = e.first; second = e.second }))
 
 -- the messages that are the evidence of some messages have that evidence
 pub evidence_again : {S D C P G : Type 0} (rules : Rules S D C P G) → IsEquivalence rules.eq → (ms : List (Activity S D C P G)) (es : List (declared.Evidence S D P G)) → IsEvidence rules.eq (valid_votes rules ms) (map evidence_value es) → IsEvidence rules.eq (valid_votes rules (map message_of es)) (map evidence_value es)

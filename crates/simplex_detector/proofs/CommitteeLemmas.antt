@@ -1,24 +1,14 @@
 -- Committees that are listed by epoch, and the rules that they give.
-use Rattle.simplex_detector.proofs.Std.{All, All-cons, All-contains, All-nil, Bool, Contains, Equal, Err, Greater, IfErr, IfOk, IsBinarySearchResult, IsEquivalence, IsNonDecreasingBy, IsSearchInRange, Less, List, MatchOrdering, None, Ok, Option, Ordering, Result, Some, [], and_parts, ap, arith, by_ranked, cases_lt, cond, cond-false, cond-true, contains, drop, drop_all, drop_more, eqb, eqb-true, false, false≢true, find, get_or, get_or_default, inl, inr, is_le, is_lt, keys, length, ltb-true, max, nat_cmp, nat_tests, option_map, ord_max, ordering_index, ranked, refl, same_Some, subst, suc, sym, true, zero, ℕ, ◌+◌, ◌-◌, ◌<◌, ◌∙◌, ◌∷◌, ◌≡◌, ◌≤◌}
-use Rattle.simplex_detector.proofs.Words.{AreLawful, AreRising, Attestation, Claimed, Every, HaveCommittees, IsQuorum, IsSchedule, Judging, Listed, Schedule, SubjectValue, Suspects, Verified, bound_of, certified_by, certified_under, committee_of, greatest, parted, round_cmp, round_of, rules_of, signer_cmp, size_by, valid_by, valid_under}
-use Rattle.simplex_detector.proofs.Lists.{found, none_found}
-
--- ---- numbers
+use Rattle.simplex_detector.proofs.Prelude.{All, All-cons, All-contains, All-nil, AreLawful, AreRising, Attestation, Bool, Claimed, Contains, Equal, Err, Every, Greater, HaveCommittees, IfErr, IfOk, IsBinarySearchResult, IsEquivalence, IsNonDecreasingBy, IsQuorum, IsSchedule, IsSearchInRange, Judging, Less, List, Listed, MatchOrdering, None, Ok, Option, Ordering, Result, Schedule, Some, SubjectValue, Suspects, Verified, [], and_parts, ap, arith, bound_of, by_ranked, cases_lt, certified_by, certified_under, committee_of, cond, cond-false, cond-true, contains, drop, drop_all, drop_more, eqb, eqb-true, false, false≢true, find, get_or, get_or_default, greatest, inl, inr, is_le, is_lt, keys, length, ltb-true, max, nat_cmp, nat_tests, option_map, ord_max, ordering_index, parted, ranked, refl, round_cmp, round_of, rules_of, same_Some, signer_cmp, size_by, subst, suc, sym, true, valid_by, valid_under, zero, ℕ, ◌+◌, ◌-◌, ◌<◌, ◌∙◌, ◌∷◌, ◌≡◌, ◌≤◌}
+use Rattle.simplex_detector.proofs.Lists.{found, found_mapped, none_found}
 
 -- a number that is not at most another is greater
 pub not_le : (a b : ℕ) → is_le (nat_cmp a b) ≡ false → b < a
-not_le a b h = by_ranked (a < b) (a ≡ b) (b < a) (nat_cmp a b) (ranked a b (nat_cmp a b) refl) (λ e m. absurd (false≢true (sym h ∙ ap is_le e))) (λ e m. absurd (false≢true (sym h ∙ ap is_le e))) (λ e m. m)
+not_le a b h = grind (arith, nat_tests)
 
 -- the greater of two numbers
 max_by_order : (a b : ℕ) → ord_max nat_cmp a b ≡ max a b
-max_by_order a b = by (nat_cmp b a) refl (ranked b a (nat_cmp b a) refl)
-  where
-    by : (o : Ordering) → nat_cmp b a ≡ o → MatchOrdering o (b < a) (b ≡ a) (a < b) → cond (is_lt (nat_cmp b a)) a b ≡ max a b
-    by Less e m = cond-true (is_lt (nat_cmp b a)) a b (ap is_lt e) ∙ omega (arith, m)
-    by Equal e m = cond-false (is_lt (nat_cmp b a)) a b (ap is_lt e) ∙ omega (arith, m)
-    by Greater e m = cond-false (is_lt (nat_cmp b a)) a b (ap is_lt e) ∙ omega (arith, m)
-
--- ---- epochs that rise
+max_by_order a b = grind (arith, nat_tests)
 
 -- entries rise further by one that is above the last
 pub rising_next : {S : Type 0} (ps : List (ℕ × S)) (i : ℕ) → ((a b : ℕ) (d : ℕ × S) → a < b → b < i → (get_or ps a d).0 < (get_or ps b d).0) → 1 ≤ i → i < length ps → (p q : ℕ × S) → (get_or ps (i - 1) q).0 < (get_or ps i p).0 → (a b : ℕ) (d : ℕ × S) → a < b → b < i + 1 → (get_or ps a d).0 < (get_or ps b d).0
@@ -29,20 +19,15 @@ rising_next ps i rise some lt p q above a b d a_lt b_lt =
       | inl lo ↦ rise a b d a_lt lo
       | inr hi ↦
           let is : b ≡ i = omega (arith, hi, b_lt) in
-          elim (cases_lt a (i - 1)) [
-            | inl below ↦ rw is (omega (arith, above, here, before, rise a (i - 1) d below (omega (arith, some))))
-            | inr last ↦ (let at : a ≡ i - 1 = omega (arith, last, a_lt, is) in rw (is, at) (omega (arith, above, here, before)))
-          ]
+          elim (cases_lt a (i - 1)) [ inl below ↦ rw is (omega (arith, above, here, before, rise a (i - 1) d below (omega (arith, some)))) | inr last ↦ (let at : a ≡ i - 1 = omega (arith, last, a_lt, is) in rw (is, at) (omega (arith, above, here, before))) ]
     ]
-
--- ---- what halving finds
 
 -- the entry of an epoch
 abbrev pub entry_of : {S : Type 0} → List (ℕ × S) → ℕ → Option (ℕ × S)
 entry_of pairs epoch = find (λ p. eqb p.0 epoch) pairs
 
 -- an entry is its epoch's
-entry_at : {S : Type 0} (ps : List (ℕ × S)) → AreRising ps → (i : ℕ) (d : ℕ × S) → i < length ps → entry_of ps (get_or ps i d).0 ≡ Some (get_or ps i d)
+pub entry_at : {S : Type 0} (ps : List (ℕ × S)) → AreRising ps → (i : ℕ) (d : ℕ × S) → i < length ps → entry_of ps (get_or ps i d).0 ≡ Some (get_or ps i d)
 entry_at [] rising i d lt = absurd (omega arith)
 entry_at (p ∷ ps) rising zero d lt = grind (arith, nat_tests)
 entry_at (p ∷ ps) rising (suc i) d lt =
@@ -69,25 +54,13 @@ searched {S} ps rising epoch (Err place) in_range parted = record {
         let up : (get_or ps i d).0 ≤ (get_or ps j d).0 = elim (cases_lt i j) [ inl lt ↦ omega (arith, rising i j d lt in_range) | inr ge ↦ (let e : i ≡ j = omega arith in rw e (omega arith)) ] in
         grind (arith, nat_tests)
 
--- the committee of an entry that was read at a place whose epoch is sought
-pub entry_read : {S : Type 0} (ps : List (ℕ × S)) → AreRising ps → (place epoch : ℕ) (p : ℕ × S) → place < length ps → (get_or ps place p).0 ≡ epoch → option_map (λ q. q.1) (entry_of ps epoch) ≡ Some (get_or ps place p).1
-entry_read ps rising place epoch p lt at = ap (option_map (λ q. q.1)) (ap (entry_of ps) (sym at) ∙ entry_at ps rising place p lt)
-
 -- ---- the greatest committee
-
--- the committee of an epoch is that of an entry
-listed_entry : {S : Type 0} (ps : List (ℕ × S)) (epoch : ℕ) (c : S) → option_map (λ p. p.1) (entry_of ps epoch) ≡ Some c → (p : ℕ × S) × Contains ps p × (p.1 ≡ c)
-listed_entry {S} ps epoch c h = by (entry_of ps epoch) refl h
-  where
-    by : (o : Option (ℕ × S)) → entry_of ps epoch ≡ o → option_map (λ p. p.1) o ≡ Some c → (p : ℕ × S) × Contains ps p × (p.1 ≡ c)
-    by None is e = absurd cc
-    by (Some p) is e = (p, (found (λ q. eqb q.0 epoch) ps p is).0, same_Some p.1 c e)
 
 -- no committee is greater than the bound
 pub most : {S P : Type 0} (keys : S → List P) (schedule : Schedule S) (epoch : ℕ) (c : S) → committee_of schedule epoch ≡ Some c → length (keys c) ≤ bound_of keys schedule
 most keys (Every committee) epoch c h = let len = ap (λ x. length (keys x)) (same_Some committee c h) in omega (arith, len)
 most {S} keys (Listed ps) epoch c h =
-    let (p, p_in, is) = listed_entry ps epoch c h in
+    let (p, p_in, _, is) = found_mapped (λ q. q.1) (λ q. eqb q.0 epoch) ps c h in
     subst (λ s. length (keys s) ≤ greatest keys ps) is (All-contains (λ q. length (keys q.1) ≤ greatest keys ps) ps p (below ps) p_in)
   where
     below : (ps : List (ℕ × S)) → All (λ q. length (keys q.1) ≤ greatest keys ps) ps
@@ -106,10 +79,7 @@ reached {S} keys (Listed (p ∷ ps)) is =
     at p [] = (0, omega arith, λ d. omega arith)
     at p (q ∷ ps) =
         let (i, lt, is) = at q ps in
-        elim (cases_lt (greatest keys (q ∷ ps)) (length (keys p.1))) [
-          | inl less ↦ (0, omega arith, λ d. omega (arith, less))
-          | inr more ↦ (suc i, omega (arith, lt), λ d. omega (arith, more, is d))
-        ]
+        elim (cases_lt (greatest keys (q ∷ ps)) (length (keys p.1))) [ inl less ↦ (0, omega arith, λ d. omega (arith, less)) | inr more ↦ (suc i, omega (arith, lt), λ d. omega (arith, more, is d)) ]
 
 -- one entry more
 pub greatest_next : {S P : Type 0} (keys : S → List P) (ps : List (ℕ × S)) (i so_far size next : ℕ) (p : ℕ × S) → i < length ps → p ≡ get_or ps i p → size ≡ length (keys p.1) → next ≡ ord_max nat_cmp so_far size → max next (greatest keys (drop (i + 1) ps)) ≡ max so_far (greatest keys (drop i ps))
@@ -118,14 +88,10 @@ greatest_next keys ps i so_far size next p lt is sized maxed =
     let most : next ≡ max so_far size = maxed ∙ max_by_order so_far size in
     omega (arith, len, most, sized)
 
--- after the last entry
-pub greatest_all : {S P : Type 0} (keys : S → List P) (ps : List (ℕ × S)) (i so_far : ℕ) → length ps ≤ i → so_far ≡ max so_far (greatest keys (drop i ps))
-greatest_all keys ps i so_far end = let none = ap (greatest keys) (drop_all i ps end) in omega (arith, none)
-
 -- where each entry has a participant the committee of an epoch has one
 pub manned : {S P : Type 0} (keys : S → List P) (ps : List (ℕ × S)) → All (λ p. 1 ≤ length (keys p.1)) ps → (epoch : ℕ) (c : S) → committee_of (Listed ps) epoch ≡ Some c → 1 ≤ length (keys c)
 manned keys ps one epoch c h =
-    let (p, p_in, is) = listed_entry ps epoch c h in
+    let (p, p_in, _, is) = found_mapped (λ q. q.1) (λ q. eqb q.0 epoch) ps c h in
     subst (λ s. 1 ≤ length (keys s)) is (All-contains (λ q. 1 ≤ length (keys q.1)) ps p one p_in)
 
 -- ---- the rules are lawful
@@ -133,29 +99,17 @@ manned keys ps one epoch c h =
 module _ {S D C P G : Type 0} (eq : D → D → Bool) (keys : S → List P) (good : S → SubjectValue D → ℕ → G → Bool) (certified : S → SubjectValue D → C → Bool) (listed : C → List (Attestation S P G)) (schedule : Schedule S) (members : (s : S) (x : SubjectValue D) (signer : ℕ) (signature : G) → good s x signer signature ≡ true → signer < length (keys s)) (someone : (epoch : ℕ) (s : S) → committee_of schedule epoch ≡ Some s → 1 ≤ length (keys s)) where
   pub rules_committees : HaveCommittees (rules_of eq keys good certified listed schedule)
   rules_committees = record {
-    members = λ x signer signature. valid (committee_of schedule (round_of x).epoch) x signer signature;
-    someone = λ x c. one (committee_of schedule (round_of x).epoch) (someone (round_of x).epoch) x c;
+    members = λ x signer signature. elim (committee_of schedule (round_of x).epoch) as (λ o. valid_by good o x signer signature ≡ true → signer < size_by keys o) [ None ↦ λ h. absurd (false≢true h) | Some s ↦ members s x signer signature ];
+    someone = λ x c. (elim (committee_of schedule (round_of x).epoch) as (λ o. ((s : S) → o ≡ Some s → 1 ≤ length (keys s)) → certified_by certified o x c ≡ true → 1 ≤ size_by keys o) [ None ↦ λ some h. absurd (false≢true h) | Some s ↦ λ some h. some s refl ]) (someone (round_of x).epoch);
   }
-    where
-      valid : (o : Option S) (x : SubjectValue D) (signer : ℕ) (signature : G) → valid_by good o x signer signature ≡ true → signer < size_by keys o
-      valid None x signer signature h = absurd (false≢true h)
-      valid (Some s) x signer signature h = members s x signer signature h
-
-      one : (o : Option S) → ((s : S) → o ≡ Some s → 1 ≤ length (keys s)) → (x : SubjectValue D) (c : C) → certified_by certified o x c ≡ true → 1 ≤ size_by keys o
-      one None some x c h = absurd (false≢true h)
-      one (Some s) some x c h = some s refl
 
   pub rules_lawful : IsEquivalence eq → ((s : S) (x : SubjectValue D) (c : C) → certified s x c ≡ true → IsQuorum (length (keys s)) (good s x) (listed c)) → AreLawful (rules_of eq keys good certified listed schedule)
   rules_lawful payloads quorums = record {
     payloads = payloads;
     members = rules_committees.members;
     someone = rules_committees.someone;
-    quorums = λ x c. quorum (committee_of schedule (round_of x).epoch) x c;
+    quorums = λ x c. elim (committee_of schedule (round_of x).epoch) as (λ o. certified_by certified o x c ≡ true → IsQuorum (size_by keys o) (valid_by good o x) (listed c)) [ None ↦ λ h. absurd (false≢true h) | Some s ↦ λ h. let q = quorums s x c h in record { distinct = q.distinct; enough = q.enough; each_good = q.each_good } ];
   }
-    where
-      quorum : (o : Option S) (x : SubjectValue D) (c : C) → certified_by certified o x c ≡ true → IsQuorum (size_by keys o) (valid_by good o x) (listed c)
-      quorum None x c h = absurd (false≢true h)
-      quorum (Some s) x c h = let q = quorums s x c h in record { distinct = q.distinct; enough = q.enough; each_good = q.each_good }
 
 -- ---- however strictly committees judge, what is valid is in a committee
 

@@ -1,6 +1,5 @@
 -- How many votes are recorded, how many are named in a round, and the split that this gives.
-use Rattle.simplex_detector.proofs.Std.{All, All-contains, AllByRecursion, Bool, Contains, Equal, Greater, IsEquivalence, IsNonDecreasing, IsOrdered, Less, Less-from_sorted, List, None, Option, Ordering, Some, [], ap, append_assoc, arith, cases_lt, cond, cond-false, cond-true, cons_option, distinct_count, drop, drop_more, eqb-false, false, false_from_ne_true, false≢true, filter, filter_map, get_or, get_or-map, if◌then◌else◌, inl, inr, is_gt, is_member, is_some, le_from_not_gt, length, length-filter_both, length-map, map, min, nat_cmp, nat_eq, not, not-true, option_eq, option_to_list, ordering_then, recursion_from_All, refl, subst, suc, sym, tied_itself, true, unique_keys, ℕ, ⊎_elim, ◌++◌, ◌+◌, ◌-◌, ◌<◌, ◌^◌, ◌||◌, ◌∙◌, ◌∷◌, ◌≡◌, ◌≤◌}
-use Rattle.simplex_detector.proofs.Words.{Activity, AreSplits, CertifiedSubjects, Detector, Evidence, HaveCommittees, Named, Recalls, RecallsRound, RecordsFirsts, Round, RoundState, Rules, SignedVote, certified_subjects, evidence_of, faults_of, is_named, is_named_in, is_split, kind_rank, named_by, named_cmp, named_count, recorded_of, round_cmp, round_count, round_of, split_of, valid_votes, votes_recorded}
+use Rattle.simplex_detector.proofs.Prelude.{Activity, All, All-contains, AllByRecursion, AreSplits, Bool, CertifiedSubjects, Contains, Detector, Equal, Evidence, Greater, HaveCommittees, IsEquivalence, IsNonDecreasing, IsOrdered, Less, Less-from_sorted, List, Named, None, Option, Ordering, Recalls, RecallsRound, RecordsFirsts, Round, RoundState, Rules, SignedVote, Some, [], ap, append_assoc, arith, cases_lt, certified_subjects, cond, cond-false, cond-true, cons_option, distinct_count, drop, drop_more, eqb-false, evidence_of, false, false_from_ne_true, false≢true, faults_of, filter, filter_map, get_or, get_or-map, if◌then◌else◌, inl, inr, is_gt, is_member, is_named, is_named_in, is_some, is_split, kind_rank, le_from_not_gt, length, length-filter_both, length-map, map, min, named_by, named_cmp, named_count, nat_cmp, nat_eq, not, not-true, option_eq, option_to_list, ordering_then, recorded_of, recursion_from_All, refl, round_cmp, round_count, round_of, split_of, subst, suc, sym, tied_itself, true, unique_keys, valid_votes, votes_recorded, ℕ, ⊎_elim, ◌++◌, ◌+◌, ◌-◌, ◌<◌, ◌^◌, ◌||◌, ◌∙◌, ◌∷◌, ◌≡◌, ◌≤◌}
 use Rattle.std.specs.List.Sorted.{IsStrictlySortedBy}
 use Rattle.simplex_detector.proofs.AccountLemmas.{Contains-from_member, counted_signer, distinct_count-below, distinct_count-same, kind_from_named_in, named_in}
 use Rattle.simplex_detector.proofs.CommitteeLemmas.{most}
@@ -11,8 +10,6 @@ use Rattle.simplex_detector.proofs.RecordedLemmas.{none_of_round, of_round}
 use Rattle.simplex_detector.proofs.ReportLemmas.{IsEvidenceIn, recalled, recalls_listed}
 use Rattle.simplex_detector.proofs.SplitLemmas.{from_subjects, someone_in_split, splits_of_rounds}
 
--- ---- votes, round by round
-
 -- how many of some votes are of each of some rounds
 abbrev of_rounds : {D G : Type 0} → List Round → List (SignedVote D G) → ℕ
 of_rounds [] vs = 0
@@ -21,13 +18,11 @@ of_rounds (r ∷ rounds) vs = length (filter (of_round r) vs) + of_rounds rounds
 -- a filter by less loses nothing of what passes
 filter_filtered : {X : Type 0} (p q : X → Bool) → ((x : X) → p x ≡ true → q x ≡ true) → (xs : List X) → filter p (filter q xs) ≡ filter p xs
 filter_filtered p q weaker [] = refl
-filter_filtered p q weaker (x ∷ xs) = by (p x) (q x) refl refl (filter_filtered p q weaker xs)
-  where
-    by : (a b : Bool) → p x ≡ a → q x ≡ b → filter p (filter q xs) ≡ filter p xs → filter p (cond b (x ∷ filter q xs) (filter q xs)) ≡ cond a (x ∷ filter p xs) (filter p xs)
-    by true true e d rest = λ i. cond (e i) (x ∷ rest i) (rest i)
-    by true false e d rest = absurd (false≢true (sym d ∙ weaker x e))
-    by false true e d rest = λ i. cond (e i) (x ∷ rest i) (rest i)
-    by false false e d rest = rest
+filter_filtered p q weaker (x ∷ xs) =
+    (elim (q x) as (λ b. q x ≡ b → filter p (cond b (x ∷ filter q xs) (filter q xs)) ≡ cond (p x) (x ∷ filter p xs) (filter p xs)) [
+      | true ↦ λ d i. cond (p x) (x ∷ filter_filtered p q weaker xs i) (filter_filtered p q weaker xs i)
+      | false ↦ λ d. filter_filtered p q weaker xs ∙ sym (cond-false (p x) (x ∷ filter p xs) (filter p xs) (false_from_ne_true (p x) (λ e. false≢true (sym d ∙ weaker x e))))
+    ]) refl
 
 -- votes whose rounds are all among rounds that rise are as many as are of those
 of_all : {D G : Type 0} (rounds : List Round) (vs : List (SignedVote D G)) → IsStrictlySortedBy round_cmp rounds → ((v : SignedVote D G) → Contains vs v → Contains rounds (round_of v.subject)) → of_rounds rounds vs ≡ length vs
@@ -48,8 +43,6 @@ of_all {D} {G} (r ∷ rounds) vs s h =
     skip (q ∷ rs) less = λ i. length (filter_filtered (of_round q) other (λ v e. ap not (false_from_ne_true (of_round r v) (λ d.
         let tied : round_cmp r q ≡ Equal = ap (λ p. round_cmp p q) (sym (same_round-true _ r d) ∙ same_round-true _ q e) ∙ tied_itself round_cmp_total q in
         let both_are : Less ≡ Equal = sym less.0 ∙ tied in absurd cc))) vs i) + skip rs less.1 i
-
--- ---- what is recorded
 
 -- how many votes there are of some rounds
 abbrev pub rounds_count : {S D P G : Type 0} → List (Round × RoundState S D P G) → ℕ
@@ -82,11 +75,8 @@ module _ {S D C P G : Type 0} (rules : Rules S D C P G) (messages : List (Activi
 -- what was found, with what one more gives
 pub splits_next : {X Y : Type 0} (f : X → Option Y) (found more all : List Y) (x : X) (xs : List X) (o : Option Y) → more ≡ found ++ option_to_list o → o ≡ f x → found ++ filter_map f (x ∷ xs) ≡ all → more ++ filter_map f xs ≡ all
 splits_next f found more all x xs o more_is o_is so_far =
-    ap (λ ys. ys ++ filter_map f xs) more_is ∙ append_assoc found (option_to_list o) (filter_map f xs) ∙ ap (λ ys. found ++ ys) (joined o (filter_map f xs) ∙ ap (λ p. cons_option p (filter_map f xs)) o_is) ∙ so_far
-  where
-    joined : {Z : Type 0} (p : Option Z) (zs : List Z) → option_to_list p ++ zs ≡ cons_option p zs
-    joined None zs = refl
-    joined (Some z) zs = refl
+    let joined = elim o as (λ p. option_to_list p ++ filter_map f xs ≡ cons_option p (filter_map f xs)) [ None ↦ refl | Some y ↦ refl ] in
+    ap (λ ys. ys ++ filter_map f xs) more_is ∙ append_assoc found (option_to_list o) (filter_map f xs) ∙ ap (λ ys. found ++ ys) (joined ∙ ap (λ p. cons_option p (filter_map f xs)) o_is) ∙ so_far
 
 -- ---- how many are named in a round
 
@@ -135,21 +125,12 @@ signers_in_order {D} {G} round (e ∷ es) ordered here i j d le lt =
     ]
   where
     rise : (n m : Named) → n.round ≡ m.round → named_cmp n m ≡ Less → n.signer ≤ m.signer
-    rise n m same less = le_from_not_gt n.signer m.signer (by (nat_cmp n.signer m.signer) (sym (ap (λ o. ordering_then o (ordering_then (nat_cmp n.signer m.signer) (nat_cmp (kind_rank n.kind) (kind_rank m.kind)))) (ap (λ r. round_cmp r m.round) same ∙ tied_itself round_cmp_total m.round)) ∙ less))
-      where
-        by : (o : Ordering) → ordering_then o (nat_cmp (kind_rank n.kind) (kind_rank m.kind)) ≡ Less → is_gt o ≡ false
-        by Less h = refl
-        by Equal h = refl
-        by Greater h = absurd cc
+    rise n m same less =
+        let kinds = nat_cmp (kind_rank n.kind) (kind_rank m.kind) in
+        let signers : ordering_then (nat_cmp n.signer m.signer) kinds ≡ Less = sym (ap (λ o. ordering_then o (ordering_then (nat_cmp n.signer m.signer) kinds)) (ap (λ r. round_cmp r m.round) same ∙ tied_itself round_cmp_total m.round)) ∙ less in
+        le_from_not_gt n.signer m.signer ((elim (nat_cmp n.signer m.signer) as (λ o. ordering_then o kinds ≡ Less → is_gt o ≡ false) [ Less ↦ λ h. refl | Equal ↦ λ h. refl | Greater ↦ λ h. absurd cc ]) signers)
 
 -- ---- the split of a round
-
--- a round that is not known to be split has no split, nor one without a committee
-pub no_split : {S D C P G : Type 0} (rules : Rules S D C P G) (messages : List (Activity S D C P G)) (round : Round) (recorded : CertifiedSubjects D) → RecordsFirsts rules.eq (certified_subjects rules messages) round recorded → recorded.split ≡ false → split_of rules messages round ≡ None
-no_split rules messages round recorded records whole = cond-false (is_split rules messages round) _ None (from_subjects rules messages round ∙ sym records.split ∙ whole)
-
-pub no_committee : {S D C P G : Type 0} (rules : Rules S D C P G) → HaveCommittees rules → (messages : List (Activity S D C P G)) (round : Round) → rules.size round.epoch ≡ 0 → split_of rules messages round ≡ None
-no_committee rules l messages round none = cond-false (is_split rules messages round) _ None (false_from_ne_true _ (λ e. absurd (omega (arith, none, someone_in_split rules messages l round e))))
 
 -- one that is has that of its evidence and its committee
 pub split_found : {S D C P G : Type 0} (rules : Rules S D C P G) → HaveCommittees rules → (messages : List (Activity S D C P G)) (round : Round) (recorded : CertifiedSubjects D) → RecordsFirsts rules.eq (certified_subjects rules messages) round recorded → recorded.split ≡ true → (es : List (Evidence D G)) → IsEvidenceIn rules.eq (valid_votes rules messages) round es → (n : ℕ) → rules.size round.epoch ≡ n → n < 2 ^ 32 → (named least : ℕ) → (IsNonDecreasing (map (λ e. e.first.signer) es) → named ≡ min (distinct_count nat_eq (map (λ e. e.first.signer) es)) (2 ^ 32 - 1)) → least ≡ faults_of n + 1 → Some (record { round = round; named = named; least = least }) ≡ split_of rules messages round
@@ -169,7 +150,7 @@ changes last [] = 0
 changes last (x ∷ xs) = if option_eq nat_eq last (Some x) then changes (Some x) xs else changes (Some x) xs + 1
 
 -- what is counted behind a first number
-counted_behind : (y : ℕ) (xs : List ℕ) → IsNonDecreasing (y ∷ xs) → changes (Some y) xs + 1 ≡ distinct_count nat_eq (y ∷ xs)
+pub counted_behind : (y : ℕ) (xs : List ℕ) → IsNonDecreasing (y ∷ xs) → changes (Some y) xs + 1 ≡ distinct_count nat_eq (y ∷ xs)
 counted_behind y [] s = refl
 counted_behind y (x ∷ xs) s = by (nat_eq y x) refl (counted_behind x xs (λ i j d le lt. s (suc i) (suc j) d (omega (arith, le)) (omega (arith, lt))))
   where
@@ -180,17 +161,10 @@ counted_behind y (x ∷ xs) s = by (nat_eq y x) refl (counted_behind x xs (λ i 
         let more = ap (λ c. length (cond c (unique_keys nat_eq (x ∷ xs)) (y ∷ unique_keys nat_eq (x ∷ xs)))) none in
         omega (arith, rest, more)
 
--- what is counted of numbers in order
-pub counted_in_order : (xs : List ℕ) → IsNonDecreasing xs → changes None xs ≡ distinct_count nat_eq xs
-counted_in_order [] s = refl
-counted_in_order (x ∷ xs) s = counted_behind x xs s
-
 -- one item more, of which a number is counted, with a count that stops at a greatest
 pub counted_item : {X : Type 0} (number : X → ℕ) (xs : List X) (i : ℕ) (x : X) → i < length xs → x ≡ get_or xs i x → (count next most : ℕ) (last : Option ℕ) (n : ℕ) → n ≡ number x → next ≡ cond (option_eq nat_eq last (Some n)) count (min (count + 1) most) → min (next + changes (Some n) (map number (drop (i + 1) xs))) most ≡ min (count + changes last (map number (drop i xs))) most
 counted_item number xs i x lt is count next most last n n_is next_is =
-    ap (λ k. min (k + changes (Some n) (map number (drop (i + 1) xs))) most) next_is ∙ by (option_eq nat_eq last (Some n)) (changes (Some n) (map number (drop (i + 1) xs))) ∙
+    let more = changes (Some n) (map number (drop (i + 1) xs)) in
+    ap (λ k. min (k + more) most) next_is ∙
+    elim (option_eq nat_eq last (Some n)) as (λ b. min (cond b count (min (count + 1) most) + more) most ≡ min (count + cond b more (more + 1)) most) [ true ↦ refl | false ↦ omega arith ] ∙
     (λ j. min (count + changes last (n_is j ∷ map number (drop (i + 1) xs))) most) ∙ sym (ap (λ ys. min (count + changes last (map number ys)) most) (drop_more xs i x lt ∙ (λ j. sym is j ∷ drop (i + 1) xs)))
-  where
-    by : (b : Bool) (more : ℕ) → min (cond b count (min (count + 1) most) + more) most ≡ min (count + cond b more (more + 1)) most
-    by true more = refl
-    by false more = omega arith

@@ -1,14 +1,11 @@
 -- What is recorded, round by round, after one more message.
-use Rattle.simplex_detector.proofs.Std.{All, All-from_recursion, All-map, AllByRecursion, BTreeMap, Bool, IsEquivalence, IsTrue, List, None, Option, Some, [], and_left, and_parts, and_right, ap, append-nil, append_assoc, arith, cond, cond-false, false, filter, filter-append, get, is_key, length, map, option_to_list, recursion_from_All, refl, subst, sym, true, ℕ, ◌++◌, ◌∙◌, ◌∷◌, ◌≡◌}
-use Rattle.simplex_detector.proofs.Words.{Activity, Attestation, Detector, HoldsRound, IsSized, Kind, Recalls, RecallsAt, RecallsNothing, RecallsRound, RecordsFirsts, Round, RoundState, RoundVotes, Rules, Schedule, SignedVote, Sort, SubjectValue, TakesIn, TakesMessage, activity_round, certificate_in, certified_by, certified_subjects, clash, committee_of, contradicts, finalize_of, if_certified, is_at, is_news, is_of, is_valid, no_slot, notarize_of, nothing_certified, nullify_of, recorded_in, round_cmp, round_count, round_of, rules_of, same_round, same_sort, size_by, slot_of, slots, sort_of, valid_by, valid_votes, vote_on, votes_in}
+use Rattle.simplex_detector.proofs.Prelude.{Activity, All, All-from_recursion, All-map, AllByRecursion, Attestation, BTreeMap, Bool, Detector, HoldsRound, IsEquivalence, IsSized, IsTrue, Kind, List, None, Option, Recalls, RecallsAt, RecallsNothing, RecallsRound, RecordsFirsts, Round, RoundState, RoundVotes, Rules, Schedule, SignedVote, Some, Sort, SubjectValue, TakesIn, TakesMessage, [], activity_round, and_left, and_parts, and_right, ap, append-nil, append_assoc, arith, certificate_in, certified_by, certified_subjects, clash, committee_of, cond, cond-false, contradicts, false, filter, filter-append, finalize_of, get, if_certified, is_at, is_key, is_news, is_of, is_valid, length, map, no_slot, notarize_of, nothing_certified, nullify_of, option_to_list, recorded_in, recursion_from_All, refl, round_cmp, round_count, round_of, rules_of, same_round, same_sort, size_by, slot_of, slots, sort_of, subst, sym, true, valid_by, valid_votes, vote_on, votes_in, ℕ, ◌++◌, ◌∙◌, ◌∷◌, ◌≡◌}
 use Rattle.simplex_detector.proofs.AccountLemmas.{certificate_parts}
 use Rattle.simplex_detector.proofs.EvidenceLemmas.{valid_votes-push}
 use Rattle.simplex_detector.proofs.Places.{is_of-true, key_tells, other_round}
 use Rattle.simplex_detector.proofs.RecordedLemmas.{none_in_round, of_round, recorded_in_push, same_held, slot_after_vote}
 use Rattle.simplex_detector.proofs.SplitLemmas.{records_other_message, subjects_push}
 use Rattle.simplex_evidence.specs.declared.types.activity.Activity.TheVariants as activity
-
--- ---- the votes of a message are of its round
 
 -- a vote is of a round
 abbrev pub IsHere : {D G : Type 0} → Round → SignedVote D G → Type 0
@@ -34,11 +31,10 @@ votes_of_round listed m a b d = All-from_recursion (IsHere (activity_round m)) (
 -- what one more leaves, more leave
 appended : {X : Type 0} (P : List X → Type 0) (Q : X → Type 0) (keep : X → Bool) → ((xs : List X) (x : X) → Q x → P xs → P (xs ++ x ∷ [])) → (more xs : List X) → AllByRecursion Q more → P xs → P (xs ++ filter keep more)
 appended P Q keep one [] xs q p = subst P (sym (append-nil xs)) p
-appended P Q keep one (x ∷ more) xs q p = by (keep x) (λ ys. appended P Q keep one more ys q.1)
-  where
-    by : (b : Bool) → ((ys : List _) → P ys → P (ys ++ filter keep more)) → P (xs ++ cond b (x ∷ filter keep more) (filter keep more))
-    by true rest = subst P (append_assoc xs (x ∷ []) (filter keep more)) (rest (xs ++ x ∷ []) (one xs x q.0 p))
-    by false rest = rest xs p
+appended P Q keep one (x ∷ more) xs q p = elim (keep x) as (λ b. P (xs ++ cond b (x ∷ filter keep more) (filter keep more))) [
+    | true ↦ subst P (append_assoc xs (x ∷ []) (filter keep more)) (appended P Q keep one more (xs ++ x ∷ []) q.1 (one xs x q.0 p))
+    | false ↦ appended P Q keep one more xs q.1 p
+  ]
 
 module _ {S D C P G : Type 0} (rules : Rules S D C P G) (l : IsEquivalence rules.eq) (messages : List (Activity S D C P G)) (m : Activity S D C P G) (here : All (IsHere (activity_round m)) (votes_in rules.listed m)) where
   -- what is recorded of the messages and of one more
@@ -72,40 +68,21 @@ module _ {S D C P G : Type 0} (rules : Rules S D C P G) (l : IsEquivalence rules
         subjects = records_other_message rules l messages m q round_state.certified apart r.subjects;
       }
 
-  -- ---- the round of the message
-
   -- what is recorded where its round alone is changed
   pub recalls_changed : (round : Round) → round ≡ activity_round m → (after : Option (RoundState S D P G)) (old new : BTreeMap Round (RoundState S D P G)) → ((q : Round) → get round_cmp new q ≡ cond (is_key (round_cmp round) q) after (get round_cmp old q)) → RecallsNext (activity_round m) after → Recalls rules messages (let detector : Detector S D P G = record { rounds = old } in detector) → (q : Round) → RecallsNext q (get round_cmp new q)
-  recalls_changed round at after old new is own holds q = subst (RecallsNext q) (sym (is q)) (by (is_key (round_cmp round) q) refl)
-    where
-      by : (b : Bool) → is_key (round_cmp round) q ≡ b → RecallsNext q (cond b after (get round_cmp old q))
-      by true e = subst (λ r. RecallsNext r after) (sym at ∙ key_tells round q e) own
-      by false e = elsewhere q (ap (λ r. same_round r q) (sym at) ∙ other_round round q e) (get round_cmp old q) (holds q)
+  recalls_changed round at after old new is own holds q =
+      subst (RecallsNext q) (sym (is q)) ((elim (is_key (round_cmp round) q) as (λ b. is_key (round_cmp round) q ≡ b → RecallsNext q (cond b after (get round_cmp old q))) [
+        | true ↦ λ e. subst (λ r. RecallsNext r after) (sym at ∙ key_tells round q e) own
+        | false ↦ λ e. elsewhere q (ap (λ r. same_round r q) (sym at) ∙ other_round round q e) (get round_cmp old q) (holds q)
+      ]) refl)
 
   -- where nothing is recorded of its round, before and after
   pub recalls_still_none : (round : Round) → round ≡ activity_round m → (after : RoundState S D P G) (old : BTreeMap Round (RoundState S D P G)) → get round_cmp old round ≡ None → ((signer : ℕ) (sort : Sort) → slots after.votes signer sort ≡ no_slot) → after.certified ≡ nothing_certified → RecallsRound rules (messages ++ m ∷ []) (activity_round m) after → Recalls rules messages (let detector : Detector S D P G = record { rounds = old } in detector) → (q : Round) → RecallsNext q (get round_cmp old q)
   recalls_still_none round at after old none empty nothing own =
-      recalls_changed round at None old old (λ q. by q (is_key (round_cmp round) q) refl) (record {
+      recalls_changed round at None old old (λ q. (elim (is_key (round_cmp round) q) as (λ b. is_key (round_cmp round) q ≡ b → get round_cmp old q ≡ cond b None (get round_cmp old q)) [ true ↦ λ e. ap (get round_cmp old) (sym (key_tells round q e)) ∙ none | false ↦ λ e. refl ]) refl) (record {
         votes = λ signer sort. sym (empty signer sort) ∙ own.votes.held signer sort;
         subjects = subst (RecordsFirsts rules.eq (certified_subjects rules (messages ++ m ∷ [])) (activity_round m)) nothing own.subjects;
       })
-    where
-      by : (q : Round) (b : Bool) → is_key (round_cmp round) q ≡ b → get round_cmp old q ≡ cond b None (get round_cmp old q)
-      by q true e = ap (get round_cmp old) (sym (key_tells round q e)) ∙ none
-      by q false e = refl
-
--- what is recorded of a round that is not there yet
-pub recalls_new : {S D C P G : Type 0} (rules : Rules S D C P G) → IsEquivalence rules.eq → (messages : List (Activity S D C P G)) (rounds : BTreeMap Round (RoundState S D P G)) (round : Round) (round_state : RoundState S D P G) → None ≡ get round_cmp rounds round → IsSized (rules.size round.epoch) round_state.votes → ((signer : ℕ) (sort : Sort) → slots round_state.votes signer sort ≡ no_slot) → round_count round_state.votes ≡ 0 → round_state.certified ≡ nothing_certified → Recalls rules messages (let detector : Detector S D P G = record { rounds = rounds } in detector) → RecallsRound rules messages round round_state
-recalls_new {S} {D} {C} {P} {G} rules l messages rounds round round_state none sized empty no_votes nothing holds =
-    let at : RecallsNothing rules messages round = subst (RecallsAt rules messages round) (sym none) (holds round) in
-    record {
-      votes = record {
-        sized = sized;
-        held = λ signer sort. empty signer sort ∙ at.votes signer sort;
-        counted = no_votes ∙ sym (none_in_round rules.eq l (valid_votes rules messages) round at.votes);
-      };
-      subjects = subst (RecordsFirsts rules.eq (certified_subjects rules messages) round) (sym nothing) at.subjects;
-    }
 
 -- ---- votes and certificates of a round are judged by the committee of its epoch
 
@@ -143,12 +120,10 @@ module _ {S D C P G : Type 0} (eq : D → D → Bool) (keys : S → List P) (goo
   pub takes_certificate : (s : S) (x : SubjectValue D) (c : C) (old new : RoundState S D P G) → ((xs : List (SubjectValue D)) → RecordsFirsts eq xs (round_of x) old.certified → RecordsFirsts eq (xs ++ cond (certified s x c) (x ∷ []) []) (round_of x) new.certified) → RecordsValid s x (listed c) old.votes new.votes → TakesIn judges s (round_of x) (map (vote_on x) (listed c)) (Some (x, c)) old new
   takes_certificate s x c old new subjects votes = record {
     cast = cast_by s x (listed c) old.votes new.votes votes;
-    certified = λ schedule is xs holds. subst (λ ys. RecordsFirsts eq (xs ++ ys) (round_of x) new.certified) (alone (certified s x c) ∙ ap (λ o. option_to_list (cond (certified_by certified o x c) (Some x) None)) (sym is)) (subjects xs holds);
+    certified = λ schedule is xs holds.
+        let alone = elim (certified s x c) as (λ b. cond b (x ∷ []) [] ≡ option_to_list (cond b (Some x) None)) [ true ↦ refl | false ↦ refl ] in
+        subst (λ ys. RecordsFirsts eq (xs ++ ys) (round_of x) new.certified) (alone ∙ ap (λ o. option_to_list (cond (certified_by certified o x c) (Some x) None)) (sym is)) (subjects xs holds);
   }
-    where
-      alone : (b : Bool) → cond b (x ∷ []) [] ≡ option_to_list (cond b (Some x) None)
-      alone true = refl
-      alone false = refl
 
   module _ (schedule : Schedule S) (messages : List (Activity S D C P G)) (m : Activity S D C P G) where
     -- what is recorded of the message's round, after it
@@ -157,6 +132,15 @@ module _ {S D C P G : Type 0} (eq : D → D → Bool) (keys : S → List P) (goo
       votes = subst (λ vs. HoldsRound eq ((judges schedule).size (activity_round m).epoch) vs (activity_round m) new.votes) (sym (valid_votes-push (judges schedule) messages m)) (takes.cast schedule is (valid_votes (judges schedule) messages) recalls.votes);
       subjects = subst (λ xs. RecordsFirsts eq xs (activity_round m) new.certified) (sym (subjects_push (judges schedule) messages m)) (takes.certified schedule is (certified_subjects (judges schedule) messages) recalls.subjects);
     }
+
+    -- what is recorded of it where its round is not there yet
+    pub recalls_first : (s : S) → committee_of schedule (activity_round m).epoch ≡ Some s → IsEquivalence eq → (rounds : BTreeMap Round (RoundState S D P G)) (fresh new : RoundState S D P G) → None ≡ get round_cmp rounds (activity_round m) → IsSized (length (keys s)) fresh.votes → ((signer : ℕ) (sort : Sort) → slots fresh.votes signer sort ≡ no_slot) → round_count fresh.votes ≡ 0 → fresh.certified ≡ nothing_certified → TakesMessage judges s listed m fresh new → Recalls (judges schedule) messages (let detector : Detector S D P G = record { rounds = rounds } in detector) → RecallsRound (judges schedule) (messages ++ m ∷ []) (activity_round m) new
+    recalls_first s is l rounds fresh new none sized empty no_votes nothing takes holds =
+        let at : RecallsNothing (judges schedule) messages (activity_round m) = subst (RecallsAt (judges schedule) messages (activity_round m)) (sym none) (holds (activity_round m)) in
+        recalls_taken s is fresh new takes (record {
+          votes = record { sized = subst (λ n. IsSized n fresh.votes) (ap (size_by keys) (sym is)) sized; held = λ signer sort. empty signer sort ∙ at.votes signer sort; counted = no_votes ∙ sym (none_in_round eq l (valid_votes (judges schedule) messages) (activity_round m) at.votes) };
+          subjects = subst (RecordsFirsts eq (certified_subjects (judges schedule) messages) (activity_round m)) (sym nothing) at.subjects;
+        })
 
     -- without a committee nothing more is valid or certified, and nothing more is recorded
     pub recalls_no_committee : All (IsHere (activity_round m)) (votes_in listed m) → None ≡ committee_of schedule (activity_round m).epoch → (q : Round) (o : Option (RoundState S D P G)) → RecallsAt (judges schedule) messages q o → RecallsAt (judges schedule) (messages ++ m ∷ []) q o

@@ -1,6 +1,5 @@
 -- Who is named, the evidence of everyone who is named, and that the votes determine a report.
-use Rattle.simplex_detector.proofs.Std.{All, All-contains, Bool, Contains, Contains-append_left, Contains-permutation, IsEquivalence, IsPermutation, IsPermutation-sym, List, None, Option, Some, [], and_from, and_parts, ap, append-nil, filter, filter-append, find, flat_map, flat_map-append, is_some, list_any, refl, same_Some, subst, sym, true, ⊎_elim, ◌&&◌, ◌++◌, ◌∙◌, ◌∷◌, ◌≡◌}
-use Rattle.simplex_detector.proofs.Words.{Activity, Evidence, EvidenceIsUnique, IsEquivocation, IsEvidence, Named, NamedInAnyOrder, NamesExactly, Rules, SignedVote, clash, contradicts, evidence_of, first_sort, is_at, is_named, is_of, is_valid, named_by, named_cmp, round_of, same_sort, sort_of, valid_votes, votes_in, with_first, with_second}
+use Rattle.simplex_detector.proofs.Prelude.{Activity, All, All-contains, Bool, Contains, Contains-append_left, Contains-permutation, Evidence, EvidenceIsUnique, IsEquivalence, IsEquivocation, IsEvidence, IsPermutation, IsPermutation-sym, List, Named, NamedInAnyOrder, NamesExactly, None, Option, Rules, SignedVote, Some, [], and_from, and_parts, ap, append-nil, clash, contradicts, evidence_of, filter, filter-append, find, first_sort, flat_map, flat_map-append, is_at, is_named, is_of, is_some, is_valid, list_any, named_by, named_cmp, refl, round_of, same_Some, same_sort, sort_of, subst, sym, true, valid_votes, votes_in, with_first, with_second, ⊎_elim, ◌&&◌, ◌++◌, ◌∙◌, ◌∷◌, ◌≡◌}
 use Rattle.simplex_detector.proofs.Lists.{Contains-filter, Contains-flat_map, Contains-from_filter, Contains-from_flat_map, Contains-from_list_any, IsListing, any_from_Contains, each, find_from_Contains, found, listed_is_some, listing_is_unique, same_bool, some_from_is_some}
 use Rattle.simplex_detector.proofs.Places.{Spot, clash_parts, clash_with_one, exact_named, is_at-from, is_at-true, is_of-from, is_of-true, named_cmp_total}
 
@@ -17,8 +16,7 @@ valid_in rules ms v m m_in own valid = Contains-filter (is_valid rules) _ v (Con
 
 -- those of messages and of those that follow
 pub valid_votes-append : {S D C P G : Type 0} (rules : Rules S D C P G) (ms ks : List (Activity S D C P G)) → valid_votes rules (ms ++ ks) ≡ valid_votes rules ms ++ valid_votes rules ks
-valid_votes-append rules ms ks =
-    ap (filter (is_valid rules)) (flat_map-append (votes_in rules.listed) ms ks) ∙ filter-append (is_valid rules) (flat_map (votes_in rules.listed) ms) (flat_map (votes_in rules.listed) ks)
+valid_votes-append rules ms ks = ap (filter (is_valid rules)) (flat_map-append (votes_in rules.listed) ms ks) ∙ filter-append (is_valid rules) (flat_map (votes_in rules.listed) ms) (flat_map (votes_in rules.listed) ks)
 
 -- those of messages and of one more
 pub valid_votes-push : {S D C P G : Type 0} (rules : Rules S D C P G) (ms : List (Activity S D C P G)) (m : Activity S D C P G) → valid_votes rules (ms ++ m ∷ []) ≡ valid_votes rules ms ++ filter (is_valid rules) (votes_in rules.listed m)
@@ -33,8 +31,7 @@ first_spot n = record { sort = first_sort n.kind; round = n.round; signer = n.si
 module _ {D G : Type 0} (eq : D → D → Bool) (vs : List (SignedVote D G)) (n : Named) where
   -- two votes that contradict name their signer
   pub named_from_votes : (v w : SignedVote D G) → Contains vs v → Contains vs w → is_of n.round n.signer v ≡ true → contradicts eq n.kind v w ≡ true → is_named eq vs n ≡ true
-  named_from_votes v w h k a c =
-      any_from_Contains (λ x. is_of n.round n.signer x && list_any (contradicts eq n.kind x) vs) vs v h (and_from _ _ a (any_from_Contains (contradicts eq n.kind v) vs w k c))
+  named_from_votes v w h k a c = any_from_Contains (λ x. is_of n.round n.signer x && list_any (contradicts eq n.kind x) vs) vs v h (and_from _ _ a (any_from_Contains (contradicts eq n.kind v) vs w k c))
 
   -- who is named has two such votes
   pub votes_from_named : is_named eq vs n ≡ true → (v w : SignedVote D G) × Contains vs v × Contains vs w × (is_of n.round n.signer v ≡ true) × (contradicts eq n.kind v w ≡ true)
@@ -57,13 +54,6 @@ named_in_any_order {S} {D} {C} {P} {G} rules ms ks moved n = same_bool _ _ (name
     also : (ms ks : List (Activity S D C P G)) → IsPermutation ms ks → (v : SignedVote D G) → Contains (valid_votes rules ms) v → Contains (valid_votes rules ks) v
     also ms ks moved v h = let (m, m_in, own, valid) = valid_from rules ms v h in valid_in rules ks v m (Contains-permutation ms ks m moved m_in) own valid
 
--- who is named stays named, with any messages behind
-pub named_stays : {S D C P G : Type 0} (rules : Rules S D C P G) (ms ks : List (Activity S D C P G)) (n : Named) → is_named rules.eq (valid_votes rules ms) n ≡ true → is_named rules.eq (valid_votes rules (ms ++ ks)) n ≡ true
-named_stays rules ms ks n h =
-    ap (λ vs. is_named rules.eq vs n) (valid_votes-append rules ms ks) ∙ named_by_more rules.eq _ (valid_votes rules ms) (Contains-append_left (valid_votes rules ms) (valid_votes rules ks)) n h
-
--- ---- the evidence of whom is named
-
 -- its first vote is the earliest at its spot, and its second the earliest that contradicts that
 pub record EvidenceIs {D G : Type 0} (eq : D → D → Bool) (vs : List (SignedVote D G)) (n : Named) (e : Evidence D G) : Type 0 where
   pub named : named_by e ≡ n
@@ -72,20 +62,16 @@ pub record EvidenceIs {D G : Type 0} (eq : D → D → Bool) (vs : List (SignedV
 
 module _ {D G : Type 0} (eq : D → D → Bool) (vs : List (SignedVote D G)) where
   pub evidence_is : (n : Named) (e : Evidence D G) → evidence_of eq vs n ≡ Some e → EvidenceIs eq vs n e
-  evidence_is n e = by_first (find (is_at (first_sort n.kind) n.round n.signer) vs) refl
-    where
-      by_second : (v : SignedVote D G) → find (is_at (first_sort n.kind) n.round n.signer) vs ≡ Some v → (o : Option (SignedVote D G)) → find (contradicts eq n.kind v) vs ≡ o → with_second n.kind v o ≡ Some e → EvidenceIs eq vs n e
-      by_second v first None second h = absurd cc
-      by_second v first (Some w) second h =
-          let at = is_at-true (first_spot n) v (found _ vs v first).1 in
-          subst (EvidenceIs eq vs n) (same_Some _ e h) (record { named = λ i. record { round = (at i).round; signer = (at i).signer; kind = n.kind }; first = first; second = second })
-
-      by_first : (o : Option (SignedVote D G)) → find (is_at (first_sort n.kind) n.round n.signer) vs ≡ o → with_first eq vs n.kind o ≡ Some e → EvidenceIs eq vs n e
-      by_first None first h = absurd cc
-      by_first (Some v) first h = by_second v first (find (contradicts eq n.kind v) vs) refl h
-
-  pub evidence_made : (n : Named) (e : Evidence D G) → EvidenceIs eq vs n e → evidence_of eq vs n ≡ Some e
-  evidence_made n e is = (λ i. with_first eq vs n.kind (is.first i)) ∙ (λ i. with_second n.kind e.first (is.second i)) ∙ (λ i. Some (record { kind = (sym is.named i).kind; first = e.first; second = e.second }))
+  evidence_is n e h =
+      (elim (find (is_at (first_sort n.kind) n.round n.signer) vs) as (λ o. find (is_at (first_sort n.kind) n.round n.signer) vs ≡ o → with_first eq vs n.kind o ≡ Some e → EvidenceIs eq vs n e) [
+        | None ↦ λ first is. absurd cc
+        | Some v ↦ λ first. (elim (find (contradicts eq n.kind v) vs) as (λ o. find (contradicts eq n.kind v) vs ≡ o → with_second n.kind v o ≡ Some e → EvidenceIs eq vs n e) [
+          | None ↦ λ second is. absurd cc
+          | Some w ↦ λ second is.
+              let at = is_at-true (first_spot n) v (found _ vs v first).1 in
+              subst (EvidenceIs eq vs n) (same_Some _ e is) (record { named = λ i. record { round = (at i).round; signer = (at i).signer; kind = n.kind }; first = first; second = second })
+        ]) refl
+      ]) refl h
 
   -- who has evidence is named
   pub named-from_evidence : (n : Named) → is_some (evidence_of eq vs n) ≡ true → is_named eq vs n ≡ true
@@ -113,18 +99,12 @@ module _ {D G : Type 0} (eq : D → D → Bool) (vs : List (SignedVote D G)) whe
   pub evidence_exists : IsEquivalence eq → (n : Named) → is_some (evidence_of eq vs n) ≡ is_named eq vs n
   evidence_exists l n = same_bool _ _ (named-from_evidence n) (evidence-from_named l n)
 
-  -- ---- one report
-
   -- the evidence of votes lists the evidence of everyone who is named
   pub as_listing : (es : List (Evidence D G)) → IsEvidence eq vs es → IsListing named_by named_cmp (evidence_of eq vs) es
   as_listing es is = record { ordered = is.ordered; sound = is.sound; complete = λ n h. is.complete n (named-from_evidence n h) }
 
   pub from_listing : IsEquivalence eq → (es : List (Evidence D G)) → IsListing named_by named_cmp (evidence_of eq vs) es → IsEvidence eq vs es
   from_listing l es is = record { ordered = is.ordered; sound = is.sound; complete = λ n h. is.complete n (evidence-from_named l n h) }
-
-  -- the votes determine their evidence
-  pub evidence_is_unique : (es : List (Evidence D G)) → IsEvidence eq vs es → EvidenceIsUnique eq vs es
-  evidence_is_unique es is fs are = listing_is_unique named_by named_cmp (evidence_of eq vs) named_cmp_total exact_named es fs (as_listing es is) (as_listing fs are)
 
   -- each evidence of a report is two of the votes that contradict
   pub all_equivocations : (es : List (Evidence D G)) → IsEvidence eq vs es → All (IsEquivocation eq vs) es
@@ -133,10 +113,6 @@ module _ {D G : Type 0} (eq : D → D → Bool) (vs : List (SignedVote D G)) whe
       let (first_in, _) = found _ vs e.first own.first in
       let (second_in, against) = found _ vs e.second own.second in
       record { first_cast = first_in; second_cast = second_in; contradict = against })
-
-  -- a report names exactly who is named
-  pub names_exactly : (es : List (Evidence D G)) → IsEvidence eq vs es → NamesExactly eq vs es
-  names_exactly es is n = (λ h. named-from_evidence n (listed_is_some named_by named_cmp (evidence_of eq vs) es is.sound n h), is.complete n)
 
 -- votes of which everyone has the same evidence have the same report
 pub moved_evidence : {D G : Type 0} (eq : D → D → Bool) → IsEquivalence eq → (vs ws : List (SignedVote D G)) → ((n : Named) → evidence_of eq ws n ≡ evidence_of eq vs n) → (es : List (Evidence D G)) → IsEvidence eq ws es → IsEvidence eq vs es

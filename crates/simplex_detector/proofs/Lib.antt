@@ -1,5 +1,4 @@
-pub mod Std
-pub mod Words
+pub mod Prelude
 pub mod Lists
 pub mod Places
 pub mod EvidenceLemmas

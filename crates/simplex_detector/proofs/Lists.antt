@@ -1,5 +1,5 @@
 -- Lists that any crate could have: what they contain, what `find` and `list_any` give, and the listing of a partial map in the order of its keys.
-use Rattle.simplex_detector.proofs.Std.{All, All-append, All-contains, All-contains_itself, All-filter, All-from_recursion, All-map, AllByRecursion, Any-from_list_any, BTreeSet, Bool, CmpEqualImpliesEq, Contains, Contains-append_cases, Contains-append_left, Contains-append_right, Contains-get_or, IsStrictlySortedBy-filter, IsTotalOrder, Less, List, None, Option, Ordering, Some, [], ap, append-nil, arith, btree_set_contains_iff, btree_set_from_contains, cond, cons_option, false, filter, filter_map, filter_passes, find, find-append, flat_map, get_or, get_or-map, inl, inr, is_some, length, length-map, list_any, list_any-from_Any, map, option_or, option_to_list, recursion_from_All, refl, same_Some, sorted_head, subst, sym, true, ℕ, ⊎_elim, ◌++◌, ◌<◌, ◌||◌, ◌∙◌, ◌∷◌, ◌≡◌, ◌⊎◌}
+use Rattle.simplex_detector.proofs.Prelude.{All, All-append, All-contains, All-contains_itself, All-filter, All-from_recursion, All-map, AllByRecursion, Any-from_list_any, BTreeSet, Bool, CmpEqualImpliesEq, Contains, Contains-append_cases, Contains-append_left, Contains-append_right, Contains-get_or, IsStrictlySortedBy-filter, IsTotalOrder, Less, List, None, Option, Ordering, Some, [], ap, append-nil, arith, btree_set_contains_iff, btree_set_from_contains, cond, cons_option, false, filter, filter_map, filter_passes, find, find-append, flat_map, get_or, get_or-map, inl, inr, is_some, length, length-map, list_any, list_any-from_Any, map, option_map, option_or, option_to_list, recursion_from_All, refl, same_Some, sorted_head, subst, sym, true, ℕ, ⊎_elim, ◌++◌, ◌<◌, ◌||◌, ◌∙◌, ◌∷◌, ◌≡◌, ◌⊎◌}
 use Rattle.std.specs.List.Sorted.{IsStrictlySortedBy}
 
 -- two tests that imply each other are one
@@ -53,10 +53,7 @@ Contains-flat_map f (z ∷ xs) x y h k =
 pub Contains-from_flat_map : {X Y : Type 0} (f : X → List Y) (xs : List X) (y : Y) → Contains (flat_map f xs) y → (x : X) × Contains xs x × Contains (f x) y
 Contains-from_flat_map f [] y h = absurd (Contains-none y h)
 Contains-from_flat_map f (x ∷ xs) y h =
-    elim (Contains-append_cases (f x) (flat_map f xs) y h) [
-      | inl k ↦ (x, Contains-first x xs, k)
-      | inr k ↦ let (z, z_in, l) = Contains-from_flat_map f xs y k in (z, Contains-cons x xs z z_in, l)
-    ]
+    elim (Contains-append_cases (f x) (flat_map f xs) y h) [ inl k ↦ (x, Contains-first x xs, k) | inr k ↦ let (z, z_in, l) = Contains-from_flat_map f xs y k in (z, Contains-cons x xs z z_in, l) ]
 
 -- ---- `filter` and `filter_map`
 
@@ -80,11 +77,9 @@ pub Contains-filter_map : {X Y : Type 0} (f : X → Option Y) (xs : List X) (x :
 Contains-filter_map f xs x y h e = subst (λ ys. Contains ys y) (sym (filter_map-joined f xs)) (Contains-flat_map _ xs x y h (subst (λ o. Contains (option_to_list o) y) (sym e) (Contains-first y [])))
 
 pub Contains-from_filter_map : {X Y : Type 0} (f : X → Option Y) (xs : List X) (y : Y) → Contains (filter_map f xs) y → (x : X) × Contains xs x × (f x ≡ Some y)
-Contains-from_filter_map f xs y h = let (x, x_in, k) = Contains-from_flat_map _ xs y (subst (λ ys. Contains ys y) (filter_map-joined f xs) h) in (x, x_in, only (f x) k)
-  where
-    only : (o : Option _) → Contains (option_to_list o) y → o ≡ Some y
-    only None k = absurd (Contains-none y k)
-    only (Some z) k = ⊎_elim (λ e. ap Some e) (λ l. absurd (Contains-none y l)) (Contains-cons_cases z [] y k)
+Contains-from_filter_map f xs y h =
+    let (x, x_in, k) = Contains-from_flat_map (λ x. option_to_list (f x)) xs y (subst (λ ys. Contains ys y) (filter_map-joined f xs) h) in
+    (x, x_in, (elim (f x) as (λ o. Contains (option_to_list o) y → o ≡ Some y) [ None ↦ λ l. absurd (Contains-none y l) | Some z ↦ λ l. ⊎_elim (λ e. ap Some e) (λ m. absurd (Contains-none y m)) (Contains-cons_cases z [] y l) ]) k)
 
 -- ---- `find` and `list_any`
 
@@ -96,19 +91,19 @@ is_some-find p (x ∷ xs) = elim (p x) as (λ b. is_some (cond b (Some x) (find 
 -- what is found is an element that passes
 pub found : {X : Type 0} (p : X → Bool) (xs : List X) (x : X) → find p xs ≡ Some x → Contains xs x × (p x ≡ true)
 found p [] x h = absurd cc
-found {X} p (y ∷ xs) x h = by (p y) refl h (found p xs x)
-  where
-    by : (b : Bool) → p y ≡ b → cond b (Some y) (find p xs) ≡ Some x → (find p xs ≡ Some x → Contains xs x × (p x ≡ true)) → Contains (y ∷ xs) x × (p x ≡ true)
-    by true e is rest = let same = same_Some y x is in (subst (Contains (y ∷ xs)) same (Contains-first y xs), sym (ap p same) ∙ e)
-    by false e is rest = (Contains-cons y xs x (rest is).0, (rest is).1)
+found p (y ∷ xs) x h =
+    (elim (p y) as (λ b. p y ≡ b → cond b (Some y) (find p xs) ≡ Some x → Contains (y ∷ xs) x × (p x ≡ true)) [
+      | true ↦ λ e is. let same = same_Some y x is in (subst (Contains (y ∷ xs)) same (Contains-first y xs), sym (ap p same) ∙ e)
+      | false ↦ λ e is. (Contains-cons y xs x (found p xs x is).0, (found p xs x is).1)
+    ]) refl h
+
+-- so is what it is mapped to
+pub found_mapped : {X Y : Type 0} (f : X → Y) (p : X → Bool) (xs : List X) (y : Y) → option_map f (find p xs) ≡ Some y → (x : X) × Contains xs x × (p x ≡ true) × (f x ≡ y)
+found_mapped {X} f p xs y h = (elim (find p xs) as (λ o. find p xs ≡ o → option_map f o ≡ Some y → (x : X) × Contains xs x × (p x ≡ true) × (f x ≡ y)) [ None ↦ λ e is. absurd cc | Some x ↦ λ e is. (x, (found p xs x e).0, (found p xs x e).1, same_Some (f x) y is) ]) refl h
 
 -- where nothing passes nothing is found
 pub none_found : {X : Type 0} (p : X → Bool) (xs : List X) → ((x : X) → Contains xs x → p x ≡ true → ⊥) → find p xs ≡ None
-none_found p xs h = by (find p xs) refl
-  where
-    by : (o : Option _) → find p xs ≡ o → o ≡ None
-    by None e = refl
-    by (Some x) e = absurd (h x (found p xs x e).0 (found p xs x e).1)
+none_found p xs h = (elim (find p xs) as (λ o. find p xs ≡ o → o ≡ None) [ None ↦ λ e. refl | Some x ↦ λ e. absurd (h x (found p xs x e).0 (found p xs x e).1) ]) refl
 
 -- some element passes where one that is contained does
 pub any_from_Contains : {X : Type 0} (p : X → Bool) (xs : List X) (x : X) → Contains xs x → p x ≡ true → list_any p xs ≡ true
@@ -119,19 +114,13 @@ pub find_from_Contains : {X : Type 0} (p : X → Bool) (xs : List X) (x : X) →
 find_from_Contains p xs x h e = some_from_is_some (find p xs) (is_some-find p xs ∙ any_from_Contains p xs x h e)
 
 pub Contains-from_list_any : {X : Type 0} (p : X → Bool) (xs : List X) → list_any p xs ≡ true → (x : X) × Contains xs x × (p x ≡ true)
-Contains-from_list_any {X} p xs h =
-    let a : (k : ℕ) × (x : X) × (k < length xs) × (get_or xs k x ≡ x) × (p x ≡ true) = Any-from_list_any p xs h in (a.1, (a.0, a.2, a.3), a.4)
+Contains-from_list_any {X} p xs h = let a : (k : ℕ) × (x : X) × (k < length xs) × (get_or xs k x ≡ x) × (p x ≡ true) = Any-from_list_any p xs h in (a.1, (a.0, a.2, a.3), a.4)
 
 -- the `find` of one more element, by what was found so far
 pub find_push : {X : Type 0} (p : X → Bool) (xs : List X) (x : X) → find p (xs ++ x ∷ []) ≡ cond (p x) (option_or (find p xs) (Some x)) (find p xs)
-find_push p xs x = find-append p xs (x ∷ []) ∙ by (p x) (find p xs)
-  where
-    by : (b : Bool) (o : Option _) → option_or o (cond b (Some x) None) ≡ cond b (option_or o (Some x)) o
-    by true o = refl
-    by false None = refl
-    by false (Some y) = refl
-
--- ---- sorted lists
+find_push p xs x =
+    find-append p xs (x ∷ []) ∙
+    elim (p x) as (λ b. option_or (find p xs) (cond b (Some x) None) ≡ cond b (option_or (find p xs) (Some x)) (find p xs)) [ true ↦ refl | false ↦ elim (find p xs) as (λ o. option_or o None ≡ o) [ None ↦ refl | Some y ↦ refl ] ]
 
 -- the first key is below each other
 pub below_all : {K : Type 0} (cmp : K → K → Ordering) (k : K) (ks : List K) → IsStrictlySortedBy cmp (k ∷ ks) → (q : K) → Contains ks q → cmp k q ≡ Less
@@ -202,8 +191,4 @@ module _ {X K : Type 0} (key : X → K) (cmp : K → K → Ordering) (at : K →
     where
       keys_made : (ks : List K) → map key (filter_map at ks) ≡ filter (λ k. is_some (at k)) ks
       keys_made [] = refl
-      keys_made (k ∷ ks) = by (at k) refl (keys_made ks)
-        where
-          by : (o : Option X) → at k ≡ o → map key (filter_map at ks) ≡ filter (λ k. is_some (at k)) ks → map key (cons_option o (filter_map at ks)) ≡ cond (is_some o) (k ∷ filter (λ k. is_some (at k)) ks) (filter (λ k. is_some (at k)) ks)
-          by None e rest = rest
-          by (Some x) e rest = λ i. own k x e i ∷ rest i
+      keys_made (k ∷ ks) = (elim (at k) as (λ o. at k ≡ o → map key (cons_option o (filter_map at ks)) ≡ cond (is_some o) (k ∷ filter (λ k. is_some (at k)) ks) (filter (λ k. is_some (at k)) ks)) [ None ↦ λ e. keys_made ks | Some x ↦ λ e i. own k x e i ∷ keys_made ks i ]) refl

@@ -1,6 +1,5 @@
 -- Where votes are: the tests on rounds, signers, sorts and proposals, which subjects exclude each other, and the orders of a report.
-use Rattle.simplex_detector.proofs.Std.{Bool, CmpEqualImpliesEq, Equal, IsEquivalence, IsTotalOrder, Ordering, and_equiv, and_from, and_parts, ap, cases_Bool, eq-eqb, eqb, eqb-true, exact_pairs, exact_unsigned, false, false_from_ne_true, false≢true, inl, inr, is_eq, is_key, nat_cmp, nat_cmp_total, nat_eq_equiv, not, on_equiv, on_total, refl, subst, sym, then_total, tied_itself, true, ℕ, ⊎_elim, ◌&&◌, ◌∙◌, ◌≡◌, ◌⊎◌}
-use Rattle.simplex_detector.proofs.Words.{Conflicting_finalize, Conflicting_notarize, Finalizes, Finalizing, Kind, Named, Notarizes, Notarizing, Nullifies, Nullify_finalize, Nullifying, Proposal, Round, SignedVote, Sort, SubjectValue, clash, excludes, first_sort, is_at, is_of, kind_rank, named_cmp, round_cmp, round_of, same_proposal, same_round, same_sort, signer_cmp, sort_of}
+use Rattle.simplex_detector.proofs.Prelude.{Bool, CmpEqualImpliesEq, Conflicting_finalize, Conflicting_notarize, Equal, Finalizes, Finalizing, IsEquivalence, IsTotalOrder, Kind, Named, Notarizes, Notarizing, Nullifies, Nullify_finalize, Nullifying, Ordering, Proposal, Round, SignedVote, Sort, SubjectValue, and_equiv, and_from, and_parts, ap, cases_Bool, clash, eq-eqb, eqb, eqb-true, exact_pairs, exact_unsigned, excludes, false, false_from_ne_true, false≢true, first_sort, inl, inr, is_at, is_eq, is_key, is_of, kind_rank, named_cmp, nat_cmp, nat_cmp_total, nat_eq_equiv, not, on_equiv, on_total, refl, round_cmp, round_of, same_proposal, same_round, same_sort, signer_cmp, sort_of, subst, sym, then_total, tied_itself, true, ℕ, ⊎_elim, ◌&&◌, ◌∙◌, ◌≡◌, ◌⊎◌}
 
 -- ---- rounds, proposals and sorts
 
@@ -19,8 +18,7 @@ same_round-from a b e = ap (same_round a) (sym e) ∙ same_round_equiv.refl a
 
 -- so is that of proposals where that of payloads is
 same_proposal_equiv : {D : Type 0} {eq : D → D → Bool} → IsEquivalence eq → IsEquivalence (same_proposal eq)
-same_proposal_equiv {D} l =
-    and_equiv (on_equiv (λ (p : Proposal D). p.round) same_round_equiv) (and_equiv (on_equiv (λ (p : Proposal D). p.parent) nat_eq_equiv) (on_equiv (λ (p : Proposal D). p.payload) l))
+same_proposal_equiv {D} l = and_equiv (on_equiv (λ (p : Proposal D). p.round) same_round_equiv) (and_equiv (on_equiv (λ (p : Proposal D). p.parent) nat_eq_equiv) (on_equiv (λ (p : Proposal D). p.payload) l))
 
 -- sorts that pass the test are one
 pub same_sort-true : (a b : Sort) → same_sort a b ≡ true → a ≡ b
@@ -93,8 +91,6 @@ excludes_one eq l (Finalizes p) (Finalizes q) (Nullifies r) s h = inr refl
 excludes_one eq l (Nullifies p) (Nullifies q) (Finalizes r) s h = inr refl
 excludes_one eq l _ _ _ s h = absurd cc
 
--- ---- which clash with a kind
-
 -- the sort of the second of two votes that contradict with a kind
 abbrev pub second_sort : Kind → Sort
 second_sort Conflicting_notarize = Notarizing
@@ -166,11 +162,7 @@ exact_named a b h = ap (λ (p : _). record { round = p.0; signer = p.1.0; kind =
 
 -- a round that is found is the one that was sought
 pub key_tells : (p q : Round) → is_key (round_cmp p) q ≡ true → p ≡ q
-key_tells p q h = exact_rounds p q (tied (round_cmp p q) h)
-  where
-    tied : (o : Ordering) → is_eq o ≡ true → o ≡ Equal
-    tied Equal h = refl
-    tied _ h = absurd (false≢true h)
+key_tells p q h = exact_rounds p q ((elim (round_cmp p q) as (λ o. is_eq o ≡ true → o ≡ Equal) [ Equal ↦ λ e. refl | _ ↦ λ e. absurd (false≢true e) ]) h)
 
 -- a round that is not found is another
 pub other_round : (p q : Round) → is_key (round_cmp p) q ≡ false → same_round p q ≡ false

@@ -1,11 +1,8 @@
 -- Which votes are recorded, vote by vote, slot by slot and round by round, and the evidence in the slots.
-use Rattle.simplex_detector.proofs.Std.{Bool, Contains, IsEquivalence, List, None, Option, Some, [], and_from, and_left, and_parts, and_right, ap, append-nil, append_assoc, arith, cond, cond-false, eqb, false, false_from_ne_true, false≢true, filter, filter-append, find, find-append, if◌then◌else◌, length, length-append, map, map-append, option_or, option_to_list, refl, same_Some, subst, sym, true, ℕ, ◌&&◌, ◌++◌, ◌+◌, ◌<◌, ◌∙◌, ◌∷◌, ◌≡◌, ◌≤◌}
-use Rattle.simplex_detector.proofs.Words.{Attestation, Conflicting_finalize, Conflicting_notarize, Evidence, Finalizes, Finalizing, HoldsRound, Kind, Named, Notarizing, Nullifies, Nullify_finalize, Nullifying, RecordedAreSlots, Round, RoundVotes, SignedVote, Slot, Sort, SubjectValue, TakesVote, both, changes, contradicts, evidence_from, evidence_of, excludes, first_sort, if_differs, is_at, is_for, is_news, is_of, news_after, no_slot, other_than, recorded_in, recorded_of, round_of, same_round, same_sort, slot_of, slot_with, slots, sort_of, vote_on, votes_in_slot, with_first, with_second}
+use Rattle.simplex_detector.proofs.Prelude.{Attestation, Bool, Conflicting_finalize, Conflicting_notarize, Contains, Evidence, Finalizes, Finalizing, HoldsRound, IsEquivalence, Kind, List, Named, None, Notarizing, Nullifies, Nullify_finalize, Nullifying, Option, RecordedAreSlots, Round, RoundVotes, SignedVote, Slot, Some, Sort, SubjectValue, TakesVote, [], and_from, and_left, and_parts, and_right, ap, append-nil, append_assoc, arith, both, changes, cond, cond-false, contradicts, eqb, evidence_from, evidence_of, excludes, false, false_from_ne_true, false≢true, filter, filter-append, find, find-append, first_sort, if_differs, if◌then◌else◌, is_at, is_for, is_news, is_of, length, length-append, map, map-append, news_after, no_slot, option_or, option_to_list, other_than, recorded_in, recorded_of, refl, round_of, same_Some, same_round, same_sort, slot_of, slot_with, slots, sort_of, subst, sym, true, vote_on, votes_in_slot, with_first, with_second, ℕ, ◌&&◌, ◌++◌, ◌+◌, ◌<◌, ◌∙◌, ◌∷◌, ◌≡◌, ◌≤◌}
 use Rattle.simplex_detector.proofs.EvidenceLemmas.{first_spot}
 use Rattle.simplex_detector.proofs.Lists.{Contains-cons, Contains-filter, Contains-first, Contains-none, find_from_Contains, find_push, found, none_found}
 use Rattle.simplex_detector.proofs.Places.{Spot, clash-excludes, excludes_itself, is_at-from, is_at-true, same_round-from, same_round-true, same_sort-refl, second_sort, spot}
-
--- ---- one more vote
 
 module _ {D G : Type 0} (eq : D → D → Bool) (l : IsEquivalence eq) (vs : List (SignedVote D G)) (v : SignedVote D G) where
   -- the earliest other vote, after one more vote
@@ -21,13 +18,10 @@ module _ {D G : Type 0} (eq : D → D → Bool) (l : IsEquivalence eq) (vs : Lis
   -- one more vote changes its own slot alone
   pub slot_after_vote : (sort : Sort) (round : Round) (signer : ℕ) → slot_of eq (vs ++ v ∷ []) sort round signer ≡ (if is_at sort round signer v then slot_with eq v (slot_of eq vs sort round signer) else slot_of eq vs sort round signer)
   slot_after_vote sort round signer =
-      let found_first = find_push (is_at sort round signer) vs v in
-      slot_if (is_at sort round signer v) _ _ _ found_first
-      (ap (other_than eq (vs ++ v ∷ []) sort round signer) found_first ∙ other_after sort round signer (find (is_at sort round signer) vs) refl (is_at sort round signer v) refl)
-    where
-      slot_if : (b : Bool) (z x y : Slot D G) → z.earliest ≡ cond b x.earliest y.earliest → z.other ≡ cond b x.other y.other → z ≡ cond b x y
-      slot_if true z x y e o = λ i. record { earliest = e i; other = o i }
-      slot_if false z x y e o = λ i. record { earliest = e i; other = o i }
+      let first = find_push (is_at sort round signer) vs v in
+      let other = ap (other_than eq (vs ++ v ∷ []) sort round signer) first ∙ other_after sort round signer (find (is_at sort round signer) vs) refl (is_at sort round signer v) refl in
+      (λ i. record { earliest = first i; other = other i }) ∙
+      elim (is_at sort round signer v) as (λ b. record { earliest = cond b (slot_with eq v (slot_of eq vs sort round signer)).earliest (slot_of eq vs sort round signer).earliest; other = cond b (slot_with eq v (slot_of eq vs sort round signer)).other (slot_of eq vs sort round signer).other } ≡ cond b (slot_with eq v (slot_of eq vs sort round signer)) (slot_of eq vs sort round signer)) [ true ↦ refl | false ↦ refl ]
 
   -- the slot of a vote's own sort, round and signer, by other names of them
   pub own_slot : (s : Spot) → is_at s.sort s.round s.signer v ≡ true → slot_of eq vs (sort_of v.subject) (round_of v.subject) v.signer ≡ slot_of eq vs s.sort s.round s.signer
@@ -35,20 +29,15 @@ module _ {D G : Type 0} (eq : D → D → Bool) (l : IsEquivalence eq) (vs : Lis
 
   -- a vote that is no news changes no slot
   pub no_news : is_news eq vs v ≡ false → (s : Spot) → slot_of eq (vs ++ v ∷ []) s.sort s.round s.signer ≡ slot_of eq vs s.sort s.round s.signer
-  no_news h s = slot_after_vote s.sort s.round s.signer ∙ by (is_at s.sort s.round s.signer v) refl
+  no_news h s = slot_after_vote s.sort s.round s.signer ∙ (elim (is_at s.sort s.round s.signer v) as (λ b. is_at s.sort s.round s.signer v ≡ b → cond b (slot_with eq v (slot_of eq vs s.sort s.round s.signer)) (slot_of eq vs s.sort s.round s.signer) ≡ slot_of eq vs s.sort s.round s.signer) [
+    | true ↦ λ e. stays _ _ (ap (λ (k : Slot D G). changes eq k.earliest k.other v.subject) (sym (own_slot s e)) ∙ h)
+    | false ↦ λ e. refl
+  ]) refl
     where
       stays : (first other : Option (SignedVote D G)) → changes eq first other v.subject ≡ false → slot_with eq v (record { earliest = first; other = other }) ≡ record { earliest = first; other = other }
       stays None other e = absurd (false≢true (sym e))
       stays (Some a) (Some w) e = refl
-      stays (Some a) None e = ap (λ b. record { earliest = Some a; other = cond b (Some v) None }) (by_and (excludes eq a.subject v.subject) e)
-        where
-          by_and : (b : Bool) → (b && true) ≡ false → b ≡ false
-          by_and true e = e
-          by_and false e = e
-
-      by : (b : Bool) → is_at s.sort s.round s.signer v ≡ b → (if b then slot_with eq v (slot_of eq vs s.sort s.round s.signer) else slot_of eq vs s.sort s.round s.signer) ≡ slot_of eq vs s.sort s.round s.signer
-      by true e = stays _ _ (ap (λ (k : Slot D G). changes eq k.earliest k.other v.subject) (sym (own_slot s e)) ∙ h)
-      by false e = refl
+      stays (Some a) None e = ap (λ b. record { earliest = Some a; other = cond b (Some v) None }) ((elim (excludes eq a.subject v.subject) as (λ b. (b && true) ≡ false → b ≡ false) [ true ↦ λ f. f | false ↦ λ f. f ]) e)
 
 -- ---- the evidence in the slots
 
@@ -151,16 +140,15 @@ module _ {D G : Type 0} (eq : D → D → Bool) (l : IsEquivalence eq) (s : Spot
 
   -- those with one more vote
   in_slot_push : (vs : List (SignedVote D G)) (v : SignedVote D G) → in_slot (vs ++ v ∷ []) ≡ in_slot vs ++ filter (is_at s.sort s.round s.signer) (if_news eq vs v)
-  in_slot_push vs v = ap votes_in_slot (slot_after_vote eq l vs v s.sort s.round s.signer) ∙ by (is_at s.sort s.round s.signer v) refl ∙ ap (λ ws. in_slot vs ++ ws) (sym (filter_if (is_at s.sort s.round s.signer) (is_news eq vs v) v))
-    where
-      k : Slot D G
-      k = slot_of eq vs s.sort s.round s.signer
-
-      by : (b : Bool) → is_at s.sort s.round s.signer v ≡ b → votes_in_slot (cond b (slot_with eq v k) k) ≡ votes_in_slot k ++ cond (b && is_news eq vs v) (v ∷ []) []
-      by true e =
-          votes_with v (find (is_at s.sort s.round s.signer) vs) (other_than eq vs s.sort s.round s.signer (find (is_at s.sort s.round s.signer) vs)) (ap (other_than eq vs s.sort s.round s.signer)) ∙
-          ap (λ (x : Slot D G). votes_in_slot (slot_of eq vs s.sort s.round s.signer) ++ cond (changes eq x.earliest x.other v.subject) (v ∷ []) []) (sym (own_slot eq l vs v s e))
-      by false e = sym (append-nil (in_slot vs))
+  in_slot_push vs v =
+      let k = slot_of eq vs s.sort s.round s.signer in
+      let first = find (is_at s.sort s.round s.signer) vs in
+      ap votes_in_slot (slot_after_vote eq l vs v s.sort s.round s.signer) ∙
+      (elim (is_at s.sort s.round s.signer v) as (λ b. is_at s.sort s.round s.signer v ≡ b → votes_in_slot (cond b (slot_with eq v k) k) ≡ votes_in_slot k ++ cond (b && is_news eq vs v) (v ∷ []) []) [
+        | true ↦ λ e. votes_with v first (other_than eq vs s.sort s.round s.signer first) (ap (other_than eq vs s.sort s.round s.signer)) ∙ ap (λ (x : Slot D G). in_slot vs ++ cond (changes eq x.earliest x.other v.subject) (v ∷ []) []) (sym (own_slot eq l vs v s e))
+        | false ↦ λ e. sym (append-nil (in_slot vs))
+      ]) refl ∙
+      ap (λ ws. in_slot vs ++ ws) (sym (filter_if (is_at s.sort s.round s.signer) (is_news eq vs v) v))
 
   -- the votes in the slot of a list are those before it and the news that go there
   in_slot_after : (before vs : List (SignedVote D G)) → in_slot (before ++ vs) ≡ in_slot before ++ filter (is_at s.sort s.round s.signer) (news_after eq before vs)
@@ -203,14 +191,11 @@ module _ {D G : Type 0} (eq : D → D → Bool) (l : IsEquivalence eq) (vs : Lis
   -- of one signer in the round at most five votes are recorded
   pub few_are_recorded : (signer : ℕ) → length (filter (is_of round signer) (recorded_of eq vs)) ≤ 5
   few_are_recorded signer =
+      let at_most : (o : Option (SignedVote D G)) → length (option_to_list o) ≤ 1 = elim [ None ↦ omega arith | Some x ↦ omega arith ] in
       let in_slot = λ (sort : Sort). slot_of eq vs sort round signer in
       let has = λ (sort : Sort). ap length (recorded_are_slots eq l vs sort round signer) ∙ length-append (option_to_list (in_slot sort).earliest) (option_to_list (in_slot sort).other) in
       let one = ap (λ o. length (option_to_list o)) (no_other_nullify signer (find (is_at Nullifying round signer) vs) refl) in
       omega (arith, by_sorts signer (recorded_of eq vs), has Notarizing, has Nullifying, has Finalizing, at_most (in_slot Notarizing).earliest, at_most (in_slot Notarizing).other, at_most (in_slot Nullifying).earliest, one, at_most (in_slot Finalizing).earliest, at_most (in_slot Finalizing).other)
-    where
-      at_most : {X : Type 0} (o : Option X) → length (option_to_list o) ≤ 1
-      at_most None = omega arith
-      at_most (Some x) = omega arith
 
   -- where its slots are empty none of its votes is recorded
   pub none_of_round : ((signer : ℕ) (sort : Sort) → no_slot ≡ slot_of eq vs sort round signer) → (v : SignedVote D G) → Contains (recorded_of eq vs) v → round_of v.subject ≡ round → ⊥
@@ -245,25 +230,18 @@ module _ {S D P G : Type 0} (eq : D → D → Bool) (l : IsEquivalence eq) (n : 
 
   -- a vote that is news is taken
   pub held_after : (after : RoundVotes S D P G) → v.signer < n → changes eq (slots before v.signer (sort_of v.subject)).earliest (slots before v.signer (sort_of v.subject)).other v.subject ≡ true → TakesVote eq v before after → HoldsRound eq n (vs ++ v ∷ []) (round_of v.subject) after
-  held_after after lt news takes = record {
-    sized = takes.sized n holds.sized;
-    held = λ signer sort.
-        takes.taken n holds.sized lt news signer sort ∙
-        (λ i. cond (at_round sort signer i) (slot_with eq v (holds.held signer sort i)) (holds.held signer sort i)) ∙
-        sym (slot_after_vote eq l vs v sort (round_of v.subject) signer);
-    counted = takes.more n holds.sized lt news ∙ (λ i. holds.counted i + length (cond (sym (and_from _ _ here (sym news_held ∙ news)) i) (v ∷ []) [])) ∙ sym (recorded_in_push eq vs v (round_of v.subject));
-  }
-    where
-      here : of_round (round_of v.subject) v ≡ true
-      here = same_round-from (round_of v.subject) (round_of v.subject) refl
-
-      at_round : (sort : Sort) (signer : ℕ) → is_for v signer sort ≡ is_at sort (round_of v.subject) signer v
-      at_round sort signer = ap (λ b. same_sort (sort_of v.subject) sort && (b && eqb v.signer signer)) (sym here)
+  held_after after lt news takes =
+      let here : of_round (round_of v.subject) v ≡ true = same_round-from (round_of v.subject) (round_of v.subject) refl in
+      let at_round : (sort : Sort) (signer : ℕ) → is_for v signer sort ≡ is_at sort (round_of v.subject) signer v = λ sort signer. ap (λ b. same_sort (sort_of v.subject) sort && (b && eqb v.signer signer)) (sym here) in
+      record {
+        sized = takes.sized n holds.sized;
+        held = λ signer sort. takes.taken n holds.sized lt news signer sort ∙ (λ i. cond (at_round sort signer i) (slot_with eq v (holds.held signer sort i)) (holds.held signer sort i)) ∙ sym (slot_after_vote eq l vs v sort (round_of v.subject) signer);
+        counted = takes.more n holds.sized lt news ∙ (λ i. holds.counted i + length (cond (sym (and_from _ _ here (sym news_held ∙ news)) i) (v ∷ []) [])) ∙ sym (recorded_in_push eq vs v (round_of v.subject));
+      }
 
 -- what is held of the valid ones of some more votes on a subject
 abbrev pub HoldsMore : {S D P G : Type 0} → (D → D → Bool) → ℕ → (SubjectValue D → ℕ → G → Bool) → SubjectValue D → List (Attestation S P G) → RoundVotes S D P G → RoundVotes S D P G → Type 0
-HoldsMore {D = D} {G = G} eq n good x given before after =
-    (vs : List (SignedVote D G)) → HoldsRound eq n vs (round_of x) before → HoldsRound eq n (vs ++ filter (λ v. good v.subject v.signer v.signature) (map (vote_on x) given)) (round_of x) after
+HoldsMore {D = D} {G = G} eq n good x given before after = (vs : List (SignedVote D G)) → HoldsRound eq n vs (round_of x) before → HoldsRound eq n (vs ++ filter (λ v. good v.subject v.signer v.signature) (map (vote_on x) given)) (round_of x) after
 
 -- one attestation more
 pub holds_one_more : {S D P G : Type 0} (eq : D → D → Bool) (n : ℕ) (good : SubjectValue D → ℕ → G → Bool) (x : SubjectValue D) (given : List (Attestation S P G)) (a : Attestation S P G) (before recorded after : RoundVotes S D P G) → HoldsMore eq n good x given before recorded → HoldsMore eq n good x (a ∷ []) recorded after → HoldsMore eq n good x (given ++ a ∷ []) before after

@@ -1,9 +1,8 @@
 -- The evidence in what is recorded, signer by signer and round by round, is the evidence of the votes.
-use Rattle.simplex_detector.proofs.Std.{All, All-contains, All-from_recursion, All-push, AllByRecursion, Bool, Contains, Contains-append_left, Contains-append_right, Contains-dedup_nat, Contains-permutation, IsEquivalence, IsOrdered, IsPermutation, IsSorted, IsStrictlyIncreasing-dedup, IsTrue, Less, List, None, Option, Some, [], ap, append-nil, append_assoc, arith, btree_map_get_iff, cond-true, dedup, eqb, eqb-true, false≢true, filter_map, filter_map-append, flat_map, flat_map_more, get, get_or, inl, inr, is_some, length, map, map-append, map-id, nat_cmp, nat_cmp_total, option_map, option_to_list, ordering_then, recursion_from_All, refl, sorted_from_strictly_increasing, subst, sym, take, take_more, tied_itself, true, ℕ, ◌++◌, ◌+◌, ◌<◌, ◌∙◌, ◌∷◌, ◌≡◌, ◌⊎◌}
-use Rattle.simplex_detector.proofs.Words.{Activity, Conflicting_finalize, Conflicting_notarize, Detector, Evidence, HoldsRound, IsEvidence, Kind, ListsSigners, Named, Nullify_finalize, Recalls, RecallsAt, RecallsNothing, RecallsRound, Round, RoundState, RoundVotes, Rules, SignedVote, Slot, Sort, contradicts, evidence_from, evidence_of, found_at, found_of_kind, if_contradicts, is_named, item_of, kind_rank, named_by, named_cmp, no_slot, round_cmp, round_of, slot_of, slots, valid_votes}
+use Rattle.simplex_detector.proofs.Prelude.{Activity, All, All-contains, All-from_recursion, All-push, AllByRecursion, Bool, Conflicting_finalize, Conflicting_notarize, Contains, Contains-append_left, Contains-append_right, Contains-dedup_nat, Contains-permutation, Detector, Evidence, HoldsRound, IsEquivalence, IsEvidence, IsOrdered, IsPermutation, IsSorted, IsStrictlyIncreasing-dedup, IsTrue, Kind, Less, List, ListsSigners, Named, None, Nullify_finalize, Option, Recalls, RecallsAt, RecallsNothing, RecallsRound, Round, RoundState, RoundVotes, Rules, SignedVote, Slot, Some, Sort, [], ap, append-nil, append_assoc, arith, btree_map_get_iff, cond-true, contradicts, dedup, eqb, eqb-true, evidence_from, evidence_of, false≢true, filter_map, filter_map-append, flat_map, flat_map_more, found_at, found_of_kind, get, get_or, if_contradicts, inl, inr, is_named, is_some, item_of, kind_rank, length, map, map-append, map-id, named_by, named_cmp, nat_cmp, nat_cmp_total, no_slot, option_map, option_to_list, ordering_then, recursion_from_All, refl, round_cmp, round_of, slot_of, slots, sorted_from_strictly_increasing, subst, sym, take, take_more, tied_itself, true, valid_votes, ℕ, ◌++◌, ◌+◌, ◌<◌, ◌∙◌, ◌∷◌, ◌≡◌, ◌⊎◌}
 use Rattle.std.specs.List.Sorted.{IsStrictlySortedBy}
 use Rattle.simplex_detector.proofs.EvidenceLemmas.{evidence-from_named, evidence_is, from_listing}
-use Rattle.simplex_detector.proofs.Lists.{Contains-flat_map, Contains-from_filter_map, Contains-from_flat_map, Contains-from_map, Contains-map, each, filter_map-joined, found, made_complete, made_ordered, made_sound, some_from_is_some, sorted_joined}
+use Rattle.simplex_detector.proofs.Lists.{found_mapped, Contains-flat_map, Contains-from_filter_map, Contains-from_flat_map, Contains-from_map, Contains-map, each, filter_map-joined, found, made_complete, made_ordered, made_sound, some_from_is_some, sorted_joined}
 use Rattle.simplex_detector.proofs.Places.{exact_rounds, round_cmp_total}
 use Rattle.simplex_detector.proofs.RecordedLemmas.{both-Some, evidence_of-slots}
 
@@ -23,11 +22,7 @@ module _ {S D C P G : Type 0} (rules : Rules S D C P G) (messages : List (Activi
 
   -- a round is listed, or nothing is recorded of it
   pub recalled : (round : Round) → RecallsNothing rules messages round ⊎ ((round_state : RoundState S D P G) × Contains detector.rounds.entries (round, round_state))
-  recalled round = by (get round_cmp detector.rounds round) refl (holds round)
-    where
-      by : (o : Option (RoundState S D P G)) → get round_cmp detector.rounds round ≡ o → RecallsAt rules messages round o → RecallsNothing rules messages round ⊎ ((round_state : RoundState S D P G) × Contains detector.rounds.entries (round, round_state))
-      by None at r = inl r
-      by (Some round_state) at r = inr (round_state, (btree_map_get_iff round_cmp_total exact_rounds detector.rounds ordered round round_state).0 at)
+  recalled round = (elim (get round_cmp detector.rounds round) as (λ o. get round_cmp detector.rounds round ≡ o → RecallsAt rules messages round o → RecallsNothing rules messages round ⊎ ((round_state : RoundState S D P G) × Contains detector.rounds.entries (round, round_state))) [ None ↦ λ at r. inl r | Some round_state ↦ λ at r. inr (round_state, (btree_map_get_iff round_cmp_total exact_rounds detector.rounds ordered round round_state).0 at) ]) refl (holds round)
 
 -- ---- who may be named, in order
 
@@ -46,12 +41,7 @@ in_name round signers n h = let (signer, _, at) = Contains-from_flat_map (names_
 
 -- and everyone is among those of its own signer and round
 own_name : (n : Named) → Contains (names_at n.round n.signer) n
-own_name n = by n.kind
-  where
-    by : (kind : Kind) → Contains (names_at n.round n.signer) (record { round = n.round; signer = n.signer; kind = kind })
-    by Conflicting_notarize = (0, omega arith, refl)
-    by Conflicting_finalize = (1, omega arith, refl)
-    by Nullify_finalize = (2, omega arith, refl)
+own_name n = elim n.kind as (λ kind. Contains (names_at n.round n.signer) (record { round = n.round; signer = n.signer; kind = kind })) [ Conflicting_notarize ↦ (0, omega arith, refl) | Conflicting_finalize ↦ (1, omega arith, refl) | Nullify_finalize ↦ (2, omega arith, refl) ]
 
 -- of one signer they are in the order of kinds
 ordered_at : (round : Round) (signer : ℕ) → IsStrictlySortedBy named_cmp (names_at round signer)
@@ -81,11 +71,7 @@ module _ {D G : Type 0} (eq : D → D → Bool) (vs : List (SignedVote D G)) whe
 
   -- its votes contradict
   contradicts-evidence : (n : Named) → if_contradicts eq (evidence_of eq vs n) ≡ evidence_of eq vs n
-  contradicts-evidence n = by (evidence_of eq vs n) refl
-    where
-      by : (o : Option (Evidence D G)) → evidence_of eq vs n ≡ o → if_contradicts eq o ≡ o
-      by None is = refl
-      by (Some e) is = cond-true (contradicts eq e.kind e.first e.second) (Some e) None (ap (λ (m : Named). contradicts eq m.kind e.first e.second) (names_own n e is) ∙ (found _ vs e.second (evidence_is eq vs n e is).second).1)
+  contradicts-evidence n = (elim (evidence_of eq vs n) as (λ o. evidence_of eq vs n ≡ o → if_contradicts eq o ≡ o) [ None ↦ λ is. refl | Some e ↦ λ is. cond-true (contradicts eq e.kind e.first e.second) (Some e) None (ap (λ (m : Named). contradicts eq m.kind e.first e.second) (names_own n e is) ∙ (found _ vs e.second (evidence_is eq vs n e is).second).1) ]) refl
 
   -- so from the slots of the votes the evidence is found, kind by kind
   found_at-evidence : (round : Round) (signer : ℕ) (slot : Sort → Slot D G) → ((sort : Sort) → slot sort ≡ slot_of eq vs sort round signer) → found_at eq slot ≡ filter_map (evidence_of eq vs) (names_at round signer)
@@ -97,8 +83,6 @@ module _ {D G : Type 0} (eq : D → D → Bool) (vs : List (SignedVote D G)) whe
       of_kind kind =
           let n : Named = record { round = round; signer = signer; kind = kind } in
           ap (if_contradicts eq) ((λ i. evidence_from (λ sort. is sort i) kind) ∙ sym (evidence_of-slots eq vs n)) ∙ contradicts-evidence n
-
-  -- ---- one round
 
   module _ {S P : Type 0} (size : ℕ) (round : Round) (recorded : RoundVotes S D P G) (holds : HoldsRound eq size vs round recorded) where
     -- what is found of some signers
@@ -114,11 +98,7 @@ module _ {D G : Type 0} (eq : D → D → Bool) (vs : List (SignedVote D G)) whe
         Contains-flat_map (names_at round) signers n.signer n (of_kind n.kind x from_slots) (subst (λ r. Contains (names_at r n.signer) n) here (own_name n))
       where
         item : {V : Type 0} (signer : V → ℕ) (vote : V → SignedVote D G) (items : List V) (y : SignedVote D G) → ((v : V) → Contains items v → Contains signers (signer v)) → option_map vote (item_of signer items n.signer) ≡ Some y → Contains signers n.signer
-        item {V} signer vote items y all at = by (item_of signer items n.signer) refl at
-          where
-            by : (o : Option V) → item_of signer items n.signer ≡ o → option_map vote o ≡ Some y → Contains signers n.signer
-            by None is at = absurd cc
-            by (Some v) is at = let (v_in, e) = found (λ v. eqb (signer v) n.signer) items v is in subst (Contains signers) (eqb-true _ _ e) (all v v_in)
+        item signer vote items y all at = let (v, v_in, e, _) = found_mapped vote (λ v. eqb (signer v) n.signer) items y at in subst (Contains signers) (eqb-true _ _ e) (all v v_in)
 
         of_kind : (kind : Kind) (x : Evidence D G) → evidence_from (slots recorded n.signer) kind ≡ Some x → Contains signers n.signer
         of_kind Conflicting_notarize x is = item _ _ recorded.notarizes.others.items x.second lists.notarizers (both-Some _ _ _ x is).1
@@ -171,83 +151,63 @@ walked_next {S} {D} {P} {G} eq entries rest later round round_state signers foun
 -- the walk over all rounds gives the evidence of the messages' valid votes
 pub report_of_walk : {S D C P G : Type 0} (rules : Rules S D C P G) → IsEquivalence rules.eq → (detector : Detector S D P G) → IsOrdered round_cmp detector.rounds → (found : List (Evidence D G)) → Walked rules.eq detector.rounds.entries [] found → (messages : List (Activity S D C P G)) → Recalls rules messages detector → IsEvidence rules.eq (valid_votes rules messages) found
 report_of_walk {S} {D} {C} {P} {G} rules l detector ordered found walked messages holds =
-    subst (IsEvidence eq vs) (sym (walked.is ∙ found_steps steps (recursion_from_All _ steps (each _ steps held)))) (from_listing eq vs l _ (record {
-      ordered = made_ordered named_by named_cmp (evidence_of eq vs) (names_own eq vs) (flat_map names_of steps) (sorted_joined round_cmp named_cmp (λ step. step.round) names_of
+    subst (IsEvidence rules.eq vs) (sym (walked.is ∙ found_steps walked.steps (recursion_from_All _ walked.steps (each _ walked.steps held)))) (from_listing rules.eq vs l _ (record {
+      ordered = made_ordered named_by named_cmp (evidence_of rules.eq vs) (names_own rules.eq vs) (flat_map names_of walked.steps) (sorted_joined round_cmp named_cmp (λ step. step.round) names_of
           (λ a b n m less n_in m_in. ap (λ o. ordering_then o (ordering_then (nat_cmp n.signer m.signer) (nat_cmp (kind_rank n.kind) (kind_rank m.kind)))) ((λ i. round_cmp (in_name a.round a.signers n n_in i) (in_name b.round b.signers m m_in i)) ∙ less))
-          steps (λ step step_in. ordered_in step.round step.signers (lists step step_in).ascending) (subst (IsStrictlySortedBy round_cmp) (rounds steps) (subst (λ es. IsStrictlySortedBy round_cmp (map (λ e. e.0) es)) (sym over) ordered)));
-      sound = made_sound named_by named_cmp (evidence_of eq vs) (names_own eq vs) (flat_map names_of steps);
-      complete = λ n h. made_complete named_by named_cmp (evidence_of eq vs) (names_own eq vs) (flat_map names_of steps) n (complete n h) h;
+          walked.steps (λ step step_in. ordered_in step.round step.signers (lists step step_in).ascending) (subst (IsStrictlySortedBy round_cmp) (rounds walked.steps) (subst (λ es. IsStrictlySortedBy round_cmp (map (λ e. e.0) es)) (sym over) ordered)));
+      sound = made_sound named_by named_cmp (evidence_of rules.eq vs) (names_own rules.eq vs) (flat_map names_of walked.steps);
+      complete = λ n h. made_complete named_by named_cmp (evidence_of rules.eq vs) (names_own rules.eq vs) (flat_map names_of walked.steps) n (complete n h) h;
     }))
   where
-    eq : D → D → Bool
-    eq = rules.eq
-
     vs : List (SignedVote D G)
     vs = valid_votes rules messages
-
-    steps : List (Step S D P G)
-    steps = walked.steps
 
     names_of : Step S D P G → List Named
     names_of step = names_in step.round step.signers
 
-    over : map entry_of steps ≡ detector.rounds.entries
-    over = sym (append-nil (map entry_of steps)) ∙ walked.over
+    over : map entry_of walked.steps ≡ detector.rounds.entries
+    over = sym (append-nil (map entry_of walked.steps)) ∙ walked.over
 
     rounds : (xs : List (Step S D P G)) → map (λ e. e.0) (map entry_of xs) ≡ map (λ step. step.round) xs
     rounds [] = refl
     rounds (step ∷ xs) = ap (λ rs. step.round ∷ rs) (rounds xs)
 
-    lists : (step : Step S D P G) → Contains steps step → ListsSigners step.round_state.votes step.signers
-    lists step step_in = All-contains (λ s. ListsSigners s.round_state.votes s.signers) steps step walked.listed step_in
+    lists : (step : Step S D P G) → Contains walked.steps step → ListsSigners step.round_state.votes step.signers
+    lists step step_in = All-contains (λ s. ListsSigners s.round_state.votes s.signers) walked.steps step walked.listed step_in
 
-    held : (step : Step S D P G) → Contains steps step → HoldsRound eq (rules.size step.round.epoch) vs step.round step.round_state.votes
+    held : (step : Step S D P G) → Contains walked.steps step → HoldsRound rules.eq (rules.size step.round.epoch) vs step.round step.round_state.votes
     held step step_in =
-        let recalls : RecallsRound rules messages step.round step.round_state = All-contains (λ e. RecallsRound rules messages e.0 e.1) detector.rounds.entries (entry_of step) (recalls_listed rules messages detector ordered holds) (subst (λ es. Contains es (entry_of step)) over (Contains-map entry_of steps step step_in)) in
+        let recalls : RecallsRound rules messages step.round step.round_state = All-contains (λ e. RecallsRound rules messages e.0 e.1) detector.rounds.entries (entry_of step) (recalls_listed rules messages detector ordered holds) (subst (λ es. Contains es (entry_of step)) over (Contains-map entry_of walked.steps step step_in)) in
         recalls.votes
 
-    found_steps : (xs : List (Step S D P G)) → AllByRecursion (λ step. HoldsRound eq (rules.size step.round.epoch) vs step.round step.round_state.votes) xs → flat_map (found_in eq) xs ≡ filter_map (evidence_of eq vs) (flat_map names_of xs)
+    found_steps : (xs : List (Step S D P G)) → AllByRecursion (λ step. HoldsRound rules.eq (rules.size step.round.epoch) vs step.round step.round_state.votes) xs → flat_map (found_in rules.eq) xs ≡ filter_map (evidence_of rules.eq vs) (flat_map names_of xs)
     found_steps [] h = refl
     found_steps (step ∷ xs) h =
-        (λ i. found_in_round eq vs (rules.size step.round.epoch) step.round step.round_state.votes h.0 step.signers i ++ found_steps xs h.1 i) ∙ sym (filter_map-append (evidence_of eq vs) (names_of step) (flat_map names_of xs))
+        (λ i. found_in_round rules.eq vs (rules.size step.round.epoch) step.round step.round_state.votes h.0 step.signers i ++ found_steps xs h.1 i) ∙ sym (filter_map-append (evidence_of rules.eq vs) (names_of step) (flat_map names_of xs))
 
-    -- in a round of which nothing is recorded nobody has evidence
-    nothing : (kind : Kind) → evidence_from (λ sort. no_slot {D = D} {G = G}) kind ≡ None
-    nothing Conflicting_notarize = refl
-    nothing Conflicting_finalize = refl
-    nothing Nullify_finalize = refl
-
-    complete : (n : Named) → is_some (evidence_of eq vs n) ≡ true → Contains (flat_map names_of steps) n
+    complete : (n : Named) → is_some (evidence_of rules.eq vs n) ≡ true → Contains (flat_map names_of walked.steps) n
     complete n h =
         elim (recalled rules messages detector ordered holds n.round) [
-          | inl none ↦ absurd (false≢true (ap is_some (sym (nothing n.kind) ∙ (λ i. evidence_from (λ sort. none.votes n.signer sort i) n.kind) ∙ sym (evidence_of-slots eq vs n)) ∙ h))
+          | inl none ↦ absurd (false≢true (ap is_some (sym (elim n.kind as (λ kind. evidence_from (λ sort. no_slot {D = D} {G = G}) kind ≡ None) [ Conflicting_notarize ↦ refl | Conflicting_finalize ↦ refl | Nullify_finalize ↦ refl ]) ∙ (λ i. evidence_from (λ sort. none.votes n.signer sort i) n.kind) ∙ sym (evidence_of-slots rules.eq vs n)) ∙ h))
           | inr there ↦
-              let (step, step_in, is) = Contains-from_map entry_of steps (n.round, there.0) (subst (λ es. Contains es (n.round, there.0)) (sym over) there.1) in
-              Contains-flat_map names_of steps step n step_in (listed_in_round eq vs (rules.size step.round.epoch) step.round step.round_state.votes (held step step_in) step.signers (lists step step_in) n (λ i. (sym is i).0) h)
+              let (step, step_in, is) = Contains-from_map entry_of walked.steps (n.round, there.0) (subst (λ es. Contains es (n.round, there.0)) (sym over) there.1) in
+              Contains-flat_map names_of walked.steps step n step_in (listed_in_round rules.eq vs (rules.size step.round.epoch) step.round step.round_state.votes (held step step_in) step.signers (lists step step_in) n (λ i. (sym is i).0) h)
         ]
-
--- ---- the signers of a round
 
 -- signers that were collected, sorted, and rid of what came twice
 pub lists_signers : {S D P G : Type 0} (recorded : RoundVotes S D P G) (none notarizers nullifiers finalizers sorted signers : List ℕ) → none ≡ [] → notarizers ≡ none ++ map (λ v. v.attestation.signer) recorded.notarizes.others.items → nullifiers ≡ notarizers ++ map (λ v. v.attestation.signer) recorded.nullifies.items → finalizers ≡ nullifiers ++ map (λ v. v.attestation.signer) recorded.finalizes.others.items → IsPermutation finalizers sorted → IsSorted nat_cmp sorted → signers ≡ dedup eqb sorted → ListsSigners recorded signers
-lists_signers recorded none notarizers nullifiers finalizers sorted signers e0 e1 e2 e3 moved ordered e5 = record {
-  ascending = subst (IsStrictlySortedBy nat_cmp) (sym e5) (sorted_from_strictly_increasing (dedup eqb sorted) (IsStrictlyIncreasing-dedup sorted ordered));
-  notarizers = λ v v_in. stays v.attestation.signer (Contains-append_left (a ++ b) c _ (Contains-append_left a b _ (Contains-map (λ w. w.attestation.signer) _ v v_in)));
-  nullifiers = λ v v_in. stays v.attestation.signer (Contains-append_left (a ++ b) c _ (Contains-append_right a b _ (Contains-map (λ w. w.attestation.signer) _ v v_in)));
-  finalizers = λ v v_in. stays v.attestation.signer (Contains-append_right (a ++ b) c _ (Contains-map (λ w. w.attestation.signer) _ v v_in));
-}
-  where
-    a : List ℕ
-    a = map (λ v. v.attestation.signer) recorded.notarizes.others.items
-
-    b : List ℕ
-    b = map (λ v. v.attestation.signer) recorded.nullifies.items
-
-    c : List ℕ
-    c = map (λ v. v.attestation.signer) recorded.finalizes.others.items
-
-    stays : (s : ℕ) → Contains ((a ++ b) ++ c) s → Contains signers s
-    stays s h = subst (λ xs. Contains xs s) (sym e5) (Contains-dedup_nat sorted s (Contains-permutation finalizers sorted s moved (subst (λ xs. Contains xs s) (sym (e3 ∙ ap (λ xs. xs ++ c) (e2 ∙ ap (λ xs. xs ++ b) (e1 ∙ ap (λ xs. xs ++ a) e0)))) h)))
+lists_signers recorded none notarizers nullifiers finalizers sorted signers e0 e1 e2 e3 moved ordered e5 =
+    let a = map (λ v. v.attestation.signer) recorded.notarizes.others.items in
+    let b = map (λ v. v.attestation.signer) recorded.nullifies.items in
+    let c = map (λ v. v.attestation.signer) recorded.finalizes.others.items in
+    let all : finalizers ≡ (a ++ b) ++ c = e3 ∙ ap (λ xs. xs ++ c) (e2 ∙ ap (λ xs. xs ++ b) (e1 ∙ ap (λ xs. xs ++ a) e0)) in
+    let stays : (s : ℕ) → Contains ((a ++ b) ++ c) s → Contains signers s = λ s h. subst (λ xs. Contains xs s) (sym e5) (Contains-dedup_nat sorted s (Contains-permutation finalizers sorted s moved (subst (λ xs. Contains xs s) (sym all) h))) in
+    record {
+      ascending = subst (IsStrictlySortedBy nat_cmp) (sym e5) (sorted_from_strictly_increasing (dedup eqb sorted) (IsStrictlyIncreasing-dedup sorted ordered));
+      notarizers = λ v v_in. stays v.attestation.signer (Contains-append_left (a ++ b) c _ (Contains-append_left a b _ (Contains-map (λ w. w.attestation.signer) _ v v_in)));
+      nullifiers = λ v v_in. stays v.attestation.signer (Contains-append_left (a ++ b) c _ (Contains-append_right a b _ (Contains-map (λ w. w.attestation.signer) _ v v_in)));
+      finalizers = λ v v_in. stays v.attestation.signer (Contains-append_right (a ++ b) c _ (Contains-map (λ w. w.attestation.signer) _ v v_in));
+    }
 
 -- what is found of one signer more
 pub found_next : {E : Type 0} (f : ℕ → List E) (old found new : List E) (signers : List ℕ) (i s : ℕ) → i < length signers → s ≡ get_or signers i 0 → found ≡ old ++ flat_map f (take i signers) → new ≡ found ++ f s → new ≡ old ++ flat_map f (take (i + 1) signers)

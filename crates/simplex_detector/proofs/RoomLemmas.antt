@@ -1,31 +1,16 @@
 -- Of messages no more votes are recorded than their encodings have bytes.
-use Rattle.simplex_detector.proofs.Std.{Bool, List, [], arith, cond, count_by-le-length, false, flat_map, length, length-append, length-filter, length-map, map, suc, true, ℕ, ◌++◌, ◌+◌, ◌∷◌, ◌≤◌}
-use Rattle.simplex_detector.proofs.Words.{Activity, Attestation, Format, Proposal, Round, Rules, SignedVote, activity_encoding, finalize_of, groups_some, is_news, is_valid, news_after, notarize_of, nullify_of, proposal_format, round_format, valid_votes, votes_in, votes_recorded}
+use Rattle.simplex_detector.proofs.Prelude.{Activity, Attestation, Bool, Format, List, Proposal, Round, Rules, SignedVote, [], activity_encoding, arith, cond, count_by-le-length, false, finalize_of, flat_map, groups_some, is_news, is_valid, length, length-append, length-filter, length-map, map, news_after, notarize_of, nullify_of, proposal_format, round_format, suc, true, valid_votes, votes_in, votes_recorded, ℕ, ◌++◌, ◌+◌, ◌∷◌, ◌≤◌}
 use Rattle.simplex_evidence.specs.declared.types.activity.Activity.TheVariants as activity
-
--- ---- no more than the votes
-
-one_at_most : {X : Type 0} (b : Bool) (x : X) (xs : List X) → length (cond b (x ∷ []) [] ++ xs) ≤ length xs + 1
-one_at_most true x xs = omega arith
-one_at_most false x xs = omega arith
 
 news_among : {D G : Type 0} (eq : D → D → Bool) (before vs : List (SignedVote D G)) → length (news_after eq before vs) ≤ length vs
 news_among eq before [] = omega arith
 news_among eq before (v ∷ vs) =
-    let first = one_at_most (is_news eq before v) v (news_after eq (before ++ v ∷ []) vs) in
+    let first = elim (is_news eq before v) as (λ b. length (cond b (v ∷ []) [] ++ news_after eq (before ++ v ∷ []) vs) ≤ length (news_after eq (before ++ v ∷ []) vs) + 1) [ true ↦ omega arith | false ↦ omega arith ] in
     let others = news_among eq (before ++ v ∷ []) vs in
     omega arith
 
--- ---- no more than the bytes of a message
-
 front_some : (front rest : List ℕ) → 1 ≤ length front → 1 ≤ length (front ++ rest)
 front_some front rest some = omega (arith, length-append front rest)
-
-round_some : (r : Round) → 1 ≤ length (round_format.encoding r)
-round_some r = front_some _ _ (groups_some 9 r.epoch)
-
-proposal_some : {D : Type 0} (payload : Format D) (p : Proposal D) → 1 ≤ length ((proposal_format payload).encoding p)
-proposal_some payload p = front_some _ _ (round_some p.round)
 
 -- behind a front, the votes of a list of attestations that the bytes have room for
 votes_behind : {X Y : Type 0} (vote : X → Y) (xs : List X) (front bytes : List ℕ) → length xs ≤ length bytes → length (map vote xs) ≤ suc (length (front ++ bytes))
@@ -44,9 +29,9 @@ module _ {S D C P G : Type 0} (eq : D → D → Bool) (payload : Format D) (cert
   message_has_room (activity.Nullification n) = votes_behind (nullify_of n.round) (listed n.certificate) _ _ (room n.certificate)
   message_has_room (activity.Finalize v) = omega arith
   message_has_room (activity.Finalization n) = votes_behind (finalize_of n.proposal) (listed n.certificate) _ _ (room n.certificate)
-  message_has_room (activity.ConflictingNotarize c) = two_behind _ _ _ (proposal_some payload c.first.proposal)
-  message_has_room (activity.ConflictingFinalize c) = two_behind _ _ _ (proposal_some payload c.first.proposal)
-  message_has_room (activity.NullifyFinalize c) = two_behind _ _ _ (round_some c.first.round)
+  message_has_room (activity.ConflictingNotarize c) = two_behind _ _ _ (front_some _ _ (front_some _ _ (groups_some 9 c.first.proposal.round.epoch)))
+  message_has_room (activity.ConflictingFinalize c) = two_behind _ _ _ (front_some _ _ (front_some _ _ (groups_some 9 c.first.proposal.round.epoch)))
+  message_has_room (activity.NullifyFinalize c) = two_behind _ _ _ (front_some _ _ (groups_some 9 c.first.round.epoch))
 
   messages_have_room : (messages : List (Activity S D C P G)) → length (flat_map (votes_in listed) messages) ≤ length (flat_map (activity_encoding eq payload certificate signature) messages)
   messages_have_room [] = omega arith

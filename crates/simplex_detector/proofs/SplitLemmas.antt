@@ -1,6 +1,5 @@
 -- Which rounds are split, by what is recorded of their certificates, and that the messages determine their splits.
-use Rattle.simplex_detector.proofs.Std.{All, Bool, Contains, Contains-append_left, Contains-push, Contains-push_cases, IsEquivalence, IsStrictlySortedBy, List, None, Option, Some, [], and_from, and_left, and_parts, and_right, ap, append-nil, cases_Bool, cond, cond_some, cons_option, false, false≢true, filter_map, filter_map-append, if◌then◌else◌, inl, inr, is_none, is_some, list_any, not, option_or, option_to_list, or_cases, or_left, or_parts, or_right, refl, subst, sym, true, ⊎_elim, ◌&&◌, ◌++◌, ◌+◌, ◌||◌, ◌∙◌, ◌∷◌, ◌≡◌, ◌≤◌, ◌⊎◌}
-use Rattle.simplex_detector.proofs.Words.{Activity, AreLawful, AreSplits, CertifiedSubjects, Finalizing, HaveCommittees, Notarizing, Nullifying, RecordsFirsts, Round, Rules, Sort, Split, SplitsAreUnique, SubjectValue, activity_round, are_split, certificate_in, certificates_contradict, certified_in, certified_subjects, changes_firsts, excludes, excludes_first, excludes_some, faults_of, first_certified, first_with, firsts_of, is_certified, is_split, messages_contradict, named_count, round_cmp, round_of, same_round, same_sort, sort_of, split_of, subjects_contradict, valid_votes}
+use Rattle.simplex_detector.proofs.Prelude.{Activity, All, AreLawful, AreSplits, Bool, CertifiedSubjects, Contains, Contains-append_left, Contains-push, Contains-push_cases, Finalizing, HaveCommittees, IsEquivalence, IsStrictlySortedBy, List, None, Notarizing, Nullifying, Option, RecordsFirsts, Round, Rules, Some, Sort, Split, SplitsAreUnique, SubjectValue, [], activity_round, and_from, and_left, and_parts, and_right, ap, append-nil, are_split, cases_Bool, certificate_in, certificates_contradict, certified_in, certified_subjects, changes_firsts, cond, cond_some, cons_option, excludes, excludes_first, excludes_some, false, false≢true, faults_of, filter_map, filter_map-append, first_certified, first_with, firsts_of, if◌then◌else◌, inl, inr, is_certified, is_none, is_some, is_split, list_any, messages_contradict, named_count, not, option_or, option_to_list, or_cases, or_left, or_parts, or_right, refl, round_cmp, round_of, same_round, same_sort, sort_of, split_of, subjects_contradict, subst, sym, true, valid_votes, ⊎_elim, ◌&&◌, ◌++◌, ◌+◌, ◌||◌, ◌∙◌, ◌∷◌, ◌≡◌, ◌≤◌, ◌⊎◌}
 use Rattle.simplex_detector.proofs.AccountLemmas.{accountable_for, certificate_parts, certified_parts, certifies_from, enough_for}
 use Rattle.simplex_detector.proofs.Lists.{Contains-from_filter_map, Contains-from_list_any, IsListing, any_from_Contains, find_from_Contains, find_push, found, listing_is_unique, made_complete, made_ordered, made_sound, same_bool}
 use Rattle.simplex_detector.proofs.Places.{exact_rounds, excludes-flip, excludes_itself, excludes_one, round_cmp_total, same_round-from, same_round-true, same_sort-refl, same_sort-true}
@@ -33,7 +32,11 @@ opposites eq xs round h =
     let here = same_round-true _ _ p.0 in
     record { x = x; y = y; x_in = x_in; y_in = y_in; x_here = here; y_here = sym (same_round-true _ _ q.0) ∙ here; against = q.1 }
 
--- ---- one more subject
+-- so subjects among which are those of the round split it too
+pub split_more : {D : Type 0} (eq : D → D → Bool) (xs ys : List (SubjectValue D)) (round : Round) → ((x : SubjectValue D) → Contains xs x → round_of x ≡ round → Contains ys x) → are_split eq xs round ≡ true → are_split eq ys round ≡ true
+split_more eq xs ys round all h =
+    let o = opposites eq xs round h in
+    split_by eq ys round (record { x = o.x; y = o.y; x_in = all o.x o.x_in o.x_here; y_in = all o.y o.y_in o.y_here; x_here = o.x_here; y_here = o.y_here; against = o.against })
 
 module _ {D : Type 0} (eq : D → D → Bool) (first : Sort → Option (SubjectValue D)) (y : SubjectValue D) where
   -- a subject that excludes the first of a sort
@@ -44,22 +47,18 @@ module _ {D : Type 0} (eq : D → D → Bool) (first : Sort → Option (SubjectV
 
   -- what excludes the first of some sort excludes such a one
   first_from_some : excludes_some eq first y ≡ true → (sort : Sort) × (a : SubjectValue D) × (first sort ≡ Some a) × (excludes eq a y ≡ true)
-  first_from_some h = ⊎_elim (at Notarizing (first Notarizing) refl) (λ e. ⊎_elim (at Nullifying (first Nullifying) refl) (at Finalizing (first Finalizing) refl) (or_cases (excludes_first eq (first Nullifying) y) (excludes_first eq (first Finalizing) y) e)) (or_cases (excludes_first eq (first Notarizing) y) _ h)
-    where
-      at : (sort : Sort) (o : Option (SubjectValue D)) → first sort ≡ o → excludes_first eq o y ≡ true → (s : Sort) × (a : SubjectValue D) × (first s ≡ Some a) × (excludes eq a y ≡ true)
-      at sort None is e = absurd (false≢true e)
-      at sort (Some a) is e = (sort, a, is, e)
+  first_from_some h =
+      let at = λ (sort : Sort). (elim (first sort) as (λ o. first sort ≡ o → excludes_first eq o y ≡ true → (s : Sort) × (a : SubjectValue D) × (first s ≡ Some a) × (excludes eq a y ≡ true)) [ None ↦ λ is e. absurd (false≢true e) | Some a ↦ λ is e. (sort, a, is, e) ]) refl in
+      ⊎_elim (at Notarizing) (λ e. ⊎_elim (at Nullifying) (at Finalizing) (or_cases (excludes_first eq (first Nullifying) y) (excludes_first eq (first Finalizing) y) e)) (or_cases (excludes_first eq (first Notarizing) y) _ h)
 
 -- it is the first of its round and sort, if there is none yet, and changes no other
 first_after : {D : Type 0} (xs : List (SubjectValue D)) (y : SubjectValue D) (round : Round) (sort : Sort) → first_certified (xs ++ y ∷ []) round sort ≡ (if same_round (round_of y) round then first_with y sort (first_certified xs round sort) else first_certified xs round sort)
 first_after xs y round sort =
     find_push (λ x. same_sort (sort_of x) sort && same_round (round_of x) round) xs y ∙
-    by_tests (same_sort (sort_of y) sort) (same_round (round_of y) round) (option_or (first_certified xs round sort) (Some y)) (first_certified xs round sort)
-  where
-    by_tests : {X : Type 0} (s r : Bool) (new old : X) → cond (s && r) new old ≡ cond r (cond s new old) old
-    by_tests true r new old = refl
-    by_tests false true new old = refl
-    by_tests false false new old = refl
+    elim (same_sort (sort_of y) sort) as (λ s. cond (s && same_round (round_of y) round) (option_or (first_certified xs round sort) (Some y)) (first_certified xs round sort) ≡ cond (same_round (round_of y) round) (cond s (option_or (first_certified xs round sort) (Some y)) (first_certified xs round sort)) (first_certified xs round sort)) [
+      | true ↦ refl
+      | false ↦ elim (same_round (round_of y) round) as (λ r. first_certified xs round sort ≡ cond r (first_certified xs round sort) (first_certified xs round sort)) [ true ↦ refl | false ↦ refl ]
+    ]
 
 module _ {D : Type 0} (eq : D → D → Bool) (laws : IsEquivalence eq) (xs : List (SubjectValue D)) (y : SubjectValue D) (round : Round) where
   -- whether the round is split by y or before
@@ -93,24 +92,19 @@ module _ {D : Type 0} (eq : D → D → Bool) (laws : IsEquivalence eq) (xs : Li
       ]
 
   split_from : splits_now ≡ true → are_split eq (xs ++ y ∷ []) round ≡ true
-  split_from h = split_by eq (xs ++ y ∷ []) round (⊎_elim before now (or_cases (are_split eq xs round) _ h))
-    where
-      before : are_split eq xs round ≡ true → Opposites eq (xs ++ y ∷ []) round
-      before e = let o = opposites eq xs round e in record { x = o.x; y = o.y; x_in = Contains-append_left xs (y ∷ []) o.x o.x_in; y_in = Contains-append_left xs (y ∷ []) o.y o.y_in; x_here = o.x_here; y_here = o.y_here; against = o.against }
-
-      now : (same_round (round_of y) round && excludes_some eq (first_certified xs round) y) ≡ true → Opposites eq (xs ++ y ∷ []) round
-      now e =
-          let p = and_parts (same_round (round_of y) round) (excludes_some eq (first_certified xs round) y) e in
-          let (sort, a, is, against) = first_from_some eq (first_certified xs round) y p.1 in
-          let (a_in, passes) = found _ xs a is in
-          record { x = a; y = y; x_in = Contains-append_left xs (y ∷ []) a a_in; y_in = Contains-push xs y; x_here = same_round-true _ _ (and_parts (same_sort (sort_of a) sort) (same_round (round_of a) round) passes).1; y_here = same_round-true _ _ p.0; against = against }
+  split_from h = ⊎_elim (split_more eq xs (xs ++ y ∷ []) round (λ x x_in here. Contains-append_left xs (y ∷ []) x x_in)) (λ e.
+      let p = and_parts (same_round (round_of y) round) (excludes_some eq (first_certified xs round) y) e in
+      let (sort, a, is, against) = first_from_some eq (first_certified xs round) y p.1 in
+      let (a_in, passes) = found _ xs a is in
+      split_by eq (xs ++ y ∷ []) round (record { x = a; y = y; x_in = Contains-append_left xs (y ∷ []) a a_in; y_in = Contains-push xs y; x_here = same_round-true _ _ (and_parts (same_sort (sort_of a) sort) (same_round (round_of a) round) passes).1; y_here = same_round-true _ _ p.0; against = against }))
+      (or_cases (are_split eq xs round) _ h)
 
   -- one more certified subject splits its round where it excludes the first of some sort
   split_after : are_split eq (xs ++ y ∷ []) round ≡ splits_now
   split_after = same_bool _ _ split_to split_from
 
   -- what is recorded after one more subject, in the words of what was recorded; b is whether it is of the round
-  records_push : (old new : CertifiedSubjects D) (b : Bool) → same_round (round_of y) round ≡ b → (old.split ≡ false → (sort : Sort) → firsts_of new sort ≡ cond b (first_with y sort (firsts_of old sort)) (firsts_of old sort)) → new.split ≡ (old.split || (b && excludes_some eq (firsts_of old) y)) → RecordsFirsts eq xs round old → RecordsFirsts eq (xs ++ y ∷ []) round new
+  pub records_push : (old new : CertifiedSubjects D) (b : Bool) → same_round (round_of y) round ≡ b → (old.split ≡ false → (sort : Sort) → firsts_of new sort ≡ cond b (first_with y sort (firsts_of old sort)) (firsts_of old sort)) → new.split ≡ (old.split || (b && excludes_some eq (firsts_of old) y)) → RecordsFirsts eq xs round old → RecordsFirsts eq (xs ++ y ∷ []) round new
   records_push old new b is firsts split records = record {
     split = split ∙ by_split (cases_Bool old.split) ∙ sym split_after;
     firsts = λ whole sort.
@@ -124,38 +118,19 @@ module _ {D : Type 0} (eq : D → D → Bool) (laws : IsEquivalence eq) (xs : Li
 
   -- a subject of another round changes nothing
   pub records_elsewhere : (recorded : CertifiedSubjects D) → same_round (round_of y) round ≡ false → RecordsFirsts eq xs round recorded → RecordsFirsts eq (xs ++ y ∷ []) round recorded
-  records_elsewhere recorded away = records_push recorded recorded false away (λ whole sort. refl) (or_none recorded.split)
-    where
-      or_none : (b : Bool) → b ≡ (b || false)
-      or_none true = refl
-      or_none false = refl
-
--- ---- one more subject of the round
-
-module _ {D : Type 0} (eq : D → D → Bool) (laws : IsEquivalence eq) (xs : List (SubjectValue D)) (y : SubjectValue D) where
-  pub records_next : (old new : CertifiedSubjects D) → ((sort : Sort) → firsts_of new sort ≡ first_with y sort (firsts_of old sort)) → new.split ≡ (old.split || excludes_some eq (firsts_of old) y) → RecordsFirsts eq xs (round_of y) old → RecordsFirsts eq (xs ++ y ∷ []) (round_of y) new
-  records_next old new firsts split = records_push eq laws xs y (round_of y) old new true (same_round-from (round_of y) (round_of y) refl) (λ whole. firsts) split
+  records_elsewhere recorded away = records_push recorded recorded false away (λ whole sort. refl) (elim recorded.split as (λ b. b ≡ (b || false)) [ true ↦ refl | false ↦ refl ])
 
   -- what changes nothing is recorded without a change
-  pub records_no_news : (recorded : CertifiedSubjects D) → changes_firsts eq (firsts_of recorded) recorded.split y ≡ false → RecordsFirsts eq xs (round_of y) recorded → RecordsFirsts eq (xs ++ y ∷ []) (round_of y) recorded
-  records_no_news recorded same =
-      records_push eq laws xs y (round_of y) recorded recorded true (same_round-from (round_of y) (round_of y) refl)
+  pub records_no_news : (recorded : CertifiedSubjects D) → same_round (round_of y) round ≡ true → changes_firsts eq (firsts_of recorded) recorded.split y ≡ false → RecordsFirsts eq xs round recorded → RecordsFirsts eq (xs ++ y ∷ []) round recorded
+  records_no_news recorded here same =
+      records_push recorded recorded true here
       (λ whole sort. stays sort (same_sort (sort_of y) sort) refl (or_parts (is_none (firsts_of recorded (sort_of y))) (excludes_some eq (firsts_of recorded) y) (sym (ap (λ b. not b && (is_none (firsts_of recorded (sort_of y)) || excludes_some eq (firsts_of recorded) y)) whole) ∙ same)).0)
-      (split_stays recorded.split (is_none (firsts_of recorded (sort_of y))) (excludes_some eq (firsts_of recorded) y) same)
+      ((elim recorded.split as (λ b. (not b && (is_none (firsts_of recorded (sort_of y)) || excludes_some eq (firsts_of recorded) y)) ≡ false → b ≡ (b || excludes_some eq (firsts_of recorded) y)) [ true ↦ λ h. refl | false ↦ λ h. sym (or_parts (is_none (firsts_of recorded (sort_of y))) (excludes_some eq (firsts_of recorded) y) h).1 ]) same)
     where
-      there : (o : Option (SubjectValue D)) → is_none o ≡ false → o ≡ option_or o (Some y)
-      there None h = absurd (false≢true (sym h))
-      there (Some a) h = refl
-
       -- a first that is there stays
       stays : (sort : Sort) (b : Bool) → same_sort (sort_of y) sort ≡ b → is_none (firsts_of recorded (sort_of y)) ≡ false → firsts_of recorded sort ≡ cond b (option_or (firsts_of recorded sort) (Some y)) (firsts_of recorded sort)
-      stays sort true own h = there (firsts_of recorded sort) (subst (λ s. is_none (firsts_of recorded s) ≡ false) (same_sort-true (sort_of y) sort own) h)
-      stays sort false other h = refl
-
-      split_stays : (split none against : Bool) → (not split && (none || against)) ≡ false → split ≡ (split || against)
-      split_stays true none against h = refl
-      split_stays false true against h = absurd (false≢true (sym h))
-      split_stays false false against h = sym h
+      stays sort true is h = (elim (firsts_of recorded sort) as (λ o. is_none o ≡ false → o ≡ option_or o (Some y)) [ None ↦ λ e. absurd (false≢true (sym e)) | Some a ↦ λ e. refl ]) (subst (λ s. is_none (firsts_of recorded s) ≡ false) (same_sort-true (sort_of y) sort is) h)
+      stays sort false is h = refl
 
 -- ---- from messages to what they certify
 
@@ -189,31 +164,23 @@ module _ {S D C P G : Type 0} (rules : Rules S D C P G) where
       of_other m k x m_is None is = and_left (is_certified rules k) (messages_contradict rules.eq m k) (ap is_some is)
       of_other m k x m_is (Some y) is = λ i. is_some (is i) && contradict-subjects m k x y m_is is i
 
-      and_true : (a b : Bool) → ((a && true) && b) ≡ (a && b)
-      and_true true b = refl
-      and_true false b = refl
-
       of_message : (m : Activity S D C P G) (o : Option (SubjectValue D)) → certified_in rules m ≡ o → ((same_round (activity_round m) round && is_certified rules m) && list_any (λ k. is_certified rules k && messages_contradict rules.eq m k) messages) ≡ passes (λ x. same_round (round_of x) round && list_any (subjects_contradict rules.eq x) (certified_subjects rules messages)) o
       of_message m None is = and_left _ _ (and_right (same_round (activity_round m) round) (is_certified rules m) (ap is_some is))
       of_message m (Some x) is =
           (λ i. (same_round (certified_round m x is i) round && is_some (is i)) && list_any (λ k. of_other m k x is (certified_in rules k) refl i) messages) ∙
-          and_true (same_round (round_of x) round) _ ∙ ap (λ b. same_round (round_of x) round && b) (sym (list_any-filter_map (subjects_contradict rules.eq x) (certified_in rules) messages))
+          elim (same_round (round_of x) round) as (λ a. ((a && true) && list_any (λ k. passes (subjects_contradict rules.eq x) (certified_in rules k)) messages) ≡ (a && list_any (λ k. passes (subjects_contradict rules.eq x) (certified_in rules k)) messages)) [ true ↦ refl | false ↦ refl ] ∙ ap (λ b. same_round (round_of x) round && b) (sym (list_any-filter_map (subjects_contradict rules.eq x) (certified_in rules) messages))
 
   -- what the messages and one more certify
   pub subjects_push : (messages : List (Activity S D C P G)) (m : Activity S D C P G) → certified_subjects rules (messages ++ m ∷ []) ≡ certified_subjects rules messages ++ option_to_list (certified_in rules m)
-  subjects_push messages m = filter_map-append (certified_in rules) messages (m ∷ []) ∙ ap (λ xs. certified_subjects rules messages ++ xs) (alone (certified_in rules m))
-    where
-      alone : {X : Type 0} (o : Option X) → cons_option o [] ≡ option_to_list o
-      alone None = refl
-      alone (Some x) = refl
+  subjects_push messages m = filter_map-append (certified_in rules) messages (m ∷ []) ∙ ap (λ xs. certified_subjects rules messages ++ xs) (elim (certified_in rules m) as (λ o. cons_option o [] ≡ option_to_list o) [ None ↦ refl | Some x ↦ refl ])
 
   -- a message of another round changes nothing
   pub records_other_message : IsEquivalence rules.eq → (messages : List (Activity S D C P G)) (m : Activity S D C P G) (round : Round) (recorded : CertifiedSubjects D) → same_round (activity_round m) round ≡ false → RecordsFirsts rules.eq (certified_subjects rules messages) round recorded → RecordsFirsts rules.eq (certified_subjects rules (messages ++ m ∷ [])) round recorded
-  records_other_message l messages m round recorded other records = subst (λ xs. RecordsFirsts rules.eq xs round recorded) (sym (subjects_push messages m)) (by (certified_in rules m) refl)
-    where
-      by : (o : Option (SubjectValue D)) → certified_in rules m ≡ o → RecordsFirsts rules.eq (certified_subjects rules messages ++ option_to_list o) round recorded
-      by None is = subst (λ xs. RecordsFirsts rules.eq xs round recorded) (sym (append-nil (certified_subjects rules messages))) records
-      by (Some x) is = records_elsewhere rules.eq l (certified_subjects rules messages) x round recorded (ap (λ r. same_round r round) (sym (certified_round m x is)) ∙ other) records
+  records_other_message l messages m round recorded other records =
+      subst (λ xs. RecordsFirsts rules.eq xs round recorded) (sym (subjects_push messages m)) ((elim (certified_in rules m) as (λ o. certified_in rules m ≡ o → RecordsFirsts rules.eq (certified_subjects rules messages ++ option_to_list o) round recorded) [
+        | None ↦ λ is. subst (λ xs. RecordsFirsts rules.eq xs round recorded) (sym (append-nil (certified_subjects rules messages))) records
+        | Some x ↦ λ is. records_elsewhere rules.eq l (certified_subjects rules messages) x round recorded (ap (λ r. same_round r round) (sym (certified_round m x is)) ∙ other) records
+      ]) refl)
 
 -- ---- the splits are determined
 
@@ -224,11 +191,9 @@ module _ {S D C P G : Type 0} (rules : Rules S D C P G) (messages : List (Activi
 
   -- the split of a round is there where it is split, and of that round
   pub split_exists : (round : Round) → is_some (split_of rules messages round) ≡ is_split rules messages round
-  split_exists round = by (is_split rules messages round) _
-    where
-      by : (b : Bool) (s : Split) → is_some (if b then Some s else None) ≡ b
-      by true s = refl
-      by false s = refl
+  split_exists round =
+      let s : Split = record { round = round; named = named_count rules.eq (valid_votes rules messages) round; least = faults_of (rules.size round.epoch) + 1 } in
+      elim (is_split rules messages round) as (λ b. is_some (if b then Some s else None) ≡ b) [ true ↦ refl | false ↦ refl ]
 
   pub split_own : (round : Round) (s : Split) → split_of rules messages round ≡ Some s → s.round ≡ round
   split_own round s h = ap (λ (x : Split). x.round) (sym (cond_some (is_split rules messages round) _ s h).1)
@@ -240,9 +205,6 @@ module _ {S D C P G : Type 0} (rules : Rules S D C P G) (messages : List (Activi
   pub splits_from_listing : (ss : List Split) → IsListing (λ s. s.round) round_cmp (split_of rules messages) ss → AreSplits rules messages ss
   splits_from_listing ss are = record { ordered = are.ordered; sound = are.sound; complete = λ r h. are.complete r (split_exists r ∙ h) }
 
-  pub unique : (ss : List Split) → AreSplits rules messages ss → SplitsAreUnique rules messages ss
-  unique ss a ts b = listing_is_unique (λ s. s.round) round_cmp (split_of rules messages) round_cmp_total exact_rounds ss ts (splits_listing ss a) (splits_listing ts b)
-
   -- the splits of rounds in order, among which are all that are split, are the splits of the messages
   pub splits_of_rounds : (rs : List Round) → IsStrictlySortedBy round_cmp rs → ((round : Round) → is_split rules messages round ≡ true → Contains rs round) → AreSplits rules messages (filter_map (split_of rules messages) rs)
   splits_of_rounds rs sorted all = record {
@@ -250,8 +212,6 @@ module _ {S D C P G : Type 0} (rules : Rules S D C P G) (messages : List (Activi
     sound = made_sound (λ s. s.round) round_cmp (split_of rules messages) split_own rs;
     complete = λ r h. made_complete (λ s. s.round) round_cmp (split_of rules messages) split_own rs r (all r h) (split_exists r ∙ h);
   }
-
-  -- ---- each split names enough
 
   -- in a split round more are named than may lie
   pub enough_in_split : AreLawful rules → (round : Round) → is_split rules messages round ≡ true → faults_of (rules.size round.epoch) + 1 ≤ named_count rules.eq (valid_votes rules messages) round

@@ -1,24 +1,21 @@
 -- Which signers and rounds are suspect, and that no other signature has a part in the evidence and the splits.
-use Rattle.simplex_detector.proofs.Std.{All, All-contains, All-nil, Bool, Contains, IsEquivalence, IsTrue, List, None, Option, Some, [], and-false, and_parts, ap, arith, cond, cons_option, contains, distinct_count, false, false≢true, filter, find, flat_map, is_some, le-ltb, lt-ltb, map, nat_eq, nat_lt, refl, subst, sym, true, ℕ, ◌&&◌, ◌+◌, ◌||◌, ◌↔◌, ◌∙◌, ◌∷◌, ◌≡◌, ◌≤◌}
-use Rattle.simplex_detector.proofs.Words.{Activity, AreLawful, AreSplits, AreSuspect, Attestation, Claimed, Conflicting_finalize, Conflicting_notarize, Evidence, HasSuspects, IsEvidence, JudgeAlike, Kind, Named, Nullify_finalize, Round, Rules, Schedule, SignedVote, Split, SubjectValue, SuspectSigners, Suspected, Suspects, SuspectsSuffice, TellAll, among, are_split, certificate_in, certified_by, certified_in, certified_subjects, certified_under, claimed, clash, committee_of, contradicts, evidence_of, faults_of, first_sort, if_certified, is_at, is_named, is_named_in, is_of, is_split, is_suspect, is_suspect_round, is_valid, judged_by, named_by, named_count, round_cmp, round_of, rules_of, rules_under, signer_cmp, size_by, split_of, suspect_of, valid_by, valid_under, valid_votes, votes_in, with_first, with_second}
+use Rattle.simplex_detector.proofs.Prelude.{Activity, All, All-contains, All-nil, AreLawful, AreSplits, AreSuspect, Attestation, Bool, Claimed, Conflicting_finalize, Conflicting_notarize, Contains, Evidence, HasSuspects, IsEquivalence, IsEvidence, IsTrue, JudgeAlike, Kind, List, Named, None, Nullify_finalize, Option, Round, Rules, Schedule, SignedVote, Some, Split, SubjectValue, SuspectSigners, Suspected, Suspects, SuspectsSuffice, TellAll, [], among, and-false, and_parts, ap, are_split, arith, certificate_in, certified_by, certified_in, certified_subjects, certified_under, claimed, clash, committee_of, cond, cond-false, cons_option, contains, contradicts, distinct_count, evidence_of, false, false_from_ne_true, false≢true, faults_of, filter, find, first_sort, flat_map, if_certified, is_at, is_named, is_named_in, is_of, is_some, is_split, is_suspect, is_suspect_round, is_valid, judged_by, le-ltb, lt-ltb, map, named_by, named_count, nat_eq, nat_lt, refl, round_cmp, round_of, rules_of, rules_under, signer_cmp, size_by, split_of, subst, suspect_of, sym, true, valid_by, valid_under, valid_votes, votes_in, with_first, with_second, ℕ, ◌&&◌, ◌+◌, ◌||◌, ◌↔◌, ◌∙◌, ◌∷◌, ◌≡◌, ◌≤◌}
 use Rattle.simplex_detector.proofs.AccountLemmas.{certified_parts, counted_signer, distinct_count-same, kind_from_named_in, named_in}
 use Rattle.simplex_detector.proofs.EvidenceLemmas.{evidence_exists, first_spot, moved_evidence, named_by_more, named_from_votes, valid_from, valid_in, votes_from_named}
 use Rattle.simplex_detector.proofs.Lists.{Contains-filter, Contains-first, Contains-from_filter, Contains-from_filter_map, Contains-from_list_any, Contains-from_map, Contains-map, Contains-none, any_from_Contains, found, same_bool}
 use Rattle.simplex_detector.proofs.Places.{is_at-true, is_of-true}
-use Rattle.simplex_detector.proofs.SplitLemmas.{enough_in_split, from_subjects, moved_splits, opposites, split_by, split_exists, split_opposites}
+use Rattle.simplex_detector.proofs.SplitLemmas.{enough_in_split, from_subjects, moved_splits, opposites, split_more, split_exists, split_opposites}
 
 -- ---- votes of suspects
 
 -- what is found passes: a filter by less loses nothing of it
 find_filtered : {X : Type 0} (p q : X → Bool) → ((x : X) → p x ≡ true → q x ≡ true) → (xs : List X) → find p (filter q xs) ≡ find p xs
 find_filtered p q weaker [] = refl
-find_filtered p q weaker (x ∷ xs) = by (p x) (q x) refl refl (find_filtered p q weaker xs)
-  where
-    by : (a b : Bool) → p x ≡ a → q x ≡ b → find p (filter q xs) ≡ find p xs → find p (cond b (x ∷ filter q xs) (filter q xs)) ≡ cond a (Some x) (find p xs)
-    by true true e d rest = ap (λ c. cond c (Some x) (find p (filter q xs))) e
-    by true false e d rest = absurd (false≢true (sym d ∙ weaker x e))
-    by false true e d rest = ap (λ c. cond c (Some x) (find p (filter q xs))) e ∙ rest
-    by false false e d rest = rest
+find_filtered p q weaker (x ∷ xs) =
+    (elim (q x) as (λ b. q x ≡ b → find p (cond b (x ∷ filter q xs) (filter q xs)) ≡ cond (p x) (Some x) (find p xs)) [
+      | true ↦ λ d i. cond (p x) (Some x) (find_filtered p q weaker xs i)
+      | false ↦ λ d. find_filtered p q weaker xs ∙ sym (cond-false (p x) (Some x) (find p xs) (false_from_ne_true (p x) (λ e. false≢true (sym d ∙ weaker x e))))
+    ]) refl
 
 -- whether a vote is of a suspect in its round
 abbrev here : {D G : Type 0} → (Round → ℕ → Bool) → SignedVote D G → Bool
@@ -43,37 +40,27 @@ module _ {D G : Type 0} (eq : D → D → Bool) (l : IsEquivalence eq) (vs : Lis
 
   -- with the same evidence
   same_evidence : (n : Named) → evidence_of eq ws n ≡ evidence_of eq vs n
-  same_evidence n = by (is_named eq vs n) refl
-    where
-      none : (o : Option (Evidence D G)) → is_some o ≡ false → o ≡ None
-      none None h = refl
-      none (Some e) h = absurd (false≢true (sym h))
-
-      at : SignedVote D G → Bool
-      at = is_at (first_sort n.kind) n.round n.signer
-
-      there : f n.round n.signer ≡ true → (v : SignedVote D G) → at v ≡ true → here f v ≡ true
-      there suspect v h = let s = is_at-true (first_spot n) v h in (λ i. f (s i).round (s i).signer) ∙ suspect
-
-      second : f n.round n.signer ≡ true → (o : Option (SignedVote D G)) → find at vs ≡ o → with_first eq ws n.kind o ≡ with_first eq vs n.kind o
-      second suspect None is = refl
-      second suspect (Some v) is = ap (with_second n.kind v) (find_filtered (contradicts eq n.kind v) (here f) (λ w h. here_both n.kind v w h ∙ there suspect v (found at vs v is).1) vs)
-
-      by : (b : Bool) → is_named eq vs n ≡ b → evidence_of eq ws n ≡ evidence_of eq vs n
-      by true h = ap (with_first eq ws n.kind) (find_filtered at (here f) (there (covers n h)) vs) ∙ second (covers n h) (find at vs) refl
-      by false h = none _ (evidence_exists eq ws l n ∙ same_names n ∙ h) ∙ sym (none _ (evidence_exists eq vs l n ∙ h))
+  same_evidence n =
+      let at : SignedVote D G → Bool = is_at (first_sort n.kind) n.round n.signer in
+      let none : (o : Option (Evidence D G)) → is_some o ≡ false → o ≡ None = elim [ None ↦ λ h. refl | Some e ↦ λ h. absurd (false≢true (sym h)) ] in
+      (elim (is_named eq vs n) as (λ b. is_named eq vs n ≡ b → evidence_of eq ws n ≡ evidence_of eq vs n) [
+        | true ↦ λ h.
+            let there : (v : SignedVote D G) → at v ≡ true → here f v ≡ true = λ v v_at. let s = is_at-true (first_spot n) v v_at in (λ i. f (s i).round (s i).signer) ∙ covers n h in
+            ap (with_first eq ws n.kind) (find_filtered at (here f) there vs) ∙
+            (elim (find at vs) as (λ o. find at vs ≡ o → with_first eq ws n.kind o ≡ with_first eq vs n.kind o) [ None ↦ λ e. refl | Some v ↦ λ e. ap (with_second n.kind v) (find_filtered (contradicts eq n.kind v) (here f) (λ w c. here_both n.kind v w c ∙ there v (found at vs v e).1) vs) ]) refl
+        | false ↦ λ h. none _ (evidence_exists eq ws l n ∙ same_names n ∙ h) ∙ sym (none _ (evidence_exists eq vs l n ∙ h))
+      ]) refl
 
 -- as many are named in a round by votes that name the same
 same_count : {D G : Type 0} (eq : D → D → Bool) (vs ws : List (SignedVote D G)) → ((n : Named) → is_named eq ws n ≡ is_named eq vs n) → (round : Round) → named_count eq ws round ≡ named_count eq vs round
 same_count eq vs ws names round =
+    let same : (q : ℕ) → is_named_in eq ws round q ≡ is_named_in eq vs round q = λ q i. names (record { round = round; signer = q; kind = Conflicting_notarize }) i || (names (record { round = round; signer = q; kind = Conflicting_finalize }) i || names (record { round = round; signer = q; kind = Nullify_finalize }) i) in
     distinct_count-same _ _
     (λ q h. counted_signer eq vs round q (sym (same q) ∙ (Contains-from_filter (is_named_in eq ws round) _ q h).1))
     (λ q h. counted_signer eq ws round q (same q ∙ (Contains-from_filter (is_named_in eq vs round) _ q h).1))
-  where
-    same : (q : ℕ) → is_named_in eq ws round q ≡ is_named_in eq vs round q
-    same q = λ i. names (record { round = round; signer = q; kind = Conflicting_notarize }) i || (names (record { round = round; signer = q; kind = Conflicting_finalize }) i || names (record { round = round; signer = q; kind = Nullify_finalize }) i)
 
--- ---- suspects tell all
+and_right_true : (a : Bool) → (a && true) ≡ a
+and_right_true a = elim a as (λ b. (b && true) ≡ b) [ true ↦ refl | false ↦ refl ]
 
 module _ {S D C P G : Type 0} (rules : Rules S D C P G) (l : AreLawful rules) (messages : List (Activity S D C P G)) (s : Suspected) (covers : AreSuspect rules messages s) where
   -- the valid votes among suspects are those of suspects
@@ -82,58 +69,39 @@ module _ {S D C P G : Type 0} (rules : Rules S D C P G) (l : AreLawful rules) (m
     where
       twice : (vs : List (SignedVote D G)) → filter (is_valid (among s rules)) vs ≡ filter (here s.signers) (filter (is_valid rules) vs)
       twice [] = refl
-      twice (v ∷ vs) = by (is_valid rules v) (here s.signers v) refl (twice vs)
-        where
-          by : (b a : Bool) → here s.signers v ≡ a → filter (is_valid (among s rules)) vs ≡ filter (here s.signers) (filter (is_valid rules) vs) → cond (a && b) (v ∷ filter (is_valid (among s rules)) vs) (filter (is_valid (among s rules)) vs) ≡ filter (here s.signers) (cond b (v ∷ filter (is_valid rules) vs) (filter (is_valid rules) vs))
-          by true true e rest = ap (λ ys. v ∷ ys) rest ∙ ap (λ c. cond c (v ∷ filter (here s.signers) (filter (is_valid rules) vs)) (filter (here s.signers) (filter (is_valid rules) vs))) (sym e)
-          by true false e rest = rest ∙ ap (λ c. cond c (v ∷ filter (here s.signers) (filter (is_valid rules) vs)) (filter (here s.signers) (filter (is_valid rules) vs))) (sym e)
-          by false true e rest = rest
-          by false false e rest = rest
+      twice (v ∷ vs) = elim (is_valid rules v) as (λ b. cond (here s.signers v && b) (v ∷ filter (is_valid (among s rules)) vs) (filter (is_valid (among s rules)) vs) ≡ filter (here s.signers) (cond b (v ∷ filter (is_valid rules) vs) (filter (is_valid rules) vs))) [
+        | true ↦ λ i. cond (and_right_true (here s.signers v) i) (v ∷ twice vs i) (twice vs i)
+        | false ↦ λ i. cond (and-false (here s.signers v) i) (v ∷ twice vs i) (twice vs i)
+      ]
 
   -- what is certified among suspects are the subjects of suspect rounds
   certified_among : (ms : List (Activity S D C P G)) → certified_subjects (among s rules) ms ≡ filter (λ x. s.rounds (round_of x)) (certified_subjects rules ms)
   certified_among [] = refl
-  certified_among (m ∷ ms) = by (certificate_in m) (certified_among ms)
-    where
-      one : (a b : Bool) (x : SubjectValue D) (xs ys : List (SubjectValue D)) → s.rounds (round_of x) ≡ a → xs ≡ filter (λ x. s.rounds (round_of x)) ys → cons_option (cond (a && b) (Some x) None) xs ≡ filter (λ x. s.rounds (round_of x)) (cons_option (cond b (Some x) None) ys)
-      one true true x xs ys e rest = ap (λ zs. x ∷ zs) rest ∙ ap (λ c. cond c (x ∷ filter (λ x. s.rounds (round_of x)) ys) (filter (λ x. s.rounds (round_of x)) ys)) (sym e)
-      one false true x xs ys e rest = rest ∙ ap (λ c. cond c (x ∷ filter (λ x. s.rounds (round_of x)) ys) (filter (λ x. s.rounds (round_of x)) ys)) (sym e)
-      one true false x xs ys e rest = rest
-      one false false x xs ys e rest = rest
-
-      by : (o : Option (SubjectValue D × C)) → certified_subjects (among s rules) ms ≡ filter (λ x. s.rounds (round_of x)) (certified_subjects rules ms) → cons_option (if_certified (among s rules) o) (certified_subjects (among s rules) ms) ≡ filter (λ x. s.rounds (round_of x)) (cons_option (if_certified rules o) (certified_subjects rules ms))
-      by None rest = rest
-      by (Some c) rest = one (s.rounds (round_of c.0)) (rules.certified c.0 c.1) c.0 _ _ refl rest
+  certified_among (m ∷ ms) = elim (certificate_in m) as (λ o. cons_option (if_certified (among s rules) o) (certified_subjects (among s rules) ms) ≡ filter (λ x. s.rounds (round_of x)) (cons_option (if_certified rules o) (certified_subjects rules ms))) [
+    | None ↦ certified_among ms
+    | Some c ↦ elim (rules.certified c.0 c.1) as (λ b. cons_option (cond (s.rounds (round_of c.0) && b) (Some c.0) None) (certified_subjects (among s rules) ms) ≡ filter (λ x. s.rounds (round_of x)) (cons_option (cond b (Some c.0) None) (certified_subjects rules ms))) [
+      | true ↦ elim (s.rounds (round_of c.0)) as (λ a. cons_option (cond (a && true) (Some c.0) None) (certified_subjects (among s rules) ms) ≡ cond a (c.0 ∷ filter (λ x. s.rounds (round_of x)) (certified_subjects rules ms)) (filter (λ x. s.rounds (round_of x)) (certified_subjects rules ms))) [ true ↦ ap (λ xs. c.0 ∷ xs) (certified_among ms) | false ↦ certified_among ms ]
+      | false ↦ ap (λ a. cons_option (cond a (Some c.0) None) (certified_subjects (among s rules) ms)) (and-false (s.rounds (round_of c.0))) ∙ certified_among ms
+    ]
+  ]
 
   -- a round that is split is suspect
   split_is_suspect : (round : Round) → is_split rules messages round ≡ true → s.rounds round ≡ true
   split_is_suspect round h =
+      let some : (xs : List ℕ) → 1 ≤ distinct_count nat_eq xs → (x : ℕ) × Contains xs x = elim [ [] ↦ λ e. absurd (omega (arith, e)) | ◌∷◌ x xs ↦ λ e. (x, Contains-first x xs) ] in
       let (q, q_in) = some (filter (is_named_in rules.eq (valid_votes rules messages) round) (map (λ v. v.signer) (valid_votes rules messages))) (omega (arith, enough_in_split rules messages l round h)) in
       let (kind, named) = kind_from_named_in rules.eq (valid_votes rules messages) round q (Contains-from_filter (is_named_in rules.eq (valid_votes rules messages) round) _ q q_in).1 in
       (covers (record { round = round; signer = q; kind = kind }) named).1
-    where
-      some : (xs : List ℕ) → 1 ≤ distinct_count nat_eq xs → (x : ℕ) × Contains xs x
-      some [] h = absurd (omega (arith, h))
-      some (x ∷ xs) h = (x, Contains-first x xs)
 
   -- the same rounds are split
   same_splits : (round : Round) → is_split (among s rules) messages round ≡ is_split rules messages round
-  same_splits round = from_subjects (among s rules) messages round ∙ ap (λ xs. are_split rules.eq xs round) (certified_among messages) ∙ same_bool _ _ more less ∙ sym (from_subjects rules messages round)
-    where
-      xs : List (SubjectValue D)
-      xs = certified_subjects rules messages
-
-      suspect : SubjectValue D → Bool
-      suspect x = s.rounds (round_of x)
-
-      more : are_split rules.eq (filter suspect xs) round ≡ true → are_split rules.eq xs round ≡ true
-      more h = let o = opposites rules.eq (filter suspect xs) round h in split_by rules.eq xs round (record { x = o.x; y = o.y; x_in = (Contains-from_filter suspect xs o.x o.x_in).0; y_in = (Contains-from_filter suspect xs o.y o.y_in).0; x_here = o.x_here; y_here = o.y_here; against = o.against })
-
-      less : are_split rules.eq xs round ≡ true → are_split rules.eq (filter suspect xs) round ≡ true
-      less h =
-          let o = opposites rules.eq xs round h in
-          let is = split_is_suspect round (from_subjects rules messages round ∙ h) in
-          split_by rules.eq (filter suspect xs) round (record { x = o.x; y = o.y; x_in = Contains-filter suspect xs o.x o.x_in (ap s.rounds o.x_here ∙ is); y_in = Contains-filter suspect xs o.y o.y_in (ap s.rounds o.y_here ∙ is); x_here = o.x_here; y_here = o.y_here; against = o.against })
+  same_splits round =
+      let xs = certified_subjects rules messages in
+      let suspect : SubjectValue D → Bool = λ x. s.rounds (round_of x) in
+      from_subjects (among s rules) messages round ∙ ap (λ zs. are_split rules.eq zs round) (certified_among messages) ∙
+      same_bool _ _ (split_more rules.eq (filter suspect xs) xs round (λ x x_in at. (Contains-from_filter suspect xs x x_in).0))
+      (λ h. split_more rules.eq xs (filter suspect xs) round (λ x x_in at. Contains-filter suspect xs x x_in (ap s.rounds at ∙ split_is_suspect round (from_subjects rules messages round ∙ h))) h) ∙
+      sym (from_subjects rules messages round)
 
   pub suspects_tell_all : TellAll rules messages s
   suspects_tell_all =
@@ -168,11 +136,7 @@ module _ {S D C P G : Type 0} (rules : Rules S D C P G) (l : AreLawful rules) (m
   pub nothing_claimed : (splits : List Split) → IsEvidence rules.eq (valid_votes (claimed rules) messages) [] → AreSplits (claimed rules) messages splits → IsEvidence rules.eq (valid_votes rules messages) [] × AreSplits rules messages splits
   nothing_claimed splits is are = (
     record { ordered = is.ordered; sound = All-nil (λ e. evidence_of rules.eq (valid_votes rules messages) (named_by e) ≡ Some e); complete = λ n h. absurd (false≢true (suspect n h).0) },
-    record {
-      ordered = are.ordered;
-      sound = λ k d lt. absurd (no_split _ (sym (split_exists (claimed rules) messages _) ∙ ap is_some (are.sound k d lt)));
-      complete = λ r h. absurd (false≢true (split_is_suspect rules l messages nobody suspect r h));
-    },
+    record { ordered = are.ordered; sound = λ k d lt. absurd (no_split _ (sym (split_exists (claimed rules) messages _) ∙ ap is_some (are.sound k d lt))); complete = λ r h. absurd (false≢true (split_is_suspect rules l messages nobody suspect r h)) },
   )
     where
       nobody : Suspected
@@ -198,60 +162,25 @@ module _ {S D C P G : Type 0} (eq : D → D → Bool) (keys : S → List P) (goo
   pub claims_are_claimed : rules_under eq keys good certified listed Claimed schedule ≡ claimed rules
   claims_are_claimed = λ i. record {
     eq = eq;
-    good = λ x signer signature. claims (committee_of schedule (round_of x).epoch) x signer signature i;
-    certified = λ x certificate. nothing (committee_of schedule (round_of x).epoch) x certificate i;
+    good = λ x signer signature. (elim (committee_of schedule (round_of x).epoch) as (λ o. valid_by (valid_under keys good Claimed) o x signer signature ≡ nat_lt signer (size_by keys o)) [ None ↦ sym (le-ltb signer 0 (omega arith)) | Some s ↦ refl ]) i;
+    certified = λ x certificate. (elim (committee_of schedule (round_of x).epoch) as (λ o. certified_by (certified_under certified Claimed) o x certificate ≡ false) [ None ↦ refl | Some s ↦ refl ]) i;
     listed = listed;
     size = λ epoch. size_by keys (committee_of schedule epoch);
   }
-    where
-      claims : (o : Option S) (x : SubjectValue D) (signer : ℕ) (signature : G) → valid_by (valid_under keys good Claimed) o x signer signature ≡ nat_lt signer (size_by keys o)
-      claims None x signer signature = sym (le-ltb signer 0 (omega arith))
-      claims (Some committee) x signer signature = refl
-
-      nothing : (o : Option S) (x : SubjectValue D) (certificate : C) → certified_by (certified_under certified Claimed) o x certificate ≡ false
-      nothing None x certificate = refl
-      nothing (Some committee) x certificate = refl
 
   -- the suspects that a judging has
-  abbrev suspects_in : SuspectSigners → Suspected
+  abbrev pub suspects_in : SuspectSigners → Suspected
   suspects_in suspects = record { signers = λ round signer. contains signer_cmp suspects.signers (round, signer); rounds = contains round_cmp suspects.rounds }
 
   -- a committee's judgement of suspects, also where there is none
-  suspects_are_among : (suspects : SuspectSigners) → rules_under eq keys good certified listed (Suspects suspects) schedule ≡ among (suspects_in suspects) rules
+  pub suspects_are_among : (suspects : SuspectSigners) → rules_under eq keys good certified listed (Suspects suspects) schedule ≡ among (suspects_in suspects) rules
   suspects_are_among suspects = λ i. record {
     eq = eq;
-    good = λ x signer signature. votes (committee_of schedule (round_of x).epoch) x signer signature i;
-    certified = λ x certificate. certificates (committee_of schedule (round_of x).epoch) x certificate i;
+    good = λ x signer signature. (elim (committee_of schedule (round_of x).epoch) as (λ o. valid_by (valid_under keys good (Suspects suspects)) o x signer signature ≡ (contains signer_cmp suspects.signers (round_of x, signer) && valid_by good o x signer signature)) [ None ↦ sym (and-false (contains signer_cmp suspects.signers (round_of x, signer))) | Some s ↦ refl ]) i;
+    certified = λ x certificate. (elim (committee_of schedule (round_of x).epoch) as (λ o. certified_by (certified_under certified (Suspects suspects)) o x certificate ≡ (contains round_cmp suspects.rounds (round_of x) && certified_by certified o x certificate)) [ None ↦ sym (and-false (contains round_cmp suspects.rounds (round_of x))) | Some s ↦ refl ]) i;
     listed = listed;
     size = λ epoch. size_by keys (committee_of schedule epoch);
   }
-    where
-      votes : (o : Option S) (x : SubjectValue D) (signer : ℕ) (signature : G) → valid_by (valid_under keys good (Suspects suspects)) o x signer signature ≡ (contains signer_cmp suspects.signers (round_of x, signer) && valid_by good o x signer signature)
-      votes None x signer signature = sym (and-false (contains signer_cmp suspects.signers (round_of x, signer)))
-      votes (Some committee) x signer signature = refl
-
-      certificates : (o : Option S) (x : SubjectValue D) (certificate : C) → certified_by (certified_under certified (Suspects suspects)) o x certificate ≡ (contains round_cmp suspects.rounds (round_of x) && certified_by certified o x certificate)
-      certificates None x certificate = sym (and-false (contains round_cmp suspects.rounds (round_of x)))
-      certificates (Some committee) x certificate = refl
-
-  pub nobody_claimed : AreLawful rules → (messages : List (Activity S D C P G)) (splits : List Split) → IsEvidence eq (valid_votes (rules_under eq keys good certified listed Claimed schedule) messages) [] → AreSplits (rules_under eq keys good certified listed Claimed schedule) messages splits → IsEvidence eq (valid_votes rules messages) [] × AreSplits rules messages splits
-  nobody_claimed l messages splits is are =
-      nothing_claimed rules l messages splits (subst (λ judged. IsEvidence eq (valid_votes judged messages) []) claims_are_claimed is) (subst (λ judged. AreSplits judged messages splits) claims_are_claimed are)
-
-  pub suspects_found : AreLawful rules → (messages : List (Activity S D C P G)) (claims : List (Evidence D G)) (suspects : SuspectSigners) → IsEvidence eq (valid_votes (rules_under eq keys good certified listed Claimed schedule) messages) claims →
-      All (λ round. IsTrue (contains round_cmp suspects.rounds round)) (map (λ e. round_of e.first.subject) claims) →
-      All (λ suspect. IsTrue (contains signer_cmp suspects.signers suspect)) (map suspect_of claims) →
-      (es : List (Evidence D G)) (splits : List Split) → IsEvidence eq (valid_votes (rules_under eq keys good certified listed (Suspects suspects) schedule) messages) es → AreSplits (rules_under eq keys good certified listed (Suspects suspects) schedule) messages splits → IsEvidence eq (valid_votes rules messages) es × AreSplits rules messages splits
-  suspects_found l messages claims suspects is has_rounds has_signers es splits es_are splits_are =
-      let suspect = claims_are_suspect rules l messages claims (suspects_in suspects) (subst (λ judged. IsEvidence eq (valid_votes judged messages) claims) claims_are_claimed is)
-      (λ e e_in. (
-        All-contains (λ suspect. contains signer_cmp suspects.signers suspect ≡ true) (map suspect_of claims) (suspect_of e) has_signers (Contains-map suspect_of claims e e_in),
-        All-contains (λ round. contains round_cmp suspects.rounds round ≡ true) (map (λ e. round_of e.first.subject) claims) (round_of e.first.subject) has_rounds (Contains-map (λ e. round_of e.first.subject) claims e e_in),
-      )) in
-      let tell = suspects_tell_all rules l messages (suspects_in suspects) suspect in (
-        (tell.evidence es).0 (subst (λ judged. IsEvidence eq (valid_votes judged messages) es) (suspects_are_among suspects) es_are),
-        (tell.splits splits).0 (subst (λ judged. AreSplits judged messages splits) (suspects_are_among suspects) splits_are),
-      )
 
 -- ---- the suspects of messages
 
@@ -298,21 +227,16 @@ module _ {S D C P G : Type 0} (rules : Rules S D C P G) (messages : List (Activi
 same_among : {S D C P G : Type 0} (rules : Rules S D C P G) (messages : List (Activity S D C P G)) (good : SubjectValue D → ℕ → G → Bool) (certified : SubjectValue D → C → Bool) → JudgeAlike rules messages good certified → among (suspected rules messages) rules ≡ among (suspected rules messages) (judged_by rules good certified)
 same_among rules messages good certified alike = λ i. record {
   eq = rules.eq;
-  good = λ x signer signature. where_suspect (is_suspect rules messages (round_of x) signer) (rules.good x signer signature) (good x signer signature) (λ h. sym (alike.votes x signer signature h)) i;
-  certified = λ x certificate. where_suspect (is_suspect_round rules messages (round_of x)) (rules.certified x certificate) (certified x certificate) (λ h. sym (alike.certificates x certificate h)) i;
+  good = λ x signer signature. (elim (is_suspect rules messages (round_of x) signer) as (λ a. (a ≡ true → rules.good x signer signature ≡ good x signer signature) → (a && rules.good x signer signature) ≡ (a && good x signer signature)) [ true ↦ λ h. h refl | false ↦ λ h. refl ]) (λ h. sym (alike.votes x signer signature h)) i;
+  certified = λ x certificate. (elim (is_suspect_round rules messages (round_of x)) as (λ a. (a ≡ true → rules.certified x certificate ≡ certified x certificate) → (a && rules.certified x certificate) ≡ (a && certified x certificate)) [ true ↦ λ h. h refl | false ↦ λ h. refl ]) (λ h. sym (alike.certificates x certificate h)) i;
   listed = rules.listed;
   size = rules.size;
 }
-  where
-    where_suspect : (a b c : Bool) → (a ≡ true → b ≡ c) → (a && b) ≡ (a && c)
-    where_suspect true b c h = h refl
-    where_suspect false b c h = refl
 
 pub suspects_suffice : {S D C P G : Type 0} (rules : Rules S D C P G) → AreLawful rules → (messages : List (Activity S D C P G)) → SuspectsSuffice rules messages
-suspects_suffice {S} {D} {C} {P} {G} rules l messages = record {
-  evidence = λ good certified alike es is. ((tell (judged_by rules good certified) alike.lawful).evidence es).0 (subst (λ judged. IsEvidence rules.eq (valid_votes judged messages) es) (same_among rules messages good certified alike) (((tell rules l).evidence es).1 is));
-  splits = λ good certified alike splits are. ((tell (judged_by rules good certified) alike.lawful).splits splits).0 (subst (λ judged. AreSplits judged messages splits) (same_among rules messages good certified alike) (((tell rules l).splits splits).1 are));
-}
-  where
-    tell : (judges : Rules S D C P G) → AreLawful judges → TellAll judges messages (suspected judges messages)
-    tell judges lawful = suspects_tell_all judges lawful messages (suspected judges messages) (λ n h. claimed_is_suspect judges messages n (named_is_claimed judges lawful messages n h))
+suspects_suffice {S} {D} {C} {P} {G} rules l messages =
+    let tell : (judges : Rules S D C P G) → AreLawful judges → TellAll judges messages (suspected judges messages) = λ judges lawful. suspects_tell_all judges lawful messages (suspected judges messages) (λ n h. claimed_is_suspect judges messages n (named_is_claimed judges lawful messages n h)) in
+    record {
+      evidence = λ good certified alike es is. ((tell (judged_by rules good certified) alike.lawful).evidence es).0 (subst (λ judged. IsEvidence rules.eq (valid_votes judged messages) es) (same_among rules messages good certified alike) (((tell rules l).evidence es).1 is));
+      splits = λ good certified alike splits are. ((tell (judged_by rules good certified) alike.lawful).splits splits).0 (subst (λ judged. AreSplits judged messages splits) (same_among rules messages good certified alike) (((tell rules l).splits splits).1 are));
+    }

@@ -1,4 +1,4 @@
-use Rattle.simplex_detector.proofs.Std.{get_or, ℕ, ◌<◌}
+use Rattle.simplex_detector.proofs.Prelude.{get_or, ℕ, ◌<◌}
 use Rattle.simplex_detector.proofs.committees.are_rising.Given as goal
 
 abbrev pub invariant-pairs : goal.invariant-pairs

@@ -1,5 +1,5 @@
-use Rattle.simplex_detector.proofs.Std.{All, All-push, ap, length, subst, sym, take_all, take_more, ◌∙◌, ◌≤◌}
-use Rattle.simplex_detector.proofs.CommitteeLemmas.{greatest_next, greatest_all}
+use Rattle.simplex_detector.proofs.Prelude.{greatest, drop_all, arith, All, All-push, ap, length, subst, sym, take_all, take_more, ◌∙◌, ◌≤◌}
+use Rattle.simplex_detector.proofs.CommitteeLemmas.{greatest_next}
 use Rattle.simplex_detector.proofs.committees.greatest.Goals as goal
 
 -- one committee more
@@ -10,7 +10,7 @@ pairs-preserved g c = record {
 }
 
 pub returns-clause-value : goal.returns-clause-value
-returns-clause-value g c = greatest_all g.S.CertificateScheme.keys c.args.pairs.now c.pairs.pair-index c.pairs.most c.pairs-test.false ∙ c.pairs.invariant.most
+returns-clause-value g c = let none = ap (greatest g.S.CertificateScheme.keys) (drop_all c.pairs.pair-index c.args.pairs.now c.pairs-test.false) in omega (arith, none, c.pairs.invariant.most)
 
 pub returns-clause-manned : goal.returns-clause-manned
-returns-clause-manned g c = subst (All (λ p. 1 ≤ length (g.S.CertificateScheme.keys p.1))) (take_all c.pairs.pair-index c.args.pairs.now c.pairs-test.false) c.pairs.invariant.manned
+returns-clause-manned g c = rw (take_all c.pairs.pair-index c.args.pairs.now c.pairs-test.false) at c.pairs.invariant.manned

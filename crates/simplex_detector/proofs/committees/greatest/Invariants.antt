@@ -1,5 +1,4 @@
-use Rattle.simplex_detector.proofs.Std.{All, drop, length, max, take, ◌≡◌, ◌≤◌}
-use Rattle.simplex_detector.proofs.Words.{greatest}
+use Rattle.simplex_detector.proofs.Prelude.{All, drop, greatest, length, max, take, ◌≡◌, ◌≤◌}
 use Rattle.simplex_detector.proofs.committees.greatest.Given as goal
 
 abbrev pub invariant-pairs : goal.invariant-pairs

@@ -1,12 +1,12 @@
-use Rattle.simplex_detector.proofs.Std.{Err, Ok, answers_always, ap, option_map, rules, sym}
-use Rattle.simplex_detector.proofs.CommitteeLemmas.{searched, entry_read}
+use Rattle.simplex_detector.proofs.Prelude.{◌∙◌, Err, Ok, answers_always, ap, option_map, rules, sym}
+use Rattle.simplex_detector.proofs.CommitteeLemmas.{entry_of, entry_at, searched}
 use Rattle.simplex_detector.proofs.committees.listed_committee.Goals as goal
 
 pub returns-in-Ok : goal.returns-in-Ok
 returns-in-Ok g c =
     let by_key = c.in-Ok.ensures.position (λ p. p.0) (answers_always _ _ _ (λ f a r h called. search rules)) in
     let at = (searched c.args.pairs.now c.requires c.args.epoch (Ok c.in-Ok.place) c.in-Ok.ensures.bound by_key).found in
-    sym (entry_read c.args.pairs.now c.requires c.in-Ok.place c.args.epoch c.index-pairs-place.result at.0 (at.1 c.index-pairs-place.result))
+    sym (ap (option_map (λ p. p.1)) (ap (entry_of c.args.pairs.now) (sym (at.1 c.index-pairs-place.result)) ∙ entry_at c.args.pairs.now c.requires c.in-Ok.place c.index-pairs-place.result at.0))
 
 pub returns-in-Err : goal.returns-in-Err
 returns-in-Err g c =

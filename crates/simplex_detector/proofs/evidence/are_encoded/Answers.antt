@@ -1,5 +1,4 @@
-use Rattle.simplex_detector.proofs.Std.{All, All-push, subst, sym, take_all, take_more}
-use Rattle.simplex_detector.proofs.Words.{IsEncoded, fixed}
+use Rattle.simplex_detector.proofs.Prelude.{All, All-push, IsEncoded, fixed, subst, sym, take_all, take_more}
 use Rattle.simplex_detector.proofs.evidence.are_encoded.Goals as goal
 
 pub items-preserved : goal.items-preserved
@@ -8,5 +7,4 @@ items-preserved g c =
     (All-push (IsEncoded g.D.PartialEq.eq (fixed g.D.FixedSize.SIZE g.D.Fixed.bytes_of g.D.Fixed.of_bytes) (fixed g.S.Signature.FixedSize.SIZE g.S.Signature.Fixed.bytes_of g.S.Signature.Fixed.of_bytes)) _ c.item-item.result c.items.invariant c.encode_size.ensures.encoded)
 
 pub returns : goal.returns
-returns g c =
-    subst (All (IsEncoded g.D.PartialEq.eq (fixed g.D.FixedSize.SIZE g.D.Fixed.bytes_of g.D.Fixed.of_bytes) (fixed g.S.Signature.FixedSize.SIZE g.S.Signature.Fixed.bytes_of g.S.Signature.Fixed.of_bytes))) (take_all c.items.item-index c.args.evidence.now c.items-test.false) c.items.invariant
+returns g c = rw (take_all c.items.item-index c.args.evidence.now c.items-test.false) at c.items.invariant

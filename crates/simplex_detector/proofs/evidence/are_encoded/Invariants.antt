@@ -1,5 +1,4 @@
-use Rattle.simplex_detector.proofs.Std.{All, take}
-use Rattle.simplex_detector.proofs.Words.{IsEncoded, fixed}
+use Rattle.simplex_detector.proofs.Prelude.{All, IsEncoded, fixed, take}
 use Rattle.simplex_detector.proofs.evidence.are_encoded.Given as goal
 
 abbrev pub invariant-items : goal.invariant-items

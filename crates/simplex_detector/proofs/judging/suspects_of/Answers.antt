@@ -1,4 +1,4 @@
-use Rattle.simplex_detector.proofs.Std.{All-contains_from_tree_list, btree_set_contains_from_list}
+use Rattle.simplex_detector.proofs.Prelude.{All-contains_from_tree_list, btree_set_contains_from_list}
 use Rattle.simplex_detector.proofs.Places.{round_cmp_total, exact_rounds, signer_cmp_total, exact_signers}
 use Rattle.simplex_detector.proofs.judging.suspects_of.Goals as goal
 

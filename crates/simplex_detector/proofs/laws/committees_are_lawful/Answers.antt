@@ -1,4 +1,4 @@
-use Rattle.simplex_detector.proofs.Words.{certified_under, valid_under}
+use Rattle.simplex_detector.proofs.Prelude.{certified_under, valid_under}
 use Rattle.simplex_detector.proofs.CommitteeLemmas.{rules_lawful, rules_committees, members_under}
 use Rattle.simplex_detector.proofs.laws.committees_are_lawful.Goals as goal
 

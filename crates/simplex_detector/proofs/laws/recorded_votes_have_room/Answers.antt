@@ -1,4 +1,4 @@
-use Rattle.simplex_detector.proofs.Words.{fixed, rules_of}
+use Rattle.simplex_detector.proofs.Prelude.{fixed, rules_of}
 use Rattle.simplex_detector.proofs.RoomLemmas.{recorded_have_room}
 use Rattle.simplex_detector.proofs.laws.recorded_votes_have_room.Goals as goal
 

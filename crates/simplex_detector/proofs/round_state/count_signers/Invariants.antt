@@ -1,5 +1,4 @@
-use Rattle.simplex_detector.proofs.Std.{None, drop, map, min, ◌+◌, ◌-◌, ◌^◌, ◌≡◌, ◌≤◌}
-use Rattle.simplex_detector.proofs.Words.{evidence_value}
+use Rattle.simplex_detector.proofs.Prelude.{None, drop, evidence_value, map, min, ◌+◌, ◌-◌, ◌^◌, ◌≡◌, ◌≤◌}
 use Rattle.simplex_detector.proofs.CountLemmas.{changes}
 use Rattle.simplex_detector.proofs.round_state.count_signers.Given as goal
 

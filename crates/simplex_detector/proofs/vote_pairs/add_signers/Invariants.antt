@@ -1,4 +1,4 @@
-use Rattle.simplex_detector.proofs.Std.{map, ◌++◌, ◌≡◌}
+use Rattle.simplex_detector.proofs.Prelude.{map, ◌++◌, ◌≡◌}
 use Rattle.simplex_detector.proofs.vote_pairs.add_signers.Given as goal
 
 abbrev pub invariant-loop-item : goal.invariant-loop-item

@@ -1,7 +1,7 @@
-use Rattle.simplex_detector.proofs.Std.{and_from, and_left, and_right, false≢true, sym, ◌∙◌}
-use Rattle.simplex_detector.proofs.Words.{RecordsFirsts, round_of, subject_value}
+use Rattle.simplex_detector.proofs.Prelude.{true, refl, RecordsFirsts, and_from, and_left, and_right, false≢true, round_of, subject_value, sym, ◌∙◌}
 use Rattle.simplex_detector.proofs.Lists.{if_appended}
-use Rattle.simplex_detector.proofs.SplitLemmas.{records_next, records_no_news}
+use Rattle.simplex_detector.proofs.SplitLemmas.{records_push, records_no_news}
+use Rattle.simplex_detector.proofs.Places.{same_round-from}
 use Rattle.simplex_detector.proofs.certified_subjects.CertifiedSubjects.observe.Goals as goal
 
 -- it would change nothing
@@ -9,7 +9,7 @@ pub returns-then-not-is_news-clause-records : goal.returns-then-not-is_news-clau
 returns-then-not-is_news-clause-records g c subjects records =
     let y = subject_value c.args.subject.now in
     if_appended (λ xs. RecordsFirsts g.D.PartialEq.eq xs (round_of y) c.args.self.now) subjects y _ (λ no. records)
-    (λ certifies. records_no_news g.D.PartialEq.eq g.met.D.Eq.laws subjects y c.args.self.now (sym c.is_news.ensures ∙ c.if-not-is_news.true) records)
+    (λ certifies. records_no_news g.D.PartialEq.eq g.met.D.Eq.laws subjects y (round_of y) c.args.self.now (same_round-from (round_of y) (round_of y) refl) (sym c.is_news.ensures ∙ c.if-not-is_news.true) records)
 
 -- it does not verify
 pub returns-then-not-certifies-clause-records : goal.returns-then-not-certifies-clause-records
@@ -23,20 +23,13 @@ pub returns-clause-records : goal.returns-clause-records
 returns-clause-records g c subjects records =
     let y = subject_value c.args.subject.now in
     rw (sym c.certifies.ensures ∙ c.if-not-certifies.false)
-    (records_next g.D.PartialEq.eq g.met.D.Eq.laws subjects y c.args.self.now c.set_first.new.self c.set_first.ensures.firsts c.set_first.ensures.split records)
+    (records_push g.D.PartialEq.eq g.met.D.Eq.laws subjects y (round_of y) c.args.self.now c.set_first.new.self true (same_round-from (round_of y) (round_of y) refl) (λ whole. c.set_first.ensures.firsts) c.set_first.ensures.split records)
 
--- ---- when it answers that it certifies
-
--- it was not asked
 pub returns-then-not-is_news-clause-verified : goal.returns-then-not-is_news-clause-verified
 returns-then-not-is_news-clause-verified g c = sym (and_left _ _ (sym c.is_news.ensures ∙ c.if-not-is_news.true))
 
--- it was asked, and does not certify
 pub returns-then-not-certifies-clause-verified : goal.returns-then-not-certifies-clause-verified
-returns-then-not-certifies-clause-verified g c =
-    sym (and_right _ _ (sym c.certifies.ensures ∙ c.if-not-certifies.true))
+returns-then-not-certifies-clause-verified g c = sym (and_right _ _ (sym c.certifies.ensures ∙ c.if-not-certifies.true))
 
--- it was asked, and certifies
 pub returns-clause-verified : goal.returns-clause-verified
-returns-clause-verified g c =
-    sym (and_from _ _ (sym c.is_news.ensures ∙ c.if-not-is_news.false) (sym c.certifies.ensures ∙ c.if-not-certifies.false))
+returns-clause-verified g c = sym (and_from _ _ (sym c.is_news.ensures ∙ c.if-not-is_news.false) (sym c.certifies.ensures ∙ c.if-not-certifies.false))

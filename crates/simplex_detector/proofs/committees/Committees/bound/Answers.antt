@@ -1,5 +1,4 @@
-use Rattle.simplex_detector.proofs.Std.{All, ap, length, subst, sym, ◌∙◌, ◌≤◌}
-use Rattle.simplex_detector.proofs.Words.{IsSchedule, Listed, committee_of, greatest, schedule_of}
+use Rattle.simplex_detector.proofs.Prelude.{All, IsSchedule, Listed, ap, committee_of, greatest, length, schedule_of, subst, sym, ◌∙◌, ◌≤◌}
 use Rattle.simplex_detector.proofs.CommitteeLemmas.{most, reached, manned}
 use Rattle.simplex_detector.proofs.committees.Committees.bound.Goals as goal
 

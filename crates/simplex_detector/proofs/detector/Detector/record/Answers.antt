@@ -1,10 +1,8 @@
-use Rattle.simplex_detector.proofs.Std.{IsSome, Some, [], ap, cond, get, is_key, length, on_ok_weaker, refl, subst, sym, ◌++◌, ◌∙◌, ◌∷◌, ◌≡◌}
-use Rattle.simplex_detector.proofs.Words.{IsSized, Judging, RecallsAt, Round, Rules, Schedule, activity_round, certified_under, committee_of, round_cmp, rules_under, size_by, valid_under}
-use Rattle.simplex_detector.proofs.DetectorLemmas.{recalls_changed, recalls_still_none, recalls_new, recalls_taken, recalls_no_committee}
+use Rattle.simplex_detector.proofs.Prelude.{IsSized, IsSome, Judging, RecallsAt, Round, Rules, Schedule, Some, [], activity_round, ap, certified_under, committee_of, cond, get, is_key, length, on_ok_weaker, refl, round_cmp, rules_under, size_by, subst, sym, valid_under, ◌++◌, ◌∙◌, ◌∷◌, ◌≡◌}
+use Rattle.simplex_detector.proofs.DetectorLemmas.{recalls_changed, recalls_still_none, recalls_first, recalls_taken, recalls_no_committee}
 use Rattle.simplex_detector.proofs.detector.Detector.record.Given as given
 use Rattle.simplex_detector.proofs.detector.Detector.record.Goals as goal
 
--- what messages are judged by
 abbrev rules : (g : given.Over) → Judging → Schedule g.row.S.Denot → Rules g.row.S.Denot g.row.D.Denot g.row.S-Certificate.Denot g.row.S-PublicKey.Denot g.row.S-Signature.Denot
 rules g = rules_under g.D.PartialEq.eq g.S.CertificateScheme.keys g.S.Scheme.good g.S.CertificateVerifier.certified g.S.Listing.listed
 
@@ -37,11 +35,9 @@ returns-in_ok-insert g c messages holds =
     let at = c.message_round-round.ensures.message in
     let judge = sym (c.in-Some.ensures ∙ ap (committee_of c.args.committees.now) (c.epoch.ensures ∙ ap (λ r. r.epoch) at)) in
     let none = c.in_default-get_mut.ensures.value in
-    let size = c.len.ensures ∙ ap length c.participants.ensures.keys ∙ ap (size_by g.S.CertificateScheme.keys) (sym judge) in
-    let sized = subst (λ n. IsSized n c.new-round_state.result.votes) size c.new-round_state.ensures.sized in
+    let sized = subst (λ n. IsSized n c.new-round_state.result.votes) (c.len.ensures ∙ ap length c.participants.ensures.keys) c.new-round_state.ensures.sized in
     let after = c.observe-2.new.self in
-    let before = recalls_new all g.met.D.Eq.laws messages c.args.self.now.rounds (activity_round m) c.new-round_state.result (none ∙ ap (get round_cmp c.args.self.now.rounds) at) sized c.new-round_state.ensures.empty c.new-round_state.ensures.none c.new-round_state.ensures.certified holds in
-    let own = recalls_taken g.D.PartialEq.eq g.S.CertificateScheme.keys (valid_under g.S.CertificateScheme.keys g.S.Scheme.good c.args.judging.now) (certified_under g.S.CertificateVerifier.certified c.args.judging.now) g.S.Listing.listed c.args.committees.now messages m c.in-Some.committee.now judge c.new-round_state.result after c.in_ok-observe.ensures before in
+    let own = recalls_first g.D.PartialEq.eq g.S.CertificateScheme.keys (valid_under g.S.CertificateScheme.keys g.S.Scheme.good c.args.judging.now) (certified_under g.S.CertificateVerifier.certified c.args.judging.now) g.S.Listing.listed c.args.committees.now messages m c.in-Some.committee.now judge g.met.D.Eq.laws c.args.self.now.rounds c.new-round_state.result after (none ∙ ap (get round_cmp c.args.self.now.rounds) at) sized c.new-round_state.ensures.empty c.new-round_state.ensures.none c.new-round_state.ensures.certified c.in_ok-observe.ensures holds in
     recalls_changed all g.met.D.Eq.laws messages m c.message_round-round.ensures.votes c.message_round-round.result at (Some after) c.args.self.now.rounds c.insert.new.self
     (subst (λ rounds. (q : Round) → get round_cmp c.insert.new.self q ≡ cond (is_key (round_cmp c.message_round-round.result) q) (Some after) (get round_cmp rounds q)) c.get_mut.follows.holds-at-none c.in_ok-insert.ensures.updates.0) own holds
 
@@ -53,11 +49,9 @@ returns-else-not-is_empty g c messages holds =
     let at = c.message_round-round.ensures.message in
     let judge = sym (c.in-Some.ensures ∙ ap (committee_of c.args.committees.now) (c.epoch.ensures ∙ ap (λ r. r.epoch) at)) in
     let none = c.in_default-get_mut.ensures.value in
-    let size = c.len.ensures ∙ ap length c.participants.ensures.keys ∙ ap (size_by g.S.CertificateScheme.keys) (sym judge) in
-    let sized = subst (λ n. IsSized n c.new-round_state.result.votes) size c.new-round_state.ensures.sized in
+    let sized = subst (λ n. IsSized n c.new-round_state.result.votes) (c.len.ensures ∙ ap length c.participants.ensures.keys) c.new-round_state.ensures.sized in
     let after = c.observe-2.new.self in
-    let before = recalls_new all g.met.D.Eq.laws messages c.args.self.now.rounds (activity_round m) c.new-round_state.result (none ∙ ap (get round_cmp c.args.self.now.rounds) at) sized c.new-round_state.ensures.empty c.new-round_state.ensures.none c.new-round_state.ensures.certified holds in
-    let own = recalls_taken g.D.PartialEq.eq g.S.CertificateScheme.keys (valid_under g.S.CertificateScheme.keys g.S.Scheme.good c.args.judging.now) (certified_under g.S.CertificateVerifier.certified c.args.judging.now) g.S.Listing.listed c.args.committees.now messages m c.in-Some.committee.now judge c.new-round_state.result after c.in_ok-observe.ensures before in
+    let own = recalls_first g.D.PartialEq.eq g.S.CertificateScheme.keys (valid_under g.S.CertificateScheme.keys g.S.Scheme.good c.args.judging.now) (certified_under g.S.CertificateVerifier.certified c.args.judging.now) g.S.Listing.listed c.args.committees.now messages m c.in-Some.committee.now judge g.met.D.Eq.laws c.args.self.now.rounds c.new-round_state.result after (none ∙ ap (get round_cmp c.args.self.now.rounds) at) sized c.new-round_state.ensures.empty c.new-round_state.ensures.none c.new-round_state.ensures.certified c.in_ok-observe.ensures holds in
     let empty = c.if-not-is_empty.false in
     subst (λ rounds. (round : Round) → RecallsAt all (messages ++ m ∷ []) round (get round_cmp rounds round)) (sym c.get_mut.follows.holds-at-none)
     (recalls_still_none all g.met.D.Eq.laws messages m c.message_round-round.ensures.votes c.message_round-round.result at after c.args.self.now.rounds (sym none) (c.is_empty.ensures.votes empty) (c.is_empty.ensures.certified empty) own holds)

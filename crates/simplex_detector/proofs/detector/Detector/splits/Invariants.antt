@@ -1,5 +1,4 @@
-use Rattle.simplex_detector.proofs.Std.{AllByRecursion, List, filter_map, map, ◌++◌, ◌≡◌}
-use Rattle.simplex_detector.proofs.Words.{Activity, HaveCommittees, Judging, RecallsRound, rules_under, split_of}
+use Rattle.simplex_detector.proofs.Prelude.{Activity, AllByRecursion, HaveCommittees, Judging, List, RecallsRound, filter_map, map, rules_under, split_of, ◌++◌, ◌≡◌}
 use Rattle.simplex_detector.proofs.detector.Detector.splits.Given as goal
 
 -- the splits so far, and those of the rounds that are left

@@ -1,17 +1,11 @@
-use Rattle.simplex_detector.proofs.Std.{IsOrdered, ap, arith, rules as std_rules}
-use Rattle.simplex_detector.proofs.Words.{Judging, Rules, Schedule, round_cmp, rules_under}
+use Rattle.simplex_detector.proofs.Prelude.{IsOrdered, Judging, Rules, Schedule, ap, arith, round_cmp, rules as std_rules, rules_under}
 use Rattle.simplex_detector.proofs.CountLemmas.{rounds_count, counted_votes}
-use Rattle.simplex_detector.proofs.detector.Detector.votes.Given as given
 use Rattle.simplex_detector.proofs.detector.Detector.votes.Goals as goal
-
--- what messages are judged by
-abbrev rules : (g : given.Over) → Judging → Schedule g.row.S.Denot → Rules g.row.S.Denot g.row.D.Denot g.row.S-Certificate.Denot g.row.S-PublicKey.Denot g.row.S-Signature.Denot
-rules g = rules_under g.D.PartialEq.eq g.S.CertificateScheme.keys g.S.Scheme.good g.S.CertificateVerifier.certified g.S.Listing.listed
 
 pub returns : goal.returns
 returns g c judging schedule messages holds =
     let ordered : IsOrdered round_cmp c.args.self.now.rounds = search std_rules in
-    let all = counted_votes (rules g judging schedule) messages c.args.self.now ordered holds g.met.D.Eq.laws in
+    let all = counted_votes (rules_under g.D.PartialEq.eq g.S.CertificateScheme.keys g.S.Scheme.good g.S.CertificateVerifier.certified g.S.Listing.listed judging schedule) messages c.args.self.now ordered holds g.met.D.Eq.laws in
     let walked = c.rounds.invariant.1 in
     let done = ap rounds_count c.in-None.ensures.steps.0 in
     omega (arith, all, walked, done)

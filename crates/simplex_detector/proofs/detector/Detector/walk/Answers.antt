@@ -1,12 +1,6 @@
-use Rattle.simplex_detector.proofs.Std.{IsOrdered, [], ap, arith, map, rules as std_rules, subst}
-use Rattle.simplex_detector.proofs.Words.{Judging, Rules, Schedule, evidence_value, round_cmp, rules_under}
+use Rattle.simplex_detector.proofs.Prelude.{IsOrdered, Judging, Rules, Schedule, [], ap, arith, evidence_value, map, round_cmp, rules as std_rules, rules_under, subst}
 use Rattle.simplex_detector.proofs.ReportLemmas.{Walked, walked_next, report_of_walk}
-use Rattle.simplex_detector.proofs.detector.Detector.walk.Given as given
 use Rattle.simplex_detector.proofs.detector.Detector.walk.Goals as goal
-
--- what messages are judged by
-abbrev rules : (g : given.Over) → Judging → Schedule g.row.S.Denot → Rules g.row.S.Denot g.row.D.Denot g.row.S-Certificate.Denot g.row.S-PublicKey.Denot g.row.S-Signature.Denot
-rules g = rules_under g.D.PartialEq.eq g.S.CertificateScheme.keys g.S.Scheme.good g.S.CertificateVerifier.certified g.S.Listing.listed
 
 pub rounds-init : goal.rounds-init
 rounds-init g c = record { steps = []; over = c.into_iter-round_state-iterator.ensures.into_iter_gives.0; listed = λ k d lt. absurd (omega (arith, lt)); is = ap (map evidence_value) c.new-found.ensures.items }
@@ -19,5 +13,5 @@ rounds-preserved g c =
 pub returns : goal.returns
 returns g c = λ judging schedule messages.
     let ordered : IsOrdered round_cmp c.args.self.now.rounds = search std_rules in
-    report_of_walk (rules g judging schedule) g.met.D.Eq.laws c.args.self.now ordered (map evidence_value c.rounds.found.items)
+    report_of_walk (rules_under g.D.PartialEq.eq g.S.CertificateScheme.keys g.S.Scheme.good g.S.CertificateVerifier.certified g.S.Listing.listed judging schedule) g.met.D.Eq.laws c.args.self.now ordered (map evidence_value c.rounds.found.items)
     (subst (λ rest. Walked g.D.PartialEq.eq c.args.self.now.rounds.entries rest (map evidence_value c.rounds.found.items)) c.in-None.ensures.steps.0 c.rounds.invariant) messages

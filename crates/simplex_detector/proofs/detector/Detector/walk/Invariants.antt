@@ -1,5 +1,4 @@
-use Rattle.simplex_detector.proofs.Std.{map}
-use Rattle.simplex_detector.proofs.Words.{evidence_value}
+use Rattle.simplex_detector.proofs.Prelude.{evidence_value, map}
 use Rattle.simplex_detector.proofs.ReportLemmas.{Walked}
 use Rattle.simplex_detector.proofs.detector.Detector.walk.Given as goal
 

@@ -1,5 +1,4 @@
-use Rattle.simplex_detector.proofs.Std.{All, and_parts, on_ok_weaker, subst, sym, true, ◌∙◌, ◌≡◌}
-use Rattle.simplex_detector.proofs.Words.{certified_under, subject_value, valid_under}
+use Rattle.simplex_detector.proofs.Prelude.{All, and_parts, certified_under, on_ok_weaker, subject_value, subst, sym, true, valid_under, ◌∙◌, ◌≡◌}
 use Rattle.simplex_detector.proofs.CommitteeLemmas.{certified_by_scheme}
 use Rattle.simplex_detector.proofs.DetectorLemmas.{takes_certificate, RecordsValid}
 use Rattle.simplex_detector.proofs.round_state.RoundState.observe_certificate.Goals as goal

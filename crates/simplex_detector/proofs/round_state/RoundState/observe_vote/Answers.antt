@@ -1,5 +1,4 @@
-use Rattle.simplex_detector.proofs.Std.{on_ok_weaker, refl}
-use Rattle.simplex_detector.proofs.Words.{certified_under, subject_value, valid_under}
+use Rattle.simplex_detector.proofs.Prelude.{certified_under, on_ok_weaker, refl, subject_value, valid_under}
 use Rattle.simplex_detector.proofs.DetectorLemmas.{takes_vote}
 use Rattle.simplex_detector.proofs.round_state.RoundState.observe_vote.Goals as goal
 

@@ -1,23 +1,25 @@
-use Rattle.simplex_detector.proofs.Std.{IsNonDecreasing, ap, arith, distinct_count, flat_map, length, map, map-map, min, nat_eq, subst, sym, ◌++◌, ◌+◌, ◌-◌, ◌<◌, ◌^◌, ◌∙◌, ◌≡◌}
-use Rattle.simplex_detector.proofs.Words.{Judging, Rules, Schedule, committee_of, evidence_value, found_at, rules_under, size_by, slots, valid_votes}
-use Rattle.simplex_detector.proofs.CountLemmas.{no_split, no_committee, split_found}
+use Rattle.simplex_detector.proofs.Prelude.{cond-false, is_split, None, false_from_ne_true, IsNonDecreasing, Judging, Rules, Schedule, ap, arith, committee_of, distinct_count, evidence_value, flat_map, found_at, length, map, map-map, min, nat_eq, rules_under, size_by, slots, subst, sym, valid_votes, ◌++◌, ◌+◌, ◌-◌, ◌<◌, ◌^◌, ◌∙◌, ◌≡◌}
+use Rattle.simplex_detector.proofs.CountLemmas.{split_found}
+use Rattle.simplex_detector.proofs.SplitLemmas.{from_subjects, someone_in_split}
 use Rattle.simplex_detector.proofs.ReportLemmas.{IsEvidenceIn, evidence_in_round}
 use Rattle.simplex_detector.proofs.round_state.RoundState.split.Given as given
 use Rattle.simplex_detector.proofs.round_state.RoundState.split.Goals as goal
 
--- what messages are judged by
 abbrev rules : (g : given.Over) → Judging → Schedule g.row.S.Denot → Rules g.row.S.Denot g.row.D.Denot g.row.S-Certificate.Denot g.row.S-PublicKey.Denot g.row.S-Signature.Denot
 rules g = rules_under g.D.PartialEq.eq g.S.CertificateScheme.keys g.S.Scheme.good g.S.CertificateVerifier.certified g.S.Listing.listed
 
 -- it is not split
 pub returns-then-not-is_split : goal.returns-then-not-is_split
-returns-then-not-is_split g c judging messages l recalls = sym (no_split (rules g judging c.args.committees.now) messages c.args.round c.args.self.now.certified recalls.subjects (sym c.is_split.ensures ∙ c.if-not-is_split.true))
+returns-then-not-is_split g c judging messages l recalls =
+    let all = rules g judging c.args.committees.now in
+    sym (cond-false (is_split all messages c.args.round) _ None (from_subjects all messages c.args.round ∙ sym recalls.subjects.split ∙ sym c.is_split.ensures ∙ c.if-not-is_split.true))
 
 -- it has no committee
 pub returns-in_default : goal.returns-in_default
 returns-in_default g c judging messages l recalls =
     let size = ap (λ epoch. size_by g.S.CertificateScheme.keys (committee_of c.args.committees.now epoch)) (sym c.epoch.ensures) ∙ sym (ap (size_by g.S.CertificateScheme.keys) c.in_default.ensures) in
-    sym (no_committee (rules g judging c.args.committees.now) l messages c.args.round size)
+    let all = rules g judging c.args.committees.now in
+    sym (cond-false (is_split all messages c.args.round) _ None (false_from_ne_true _ (λ e. absurd (omega (arith, size, someone_in_split all messages l c.args.round e)))))
 
 -- it is split
 pub returns : goal.returns

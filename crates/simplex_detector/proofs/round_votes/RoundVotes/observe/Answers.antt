@@ -1,5 +1,4 @@
-use Rattle.simplex_detector.proofs.Std.{false≢true, length, on_ok_weaker, sym, ◌∙◌}
-use Rattle.simplex_detector.proofs.Words.{HoldsRound, round_of, subject_value, vote_on}
+use Rattle.simplex_detector.proofs.Prelude.{HoldsRound, false≢true, length, on_ok_weaker, round_of, subject_value, sym, vote_on, ◌∙◌}
 use Rattle.simplex_detector.proofs.CommitteeLemmas.{members_under}
 use Rattle.simplex_detector.proofs.Lists.{if_appended}
 use Rattle.simplex_detector.proofs.RecordedLemmas.{held_no_news, held_after}

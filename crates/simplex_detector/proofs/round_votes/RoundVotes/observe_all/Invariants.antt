@@ -1,5 +1,4 @@
-use Rattle.simplex_detector.proofs.Std.{length, take}
-use Rattle.simplex_detector.proofs.Words.{subject_value, valid_under}
+use Rattle.simplex_detector.proofs.Prelude.{length, subject_value, take, valid_under}
 use Rattle.simplex_detector.proofs.RecordedLemmas.{HoldsMore}
 use Rattle.simplex_detector.proofs.round_votes.RoundVotes.observe_all.Given as goal
 

@@ -1,5 +1,4 @@
-use Rattle.simplex_detector.proofs.Std.{ap, flat_map, map, subst, sym, take_all, ◌++◌, ◌∙◌}
-use Rattle.simplex_detector.proofs.Words.{ListsSigners, evidence_value, found_at, slots}
+use Rattle.simplex_detector.proofs.Prelude.{ListsSigners, ap, evidence_value, flat_map, found_at, map, slots, subst, sym, take_all, ◌++◌, ◌∙◌}
 use Rattle.simplex_detector.proofs.ReportLemmas.{found_next}
 use Rattle.simplex_detector.proofs.round_votes.RoundVotes.report_to.Goals as goal
 

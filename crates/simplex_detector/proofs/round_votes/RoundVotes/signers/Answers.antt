@@ -1,4 +1,4 @@
-use Rattle.simplex_detector.proofs.Std.{dedup_is}
+use Rattle.simplex_detector.proofs.Prelude.{dedup_is}
 use Rattle.simplex_detector.proofs.ReportLemmas.{lists_signers}
 use Rattle.simplex_detector.proofs.round_votes.RoundVotes.signers.Goals as goal
 
