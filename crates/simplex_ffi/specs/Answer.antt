@@ -1,5 +1,5 @@
 -- What an audit returns to a caller that is not Rattle.
-use Rattle.std.specs.Prelude.{◌≡◌, ◌⊎◌, ℕ, ◌<◌, ◌≤◌, List, ◌++◌, Option, Some, None, length, drop}
+use Rattle.std.specs.Prelude.{◌≡◌, ◌⊎◌, ℕ, Bool, ◌<◌, ◌≤◌, List, ◌++◌, Option, Some, None, length, drop}
 use Rattle.simplex_audit.specs.Basis.{Basis}
 use Rattle.simplex_audit.specs.Guarantees.{IsAudit}
 use Rattle.simplex_audit.specs.Run.{report_text}
@@ -7,9 +7,12 @@ use Rattle.simplex_clients.specs.Holding.{IsStored}
 use Rattle.simplex_evidence.specs.declared.types.activity.Activity.{Activity}
 use Rattle.simplex_audit.specs.declared.audit.Fault.{Fault}
 use Rattle.simplex_audit.specs.declared.audit.Report.{Report}
+use Rattle.simplex_votes.specs.Votes.{SignedVote}
+use Rattle.simplex_places.specs.Records.{AreRecords}
 use Rattle.simplex_places.specs.Suspects.{AreSuspects}
 use Rattle.simplex_places.specs.declared.places.Placed.{Placed}
 use Rattle.simplex_places.specs.declared.places.Suspect.{Suspect}
+use Rattle.simplex_places.specs.declared.records.Record.{Record}
 use Rattle.simplex_ffi.specs.declared.answer.Summary.{Summary}
 
 -- the number of a stream that was read whole, or that has a fault
@@ -61,3 +64,14 @@ pub record AreGiven {S D C P G : Type 0} (basis : Basis S D C P G) (places_in : 
   pub suspects_are : AreSuspects basis places_in stream found
   pub needed_is : needed ≡ length found
   pub records_are : IsPut found before after status 0
+
+-- The stream was audited: the summary is that of its report, and the records of the report's evidence stand at the front of the
+-- buffer, with 0 where the stream was read whole and 1 where it has a fault; or the buffer is too short and as before, with 4.
+-- `carries` says whether a message carries a vote.
+pub record AreRecorded {S D C P G : Type 0} (basis : Basis S D C P G) (bytes_of : D → List ℕ) (carries : SignedVote D G → Activity S D C P G → Bool) (stream : List ℕ) (before after : List Record) (summary : Summary) (status : ℕ) : Type 0 where
+  pub report : Report S D P G
+  pub audit_is : IsAudit basis stream report
+  pub summary_is : IsSummary bytes_of report summary
+  pub found : List Record
+  pub found_are : AreRecords basis carries stream report found
+  pub records_are : IsPut found before after status (ended_of report.fault)

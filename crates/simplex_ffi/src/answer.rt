@@ -47,7 +47,7 @@ pub struct Summary {
 }
 
 /// The number of a stream that was read whole, or that has a fault.
-fn ended(fault: Option<Fault>) -> u32
+pub(crate) fn ended(fault: Option<Fault>) -> u32
     ensures { result ≡ ended_of fault }
 {
     match fault {
@@ -82,7 +82,7 @@ pub(crate) fn put<T: Copy>(text: &[T], buffer: &mut [T]) -> bool
 }
 
 /// The numbers of a report whose text has so many bytes.
-fn summarize<S: SchemeTypes, D: Digest>(report: &Report<S, D>, size: usize) -> Summary
+pub(crate) fn summarize<S: SchemeTypes, D: Digest>(report: &Report<S, D>, size: usize) -> Summary
     requires { size ≡ length (report_text D.bytes_of report.now) }
     ensures { IsSummary D.bytes_of report.now result }
 {
@@ -97,7 +97,7 @@ fn summarize<S: SchemeTypes, D: Digest>(report: &Report<S, D>, size: usize) -> S
 }
 
 /// The report of a stream and its text.
-fn account<S: Listing<D>, D: Digest>(
+pub(crate) fn account<S: Listing<D>, D: Digest>(
     alloc: Global,
     committees: &Committees<S>,
     stream: &[u8],

@@ -6,6 +6,7 @@ pub mod keys;
 pub mod leaders;
 pub mod numbers;
 pub mod plain;
+pub mod records;
 pub mod sizes;
 pub mod store;
 pub mod suspects;

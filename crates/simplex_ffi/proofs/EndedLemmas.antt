@@ -1,0 +1,9 @@
+-- The statuses of streams.
+use Rattle.std.proofs.Common.{◌≤◌, Option, Some, None, arith}
+use Rattle.simplex_audit.specs.declared.audit.Fault.{Fault}
+use Rattle.simplex_ffi.specs.Answer.{ended_of}
+
+-- a stream was read whole, or has a fault
+pub ended_below : (fault : Option Fault) → ended_of fault ≤ 1
+ended_below None = omega arith
+ended_below (Some fault) = omega arith
