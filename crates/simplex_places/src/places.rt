@@ -163,7 +163,8 @@ fn push_certificate<M: EncodeSize + Roundable, S: Counted<D>, D: Digest>(
           is_listed = true;
         })
         (place + length (M.encoding subject.now) +
-        length (number_32.encoding (length (S.listed certificate.now)))) (S.listed certificate.now)) }
+        length (number_32.encoding (length (S.listed certificate.now))))
+        (S.listed certificate.now)) }
 {
     let size = subject.encode_size();
     let signed = Signed {
