@@ -6,10 +6,6 @@ use Rattle.simplex_detector.proofs.Lists.{found, found_mapped, none_found}
 pub not_le : (a b : ℕ) → is_le (nat_cmp a b) ≡ false → b < a
 not_le a b h = grind (arith, nat_tests)
 
--- the greater of two numbers
-max_by_order : (a b : ℕ) → ord_max nat_cmp a b ≡ max a b
-max_by_order a b = grind (arith, nat_tests)
-
 -- entries rise further by one that is above the last
 pub rising_next : {S : Type 0} (ps : List (ℕ × S)) (i : ℕ) → ((a b : ℕ) (d : ℕ × S) → a < b → b < i → (get_or ps a d).0 < (get_or ps b d).0) → 1 ≤ i → i < length ps → (p q : ℕ × S) → (get_or ps (i - 1) q).0 < (get_or ps i p).0 → (a b : ℕ) (d : ℕ × S) → a < b → b < i + 1 → (get_or ps a d).0 < (get_or ps b d).0
 rising_next ps i rise some lt p q above a b d a_lt b_lt =
@@ -85,7 +81,7 @@ reached {S} keys (Listed (p ∷ ps)) is =
 pub greatest_next : {S P : Type 0} (keys : S → List P) (ps : List (ℕ × S)) (i so_far size next : ℕ) (p : ℕ × S) → i < length ps → p ≡ get_or ps i p → size ≡ length (keys p.1) → next ≡ ord_max nat_cmp so_far size → max next (greatest keys (drop (i + 1) ps)) ≡ max so_far (greatest keys (drop i ps))
 greatest_next keys ps i so_far size next p lt is sized maxed =
     let len = ap (greatest keys) (drop_more ps i p lt ∙ ap (λ q. q ∷ drop (i + 1) ps) (sym is)) in
-    let most : next ≡ max so_far size = maxed ∙ max_by_order so_far size in
+    let most : next ≡ max so_far size = maxed ∙ grind (arith, nat_tests) in
     omega (arith, len, most, sized)
 
 -- where each entry has a participant the committee of an epoch has one

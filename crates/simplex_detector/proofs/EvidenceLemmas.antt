@@ -49,10 +49,10 @@ named_by_more eq vs ws more n h =
 
 -- the same messages in another order name the same
 pub named_in_any_order : {S D C P G : Type 0} (rules : Rules S D C P G) (ms : List (Activity S D C P G)) → NamedInAnyOrder rules ms
-named_in_any_order {S} {D} {C} {P} {G} rules ms ks moved n = same_bool _ _ (named_by_more rules.eq _ _ (also ms ks moved) n) (named_by_more rules.eq _ _ (also ks ms (IsPermutation-sym ms ks moved)) n)
-  where
-    also : (ms ks : List (Activity S D C P G)) → IsPermutation ms ks → (v : SignedVote D G) → Contains (valid_votes rules ms) v → Contains (valid_votes rules ks) v
-    also ms ks moved v h = let (m, m_in, own, valid) = valid_from rules ms v h in valid_in rules ks v m (Contains-permutation ms ks m moved m_in) own valid
+named_in_any_order {S} {D} {C} {P} {G} rules ms ks moved n =
+    let also : (ms ks : List (Activity S D C P G)) → IsPermutation ms ks → (v : SignedVote D G) → Contains (valid_votes rules ms) v → Contains (valid_votes rules ks) v =
+    λ ms ks moved v h. let (m, m_in, own, valid) = valid_from rules ms v h in valid_in rules ks v m (Contains-permutation ms ks m moved m_in) own valid in
+    same_bool _ _ (named_by_more rules.eq _ _ (also ms ks moved) n) (named_by_more rules.eq _ _ (also ks ms (IsPermutation-sym ms ks moved)) n)
 
 -- its first vote is the earliest at its spot, and its second the earliest that contradicts that
 pub record EvidenceIs {D G : Type 0} (eq : D → D → Bool) (vs : List (SignedVote D G)) (n : Named) (e : Evidence D G) : Type 0 where

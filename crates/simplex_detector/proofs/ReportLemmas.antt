@@ -46,10 +46,9 @@ own_name n = elim n.kind as (λ kind. Contains (names_at n.round n.signer) (reco
 -- of one signer they are in the order of kinds
 ordered_at : (round : Round) (signer : ℕ) → IsStrictlySortedBy named_cmp (names_at round signer)
 unfolding IsStrictlySortedBy
-ordered_at round signer = ((rise Conflicting_notarize Conflicting_finalize refl, (rise Conflicting_notarize Nullify_finalize refl, tt)), ((rise Conflicting_finalize Nullify_finalize refl, tt), (tt, tt)))
-  where
-    rise : (k l : Kind) → nat_cmp (kind_rank k) (kind_rank l) ≡ Less → ordering_then (round_cmp round round) (ordering_then (nat_cmp signer signer) (nat_cmp (kind_rank k) (kind_rank l))) ≡ Less
-    rise k l less = λ i. ordering_then (tied_itself round_cmp_total round i) (ordering_then (tied_itself nat_cmp_total signer i) (less i))
+ordered_at round signer =
+    let rise : (k l : Kind) → nat_cmp (kind_rank k) (kind_rank l) ≡ Less → ordering_then (round_cmp round round) (ordering_then (nat_cmp signer signer) (nat_cmp (kind_rank k) (kind_rank l))) ≡ Less = λ k l less i. ordering_then (tied_itself round_cmp_total round i) (ordering_then (tied_itself nat_cmp_total signer i) (less i)) in
+    ((rise Conflicting_notarize Conflicting_finalize refl, (rise Conflicting_notarize Nullify_finalize refl, tt)), ((rise Conflicting_finalize Nullify_finalize refl, tt), (tt, tt)))
 
 -- of one round in the order of signers
 ordered_in : (round : Round) (signers : List ℕ) → IsStrictlySortedBy nat_cmp signers → IsStrictlySortedBy named_cmp (names_in round signers)

@@ -99,14 +99,10 @@ module _ {D : Type 0} (eq : D → D → Bool) (laws : IsEquivalence eq) (xs : Li
       split_by eq (xs ++ y ∷ []) round (record { x = a; y = y; x_in = Contains-append_left xs (y ∷ []) a a_in; y_in = Contains-push xs y; x_here = same_round-true _ _ (and_parts (same_sort (sort_of a) sort) (same_round (round_of a) round) passes).1; y_here = same_round-true _ _ p.0; against = against }))
       (or_cases (are_split eq xs round) _ h)
 
-  -- one more certified subject splits its round where it excludes the first of some sort
-  split_after : are_split eq (xs ++ y ∷ []) round ≡ splits_now
-  split_after = same_bool _ _ split_to split_from
-
   -- what is recorded after one more subject, in the words of what was recorded; b is whether it is of the round
   pub records_push : (old new : CertifiedSubjects D) (b : Bool) → same_round (round_of y) round ≡ b → (old.split ≡ false → (sort : Sort) → firsts_of new sort ≡ cond b (first_with y sort (firsts_of old sort)) (firsts_of old sort)) → new.split ≡ (old.split || (b && excludes_some eq (firsts_of old) y)) → RecordsFirsts eq xs round old → RecordsFirsts eq (xs ++ y ∷ []) round new
   records_push old new b is firsts split records = record {
-    split = split ∙ by_split (cases_Bool old.split) ∙ sym split_after;
+    split = split ∙ by_split (cases_Bool old.split) ∙ sym (same_bool _ _ split_to split_from);
     firsts = λ whole sort.
         let before = (or_parts old.split _ (sym split ∙ whole)).0 in
         firsts before sort ∙ (λ i. cond (sym is i) (first_with y sort (records.firsts before sort i)) (records.firsts before sort i)) ∙ sym (first_after xs y round sort);

@@ -134,23 +134,17 @@ module _ {S D C P G : Type 0} (rules : Rules S D C P G) (l : AreLawful rules) (m
 
   -- where nobody is claimed to contradict there is no evidence and no split
   pub nothing_claimed : (splits : List Split) → IsEvidence rules.eq (valid_votes (claimed rules) messages) [] → AreSplits (claimed rules) messages splits → IsEvidence rules.eq (valid_votes rules messages) [] × AreSplits rules messages splits
-  nothing_claimed splits is are = (
-    record { ordered = is.ordered; sound = All-nil (λ e. evidence_of rules.eq (valid_votes rules messages) (named_by e) ≡ Some e); complete = λ n h. absurd (false≢true (suspect n h).0) },
-    record { ordered = are.ordered; sound = λ k d lt. absurd (no_split _ (sym (split_exists (claimed rules) messages _) ∙ ap is_some (are.sound k d lt))); complete = λ r h. absurd (false≢true (split_is_suspect rules l messages nobody suspect r h)) },
-  )
-    where
-      nobody : Suspected
-      nobody = record { signers = λ _ _. false; rounds = λ _. false }
-
-      suspect : AreSuspect rules messages nobody
-      suspect = claims_are_suspect [] nobody is (λ e h. absurd (Contains-none e h))
-
-      no_split : (round : Round) → is_split (claimed rules) messages round ≡ true → ⊥
-      no_split round h =
-          let o = split_opposites (claimed rules) messages round h in
-          let (m, m_in, m_is) = Contains-from_filter_map (certified_in (claimed rules)) messages o.x o.x_in in
-          let (c, has, certifies) = certified_parts (claimed rules) (certificate_in m) o.x m_is in
-          false≢true certifies
+  nothing_claimed splits is are =
+      let nobody : Suspected = record { signers = λ _ _. false; rounds = λ _. false } in
+      let suspect : AreSuspect rules messages nobody = claims_are_suspect [] nobody is (λ e h. absurd (Contains-none e h)) in
+      let no_split : (round : Round) → is_split (claimed rules) messages round ≡ true → ⊥ = λ round h.
+      let o = split_opposites (claimed rules) messages round h in
+      let (m, m_in, m_is) = Contains-from_filter_map (certified_in (claimed rules)) messages o.x o.x_in in
+      let (c, has, certifies) = certified_parts (claimed rules) (certificate_in m) o.x m_is in
+      false≢true certifies in (
+        record { ordered = is.ordered; sound = All-nil (λ e. evidence_of rules.eq (valid_votes rules messages) (named_by e) ≡ Some e); complete = λ n h. absurd (false≢true (suspect n h).0) },
+        record { ordered = are.ordered; sound = λ k d lt. absurd (no_split _ (sym (split_exists (claimed rules) messages _) ∙ ap is_some (are.sound k d lt))); complete = λ r h. absurd (false≢true (split_is_suspect rules l messages nobody suspect r h)) },
+      )
 
 -- ---- committees that judge so
 
