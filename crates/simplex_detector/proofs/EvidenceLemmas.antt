@@ -1,7 +1,7 @@
 -- Who is named, the evidence of everyone who is named, and that the votes determine a report.
-use Rattle.simplex_detector.proofs.Prelude.{Activity, All, All-contains, Bool, Contains, Contains-append_left, Contains-permutation, Evidence, EvidenceIsUnique, IsEquivalence, IsEquivocation, IsEvidence, IsPermutation, IsPermutation-sym, List, Named, NamedInAnyOrder, NamesExactly, None, Option, Rules, SignedVote, Some, [], and_from, and_parts, ap, append-nil, clash, contradicts, evidence_of, filter, filter-append, find, first_sort, flat_map, flat_map-append, is_at, is_named, is_of, is_some, is_valid, list_any, named_by, named_cmp, refl, round_of, same_Some, same_sort, sort_of, subst, sym, true, valid_votes, votes_in, with_first, with_second, ⊎_elim, ◌&&◌, ◌++◌, ◌∙◌, ◌∷◌, ◌≡◌}
-use Rattle.simplex_detector.proofs.Lists.{Contains-filter, Contains-flat_map, Contains-from_filter, Contains-from_flat_map, Contains-from_list_any, IsListing, any_from_Contains, each, find_from_Contains, found, listed_is_some, listing_is_unique, same_bool, some_from_is_some}
-use Rattle.simplex_detector.proofs.Places.{Spot, clash_parts, clash_with_one, exact_named, is_at-from, is_at-true, is_of-from, is_of-true, named_cmp_total}
+use Rattle.simplex_detector.proofs.Prelude.{Activity, All, All-contains, Bool, Contains, Contains-permutation, Evidence, IsEquivalence, IsEquivocation, IsEvidence, IsPermutation, IsPermutation-sym, List, Named, NamedInAnyOrder, None, Rules, SignedVote, Some, [], and_from, and_parts, ap, append-nil, clash, contradicts, evidence_of, filter, filter-append, find, first_sort, flat_map, flat_map-append, is_at, is_named, is_of, is_some, is_valid, list_any, named_by, named_cmp, refl, round_of, same_Some, same_sort, sort_of, subst, sym, true, valid_votes, votes_in, with_first, with_second, ⊎_elim, ◌&&◌, ◌++◌, ◌∙◌, ◌∷◌, ◌≡◌}
+use Rattle.simplex_detector.proofs.Lists.{Contains-filter, Contains-flat_map, Contains-from_filter, Contains-from_flat_map, Contains-from_list_any, IsListing, any_from_Contains, each, find_from_Contains, found, same_bool, some_from_is_some}
+use Rattle.simplex_detector.proofs.Places.{Spot, clash_parts, clash_with_one, is_at-from, is_at-true, is_of-from, is_of-true}
 
 -- ---- the valid votes of messages
 

@@ -1,8 +1,8 @@
 -- Which rounds are split, by what is recorded of their certificates, and that the messages determine their splits.
-use Rattle.simplex_detector.proofs.Prelude.{Activity, All, AreLawful, AreSplits, Bool, CertifiedSubjects, Contains, Contains-append_left, Contains-push, Contains-push_cases, Finalizing, HaveCommittees, IsEquivalence, IsStrictlySortedBy, List, None, Notarizing, Nullifying, Option, RecordsFirsts, Round, Rules, Some, Sort, Split, SplitsAreUnique, SubjectValue, [], activity_round, and_from, and_left, and_parts, and_right, ap, append-nil, are_split, cases_Bool, certificate_in, certificates_contradict, certified_in, certified_subjects, changes_firsts, cond, cond_some, cons_option, excludes, excludes_first, excludes_some, false, false≢true, faults_of, filter_map, filter_map-append, first_certified, first_with, firsts_of, if◌then◌else◌, inl, inr, is_certified, is_none, is_some, is_split, list_any, messages_contradict, named_count, not, option_or, option_to_list, or_cases, or_left, or_parts, or_right, refl, round_cmp, round_of, same_round, same_sort, sort_of, split_of, subjects_contradict, subst, sym, true, valid_votes, ⊎_elim, ◌&&◌, ◌++◌, ◌+◌, ◌||◌, ◌∙◌, ◌∷◌, ◌≡◌, ◌≤◌, ◌⊎◌}
+use Rattle.simplex_detector.proofs.Prelude.{Activity, All, AreLawful, AreSplits, Bool, CertifiedSubjects, Contains, Contains-append_left, Contains-push, Contains-push_cases, Finalizing, HaveCommittees, IsEquivalence, IsStrictlySortedBy, List, None, Notarizing, Nullifying, Option, RecordsFirsts, Round, Rules, Some, Sort, Split, SubjectValue, [], activity_round, and_from, and_left, and_parts, and_right, ap, append-nil, are_split, cases_Bool, certificate_in, certificates_contradict, certified_in, certified_subjects, changes_firsts, cond, cond_some, cons_option, excludes, excludes_first, excludes_some, false, false≢true, faults_of, filter_map, filter_map-append, first_certified, first_with, firsts_of, if◌then◌else◌, inl, inr, is_certified, is_none, is_some, is_split, list_any, messages_contradict, named_count, not, option_or, option_to_list, or_cases, or_left, or_parts, or_right, refl, round_cmp, round_of, same_round, same_sort, sort_of, split_of, subjects_contradict, subst, sym, true, valid_votes, ⊎_elim, ◌&&◌, ◌++◌, ◌+◌, ◌||◌, ◌∙◌, ◌∷◌, ◌≡◌, ◌≤◌, ◌⊎◌}
 use Rattle.simplex_detector.proofs.AccountLemmas.{accountable_for, certificate_parts, certified_parts, certifies_from, enough_for}
-use Rattle.simplex_detector.proofs.Lists.{Contains-from_filter_map, Contains-from_list_any, IsListing, any_from_Contains, find_from_Contains, find_push, found, listing_is_unique, made_complete, made_ordered, made_sound, same_bool}
-use Rattle.simplex_detector.proofs.Places.{exact_rounds, excludes-flip, excludes_itself, excludes_one, round_cmp_total, same_round-from, same_round-true, same_sort-refl, same_sort-true}
+use Rattle.simplex_detector.proofs.Lists.{Contains-from_filter_map, Contains-from_list_any, IsListing, any_from_Contains, find_from_Contains, find_push, found, made_complete, made_ordered, made_sound, same_bool}
+use Rattle.simplex_detector.proofs.Places.{excludes-flip, excludes_itself, excludes_one, same_round-from, same_round-true, same_sort-refl, same_sort-true}
 
 -- ---- subjects that split a round
 

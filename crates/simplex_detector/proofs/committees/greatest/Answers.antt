@@ -1,4 +1,4 @@
-use Rattle.simplex_detector.proofs.Prelude.{greatest, drop_all, arith, All, All-push, ap, length, subst, sym, take_all, take_more, ◌∙◌, ◌≤◌}
+use Rattle.simplex_detector.proofs.Prelude.{greatest, drop_all, arith, All-push, ap, length, sym, take_all, take_more, ◌∙◌, ◌≤◌}
 use Rattle.simplex_detector.proofs.CommitteeLemmas.{greatest_next}
 use Rattle.simplex_detector.proofs.committees.greatest.Goals as goal
 
