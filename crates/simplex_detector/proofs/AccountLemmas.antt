@@ -70,10 +70,9 @@ distinct_count-at_least zs xs d within =
 
 -- lists with the same elements have the same number of distinct ones
 pub distinct_count-same : (xs ys : List ℕ) → ((q : ℕ) → Contains xs q → Contains ys q) → ((q : ℕ) → Contains ys q → Contains xs q) → distinct_count nat_eq xs ≡ distinct_count nat_eq ys
-distinct_count-same xs ys to from = omega (arith, at_most xs ys to, at_most ys xs from)
-  where
-    at_most : (xs ys : List ℕ) → ((q : ℕ) → Contains xs q → Contains ys q) → distinct_count nat_eq xs ≤ distinct_count nat_eq ys
-    at_most xs ys to = distinct_count-at_least (unique_keys nat_eq xs) ys (IsDistinct-unique_keys xs) (λ q h. to q (Contains-from_member xs q (sym (is_member-unique_keys xs q) ∙ list_any-from_Contains nat_eq_equiv q _ h)))
+distinct_count-same xs ys to from =
+    let at_most : (xs ys : List ℕ) → ((q : ℕ) → Contains xs q → Contains ys q) → distinct_count nat_eq xs ≤ distinct_count nat_eq ys = λ xs ys to. distinct_count-at_least (unique_keys nat_eq xs) ys (IsDistinct-unique_keys xs) (λ q h. to q (Contains-from_member xs q (sym (is_member-unique_keys xs q) ∙ list_any-from_Contains nat_eq_equiv q _ h))) in
+    omega (arith, at_most xs ys to, at_most ys xs from)
 
 -- and no more than a bound that all are below
 pub distinct_count-below : (n : ℕ) (xs : List ℕ) → ((q : ℕ) → Contains xs q → q < n) → distinct_count nat_eq xs ≤ n

@@ -1,14 +1,10 @@
 -- Committees that are listed by epoch, and the rules that they give.
-use Rattle.simplex_detector.proofs.Prelude.{All, All-cons, All-contains, All-nil, AreLawful, AreRising, Attestation, Bool, Claimed, Contains, Equal, Err, Every, Greater, HaveCommittees, IfErr, IfOk, IsBinarySearchResult, IsEquivalence, IsNonDecreasingBy, IsQuorum, IsSchedule, IsSearchInRange, Judging, Less, List, Listed, MatchOrdering, None, Ok, Option, Ordering, Result, Schedule, Some, SubjectValue, Suspects, Verified, [], and_parts, ap, arith, bound_of, by_ranked, cases_lt, certified_by, certified_under, committee_of, cond, cond-false, cond-true, contains, drop, drop_all, drop_more, eqb, eqb-true, false, false≢true, find, get_or, get_or_default, greatest, inl, inr, is_le, is_lt, keys, length, ltb-true, max, nat_cmp, nat_tests, option_map, ord_max, ordering_index, parted, ranked, refl, round_cmp, round_of, rules_of, same_Some, signer_cmp, size_by, subst, suc, sym, true, valid_by, valid_under, zero, ℕ, ◌+◌, ◌-◌, ◌<◌, ◌∙◌, ◌∷◌, ◌≡◌, ◌≤◌}
-use Rattle.simplex_detector.proofs.Lists.{found, found_mapped, none_found}
+use Rattle.simplex_detector.proofs.Prelude.{All, All-cons, All-contains, All-nil, AreLawful, AreRising, Attestation, Bool, Claimed, Err, Every, HaveCommittees, IfErr, IfOk, IsBinarySearchResult, IsEquivalence, IsNonDecreasingBy, IsQuorum, IsSchedule, IsSearchInRange, Judging, List, Listed, None, Ok, Option, Result, Schedule, Some, SubjectValue, Suspects, Verified, [], and_parts, ap, arith, bound_of, cases_lt, certified_by, certified_under, committee_of, contains, drop, drop_more, eqb, eqb-true, false, false≢true, find, get_or, get_or_default, greatest, inl, inr, is_le, keys, length, ltb-true, max, nat_cmp, nat_tests, option_map, ord_max, ordering_index, parted, ranked, refl, round_cmp, round_of, rules_of, same_Some, signer_cmp, size_by, subst, suc, sym, true, valid_by, valid_under, zero, ℕ, ◌+◌, ◌-◌, ◌<◌, ◌∙◌, ◌∷◌, ◌≡◌, ◌≤◌}
+use Rattle.simplex_detector.proofs.Lists.{found_mapped, none_found}
 
 -- a number that is not at most another is greater
 pub not_le : (a b : ℕ) → is_le (nat_cmp a b) ≡ false → b < a
 not_le a b h = grind (arith, nat_tests)
-
--- the greater of two numbers
-max_by_order : (a b : ℕ) → ord_max nat_cmp a b ≡ max a b
-max_by_order a b = grind (arith, nat_tests)
 
 -- entries rise further by one that is above the last
 pub rising_next : {S : Type 0} (ps : List (ℕ × S)) (i : ℕ) → ((a b : ℕ) (d : ℕ × S) → a < b → b < i → (get_or ps a d).0 < (get_or ps b d).0) → 1 ≤ i → i < length ps → (p q : ℕ × S) → (get_or ps (i - 1) q).0 < (get_or ps i p).0 → (a b : ℕ) (d : ℕ × S) → a < b → b < i + 1 → (get_or ps a d).0 < (get_or ps b d).0
@@ -85,7 +81,7 @@ reached {S} keys (Listed (p ∷ ps)) is =
 pub greatest_next : {S P : Type 0} (keys : S → List P) (ps : List (ℕ × S)) (i so_far size next : ℕ) (p : ℕ × S) → i < length ps → p ≡ get_or ps i p → size ≡ length (keys p.1) → next ≡ ord_max nat_cmp so_far size → max next (greatest keys (drop (i + 1) ps)) ≡ max so_far (greatest keys (drop i ps))
 greatest_next keys ps i so_far size next p lt is sized maxed =
     let len = ap (greatest keys) (drop_more ps i p lt ∙ ap (λ q. q ∷ drop (i + 1) ps) (sym is)) in
-    let most : next ≡ max so_far size = maxed ∙ max_by_order so_far size in
+    let most : next ≡ max so_far size = maxed ∙ grind (arith, nat_tests) in
     omega (arith, len, most, sized)
 
 -- where each entry has a participant the committee of an epoch has one

@@ -1,5 +1,5 @@
 -- How many votes are recorded, how many are named in a round, and the split that this gives.
-use Rattle.simplex_detector.proofs.Prelude.{Activity, All, All-contains, AllByRecursion, AreSplits, Bool, CertifiedSubjects, Contains, Detector, Equal, Evidence, Greater, HaveCommittees, IsEquivalence, IsNonDecreasing, IsOrdered, Less, Less-from_sorted, List, Named, None, Option, Ordering, Recalls, RecallsRound, RecordsFirsts, Round, RoundState, Rules, SignedVote, Some, [], ap, append_assoc, arith, cases_lt, certified_subjects, cond, cond-false, cond-true, cons_option, distinct_count, drop, drop_more, eqb-false, evidence_of, false, false_from_ne_true, false≢true, faults_of, filter, filter_map, get_or, get_or-map, if◌then◌else◌, inl, inr, is_gt, is_member, is_named, is_named_in, is_some, is_split, kind_rank, le_from_not_gt, length, length-filter_both, length-map, map, min, named_by, named_cmp, named_count, nat_cmp, nat_eq, not, not-true, option_eq, option_to_list, ordering_then, recorded_of, recursion_from_All, refl, round_cmp, round_count, round_of, split_of, subst, suc, sym, tied_itself, true, unique_keys, valid_votes, votes_recorded, ℕ, ⊎_elim, ◌++◌, ◌+◌, ◌-◌, ◌<◌, ◌^◌, ◌||◌, ◌∙◌, ◌∷◌, ◌≡◌, ◌≤◌}
+use Rattle.simplex_detector.proofs.Prelude.{Activity, All, All-contains, AllByRecursion, AreSplits, Bool, CertifiedSubjects, Contains, Detector, Equal, Evidence, Greater, HaveCommittees, IsEquivalence, IsNonDecreasing, IsOrdered, Less, Less-from_sorted, List, Named, None, Option, Recalls, RecallsRound, RecordsFirsts, Round, RoundState, Rules, SignedVote, Some, [], ap, append_assoc, arith, cases_lt, certified_subjects, cond, cond-false, cond-true, cons_option, distinct_count, drop, drop_more, eqb-false, evidence_of, false, false_from_ne_true, false≢true, faults_of, filter, filter_map, get_or, get_or-map, if◌then◌else◌, inl, inr, is_gt, is_member, is_named, is_named_in, is_some, is_split, kind_rank, le_from_not_gt, length, length-filter_both, length-map, map, min, named_by, named_cmp, named_count, nat_cmp, nat_eq, not, not-true, option_eq, option_to_list, ordering_then, recorded_of, recursion_from_All, refl, round_cmp, round_count, round_of, split_of, subst, suc, sym, tied_itself, true, unique_keys, valid_votes, votes_recorded, ℕ, ⊎_elim, ◌++◌, ◌+◌, ◌-◌, ◌<◌, ◌^◌, ◌||◌, ◌∙◌, ◌∷◌, ◌≡◌, ◌≤◌}
 use Rattle.std.specs.List.Sorted.{IsStrictlySortedBy}
 use Rattle.simplex_detector.proofs.AccountLemmas.{Contains-from_member, counted_signer, distinct_count-below, distinct_count-same, kind_from_named_in, named_in}
 use Rattle.simplex_detector.proofs.CommitteeLemmas.{most}
@@ -8,7 +8,7 @@ use Rattle.simplex_detector.proofs.Lists.{Contains-cons_cases, Contains-first, C
 use Rattle.simplex_detector.proofs.Places.{is_of-true, round_cmp_total, same_round-from, same_round-true}
 use Rattle.simplex_detector.proofs.RecordedLemmas.{none_of_round, of_round}
 use Rattle.simplex_detector.proofs.ReportLemmas.{IsEvidenceIn, recalled, recalls_listed}
-use Rattle.simplex_detector.proofs.SplitLemmas.{from_subjects, someone_in_split, splits_of_rounds}
+use Rattle.simplex_detector.proofs.SplitLemmas.{from_subjects, splits_of_rounds}
 
 -- how many of some votes are of each of some rounds
 abbrev of_rounds : {D G : Type 0} → List Round → List (SignedVote D G) → ℕ

@@ -32,9 +32,9 @@ votes_of_round listed m a b d = All-from_recursion (IsHere (activity_round m)) (
 appended : {X : Type 0} (P : List X → Type 0) (Q : X → Type 0) (keep : X → Bool) → ((xs : List X) (x : X) → Q x → P xs → P (xs ++ x ∷ [])) → (more xs : List X) → AllByRecursion Q more → P xs → P (xs ++ filter keep more)
 appended P Q keep one [] xs q p = subst P (sym (append-nil xs)) p
 appended P Q keep one (x ∷ more) xs q p = elim (keep x) as (λ b. P (xs ++ cond b (x ∷ filter keep more) (filter keep more))) [
-    | true ↦ subst P (append_assoc xs (x ∷ []) (filter keep more)) (appended P Q keep one more (xs ++ x ∷ []) q.1 (one xs x q.0 p))
-    | false ↦ appended P Q keep one more xs q.1 p
-  ]
+  | true ↦ subst P (append_assoc xs (x ∷ []) (filter keep more)) (appended P Q keep one more (xs ++ x ∷ []) q.1 (one xs x q.0 p))
+  | false ↦ appended P Q keep one more xs q.1 p
+]
 
 module _ {S D C P G : Type 0} (rules : Rules S D C P G) (l : IsEquivalence rules.eq) (messages : List (Activity S D C P G)) (m : Activity S D C P G) (here : All (IsHere (activity_round m)) (votes_in rules.listed m)) where
   -- what is recorded of the messages and of one more

@@ -1,7 +1,7 @@
 -- Who is named, the evidence of everyone who is named, and that the votes determine a report.
-use Rattle.simplex_detector.proofs.Prelude.{Activity, All, All-contains, Bool, Contains, Contains-append_left, Contains-permutation, Evidence, EvidenceIsUnique, IsEquivalence, IsEquivocation, IsEvidence, IsPermutation, IsPermutation-sym, List, Named, NamedInAnyOrder, NamesExactly, None, Option, Rules, SignedVote, Some, [], and_from, and_parts, ap, append-nil, clash, contradicts, evidence_of, filter, filter-append, find, first_sort, flat_map, flat_map-append, is_at, is_named, is_of, is_some, is_valid, list_any, named_by, named_cmp, refl, round_of, same_Some, same_sort, sort_of, subst, sym, true, valid_votes, votes_in, with_first, with_second, ⊎_elim, ◌&&◌, ◌++◌, ◌∙◌, ◌∷◌, ◌≡◌}
-use Rattle.simplex_detector.proofs.Lists.{Contains-filter, Contains-flat_map, Contains-from_filter, Contains-from_flat_map, Contains-from_list_any, IsListing, any_from_Contains, each, find_from_Contains, found, listed_is_some, listing_is_unique, same_bool, some_from_is_some}
-use Rattle.simplex_detector.proofs.Places.{Spot, clash_parts, clash_with_one, exact_named, is_at-from, is_at-true, is_of-from, is_of-true, named_cmp_total}
+use Rattle.simplex_detector.proofs.Prelude.{Activity, All, All-contains, Bool, Contains, Contains-permutation, Evidence, IsEquivalence, IsEquivocation, IsEvidence, IsPermutation, IsPermutation-sym, List, Named, NamedInAnyOrder, None, Rules, SignedVote, Some, [], and_from, and_parts, ap, append-nil, clash, contradicts, evidence_of, filter, filter-append, find, first_sort, flat_map, flat_map-append, is_at, is_named, is_of, is_some, is_valid, list_any, named_by, named_cmp, refl, round_of, same_Some, same_sort, sort_of, subst, sym, true, valid_votes, votes_in, with_first, with_second, ⊎_elim, ◌&&◌, ◌++◌, ◌∙◌, ◌∷◌, ◌≡◌}
+use Rattle.simplex_detector.proofs.Lists.{Contains-filter, Contains-flat_map, Contains-from_filter, Contains-from_flat_map, Contains-from_list_any, IsListing, any_from_Contains, each, find_from_Contains, found, same_bool, some_from_is_some}
+use Rattle.simplex_detector.proofs.Places.{Spot, clash_parts, clash_with_one, is_at-from, is_at-true, is_of-from, is_of-true}
 
 -- ---- the valid votes of messages
 
@@ -49,10 +49,10 @@ named_by_more eq vs ws more n h =
 
 -- the same messages in another order name the same
 pub named_in_any_order : {S D C P G : Type 0} (rules : Rules S D C P G) (ms : List (Activity S D C P G)) → NamedInAnyOrder rules ms
-named_in_any_order {S} {D} {C} {P} {G} rules ms ks moved n = same_bool _ _ (named_by_more rules.eq _ _ (also ms ks moved) n) (named_by_more rules.eq _ _ (also ks ms (IsPermutation-sym ms ks moved)) n)
-  where
-    also : (ms ks : List (Activity S D C P G)) → IsPermutation ms ks → (v : SignedVote D G) → Contains (valid_votes rules ms) v → Contains (valid_votes rules ks) v
-    also ms ks moved v h = let (m, m_in, own, valid) = valid_from rules ms v h in valid_in rules ks v m (Contains-permutation ms ks m moved m_in) own valid
+named_in_any_order {S} {D} {C} {P} {G} rules ms ks moved n =
+    let also : (ms ks : List (Activity S D C P G)) → IsPermutation ms ks → (v : SignedVote D G) → Contains (valid_votes rules ms) v → Contains (valid_votes rules ks) v =
+    λ ms ks moved v h. let (m, m_in, own, valid) = valid_from rules ms v h in valid_in rules ks v m (Contains-permutation ms ks m moved m_in) own valid in
+    same_bool _ _ (named_by_more rules.eq _ _ (also ms ks moved) n) (named_by_more rules.eq _ _ (also ks ms (IsPermutation-sym ms ks moved)) n)
 
 -- its first vote is the earliest at its spot, and its second the earliest that contradicts that
 pub record EvidenceIs {D G : Type 0} (eq : D → D → Bool) (vs : List (SignedVote D G)) (n : Named) (e : Evidence D G) : Type 0 where

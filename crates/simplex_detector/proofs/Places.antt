@@ -1,5 +1,5 @@
 -- Where votes are: the tests on rounds, signers, sorts and proposals, which subjects exclude each other, and the orders of a report.
-use Rattle.simplex_detector.proofs.Prelude.{Bool, CmpEqualImpliesEq, Conflicting_finalize, Conflicting_notarize, Equal, Finalizes, Finalizing, IsEquivalence, IsTotalOrder, Kind, Named, Notarizes, Notarizing, Nullifies, Nullify_finalize, Nullifying, Ordering, Proposal, Round, SignedVote, Sort, SubjectValue, and_equiv, and_from, and_parts, ap, cases_Bool, clash, eq-eqb, eqb, eqb-true, exact_pairs, exact_unsigned, excludes, false, false_from_ne_true, false≢true, first_sort, inl, inr, is_at, is_eq, is_key, is_of, kind_rank, named_cmp, nat_cmp, nat_cmp_total, nat_eq_equiv, not, on_equiv, on_total, refl, round_cmp, round_of, same_proposal, same_round, same_sort, signer_cmp, sort_of, subst, sym, then_total, tied_itself, true, ℕ, ⊎_elim, ◌&&◌, ◌∙◌, ◌≡◌, ◌⊎◌}
+use Rattle.simplex_detector.proofs.Prelude.{Bool, CmpEqualImpliesEq, Conflicting_finalize, Conflicting_notarize, Equal, Finalizes, Finalizing, IsEquivalence, IsTotalOrder, Kind, Named, Notarizes, Notarizing, Nullifies, Nullify_finalize, Nullifying, Proposal, Round, SignedVote, Sort, SubjectValue, and_equiv, and_from, and_parts, ap, cases_Bool, clash, eq-eqb, eqb, eqb-true, exact_pairs, exact_unsigned, excludes, false, false_from_ne_true, false≢true, first_sort, inl, inr, is_at, is_eq, is_key, is_of, kind_rank, named_cmp, nat_cmp, nat_cmp_total, nat_eq_equiv, not, on_equiv, on_total, refl, round_cmp, round_of, same_proposal, same_round, same_sort, signer_cmp, sort_of, subst, sym, then_total, tied_itself, true, ℕ, ⊎_elim, ◌&&◌, ◌∙◌, ◌≡◌, ◌⊎◌}
 
 -- ---- rounds, proposals and sorts
 

@@ -3,7 +3,7 @@ pub use Rattle.std.proofs.Common.{All, Bool, Equal, Err, Greater, IfErr, IfOk, L
 pub use Rattle.std.proofs.Math.Bool.{and-false}
 pub use Rattle.std.proofs.lemmas.Bool.{and_from, and_left, and_parts, and_right, cases_Bool, cases_lt, cond-false, cond-true, eq-eqb, eqb-false, eqb-true, false_from_ne_true, false≢true, le-ltb, lt-ltb, ltb-true, not-true, or_cases, or_left, or_parts, or_right}
 pub use Rattle.std.proofs.lemmas.Bool.Decides.{nat_tests}
-pub use Rattle.std.proofs.lemmas.Cmp.{and_equiv, by_ranked, nat_cmp_total, nat_eq_equiv, on_equiv, on_total, ranked, then_total, tied_itself}
+pub use Rattle.std.proofs.lemmas.Cmp.{and_equiv, nat_cmp_total, nat_eq_equiv, on_equiv, on_total, ranked, then_total, tied_itself}
 pub use Rattle.std.proofs.lemmas.Grind.{flat_map-append}
 pub use Rattle.std.proofs.lemmas.List.{drop_all, drop_more, flat_map_more, get_or-map, get_or_default, length-map, map-append, take_all, take_more}
 pub use Rattle.std.proofs.lemmas.List.Elements.{All-append, All-cons, All-contains, All-contains_itself, All-filter, All-from_recursion, All-map, All-nil, All-push, Contains-append_cases, Contains-append_left, Contains-append_right, Contains-get_or, Contains-push, Contains-push_cases, filter-append, filter_map-append, filter_passes, recursion_from_All}
@@ -26,11 +26,11 @@ pub use Rattle.std.specs.Cmp.{IsEquivalence, IsTotalOrder}
 pub use Rattle.std.specs.List.{AllByRecursion, cons_option, dedup, filter_map, find, flat_map, list_any}
 pub use Rattle.std.specs.List.Sorted.{IsBinarySearchResult, IsNonDecreasing, IsNonDecreasingBy, IsSearchInRange, IsSorted, IsStrictlySortedBy}
 pub use Rattle.std.specs.Option.{IsSome, is_none, is_some, option_eq, option_or, option_to_list}
-pub use Rattle.std.specs.Ordering.{MatchOrdering, is_eq, is_gt, is_le, is_lt, nat_cmp, ord_max, ordering_index, ordering_then}
-pub use Rattle.std.specs.Prelude.{Contains, IsPermutation, IsTrue, OnOk, filter, if◌then◌else◌, nat_eq, nat_lt, not, option_map, ◌&&◌, ◌↔◌}
+pub use Rattle.std.specs.Ordering.{is_eq, is_gt, is_le, nat_cmp, ord_max, ordering_index, ordering_then}
+pub use Rattle.std.specs.Prelude.{Contains, IsPermutation, IsTrue, filter, if◌then◌else◌, nat_eq, nat_lt, not, option_map, ◌&&◌, ◌↔◌}
 pub use Rattle.std.specs.Set.{distinct_count, is_member, unique_keys}
 pub use Rattle.simplex_base.specs.Format.{Format, fixed}
-pub use Rattle.simplex_base.specs.Positions.{Round, round_format, same_round}
+pub use Rattle.simplex_base.specs.Positions.{Round, same_round}
 pub use Rattle.simplex_base.specs.VarintLaws.{groups_some}
 pub use Rattle.simplex_detector.specs.Certificates.{certificate_in, certificates_contradict, excludes, messages_contradict, subjects_contradict}
 pub use Rattle.simplex_detector.specs.Committees.{AreRising, Every, IsSchedule, Listed, Schedule, bound_of, certified_by, committee_of, greatest, rules_of, schedule_of, size_by, valid_by}
@@ -39,13 +39,13 @@ pub use Rattle.simplex_detector.specs.EncodedEvidence.{IsEncoded}
 pub use Rattle.simplex_detector.specs.Evidence.{IsEquivocation, IsEvidence, evidence_of, with_first, with_second}
 pub use Rattle.simplex_detector.specs.FirstCertified.{RecordsFirsts, are_split, certified_subjects, changes_firsts, excludes_first, excludes_some, first_certified, first_with, firsts_of, nothing_certified}
 pub use Rattle.simplex_detector.specs.Judging.{certified_under, rules_under, signer_cmp, valid_under}
-pub use Rattle.simplex_detector.specs.Laws.{EvidenceIsUnique, NamedInAnyOrder, NamesExactly}
+pub use Rattle.simplex_detector.specs.Laws.{NamedInAnyOrder}
 pub use Rattle.simplex_detector.specs.Line.{line_of, parted}
 pub use Rattle.simplex_detector.specs.Named.{Named, is_named, kind_rank, named_by, named_cmp, round_cmp}
 pub use Rattle.simplex_detector.specs.Recorded.{RecordedAreSlots, Slot, both, changes, evidence_from, if_differs, is_news, news_after, other_than, recorded_in, recorded_of, slot_of, slot_with, votes_in_slot, votes_recorded}
 pub use Rattle.simplex_detector.specs.Rounds.{HoldsRound, IsSized, ListsSigners, TakesVote, found_at, found_of_kind, if_contradicts, is_for, no_slot, round_count, slots}
 pub use Rattle.simplex_detector.specs.Rules.{AreLawful, HaveCommittees, Rules, is_valid, valid_votes, vote_on}
-pub use Rattle.simplex_detector.specs.SplitLaws.{EnoughAreNamed, IsAccountable, SignersAreAccountable, SplitsAreUnique, shared_signers}
+pub use Rattle.simplex_detector.specs.SplitLaws.{EnoughAreNamed, IsAccountable, SignersAreAccountable, shared_signers}
 pub use Rattle.simplex_detector.specs.Splits.{AreSplits, certified_in, if_certified, is_certified, is_named_in, is_split, named_count, split_of}
 pub use Rattle.simplex_detector.specs.Suspects.{AreSuspect, HasSuspects, JudgeAlike, Suspected, SuspectsSuffice, TellAll, among, claimed, is_suspect, is_suspect_round, judged_by, suspect_of}
 pub use Rattle.simplex_detector.specs.Values.{evidence_value, message_of}
@@ -62,7 +62,6 @@ pub use Rattle.simplex_evidence.specs.Contradiction.{Conflicting_finalize, Confl
 pub use Rattle.simplex_evidence.specs.VoteMap.{item_of}
 pub use Rattle.simplex_evidence.specs.declared.types.activity.Activity.{Activity}
 pub use Rattle.simplex_scheme.specs.Committee.{IsQuorum, faults_of, quorum_of, signers_of}
-pub use Rattle.simplex_scheme.specs.Proposal.{proposal_format}
 pub use Rattle.simplex_scheme.specs.Subject.{Finalizes, Notarizes, Nullifies, SubjectValue, round_of, subject_value}
 pub use Rattle.simplex_scheme.specs.declared.proposal.Proposal.{Proposal}
 pub use Rattle.simplex_scheme.specs.declared.scheme.Attestation.{Attestation}

@@ -1,5 +1,5 @@
 -- The evidence in what is recorded, signer by signer and round by round, is the evidence of the votes.
-use Rattle.simplex_detector.proofs.Prelude.{Activity, All, All-contains, All-from_recursion, All-push, AllByRecursion, Bool, Conflicting_finalize, Conflicting_notarize, Contains, Contains-append_left, Contains-append_right, Contains-dedup_nat, Contains-permutation, Detector, Evidence, HoldsRound, IsEquivalence, IsEvidence, IsOrdered, IsPermutation, IsSorted, IsStrictlyIncreasing-dedup, IsTrue, Kind, Less, List, ListsSigners, Named, None, Nullify_finalize, Option, Recalls, RecallsAt, RecallsNothing, RecallsRound, Round, RoundState, RoundVotes, Rules, SignedVote, Slot, Some, Sort, [], ap, append-nil, append_assoc, arith, btree_map_get_iff, cond-true, contradicts, dedup, eqb, eqb-true, evidence_from, evidence_of, false≢true, filter_map, filter_map-append, flat_map, flat_map_more, found_at, found_of_kind, get, get_or, if_contradicts, inl, inr, is_named, is_some, item_of, kind_rank, length, map, map-append, map-id, named_by, named_cmp, nat_cmp, nat_cmp_total, no_slot, option_map, option_to_list, ordering_then, recursion_from_All, refl, round_cmp, round_of, slot_of, slots, sorted_from_strictly_increasing, subst, sym, take, take_more, tied_itself, true, valid_votes, ℕ, ◌++◌, ◌+◌, ◌<◌, ◌∙◌, ◌∷◌, ◌≡◌, ◌⊎◌}
+use Rattle.simplex_detector.proofs.Prelude.{Activity, All, All-contains, All-from_recursion, All-push, AllByRecursion, Bool, Conflicting_finalize, Conflicting_notarize, Contains, Contains-append_left, Contains-append_right, Contains-dedup_nat, Contains-permutation, Detector, Evidence, HoldsRound, IsEquivalence, IsEvidence, IsOrdered, IsPermutation, IsSorted, IsStrictlyIncreasing-dedup, IsTrue, Kind, Less, List, ListsSigners, Named, None, Nullify_finalize, Recalls, RecallsAt, RecallsNothing, RecallsRound, Round, RoundState, RoundVotes, Rules, SignedVote, Slot, Some, Sort, [], ap, append-nil, append_assoc, arith, btree_map_get_iff, cond-true, contradicts, dedup, eqb, eqb-true, evidence_from, evidence_of, false≢true, filter_map, filter_map-append, flat_map, flat_map_more, found_at, found_of_kind, get, get_or, if_contradicts, inl, inr, is_named, is_some, item_of, kind_rank, length, map, map-append, map-id, named_by, named_cmp, nat_cmp, nat_cmp_total, no_slot, option_map, option_to_list, ordering_then, recursion_from_All, refl, round_cmp, round_of, slot_of, slots, sorted_from_strictly_increasing, subst, sym, take, take_more, tied_itself, true, valid_votes, ℕ, ◌++◌, ◌+◌, ◌<◌, ◌∙◌, ◌∷◌, ◌≡◌, ◌⊎◌}
 use Rattle.std.specs.List.Sorted.{IsStrictlySortedBy}
 use Rattle.simplex_detector.proofs.EvidenceLemmas.{evidence-from_named, evidence_is, from_listing}
 use Rattle.simplex_detector.proofs.Lists.{found_mapped, Contains-flat_map, Contains-from_filter_map, Contains-from_flat_map, Contains-from_map, Contains-map, each, filter_map-joined, found, made_complete, made_ordered, made_sound, some_from_is_some, sorted_joined}
@@ -46,10 +46,9 @@ own_name n = elim n.kind as (λ kind. Contains (names_at n.round n.signer) (reco
 -- of one signer they are in the order of kinds
 ordered_at : (round : Round) (signer : ℕ) → IsStrictlySortedBy named_cmp (names_at round signer)
 unfolding IsStrictlySortedBy
-ordered_at round signer = ((rise Conflicting_notarize Conflicting_finalize refl, (rise Conflicting_notarize Nullify_finalize refl, tt)), ((rise Conflicting_finalize Nullify_finalize refl, tt), (tt, tt)))
-  where
-    rise : (k l : Kind) → nat_cmp (kind_rank k) (kind_rank l) ≡ Less → ordering_then (round_cmp round round) (ordering_then (nat_cmp signer signer) (nat_cmp (kind_rank k) (kind_rank l))) ≡ Less
-    rise k l less = λ i. ordering_then (tied_itself round_cmp_total round i) (ordering_then (tied_itself nat_cmp_total signer i) (less i))
+ordered_at round signer =
+    let rise : (k l : Kind) → nat_cmp (kind_rank k) (kind_rank l) ≡ Less → ordering_then (round_cmp round round) (ordering_then (nat_cmp signer signer) (nat_cmp (kind_rank k) (kind_rank l))) ≡ Less = λ k l less i. ordering_then (tied_itself round_cmp_total round i) (ordering_then (tied_itself nat_cmp_total signer i) (less i)) in
+    ((rise Conflicting_notarize Conflicting_finalize refl, (rise Conflicting_notarize Nullify_finalize refl, tt)), ((rise Conflicting_finalize Nullify_finalize refl, tt), (tt, tt)))
 
 -- of one round in the order of signers
 ordered_in : (round : Round) (signers : List ℕ) → IsStrictlySortedBy nat_cmp signers → IsStrictlySortedBy named_cmp (names_in round signers)

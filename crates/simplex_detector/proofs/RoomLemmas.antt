@@ -1,5 +1,5 @@
 -- Of messages no more votes are recorded than their encodings have bytes.
-use Rattle.simplex_detector.proofs.Prelude.{Activity, Attestation, Bool, Format, List, Proposal, Round, Rules, SignedVote, [], activity_encoding, arith, cond, count_by-le-length, false, finalize_of, flat_map, groups_some, is_news, is_valid, length, length-append, length-filter, length-map, map, news_after, notarize_of, nullify_of, proposal_format, round_format, suc, true, valid_votes, votes_in, votes_recorded, ℕ, ◌++◌, ◌+◌, ◌∷◌, ◌≤◌}
+use Rattle.simplex_detector.proofs.Prelude.{Activity, Attestation, Bool, Format, List, Rules, SignedVote, [], activity_encoding, arith, cond, count_by-le-length, false, finalize_of, flat_map, groups_some, is_news, is_valid, length, length-append, length-filter, length-map, map, news_after, notarize_of, nullify_of, suc, true, valid_votes, votes_in, votes_recorded, ℕ, ◌++◌, ◌+◌, ◌∷◌, ◌≤◌}
 use Rattle.simplex_evidence.specs.declared.types.activity.Activity.TheVariants as activity
 
 news_among : {D G : Type 0} (eq : D → D → Bool) (before vs : List (SignedVote D G)) → length (news_after eq before vs) ≤ length vs

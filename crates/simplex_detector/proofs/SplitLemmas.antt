@@ -1,8 +1,8 @@
 -- Which rounds are split, by what is recorded of their certificates, and that the messages determine their splits.
-use Rattle.simplex_detector.proofs.Prelude.{Activity, All, AreLawful, AreSplits, Bool, CertifiedSubjects, Contains, Contains-append_left, Contains-push, Contains-push_cases, Finalizing, HaveCommittees, IsEquivalence, IsStrictlySortedBy, List, None, Notarizing, Nullifying, Option, RecordsFirsts, Round, Rules, Some, Sort, Split, SplitsAreUnique, SubjectValue, [], activity_round, and_from, and_left, and_parts, and_right, ap, append-nil, are_split, cases_Bool, certificate_in, certificates_contradict, certified_in, certified_subjects, changes_firsts, cond, cond_some, cons_option, excludes, excludes_first, excludes_some, false, false≢true, faults_of, filter_map, filter_map-append, first_certified, first_with, firsts_of, if◌then◌else◌, inl, inr, is_certified, is_none, is_some, is_split, list_any, messages_contradict, named_count, not, option_or, option_to_list, or_cases, or_left, or_parts, or_right, refl, round_cmp, round_of, same_round, same_sort, sort_of, split_of, subjects_contradict, subst, sym, true, valid_votes, ⊎_elim, ◌&&◌, ◌++◌, ◌+◌, ◌||◌, ◌∙◌, ◌∷◌, ◌≡◌, ◌≤◌, ◌⊎◌}
+use Rattle.simplex_detector.proofs.Prelude.{Activity, All, AreLawful, AreSplits, Bool, CertifiedSubjects, Contains, Contains-append_left, Contains-push, Contains-push_cases, Finalizing, HaveCommittees, IsEquivalence, IsStrictlySortedBy, List, None, Notarizing, Nullifying, Option, RecordsFirsts, Round, Rules, Some, Sort, Split, SubjectValue, [], activity_round, and_from, and_left, and_parts, and_right, ap, append-nil, are_split, cases_Bool, certificate_in, certificates_contradict, certified_in, certified_subjects, changes_firsts, cond, cond_some, cons_option, excludes, excludes_first, excludes_some, false, false≢true, faults_of, filter_map, filter_map-append, first_certified, first_with, firsts_of, if◌then◌else◌, inl, inr, is_certified, is_none, is_some, is_split, list_any, messages_contradict, named_count, not, option_or, option_to_list, or_cases, or_left, or_parts, or_right, refl, round_cmp, round_of, same_round, same_sort, sort_of, split_of, subjects_contradict, subst, sym, true, valid_votes, ⊎_elim, ◌&&◌, ◌++◌, ◌+◌, ◌||◌, ◌∙◌, ◌∷◌, ◌≡◌, ◌≤◌, ◌⊎◌}
 use Rattle.simplex_detector.proofs.AccountLemmas.{accountable_for, certificate_parts, certified_parts, certifies_from, enough_for}
-use Rattle.simplex_detector.proofs.Lists.{Contains-from_filter_map, Contains-from_list_any, IsListing, any_from_Contains, find_from_Contains, find_push, found, listing_is_unique, made_complete, made_ordered, made_sound, same_bool}
-use Rattle.simplex_detector.proofs.Places.{exact_rounds, excludes-flip, excludes_itself, excludes_one, round_cmp_total, same_round-from, same_round-true, same_sort-refl, same_sort-true}
+use Rattle.simplex_detector.proofs.Lists.{Contains-from_filter_map, Contains-from_list_any, IsListing, any_from_Contains, find_from_Contains, find_push, found, made_complete, made_ordered, made_sound, same_bool}
+use Rattle.simplex_detector.proofs.Places.{excludes-flip, excludes_itself, excludes_one, same_round-from, same_round-true, same_sort-refl, same_sort-true}
 
 -- ---- subjects that split a round
 
@@ -99,14 +99,10 @@ module _ {D : Type 0} (eq : D → D → Bool) (laws : IsEquivalence eq) (xs : Li
       split_by eq (xs ++ y ∷ []) round (record { x = a; y = y; x_in = Contains-append_left xs (y ∷ []) a a_in; y_in = Contains-push xs y; x_here = same_round-true _ _ (and_parts (same_sort (sort_of a) sort) (same_round (round_of a) round) passes).1; y_here = same_round-true _ _ p.0; against = against }))
       (or_cases (are_split eq xs round) _ h)
 
-  -- one more certified subject splits its round where it excludes the first of some sort
-  split_after : are_split eq (xs ++ y ∷ []) round ≡ splits_now
-  split_after = same_bool _ _ split_to split_from
-
   -- what is recorded after one more subject, in the words of what was recorded; b is whether it is of the round
   pub records_push : (old new : CertifiedSubjects D) (b : Bool) → same_round (round_of y) round ≡ b → (old.split ≡ false → (sort : Sort) → firsts_of new sort ≡ cond b (first_with y sort (firsts_of old sort)) (firsts_of old sort)) → new.split ≡ (old.split || (b && excludes_some eq (firsts_of old) y)) → RecordsFirsts eq xs round old → RecordsFirsts eq (xs ++ y ∷ []) round new
   records_push old new b is firsts split records = record {
-    split = split ∙ by_split (cases_Bool old.split) ∙ sym split_after;
+    split = split ∙ by_split (cases_Bool old.split) ∙ sym (same_bool _ _ split_to split_from);
     firsts = λ whole sort.
         let before = (or_parts old.split _ (sym split ∙ whole)).0 in
         firsts before sort ∙ (λ i. cond (sym is i) (first_with y sort (records.firsts before sort i)) (records.firsts before sort i)) ∙ sym (first_after xs y round sort);

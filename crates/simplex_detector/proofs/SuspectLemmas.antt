@@ -1,10 +1,10 @@
 -- Which signers and rounds are suspect, and that no other signature has a part in the evidence and the splits.
-use Rattle.simplex_detector.proofs.Prelude.{Activity, All, All-contains, All-nil, AreLawful, AreSplits, AreSuspect, Attestation, Bool, Claimed, Conflicting_finalize, Conflicting_notarize, Contains, Evidence, HasSuspects, IsEquivalence, IsEvidence, IsTrue, JudgeAlike, Kind, List, Named, None, Nullify_finalize, Option, Round, Rules, Schedule, SignedVote, Some, Split, SubjectValue, SuspectSigners, Suspected, Suspects, SuspectsSuffice, TellAll, [], among, and-false, and_parts, ap, are_split, arith, certificate_in, certified_by, certified_in, certified_subjects, certified_under, claimed, clash, committee_of, cond, cond-false, cons_option, contains, contradicts, distinct_count, evidence_of, false, false_from_ne_true, false≢true, faults_of, filter, find, first_sort, flat_map, if_certified, is_at, is_named, is_named_in, is_of, is_some, is_split, is_suspect, is_suspect_round, is_valid, judged_by, le-ltb, lt-ltb, map, named_by, named_count, nat_eq, nat_lt, refl, round_cmp, round_of, rules_of, rules_under, signer_cmp, size_by, split_of, subst, suspect_of, sym, true, valid_by, valid_under, valid_votes, votes_in, with_first, with_second, ℕ, ◌&&◌, ◌+◌, ◌||◌, ◌↔◌, ◌∙◌, ◌∷◌, ◌≡◌, ◌≤◌}
+use Rattle.simplex_detector.proofs.Prelude.{Activity, All-contains, All-nil, AreLawful, AreSplits, AreSuspect, Attestation, Bool, Claimed, Conflicting_finalize, Conflicting_notarize, Contains, Evidence, HasSuspects, IsEquivalence, IsEvidence, IsTrue, JudgeAlike, Kind, List, Named, None, Nullify_finalize, Option, Round, Rules, Schedule, SignedVote, Some, Split, SubjectValue, SuspectSigners, Suspected, Suspects, SuspectsSuffice, TellAll, [], among, and-false, and_parts, ap, are_split, arith, certificate_in, certified_by, certified_in, certified_subjects, certified_under, claimed, clash, committee_of, cond, cond-false, cons_option, contains, contradicts, distinct_count, evidence_of, false, false_from_ne_true, false≢true, faults_of, filter, find, first_sort, flat_map, if_certified, is_at, is_named, is_named_in, is_of, is_some, is_split, is_suspect, is_suspect_round, is_valid, judged_by, le-ltb, lt-ltb, map, named_by, named_count, nat_eq, nat_lt, refl, round_cmp, round_of, rules_of, rules_under, signer_cmp, size_by, split_of, subst, suspect_of, sym, true, valid_by, valid_under, valid_votes, votes_in, with_first, with_second, ℕ, ◌&&◌, ◌+◌, ◌||◌, ◌↔◌, ◌∙◌, ◌∷◌, ◌≡◌, ◌≤◌}
 use Rattle.simplex_detector.proofs.AccountLemmas.{certified_parts, counted_signer, distinct_count-same, kind_from_named_in, named_in}
 use Rattle.simplex_detector.proofs.EvidenceLemmas.{evidence_exists, first_spot, moved_evidence, named_by_more, named_from_votes, valid_from, valid_in, votes_from_named}
 use Rattle.simplex_detector.proofs.Lists.{Contains-filter, Contains-first, Contains-from_filter, Contains-from_filter_map, Contains-from_list_any, Contains-from_map, Contains-map, Contains-none, any_from_Contains, found, same_bool}
 use Rattle.simplex_detector.proofs.Places.{is_at-true, is_of-true}
-use Rattle.simplex_detector.proofs.SplitLemmas.{enough_in_split, from_subjects, moved_splits, opposites, split_more, split_exists, split_opposites}
+use Rattle.simplex_detector.proofs.SplitLemmas.{enough_in_split, from_subjects, moved_splits, split_more, split_exists, split_opposites}
 
 -- ---- votes of suspects
 
@@ -134,23 +134,17 @@ module _ {S D C P G : Type 0} (rules : Rules S D C P G) (l : AreLawful rules) (m
 
   -- where nobody is claimed to contradict there is no evidence and no split
   pub nothing_claimed : (splits : List Split) → IsEvidence rules.eq (valid_votes (claimed rules) messages) [] → AreSplits (claimed rules) messages splits → IsEvidence rules.eq (valid_votes rules messages) [] × AreSplits rules messages splits
-  nothing_claimed splits is are = (
-    record { ordered = is.ordered; sound = All-nil (λ e. evidence_of rules.eq (valid_votes rules messages) (named_by e) ≡ Some e); complete = λ n h. absurd (false≢true (suspect n h).0) },
-    record { ordered = are.ordered; sound = λ k d lt. absurd (no_split _ (sym (split_exists (claimed rules) messages _) ∙ ap is_some (are.sound k d lt))); complete = λ r h. absurd (false≢true (split_is_suspect rules l messages nobody suspect r h)) },
-  )
-    where
-      nobody : Suspected
-      nobody = record { signers = λ _ _. false; rounds = λ _. false }
-
-      suspect : AreSuspect rules messages nobody
-      suspect = claims_are_suspect [] nobody is (λ e h. absurd (Contains-none e h))
-
-      no_split : (round : Round) → is_split (claimed rules) messages round ≡ true → ⊥
-      no_split round h =
-          let o = split_opposites (claimed rules) messages round h in
-          let (m, m_in, m_is) = Contains-from_filter_map (certified_in (claimed rules)) messages o.x o.x_in in
-          let (c, has, certifies) = certified_parts (claimed rules) (certificate_in m) o.x m_is in
-          false≢true certifies
+  nothing_claimed splits is are =
+      let nobody : Suspected = record { signers = λ _ _. false; rounds = λ _. false } in
+      let suspect : AreSuspect rules messages nobody = claims_are_suspect [] nobody is (λ e h. absurd (Contains-none e h)) in
+      let no_split : (round : Round) → is_split (claimed rules) messages round ≡ true → ⊥ = λ round h.
+      let o = split_opposites (claimed rules) messages round h in
+      let (m, m_in, m_is) = Contains-from_filter_map (certified_in (claimed rules)) messages o.x o.x_in in
+      let (c, has, certifies) = certified_parts (claimed rules) (certificate_in m) o.x m_is in
+      false≢true certifies in (
+        record { ordered = is.ordered; sound = All-nil (λ e. evidence_of rules.eq (valid_votes rules messages) (named_by e) ≡ Some e); complete = λ n h. absurd (false≢true (suspect n h).0) },
+        record { ordered = are.ordered; sound = λ k d lt. absurd (no_split _ (sym (split_exists (claimed rules) messages _) ∙ ap is_some (are.sound k d lt))); complete = λ r h. absurd (false≢true (split_is_suspect rules l messages nobody suspect r h)) },
+      )
 
 -- ---- committees that judge so
 

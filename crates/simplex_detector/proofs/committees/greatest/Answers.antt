@@ -1,8 +1,7 @@
-use Rattle.simplex_detector.proofs.Prelude.{greatest, drop_all, arith, All, All-push, ap, length, subst, sym, take_all, take_more, ◌∙◌, ◌≤◌}
+use Rattle.simplex_detector.proofs.Prelude.{greatest, drop_all, arith, All-push, ap, length, sym, take_all, take_more, ◌∙◌, ◌≤◌}
 use Rattle.simplex_detector.proofs.CommitteeLemmas.{greatest_next}
 use Rattle.simplex_detector.proofs.committees.greatest.Goals as goal
 
--- one committee more
 pub pairs-preserved : goal.pairs-preserved
 pairs-preserved g c = record {
   most = greatest_next g.S.CertificateScheme.keys c.args.pairs.now c.pairs.pair-index c.pairs.most c.len.result c.max-most.result c.pair-item.result c.pairs-test.true c.pair-item.is (c.len.ensures ∙ ap length c.participants.ensures.keys) c.max-most.ensures ∙ c.pairs.invariant.most;

@@ -1,4 +1,4 @@
-use Rattle.simplex_detector.proofs.Prelude.{All, All-push, IsEncoded, fixed, subst, sym, take_all, take_more}
+use Rattle.simplex_detector.proofs.Prelude.{All-push, IsEncoded, fixed, sym, take_all, take_more}
 use Rattle.simplex_detector.proofs.evidence.are_encoded.Goals as goal
 
 pub items-preserved : goal.items-preserved

@@ -1,4 +1,4 @@
-use Rattle.simplex_detector.proofs.Prelude.{IsSized, IsSome, Judging, RecallsAt, Round, Rules, Schedule, Some, [], activity_round, ap, certified_under, committee_of, cond, get, is_key, length, on_ok_weaker, refl, round_cmp, rules_under, size_by, subst, sym, valid_under, ◌++◌, ◌∙◌, ◌∷◌, ◌≡◌}
+use Rattle.simplex_detector.proofs.Prelude.{IsSized, IsSome, Judging, RecallsAt, Round, Rules, Schedule, Some, [], activity_round, ap, certified_under, committee_of, cond, get, is_key, length, on_ok_weaker, refl, round_cmp, rules_under, subst, sym, valid_under, ◌++◌, ◌∙◌, ◌∷◌, ◌≡◌}
 use Rattle.simplex_detector.proofs.DetectorLemmas.{recalls_changed, recalls_still_none, recalls_first, recalls_taken, recalls_no_committee}
 use Rattle.simplex_detector.proofs.detector.Detector.record.Given as given
 use Rattle.simplex_detector.proofs.detector.Detector.record.Goals as goal

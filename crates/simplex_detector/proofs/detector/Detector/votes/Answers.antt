@@ -1,4 +1,4 @@
-use Rattle.simplex_detector.proofs.Prelude.{IsOrdered, Judging, Rules, Schedule, ap, arith, round_cmp, rules as std_rules, rules_under}
+use Rattle.simplex_detector.proofs.Prelude.{IsOrdered, ap, arith, round_cmp, rules as std_rules, rules_under}
 use Rattle.simplex_detector.proofs.CountLemmas.{rounds_count, counted_votes}
 use Rattle.simplex_detector.proofs.detector.Detector.votes.Goals as goal
 

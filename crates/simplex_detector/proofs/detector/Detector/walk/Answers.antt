@@ -1,4 +1,4 @@
-use Rattle.simplex_detector.proofs.Prelude.{IsOrdered, Judging, Rules, Schedule, [], ap, arith, evidence_value, map, round_cmp, rules as std_rules, rules_under, subst}
+use Rattle.simplex_detector.proofs.Prelude.{IsOrdered, [], ap, arith, evidence_value, map, round_cmp, rules as std_rules, rules_under, subst}
 use Rattle.simplex_detector.proofs.ReportLemmas.{Walked, walked_next, report_of_walk}
 use Rattle.simplex_detector.proofs.detector.Detector.walk.Goals as goal
 

@@ -1,5 +1,5 @@
-use Rattle.simplex_detector.proofs.Prelude.{[], ap, append-nil, length, subject_value, subst, sym, take, take_all, take_more, true, valid_under, ◌++◌, ◌+◌, ◌∙◌, ◌∷◌, ◌≡◌}
-use Rattle.simplex_detector.proofs.RecordedLemmas.{HoldsMore, holds_one_more}
+use Rattle.simplex_detector.proofs.Prelude.{append-nil, subject_value, subst, sym, take_all, take_more, true, valid_under, ◌≡◌}
+use Rattle.simplex_detector.proofs.RecordedLemmas.{holds_one_more}
 use Rattle.simplex_detector.proofs.round_votes.RoundVotes.observe_all.Goals as goal
 
 pub listed-init : goal.listed-init
