@@ -1,8 +1,9 @@
 //! Compares the static library with the auditor by hand, on random and mutated streams: `fuzz SECONDS THREADS SEED`. A stream is some
 //! messages of a committee of four, of all ten kinds and of few rounds, with good and bad signatures, and then some of its bytes are
 //! changed. Both have to return the same lines and the same fault, and what the library stores of a stream has to give the same
-//! evidence again. Of a stream with verdicts the report has to be the same with any verdicts but those that the library lists. It
-//! ends with status 1 at the first stream on which they do not, and prints it.
+//! evidence again. Of a stream with verdicts the report has to be the same with any verdicts but those that the library lists, and the
+//! records of its evidence have to be those by hand, with the same places. It ends with status 1 at the first stream on which they do
+//! not, and prints it.
 
 #[allow(dead_code)]
 #[path = "by_hand.rs"]
@@ -37,7 +38,22 @@ struct Suspect {
     kind: u32,
 }
 
+#[repr(C)]
+#[derive(Clone, Copy, Debug, Default, PartialEq)]
+struct Record {
+    epoch: u64,
+    view: u64,
+    first_place: usize,
+    second_place: usize,
+    signer: u32,
+    kind: u32,
+}
+
 unsafe extern "C" {
+    fn simplex_records_vouched_64(
+        epochs: *const u64, epochs_len: usize, sizes: *const u32, sizes_len: usize, stream: *const u8, stream_len: usize,
+        records: *mut Record, records_len: usize, summary: *mut Summary,
+    ) -> u32;
     fn simplex_audit_vouched_64(
         epochs: *const u64, epochs_len: usize, sizes: *const u32, sizes_len: usize, stream: *const u8, stream_len: usize,
         text: *mut u8, text_len: usize, summary: *mut Summary,
@@ -230,11 +246,11 @@ fn agree(keys: &[u8], texts: &[String], stream: &[u8], room: &mut [u8]) -> bool 
 const EPOCHS: [u64; 2] = [0, 1];
 const SIZES: [u32; 2] = [4, 3];
 
-/// An attestation of a stream with verdicts: its round, signer and kind, where its subject and its verdict stand, and whether a
-/// certificate lists it.
-type Attestation = ((u64, u64), u64, usize, (usize, usize), usize, bool);
+/// An attestation of a stream with verdicts: its round, signer and kind, where its subject, its verdict and its message stand, and
+/// whether a certificate lists it.
+type Attestation = ((u64, u64), u64, usize, (usize, usize), usize, usize, bool);
 
-fn put_attested(random: &mut Random, bytes: &mut Vec<u8>, listed: &mut Vec<Attestation>, sort: usize, round: (u64, u64), signers: &[u64], counted: bool) {
+fn put_attested(random: &mut Random, bytes: &mut Vec<u8>, listed: &mut Vec<Attestation>, message: usize, sort: usize, round: (u64, u64), signers: &[u64], counted: bool) {
     let subject = subject(random, sort, round);
     let place = (bytes.len(), subject.len());
     bytes.extend(subject);
@@ -243,8 +259,8 @@ fn put_attested(random: &mut Random, bytes: &mut Vec<u8>, listed: &mut Vec<Attes
     }
     for signer in signers {
         put_number(bytes, *signer);
-        bytes.extend([9; 64]);
-        listed.push((round, *signer, sort, place, bytes.len(), counted));
+        bytes.extend([8 + random.below(2) as u8; 64]);
+        listed.push((round, *signer, sort, place, bytes.len(), message, counted));
         bytes.push(u8::from(!random.one_in(8)));
     }
 }
@@ -256,14 +272,15 @@ fn vouched(random: &mut Random) -> (Vec<u8>, Vec<Attestation>) {
         let round = (random.below(2), [10, 11, 300][random.below(3) as usize]);
         let (tag, signer) = (random.below(10), random.below(MEMBERS + 1));
         let signers: Vec<u64> = (0..MEMBERS).filter(|_| !random.one_in(4)).collect();
+        let place = bytes.len();
         bytes.push(tag as u8);
         match tag {
-            0 | 3 | 5 => put_attested(random, &mut bytes, &mut listed, [0, 9, 9, 1, 9, 2][tag as usize], round, &[signer], false),
-            1 | 2 | 4 | 6 => put_attested(random, &mut bytes, &mut listed, [9, 0, 0, 9, 1, 9, 2][tag as usize], round, &signers, true),
+            0 | 3 | 5 => put_attested(random, &mut bytes, &mut listed, place, [0, 9, 9, 1, 9, 2][tag as usize], round, &[signer], false),
+            1 | 2 | 4 | 6 => put_attested(random, &mut bytes, &mut listed, place, [9, 0, 0, 9, 1, 9, 2][tag as usize], round, &signers, true),
             _ => {
                 let sorts = [[0, 0], [2, 2], [1, 2]][tag as usize - 7];
                 for sort in sorts {
-                    put_attested(random, &mut bytes, &mut listed, sort, round, &[signer], false);
+                    put_attested(random, &mut bytes, &mut listed, place, sort, round, &[signer], false);
                 }
             }
         }
@@ -308,7 +325,7 @@ fn defers(random: &mut Random, stream: &[u8], listed: &[Attestation], room: &mut
             && if one.2 == other.2 { one.2 != 1 && subject(one) != subject(other) } else { one.2 + other.2 == 3 }
     };
     let suspects_by_hand: Vec<&Attestation> = claimed.iter().copied().filter(|one| claimed.iter().any(|other| clash(one, other))).collect();
-    let is_sought = |one: &&&Attestation| suspects_by_hand.iter().any(|suspect| suspect.0 == one.0 && (one.5 || suspect.1 == one.1));
+    let is_sought = |one: &&&Attestation| suspects_by_hand.iter().any(|suspect| suspect.0 == one.0 && (one.6 || suspect.1 == one.1));
     let by_hand: Vec<Attestation> = claimed.iter().filter(is_sought).map(|one| **one).collect();
     let mut other = stream.to_vec();
     for one in listed {
@@ -323,6 +340,47 @@ fn defers(random: &mut Random, stream: &[u8], listed: &[Attestation], room: &mut
     };
     let wanted_places = by_hand.iter().map(|one| (one.0, one.1, one.2, one.3, one.4));
     found.iter().map(plain).eq(wanted_places) && audit_vouched(&other, room) == wanted
+}
+
+fn records(stream: &[u8]) -> (Vec<Record>, Option<usize>) {
+    let (mut records, mut summary) = ([Record::default(); 100], Summary::default());
+    let status = unsafe {
+        simplex_records_vouched_64(
+            EPOCHS.as_ptr(), 2, SIZES.as_ptr(), 2, stream.as_ptr(), stream.len(), records.as_mut_ptr(), records.len(), &mut summary
+        )
+    };
+    assert!(status == summary.faulted as u32 && status < 2, "status {status}");
+    (records[..summary.evidence].to_vec(), (status == 1).then_some(summary.fault_place))
+}
+
+/// Whether the records of a stream's evidence are those by hand: of each round and signer the first valid votes that contradict, each
+/// with the place of the first message that carries it.
+fn enlists(stream: &[u8], listed: &[Attestation]) -> bool {
+    let (found, fault) = records(stream);
+    let end = fault.unwrap_or(stream.len());
+    let subject = |of: &Attestation| &stream[of.3.0..][..of.3.1];
+    let value = |of: &Attestation| (of.0, of.1, of.2, subject(of), &stream[of.4 - 64..=of.4]);
+    let place = |vote: &Attestation| listed.iter().find(|one| value(one) == value(vote)).unwrap().5;
+    let valid: Vec<&Attestation> =
+        listed.iter().filter(|one| one.3.0 < end && one.1 < u64::from(SIZES[one.0.0 as usize]) && stream[one.4] == 1).collect();
+    let mut signers: Vec<((u64, u64), u64)> = valid.iter().map(|one| (one.0, one.1)).collect();
+    signers.sort_unstable();
+    signers.dedup();
+    let mut by_hand = Vec::new();
+    for (round, signer) in signers {
+        let first = |sort: usize| valid.iter().find(|one| (one.0, one.1, one.2) == (round, signer, sort));
+        let other = |sort: usize| {
+            let first = first(sort)?;
+            valid.iter().find(|one| (one.0, one.1, one.2) == (round, signer, sort) && subject(one) != subject(first))
+        };
+        for (kind, votes) in [(first(0), other(0)), (first(2), other(2)), (first(1), first(2))].into_iter().enumerate() {
+            if let (Some(one), Some(two)) = votes {
+                let (first_place, second_place) = (place(one), place(two));
+                by_hand.push(Record { epoch: round.0, view: round.1, first_place, second_place, signer: signer as u32, kind: kind as u32 });
+            }
+        }
+    }
+    found == by_hand
 }
 
 fn main() {
@@ -347,6 +405,11 @@ fn main() {
                         let (verdicts, listed) = vouched(&mut random);
                         if !defers(&mut random, &verdicts, &listed, &mut room) {
                             println!("suspects differ on {}", verdicts.iter().map(|byte| format!("{byte:02x}")).collect::<String>());
+                            is_over.store(true, Ordering::Relaxed);
+                            return;
+                        }
+                        if !enlists(&verdicts, &listed) {
+                            println!("records differ on {}", verdicts.iter().map(|byte| format!("{byte:02x}")).collect::<String>());
                             is_over.store(true, Ordering::Relaxed);
                             return;
                         }

@@ -89,6 +89,52 @@ uint32_t simplex_audit_vouched_96(const uint64_t *epochs, size_t epochs_len, con
                                   size_t sizes_len, const uint8_t *stream, size_t stream_len,
                                   uint8_t *text, size_t text_len, struct simplex_summary *summary);
 
+/* The kind of an evidence in a record, in the order of the report. */
+#define SIMPLEX_CONFLICTING_NOTARIZE 0u /* two notarizes for different proposals */
+#define SIMPLEX_CONFLICTING_FINALIZE 1u /* two finalizes for different proposals */
+#define SIMPLEX_NULLIFY_FINALIZE 2u     /* a nullify, and then a finalize */
+
+/* An evidence of a report, and where its two votes stand in the stream. */
+struct simplex_record {
+    uint64_t epoch;      /* of the round of both votes */
+    uint64_t view;       /* of that round */
+    size_t first_place;  /* the 0-based offset of the first message that carries the first vote */
+    size_t second_place; /* and of the first that carries the second */
+    uint32_t signer;     /* of both votes, below the size of the epoch's committee */
+    uint32_t kind;       /* SIMPLEX_CONFLICTING_NOTARIZE, .._CONFLICTING_FINALIZE or
+                            SIMPLEX_NULLIFY_FINALIZE */
+};
+
+/*
+ * Audits a stream as simplex_audit_vouched_.. does, and writes the evidence of the report as
+ * records, one for each line of evidence and in the same order. A message carries a vote that it
+ * is, that its certificate lists, or that it holds as evidence; a place is where the message begins,
+ * at its tag. It is the first of all messages that carry the vote, by its proposal or round, its
+ * signer and its signature. The second place may be before the first, and both may be one: evidence
+ * carries two votes.
+ *
+ * `summary` is that of the audit: `evidence` is the number of records, `length` the bytes of the
+ * text that simplex_audit_vouched_.. writes. The first `summary->evidence` records are written;
+ * those behind them are as before. Where `records` is too short the status is SIMPLEX_SHORT: the
+ * summary is written and the records are as before. After SIMPLEX_ARGUMENTS and SIMPLEX_MEMORY both
+ * are. Where there is evidence the stream is read twice; the second reading verifies nothing.
+ */
+SIMPLEX_NONNULL
+uint32_t simplex_records_vouched_48(const uint64_t *epochs, size_t epochs_len,
+                                    const uint32_t *sizes, size_t sizes_len, const uint8_t *stream,
+                                    size_t stream_len, struct simplex_record *records,
+                                    size_t records_len, struct simplex_summary *summary);
+SIMPLEX_NONNULL
+uint32_t simplex_records_vouched_64(const uint64_t *epochs, size_t epochs_len,
+                                    const uint32_t *sizes, size_t sizes_len, const uint8_t *stream,
+                                    size_t stream_len, struct simplex_record *records,
+                                    size_t records_len, struct simplex_summary *summary);
+SIMPLEX_NONNULL
+uint32_t simplex_records_vouched_96(const uint64_t *epochs, size_t epochs_len,
+                                    const uint32_t *sizes, size_t sizes_len, const uint8_t *stream,
+                                    size_t stream_len, struct simplex_record *records,
+                                    size_t records_len, struct simplex_summary *summary);
+
 /* The kind of a vote in a record. */
 #define SIMPLEX_NOTARIZE 0u
 #define SIMPLEX_NULLIFY 1u
@@ -184,6 +230,11 @@ SIMPLEX_NONNULL
 uint32_t simplex_audit_plain(const uint8_t *name, size_t name_len, const uint8_t *keys,
                              size_t keys_len, const uint8_t *stream, size_t stream_len,
                              uint8_t *text, size_t text_len, struct simplex_summary *summary);
+SIMPLEX_NONNULL
+uint32_t simplex_records_plain(const uint8_t *name, size_t name_len, const uint8_t *keys,
+                               size_t keys_len, const uint8_t *stream, size_t stream_len,
+                               struct simplex_record *records, size_t records_len,
+                               struct simplex_summary *summary);
 SIMPLEX_NONNULL
 uint32_t simplex_store_plain(const uint8_t *name, size_t name_len, const uint8_t *keys,
                              size_t keys_len, const uint8_t *stored, size_t stored_len,

@@ -28,6 +28,7 @@ static int checks, failed;
     } while (0)
 
 #define RECORD sizeof(struct simplex_suspect)
+#define EVIDENCE sizeof(struct simplex_record)
 
 /* Allocations: how many may still succeed (-1: all), and how many blocks the library holds. */
 static _Thread_local long allowed = -1, blocks;
@@ -157,6 +158,25 @@ static uint32_t suspects(const struct input *in, struct simplex_suspect *records
     }
 }
 
+static uint32_t enlist(const struct input *in, struct simplex_record *records, size_t room,
+                       struct simplex_summary *summary)
+{
+    switch (in->signature) {
+    case 0:
+        return simplex_records_plain(in->name, in->name_len, in->keys, in->keys_len, in->stream,
+                                     in->stream_len, records, room, summary);
+    case 48:
+        return simplex_records_vouched_48(in->epochs, in->epochs_len, in->sizes, in->sizes_len,
+                                          in->stream, in->stream_len, records, room, summary);
+    case 64:
+        return simplex_records_vouched_64(in->epochs, in->epochs_len, in->sizes, in->sizes_len,
+                                          in->stream, in->stream_len, records, room, summary);
+    default:
+        return simplex_records_vouched_96(in->epochs, in->epochs_len, in->sizes, in->sizes_len,
+                                          in->stream, in->stream_len, records, room, summary);
+    }
+}
+
 static const struct simplex_summary untouched = {99, 99, 99, 99, 99, 99};
 
 static int is_untouched(const struct simplex_summary *summary)
@@ -171,6 +191,8 @@ static void refuses(const struct input *in)
     size_t size = 99;
     uint8_t *buffer = block(500, 7);
     CHECK(audit(in, buffer, 500, &summary) == SIMPLEX_ARGUMENTS);
+    CHECK(is_untouched(&summary));
+    CHECK(enlist(in, (struct simplex_record *)buffer, 500 / EVIDENCE, &summary) == SIMPLEX_ARGUMENTS);
     CHECK(is_untouched(&summary));
     CHECK(store(in, buffer, 500, &size) == SIMPLEX_ARGUMENTS);
     CHECK(size == 99);
@@ -215,6 +237,55 @@ static size_t audits(const struct input *in, uint32_t wanted, size_t read, size_
         free(text);
     }
     return summary.evidence;
+}
+
+/* The words of the kinds, by their numbers. */
+static const char *const kinds[] = {"conflicting-notarize", "conflicting-finalize",
+                                    "nullify-finalize"};
+
+/* The evidence as records, with buffers as above: the same as the lines of the text, with places
+ * inside the stream. */
+static void enlists(const struct input *in)
+{
+    struct simplex_summary summary = untouched, again = untouched, of_text;
+    uint8_t *buffer = block(0, 7);
+    uint32_t status = enlist(in, (struct simplex_record *)buffer, 0, &summary);
+    free(buffer);
+    uint8_t *text = block(5000, 7);
+    uint32_t wanted = audit(in, text, 4999, &of_text);
+    size_t n = of_text.evidence, spare = 2;
+    CHECK(status == (n ? SIMPLEX_SHORT : wanted));
+    CHECK(!memcmp(&summary, &of_text, sizeof summary));
+    struct simplex_record *records = (struct simplex_record *)block((n + spare) * EVIDENCE, 7);
+    CHECK(enlist(in, records, n + spare, &again) == wanted);
+    CHECK(!memcmp(&summary, &again, sizeof summary));
+    CHECK(all((const uint8_t *)(records + n), spare * EVIDENCE, 7));
+    struct simplex_record *fitting = (struct simplex_record *)block(n * EVIDENCE, 7);
+    CHECK(enlist(in, fitting, n, &again) == wanted);
+    CHECK(!memcmp(fitting, records, n * EVIDENCE));
+    free(fitting);
+    if (n) {
+        buffer = block((n - 1) * EVIDENCE, 7);
+        again = untouched;
+        CHECK(enlist(in, (struct simplex_record *)buffer, n - 1, &again) == SIMPLEX_SHORT);
+        CHECK(!memcmp(&summary, &again, sizeof summary) && all(buffer, (n - 1) * EVIDENCE, 7));
+        free(buffer);
+    }
+    const char *line = (const char *)text;
+    text[of_text.length] = 0;
+    for (size_t i = 0; i < n; i++) {
+        char front[99];
+        CHECK(records[i].kind < 3);
+        int length = snprintf(front, sizeof front, "%llu %llu %u %s ",
+                              (unsigned long long)records[i].epoch,
+                              (unsigned long long)records[i].view, records[i].signer,
+                              kinds[records[i].kind % 3]);
+        CHECK(!strncmp(line, front, (size_t)length));
+        line = strchr(line, '\n') + 1;
+        CHECK(records[i].first_place < in->stream_len && records[i].second_place < in->stream_len);
+    }
+    free(records);
+    free(text);
 }
 
 /* Evidence as messages, with buffers as above. What is stored has the report of the stream, and is
@@ -303,20 +374,22 @@ static size_t defers(const struct input *in, const size_t *verdicts, size_t verd
 static void without_memory(const struct input *in)
 {
     long before = blocks;
-    for (int call = in->signature ? 0 : 1; call < 3; call++)
+    for (int call = in->signature ? 0 : 1; call < 4; call++)
         for (long k = 1;; k++) {
             struct simplex_summary summary = untouched;
             size_t size = 99;
             union {
                 uint8_t bytes[500];
-                struct simplex_suspect records[500 / RECORD];
+                struct simplex_suspect suspects[500 / RECORD];
+                struct simplex_record records[500 / EVIDENCE];
             } to;
             uint8_t *buffer = to.bytes;
             memset(&to, 7, sizeof to);
             allowed = k;
-            uint32_t status = call == 0   ? suspects(in, to.records, 500 / RECORD, &size)
+            uint32_t status = call == 0   ? suspects(in, to.suspects, 500 / RECORD, &size)
                               : call == 1 ? audit(in, buffer, 500, &summary)
-                                          : store(in, buffer, 500, &size);
+                              : call == 2 ? store(in, buffer, 500, &size)
+                                          : enlist(in, to.records, 500 / EVIDENCE, &summary);
             int over = allowed > 0;
             allowed = -1;
             CHECK(blocks == before);
@@ -339,13 +412,16 @@ static void plain(const uint8_t *sample, size_t len)
     CHECK(len == 138);
     CHECK(audits(&in, SIMPLEX_WHOLE, 2, 0) == 1);
     stores(&in);
+    enlists(&in);
     without_memory(&in);
     in.stream_len = 137;
     CHECK(audits(&in, SIMPLEX_FAULT, 1, 69) == 0);
     stores(&in);
+    enlists(&in);
     in.stream_len = 0;
     CHECK(audits(&in, SIMPLEX_WHOLE, 0, 0) == 0);
     stores(&in);
+    enlists(&in);
     in.stream_len = len;
     in.name_len = 0;
     CHECK(audits(&in, SIMPLEX_WHOLE, 2, 0) == 0);
@@ -416,9 +492,11 @@ static void vouched(int signature)
     /* which committee is that of the epoch */
     CHECK(accused(&in, no_epochs, 0, four, 1) == 1);
     stores(&in);
+    enlists(&in);
     without_memory(&in);
     CHECK(accused(&in, epochs, 2, low_high, 2) == 1);
     stores(&in);
+    enlists(&in);
     without_memory(&in);
     CHECK(accused(&in, epochs, 2, high_low, 2) == 0);
     CHECK(accused(&in, epochs, 1, four, 1) == 0);
@@ -442,6 +520,7 @@ static void vouched(int signature)
     in.stream_len = n - 1;
     in.sizes_len = 1;
     CHECK(audits(&in, SIMPLEX_FAULT, 1, n / 2) == 0);
+    enlists(&in);
     free((void *)no_epochs);
     free(stream);
     free(none);
@@ -486,6 +565,72 @@ static void deferred(int signature)
     CHECK(defers(&in, verdicts, 0) == 0);
     free(stream);
     free(none);
+}
+
+/* Where a record says that the votes of the one evidence stand, with this committee of four for
+ * every epoch. */
+static int stands_at(const uint8_t *stream, size_t len, size_t signature, uint32_t kind,
+                     size_t first, size_t second)
+{
+    static const uint32_t four[] = {4};
+    static const uint64_t epoch[] = {0};
+    uint8_t *whole = copy(stream, len);
+    struct input in = {.stored = whole, .stream = whole, .stream_len = len,
+                       .signature = (int)signature, .epochs = epoch, .sizes = four, .sizes_len = 1};
+    struct simplex_record record[1];
+    struct simplex_summary summary;
+    CHECK(enlist(&in, record, 1, &summary) == SIMPLEX_WHOLE && summary.evidence == 1);
+    enlists(&in);
+    free(whole);
+    return record[0].epoch == 4 && record[0].view == 10 && record[0].signer == 2 &&
+           record[0].kind == kind && record[0].first_place == first &&
+           record[0].second_place == second;
+}
+
+/* Votes on their own, in a certificate and as evidence: a place is that of the first message that
+ * carries the vote. */
+static void placed(size_t signature)
+{
+    const size_t vote = 38 + signature;
+    uint8_t room[1200], *end = room;
+    /* one vote twice, a vote of another, one that is not valid, and then the other vote */
+    end = put_notarize(end, 4, 1, 6, signature, 1);
+    end = put_notarize(end, 4, 2, 6, signature, 1);
+    end = put_notarize(end, 4, 2, 6, signature, 1);
+    end = put_notarize(end, 4, 2, 7, signature, 0);
+    end = put_notarize(end, 4, 2, 7, signature, 1);
+    CHECK(stands_at(room, (size_t)(end - room), signature, SIMPLEX_CONFLICTING_NOTARIZE, vote,
+                    4 * vote));
+    /* a certificate that lists the first vote, and evidence with both: the notarizes without their
+     * tags */
+    uint8_t votes[400], *at = votes;
+    at = put_notarize(at, 4, 2, 6, signature, 1);
+    at = put_notarize(at, 4, 2, 7, signature, 1);
+    end = room;
+    *end++ = 1;
+    memcpy(end, votes + 1, 35);
+    end += 35;
+    *end++ = 1;
+    memcpy(end, votes + 36, vote - 36);
+    end += vote - 36;
+    const size_t certificate = (size_t)(end - room);
+    *end++ = 7;
+    memcpy(end, votes + 1, vote - 1);
+    memcpy(end + vote - 1, votes + vote + 1, vote - 1);
+    end += 2 * (vote - 1);
+    CHECK(stands_at(room, (size_t)(end - room), signature, SIMPLEX_CONFLICTING_NOTARIZE, 0,
+                    certificate));
+    CHECK(stands_at(room + certificate, (size_t)(end - room) - certificate, signature,
+                    SIMPLEX_CONFLICTING_NOTARIZE, 0, 0));
+    /* a finalize, and then a nullify: the nullify is the first vote of the evidence */
+    end = put_notarize(room, 4, 2, 6, signature, 1);
+    room[0] = 5;
+    const uint8_t nullify[] = {3, 4, 10, 2};
+    memcpy(end, nullify, 4);
+    memset(end + 4, 0xee, signature);
+    end[4 + signature] = 1;
+    end += 5 + signature;
+    CHECK(stands_at(room, (size_t)(end - room), signature, SIMPLEX_NULLIFY_FINALIZE, vote, 0));
 }
 
 static void numbers(void)
@@ -601,6 +746,9 @@ int main(int argc, char **argv)
     deferred(48);
     deferred(64);
     deferred(96);
+    placed(48);
+    placed(64);
+    placed(96);
     numbers();
     threads();
     if (argc > 1 && !strcmp(argv[1], "--limit"))

@@ -138,6 +138,20 @@ static void audit(const struct bytes *stream, char *text, size_t room,
     }
 }
 
+/* Prints where the votes of the evidence stand in a stream. */
+static void print_places(const struct bytes *stream)
+{
+    struct simplex_record records[10];
+    struct simplex_summary summary;
+    uint32_t status = simplex_records_vouched_64(epochs, 1, sizes, 1, stream->at, stream->len,
+                                                 records, 10, &summary);
+    if (status != SIMPLEX_WHOLE)
+        abort();
+    for (size_t i = 0; i < summary.evidence; i++)
+        printf("votes of participant %u at bytes %zu and %zu\n", (unsigned)records[i].signer,
+               records[i].first_place, records[i].second_place);
+}
+
 /* Verifies what has to be verified of a stream, and writes the verdicts into it. Returns how many
  * signatures that were. */
 static size_t verify_suspects(EVP_PKEY **keys, struct bytes *stream)
@@ -195,6 +209,7 @@ int main(int argc, char **argv)
     audit(&stream, text, sizeof text, &summary);
     printf("%zu messages, %zu equivocators\n", summary.read, summary.evidence);
     fwrite(text, 1, summary.length, stdout);
+    print_places(&stream);
 
     /* The same votes behind an honest round, with no verdict yet. */
     stream.len = 0;

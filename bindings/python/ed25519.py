@@ -6,7 +6,7 @@ import ctypes
 import ctypes.util
 import sys
 
-from simplex_audit import Committees, Encoder, Vote, audit, audit_deferred
+from simplex_audit import Committees, Encoder, Vote, audit, audit_deferred, records
 
 ED25519 = 1087
 _crypto = ctypes.CDLL(ctypes.util.find_library("crypto"))
@@ -85,6 +85,8 @@ def main():
     report = audit(committees, stream.encoded())
     print(f"{report.read} messages, {len({one.signer for one in report.evidence})} equivocators")
     print(report.text, end="")
+    for one in records(committees, stream.encoded()):
+        print(f"votes of participant {one.signer} at bytes {one.first_place} and {one.second_place}")
 
     # the same votes behind an honest round, with nothing verified yet
     verified = []

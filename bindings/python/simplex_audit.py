@@ -16,8 +16,8 @@ import ctypes
 import os
 import pathlib
 
-__all__ = ["Committees", "Encoder", "Evidence", "Report", "Split", "Vote", "admits", "admits_outbound", "audit", "audit_deferred",
-           "issuance_floor", "leader", "max_faults", "quorum", "store", "version"]
+__all__ = ["Committees", "Encoder", "Evidence", "Record", "Report", "Split", "Vote", "admits", "admits_outbound", "audit", "audit_deferred",
+           "issuance_floor", "leader", "max_faults", "quorum", "records", "store", "version"]
 
 _FOLDER = os.environ.get("SIMPLEX_AUDIT_LIB") or pathlib.Path(__file__).resolve().parent.parent / "out"
 _library = ctypes.CDLL(os.path.join(_FOLDER, "simplex_audit.so"))
@@ -34,7 +34,13 @@ class _Suspect(ctypes.Structure):
                 ("subject_length", ctypes.c_size_t), ("signer", ctypes.c_uint32), ("kind", ctypes.c_uint32)]
 
 
+class _Record(ctypes.Structure):
+    _fields_ = [("epoch", ctypes.c_uint64), ("view", ctypes.c_uint64), ("first_place", ctypes.c_size_t), ("second_place", ctypes.c_size_t),
+                ("signer", ctypes.c_uint32), ("kind", ctypes.c_uint32)]
+
+
 _KINDS = ("notarize", "nullify", "finalize")
+_KINDS_OF_EVIDENCE = ("conflicting-notarize", "conflicting-finalize", "nullify-finalize")
 
 
 def _declare():
@@ -48,9 +54,11 @@ def _declare():
         "issuance_floor": [u32, u64, u64, out(u64)],
         "leader": [u32, u32, u64, u64, out(u32)], "leader_shuffled": [*data, u32, u32, u64, u64, out(u32)],
         "audit_plain": [*data, *data, *data, *buffer, out(_Summary)], "store_plain": [*data, *data, *data, *data, *buffer, out(size)],
+        "records_plain": [*data, *data, *data, out(_Record), size, out(_Summary)],
     }
     for bytes_of in (48, 64, 96):
         calls[f"audit_vouched_{bytes_of}"] = [*numbers, *data, *buffer, out(_Summary)]
+        calls[f"records_vouched_{bytes_of}"] = [*numbers, *data, out(_Record), size, out(_Summary)]
         calls[f"suspects_vouched_{bytes_of}"] = [*numbers, *data, out(_Suspect), size, out(size)]
         calls[f"store_vouched_{bytes_of}"] = [*numbers, *data, *data, *buffer, out(size)]
     for name, types in calls.items():
@@ -119,14 +127,18 @@ class Committees:
         """The attestations of a stream that have to be verified; under the plain scheme, which verifies its signatures itself, none."""
         if self._size is None:
             return []
-        function, room, needed = getattr(_library, f"simplex_suspects_{self._suffix}"), 64, ctypes.c_size_t()
+        return self._list("suspects", _Suspect, stream, ctypes.c_size_t(), lambda it: it.value)
+
+    def _list(self, call, of, stream, written, needed):
+        """Makes a call that lists records of a stream, again with more room if there was too little."""
+        function, room = getattr(_library, f"simplex_{call}_{self._suffix}"), 64
         while True:
-            records = (_Suspect * room)()
-            status = function(*self._arguments, stream, len(stream), records, room, ctypes.byref(needed))
+            records = (of * room)()
+            status = function(*self._arguments, stream, len(stream), records, room, ctypes.byref(written))
             _refused(status)
-            room = max(1, needed.value)
+            room = max(1, needed(written))
             if status != _SHORT:
-                return records[: needed.value]
+                return records[: needed(written)]
 
     def _put(self, call, given, room, written, needed):
         """Makes a call that puts something into a buffer, again with a longer buffer if the first is too short."""
@@ -159,6 +171,25 @@ def audit(committees, stream):
     evidence = [_evidence(line) for line in lines[: summary.evidence]]
     splits = [_split(line) for line in lines[summary.evidence :]]
     return Report(summary.read, evidence, splits, summary.fault_place if summary.faulted else None, text)
+
+
+Record = collections.namedtuple("Record", "epoch view signer kind first_place second_place")
+Record.__doc__ = "An evidence, and the offsets of the first messages that carry its first and its second vote."
+
+
+def records(committees, stream):
+    """The evidence of the stream's report as records, in the same order, with the places of its votes in the stream. A vote stands
+    where the first message begins that carries it: the vote on its own, a certificate that lists it, or evidence with it. Of a
+    nullify and a finalize the nullify is the first.
+
+    >>> stream = Encoder(64)
+    >>> for signer, payload in ((1, 6), (2, 6), (2, 7)):
+    ...     stream.vote(Vote("notarize", 3, 10, 5, bytes([payload] * 32)), signer, bytes(64), lambda vote, signer, signature: True)
+    >>> records(Committees.every(64, 4), stream.encoded())
+    [Record(epoch=3, view=10, signer=2, kind='conflicting-notarize', first_place=102, second_place=204)]
+    """
+    found = committees._list("records", _Record, bytes(stream), _Summary(), lambda it: it.evidence)
+    return [Record(it.epoch, it.view, it.signer, _KINDS_OF_EVIDENCE[it.kind], it.first_place, it.second_place) for it in found]
 
 
 def audit_deferred(committees, stream, verify):

@@ -5,7 +5,7 @@ import hashlib
 import unittest
 
 import simplex_audit
-from simplex_audit import Committees, Encoder, Vote, audit, audit_deferred, store
+from simplex_audit import Committees, Encoder, Vote, audit, audit_deferred, records, store
 
 
 def valid(vote, signer, signature):
@@ -71,6 +71,18 @@ class Tests(unittest.TestCase):
             self.assertEqual(asked, [(vote, it, b"\11" * size) for vote in (nullify, finalize) for it in range(3)])
             self.assertEqual(audit_deferred(committees, streams[1], lambda *what: False).text, "")
         self.assertEqual(audit_deferred(Committees.every(64, 4), two_votes(10, verify=None), valid), audit(Committees.every(64, 4), two_votes(10)))
+
+    def test_places(self):
+        for size in (48, 64, 96):
+            committees, vote = Committees.every(size, 4), 38 + size
+            stream = two_votes(10, signer=1, size=size) + two_votes(11, size=size) + two_votes(10, size=size) + two_votes(11, size=size)
+            found = records(committees, stream)
+            self.assertEqual([it[:4] for it in found], [(it.epoch, it.view, it.signer, it.kind) for it in audit(committees, stream).evidence])
+            self.assertEqual([it[4:] for it in found], [(0, vote), (4 * vote, 5 * vote), (2 * vote, 3 * vote)])
+        self.assertEqual(records(Committees.plain(b"test", [bytes(32)]), b"\xff"), [])
+        self.assertRaises(ValueError, records, Committees.every(64, 0), b"")
+        many = records(Committees.every(64, 4), b"".join(two_votes(view) for view in range(1, 101)))
+        self.assertEqual([it[4:] for it in many], [(204 * it, 204 * it + 102) for it in range(100)])
 
     def test_many_suspects(self):
         stream = b"".join(two_votes(view, verify=None) for view in range(1, 101))

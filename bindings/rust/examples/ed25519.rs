@@ -3,7 +3,7 @@
 //! an honest round before them those of suspects alone are verified. With an argument the program prints the first stream, and
 //! nothing else.
 
-use simplex_audit::{audit, audit_deferred, Committees, Deferred, Encoder, Error, Report, Size, Verifier, Vote};
+use simplex_audit::{audit, audit_deferred, records, Committees, Deferred, Encoder, Error, Report, Size, Verifier, Vote};
 use std::cell::Cell;
 use std::ffi::{c_int, c_void};
 use std::io::{self, Write};
@@ -127,6 +127,9 @@ fn main() -> Result<(), Box<dyn std::error::Error>> {
     let report = audit(&committees, stream.as_bytes())?;
     println!("{} messages, {} equivocators", report.read, report.evidence.len());
     print!("{}", report.text);
+    for one in records(&committees, stream.as_bytes())? {
+        println!("votes of participant {} at bytes {} and {}", one.signer, one.first_place, one.second_place);
+    }
 
     // The same votes behind an honest round, with nothing verified yet.
     let honest: Vec<_> = (0..4).map(|i| (notarize(9, 0xaa), i as u32, i)).collect();

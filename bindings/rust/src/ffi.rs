@@ -15,6 +15,8 @@ const YES: u32 = 1;
 pub(crate) const NOTARIZE: u32 = 0;
 pub(crate) const NULLIFY: u32 = 1;
 pub(crate) const FINALIZE: u32 = 2;
+pub(crate) const CONFLICTING_NOTARIZE: u32 = 0;
+pub(crate) const CONFLICTING_FINALIZE: u32 = 1;
 
 /// `struct simplex_summary`.
 #[repr(C)]
@@ -37,6 +39,18 @@ pub(crate) struct Suspect {
     pub verdict_place: usize,
     pub subject_place: usize,
     pub subject_length: usize,
+    pub signer: u32,
+    pub kind: u32,
+}
+
+/// `struct simplex_record`.
+#[repr(C)]
+#[derive(Clone, Copy, Default)]
+pub(crate) struct Record {
+    pub epoch: u64,
+    pub view: u64,
+    pub first_place: usize,
+    pub second_place: usize,
     pub signer: u32,
     pub kind: u32,
 }
@@ -77,6 +91,18 @@ type SuspectsVouched = unsafe extern "C" fn(
     records: *mut Suspect,
     records_len: usize,
     needed: *mut usize,
+) -> u32;
+
+type RecordsVouched = unsafe extern "C" fn(
+    epochs: *const u64,
+    epochs_len: usize,
+    sizes: *const u32,
+    sizes_len: usize,
+    stream: *const u8,
+    stream_len: usize,
+    records: *mut Record,
+    records_len: usize,
+    summary: *mut Summary,
 ) -> u32;
 
 #[rustfmt::skip]
@@ -125,6 +151,22 @@ extern "C" {
     fn simplex_suspects_vouched_96(
         epochs: *const u64, epochs_len: usize, sizes: *const u32, sizes_len: usize, stream: *const u8, stream_len: usize,
         records: *mut Suspect, records_len: usize, needed: *mut usize,
+    ) -> u32;
+    fn simplex_records_vouched_48(
+        epochs: *const u64, epochs_len: usize, sizes: *const u32, sizes_len: usize, stream: *const u8, stream_len: usize,
+        records: *mut Record, records_len: usize, summary: *mut Summary,
+    ) -> u32;
+    fn simplex_records_vouched_64(
+        epochs: *const u64, epochs_len: usize, sizes: *const u32, sizes_len: usize, stream: *const u8, stream_len: usize,
+        records: *mut Record, records_len: usize, summary: *mut Summary,
+    ) -> u32;
+    fn simplex_records_vouched_96(
+        epochs: *const u64, epochs_len: usize, sizes: *const u32, sizes_len: usize, stream: *const u8, stream_len: usize,
+        records: *mut Record, records_len: usize, summary: *mut Summary,
+    ) -> u32;
+    fn simplex_records_plain(
+        name: *const u8, name_len: usize, keys: *const u8, keys_len: usize, stream: *const u8, stream_len: usize,
+        records: *mut Record, records_len: usize, summary: *mut Summary,
     ) -> u32;
     fn simplex_max_faults(n: u32) -> u32;
     fn simplex_quorum(n: u32) -> u32;
@@ -281,6 +323,51 @@ pub(crate) fn suspects(committees: &Committees, stream: &[u8]) -> Result<Vec<Sus
             )
         };
         (status, needed)
+    })
+}
+
+/// The evidence of a stream's report, as records.
+pub(crate) fn records(committees: &Committees, stream: &[u8]) -> Result<Vec<Record>, Error> {
+    filled(64, |records| {
+        let mut summary = Summary::default();
+        let status = match &committees.members {
+            Members::Vouched { size, epochs, sizes } => {
+                let call: RecordsVouched = match size {
+                    Size::Bytes48 => simplex_records_vouched_48,
+                    Size::Bytes64 => simplex_records_vouched_64,
+                    Size::Bytes96 => simplex_records_vouched_96,
+                };
+                // SAFETY: see this module.
+                unsafe {
+                    call(
+                        epochs.as_ptr(),
+                        epochs.len(),
+                        sizes.as_ptr(),
+                        sizes.len(),
+                        stream.as_ptr(),
+                        stream.len(),
+                        records.as_mut_ptr(),
+                        records.len(),
+                        &mut summary,
+                    )
+                }
+            }
+            // SAFETY: see this module.
+            Members::Plain { name, keys } => unsafe {
+                simplex_records_plain(
+                    name.as_ptr(),
+                    name.len(),
+                    keys.as_ptr(),
+                    keys.len(),
+                    stream.as_ptr(),
+                    stream.len(),
+                    records.as_mut_ptr(),
+                    records.len(),
+                    &mut summary,
+                )
+            },
+        };
+        (status, summary.evidence)
     })
 }
 

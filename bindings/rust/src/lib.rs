@@ -23,6 +23,7 @@ mod encoder;
 mod error;
 mod ffi;
 mod ledger;
+mod records;
 mod report;
 
 pub mod views;
@@ -32,6 +33,7 @@ pub use deferred::{audit_deferred, Deferred};
 pub use encoder::{Encoder, Verifier, Vote};
 pub use error::Error;
 pub use ledger::Ledger;
+pub use records::{records, Record};
 pub use report::{audit, Evidence, Kind, Report, Split};
 
 /// The version of the library's calls.

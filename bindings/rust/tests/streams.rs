@@ -1,7 +1,7 @@
 //! Streams that an `Encoder` writes, and what is refused.
 
 use simplex_audit::{
-    audit, audit_deferred, version, views, Committees, Deferred, Encoder, Error, Kind, Ledger, Size, Split, Vote,
+    audit, audit_deferred, records, version, views, Committees, Deferred, Encoder, Error, Kind, Ledger, Size, Split, Vote,
 };
 use std::cell::RefCell;
 
@@ -37,6 +37,27 @@ fn certificates_that_contradict() {
         let none = audit(&committees, fork(size, &|_: &Vote, _: u32, _: &[u8]| false).as_bytes()).unwrap();
         assert_eq!((none.read, none.evidence.len(), none.splits.len()), (2, 0, 0));
     }
+}
+
+#[test]
+fn places_of_votes() {
+    for size in SIZES {
+        let committees = Committees::listed(size, &[(7, 9), (300, 4)]).unwrap();
+        let stream = fork(size, &every);
+        let report = audit(&committees, stream.as_bytes()).unwrap();
+        let found = records(&committees, stream.as_bytes()).unwrap();
+        // the finalization stands behind the nullification: its tag, round and count, and three signers with signatures and verdicts
+        let second = 5 + 3 * (2 + size.bytes());
+        let places: Vec<_> = found.iter().map(|one| (one.first_place, one.second_place)).collect();
+        assert_eq!(places, [(0, second); 3]);
+        let plain: Vec<_> = found.iter().map(|one| (one.epoch, one.view, one.signer, one.kind)).collect();
+        assert_eq!(plain, report.evidence.iter().map(|one| (one.epoch, one.view, one.signer, one.kind)).collect::<Vec<_>>());
+        // behind another copy of the votes the places stay
+        let twice = [stream.as_bytes(), stream.as_bytes(), &[0xff]].concat();
+        assert_eq!(records(&committees, &twice).unwrap(), found);
+        assert_eq!(records(&committees, &[]).unwrap(), []);
+    }
+    assert_eq!(records(&Committees::plain(b"test", &[[0; 32]]).unwrap(), &[0xff]), Ok(Vec::new()));
 }
 
 #[test]
@@ -113,6 +134,10 @@ fn more_than_the_first_buffer() {
     let committees = Committees::every(Size::Bytes64, 100).unwrap();
     let report = audit(&committees, stream.as_bytes()).unwrap();
     assert_eq!((report.evidence.len(), report.read), (100, 200));
+    let length = stream.as_bytes().len();
+    let found = records(&committees, stream.as_bytes()).unwrap();
+    let (first, last) = (found.first().unwrap(), found.last().unwrap());
+    assert_eq!((found.len(), first.first_place, last.second_place), (100, 0, length - length / 200));
     let mut ledger = Ledger::resume(committees, Vec::new()).unwrap();
     ledger.feed(stream.as_bytes()).unwrap();
     assert_eq!(ledger.report().unwrap().text, report.text);

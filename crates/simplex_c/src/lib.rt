@@ -9,7 +9,7 @@ ghost use Rattle.simplex_lead.specs.Windows.{FitsWindow, IsAdmitted, IsOutbound}
 ghost use Rattle.simplex_plain.specs.Plain.{PlainScheme};
 ghost use Rattle.simplex_detector.specs.Committees.{Schedule};
 ghost use Rattle.simplex_vouched.specs.Vouched.{VouchedScheme};
-ghost use Rattle.simplex_ffi.specs.Answer.{AreGiven, AreStored, IsAudited};
+ghost use Rattle.simplex_ffi.specs.Answer.{AreGiven, AreRecorded, AreStored, IsAudited};
 ghost use Rattle.simplex_ffi.specs.Keys.{AreKeys, AreOfKeys};
 ghost use Rattle.simplex_ffi.specs.Leaders.{LeadsRound};
 ghost use Rattle.simplex_ffi.specs.Sizes.{AreSizes};
@@ -18,11 +18,13 @@ use simplex_audit::basis::Audited;
 use simplex_base::codec::Fixed;
 use simplex_ffi::answer::Summary;
 use simplex_ffi::plain::{answer_plain, store_plain};
+use simplex_ffi::records::{records_plain, records_vouched};
 use simplex_ffi::suspects::suspects_vouched;
 use simplex_ffi::vouched::{Role48, Role64, Role96, answer_vouched, store_vouched};
 use simplex_ffi::{leaders, numbers};
 use simplex_places::located::Located;
 use simplex_places::places::Suspect;
+use simplex_places::records::Record;
 use simplex_plain::plain::Plain;
 use simplex_scheme::hash::{Hasher, Sha256, Sha256Digest};
 use simplex_vouched::vouched::Vouched;
@@ -57,6 +59,32 @@ pub extern "C" fn simplex_audit_vouched_48(
         (text.new ≡ text.old) × (summary.new ≡ summary.old) }
 {
     answer_vouched::<Role48, 49>(alloc, epochs, sizes, stream, text, summary)
+}
+
+/// Audits a stream whose signatures have 48 bytes, each with the caller's verdict behind it, under
+/// the committees of these sizes, and writes the evidence of the report as records, each with the
+/// places of its two votes in the stream.
+#[unsafe(no_mangle)]
+pub extern "C" fn simplex_records_vouched_48(
+    alloc: Global,
+    epochs: &[u64],
+    sizes: &[u32],
+    stream: &[u8],
+    records: &mut [Record],
+    summary: &mut Summary,
+) -> u32
+    ensures recorded { result ≢ 2 → result ≢ 3 → (committees : Schedule VouchedScheme) ×
+        AreSizes epochs.now sizes.now committees ×
+        AreRecorded (⟦<Vouched<Role48, 49> as Audited<Sha256Digest>>⟧.basis committees)
+        ⟦<Sha256Digest as Fixed>⟧.bytes_of
+        ⟦<Vouched<Role48, 49> as Located<Sha256Digest>>⟧.carries
+        stream.now records.old records.new summary.new result }
+    ensures refused { result ≡ 2 → (committees : Schedule VouchedScheme) →
+        ¬ AreSizes epochs.now sizes.now committees }
+    ensures untouched { (result ≡ 2) ⊎ (result ≡ 3) →
+        (records.new ≡ records.old) × (summary.new ≡ summary.old) }
+{
+    records_vouched::<Role48, 49>(alloc, epochs, sizes, stream, records, summary)
 }
 
 /// Stores the evidence of what was stored and of a batch behind it, whose signatures have 48 bytes
@@ -130,6 +158,32 @@ pub extern "C" fn simplex_audit_vouched_64(
     answer_vouched::<Role64, 65>(alloc, epochs, sizes, stream, text, summary)
 }
 
+/// Audits a stream whose signatures have 64 bytes, each with the caller's verdict behind it, under
+/// the committees of these sizes, and writes the evidence of the report as records, each with the
+/// places of its two votes in the stream.
+#[unsafe(no_mangle)]
+pub extern "C" fn simplex_records_vouched_64(
+    alloc: Global,
+    epochs: &[u64],
+    sizes: &[u32],
+    stream: &[u8],
+    records: &mut [Record],
+    summary: &mut Summary,
+) -> u32
+    ensures recorded { result ≢ 2 → result ≢ 3 → (committees : Schedule VouchedScheme) ×
+        AreSizes epochs.now sizes.now committees ×
+        AreRecorded (⟦<Vouched<Role64, 65> as Audited<Sha256Digest>>⟧.basis committees)
+        ⟦<Sha256Digest as Fixed>⟧.bytes_of
+        ⟦<Vouched<Role64, 65> as Located<Sha256Digest>>⟧.carries
+        stream.now records.old records.new summary.new result }
+    ensures refused { result ≡ 2 → (committees : Schedule VouchedScheme) →
+        ¬ AreSizes epochs.now sizes.now committees }
+    ensures untouched { (result ≡ 2) ⊎ (result ≡ 3) →
+        (records.new ≡ records.old) × (summary.new ≡ summary.old) }
+{
+    records_vouched::<Role64, 65>(alloc, epochs, sizes, stream, records, summary)
+}
+
 /// Stores the evidence of what was stored and of a batch behind it, whose signatures have 64 bytes
 /// and the caller's verdict, under the committees of these sizes.
 #[unsafe(no_mangle)]
@@ -201,6 +255,32 @@ pub extern "C" fn simplex_audit_vouched_96(
     answer_vouched::<Role96, 97>(alloc, epochs, sizes, stream, text, summary)
 }
 
+/// Audits a stream whose signatures have 96 bytes, each with the caller's verdict behind it, under
+/// the committees of these sizes, and writes the evidence of the report as records, each with the
+/// places of its two votes in the stream.
+#[unsafe(no_mangle)]
+pub extern "C" fn simplex_records_vouched_96(
+    alloc: Global,
+    epochs: &[u64],
+    sizes: &[u32],
+    stream: &[u8],
+    records: &mut [Record],
+    summary: &mut Summary,
+) -> u32
+    ensures recorded { result ≢ 2 → result ≢ 3 → (committees : Schedule VouchedScheme) ×
+        AreSizes epochs.now sizes.now committees ×
+        AreRecorded (⟦<Vouched<Role96, 97> as Audited<Sha256Digest>>⟧.basis committees)
+        ⟦<Sha256Digest as Fixed>⟧.bytes_of
+        ⟦<Vouched<Role96, 97> as Located<Sha256Digest>>⟧.carries
+        stream.now records.old records.new summary.new result }
+    ensures refused { result ≡ 2 → (committees : Schedule VouchedScheme) →
+        ¬ AreSizes epochs.now sizes.now committees }
+    ensures untouched { (result ≡ 2) ⊎ (result ≡ 3) →
+        (records.new ≡ records.old) × (summary.new ≡ summary.old) }
+{
+    records_vouched::<Role96, 97>(alloc, epochs, sizes, stream, records, summary)
+}
+
 /// Stores the evidence of what was stored and of a batch behind it, whose signatures have 96 bytes
 /// and the caller's verdict, under the committees of these sizes.
 #[unsafe(no_mangle)]
@@ -269,6 +349,29 @@ pub extern "C" fn simplex_audit_plain(
         (text.new ≡ text.old) × (summary.new ≡ summary.old) }
 {
     answer_plain(alloc, name, keys, stream, text, summary)
+}
+
+/// Audits a stream of the plain scheme, and writes the evidence of the report as records, each with
+/// the places of its two votes in the stream.
+#[unsafe(no_mangle)]
+pub extern "C" fn simplex_records_plain(
+    alloc: Global,
+    name: &[u8],
+    keys: &[u8],
+    stream: &[u8],
+    records: &mut [Record],
+    summary: &mut Summary,
+) -> u32
+    ensures recorded { result ≢ 2 → result ≢ 3 → (committees : Schedule PlainScheme) ×
+        AreOfKeys name.now keys.now committees ×
+        AreRecorded (⟦<Plain as Audited<Sha256Digest>>⟧.basis committees)
+        ⟦<Sha256Digest as Fixed>⟧.bytes_of ⟦<Plain as Located<Sha256Digest>>⟧.carries
+        stream.now records.old records.new summary.new result }
+    ensures refused { result ≡ 2 → ¬ AreKeys keys.now }
+    ensures untouched { (result ≡ 2) ⊎ (result ≡ 3) →
+        (records.new ≡ records.old) × (summary.new ≡ summary.old) }
+{
+    records_plain(alloc, name, keys, stream, records, summary)
 }
 
 /// Stores the evidence of what was stored and of a batch behind it, of the plain scheme.

@@ -1,0 +1,58 @@
+use crate::{ffi, Committees, Error, Kind};
+
+/// An evidence of a report, and where its two votes stand in the stream.
+#[derive(Clone, Copy, Debug, PartialEq, Eq)]
+pub struct Record {
+    /// The epoch of the round.
+    pub epoch: u64,
+    /// The view of the round.
+    pub view: u64,
+    /// The participant's number.
+    pub signer: u32,
+    /// How the votes contradict.
+    pub kind: Kind,
+    /// The offset of the first message that carries the first vote: the vote on its own, a certificate that lists it, or evidence
+    /// with it. Of a nullify and a finalize the nullify is the first.
+    pub first_place: usize,
+    /// The offset of the first message that carries the second vote. It may be before the other, and both may be one.
+    pub second_place: usize,
+}
+
+/// Audits a stream as [`audit`](crate::audit) does, and returns the evidence as records, each with the places of its votes in the
+/// stream. They are as many as the report has evidence, in the same order.
+///
+/// ```
+/// use simplex_audit::{records, Committees, Encoder, Kind, Size, Vote};
+///
+/// let mut stream = Encoder::new(Size::Bytes64);
+/// let mut places = Vec::new();
+/// // Participant 1 votes once, and participant 2 for two payloads.
+/// for (signer, payload) in [(1, 6), (2, 6), (2, 7)] {
+///     places.push(stream.as_bytes().len());
+///     let vote = Vote::Notarize { epoch: 3, view: 10, parent: 5, payload: [payload; 32] };
+///     stream.vote(&vote, signer, &[0; 64], &|_: &Vote, _: u32, _: &[u8]| true)?;
+/// }
+/// let records = records(&Committees::every(Size::Bytes64, 4)?, stream.as_bytes())?;
+/// assert_eq!(records.len(), 1);
+/// assert_eq!((records[0].view, records[0].signer, records[0].kind), (10, 2, Kind::ConflictingNotarize));
+/// assert_eq!((records[0].first_place, records[0].second_place), (places[1], places[2]));
+/// # Ok::<(), simplex_audit::Error>(())
+/// ```
+pub fn records(committees: &Committees, stream: &[u8]) -> Result<Vec<Record>, Error> {
+    Ok(ffi::records(committees, stream)?.iter().map(record).collect())
+}
+
+fn record(of: &ffi::Record) -> Record {
+    Record {
+        epoch: of.epoch,
+        view: of.view,
+        signer: of.signer,
+        kind: match of.kind {
+            ffi::CONFLICTING_NOTARIZE => Kind::ConflictingNotarize,
+            ffi::CONFLICTING_FINALIZE => Kind::ConflictingFinalize,
+            _ => Kind::NullifyFinalize,
+        },
+        first_place: of.first_place,
+        second_place: of.second_place,
+    }
+}
