@@ -5,7 +5,7 @@ pub mod answers;
 mod leaders;
 mod many;
 mod maps;
-pub mod memory;
+mod memory;
 mod names;
 mod nodes;
 mod plans;

@@ -6,11 +6,11 @@
 use std::alloc::Global;
 
 /// Asks for 12,345 bytes, from which on an allocator may fail every request, and gives them back.
-pub fn ends(alloc: Global) {
+pub(crate) fn ends(alloc: Global) {
     let _ = Vec::<u8>::with_capacity(alloc, 12_345);
 }
 
 /// Asks for 54,321 bytes, from which on an allocator serves requests again, and gives them back.
-pub fn returns(alloc: Global) {
+pub(crate) fn returns(alloc: Global) {
     let _ = Vec::<u8>::with_capacity(alloc, 54_321);
 }
