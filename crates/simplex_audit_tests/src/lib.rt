@@ -18,6 +18,8 @@ mod names;
 #[cfg(test)]
 mod outcome;
 #[cfg(test)]
+mod records;
+#[cfg(test)]
 mod runs;
 #[cfg(test)]
 mod suspects;

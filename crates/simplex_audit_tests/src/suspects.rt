@@ -15,13 +15,14 @@ use std::alloc::{AllocError, Global};
 use std::test::Fail;
 
 /// The role of a signature that is its verdict.
-enum Verdict {}
+pub(crate) enum Verdict {}
 
 impl Role<1> for Verdict {
     ghost sized = { (lit< tt, lit≤ tt) };
 }
 
-type Committee = Vouched<Verdict, 1>;
+/// A committee whose signatures are their verdicts.
+pub(crate) type Committee = Vouched<Verdict, 1>;
 
 /// A committee of four for epoch 0, and one of one for epoch 1.
 fn committees(alloc: Global) -> Result<Committees<Committee>, Fail> {
