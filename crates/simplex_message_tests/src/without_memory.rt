@@ -8,6 +8,7 @@ ghost use Rattle.std.specs.Prelude.{◌≡◌, IfOk, length};
 use simplex_base::codec::{EncodeSize, Fixed, MaxEncodeSize, Read, ReadExt, decode, decode_cfg};
 use simplex_base::positions::{Epoch, Epochable, Participant, Round, View, Viewable};
 use simplex_evidence::types::{ConflictingFinalize, ConflictingNotarize, NullifyFinalize};
+use simplex_plain::listed::Listed;
 use simplex_plain::marked::{Marked, MarkedDigest};
 use simplex_plain::plain::{Plain, PlainKey};
 use simplex_scheme::assembly::can_assemble;
@@ -264,19 +265,6 @@ fn is_refused_without_any<S: Scheme<D>, D: Digest>(alloc: Global, me: &S) -> boo
     matches!(me.assemble(alloc, none), Err(error) if error == few)
 }
 
-/// Whether a certificate certifies a proposal, twice in one list.
-fn is_certified_twice<S: CertificateVerifier<D>, D: Digest>(
-    scheme: &S,
-    proposal: &Proposal<D>,
-    certificate: &S::Certificate,
-) -> bool {
-    let items = [certificate, certificate].map(|certificate| {
-        let subject = Subject::Notarize { proposal };
-        (subject, certificate)
-    });
-    scheme.verify_all(&items)
-}
-
 /// Whether the attestation of the participant of a committee of one makes a certificate of a proposal. `room` has room for one.
 fn is_assembled<S: Scheme<D>, D: Digest>(
     alloc: Global,
@@ -297,7 +285,6 @@ fn is_assembled<S: Scheme<D>, D: Digest>(
     };
     certificate.encode_size() <= S::max_certificate_size(1)
         && nobody.verify_certificate(Subject::Notarize { proposal }, &certificate)
-        && is_certified_twice(nobody, proposal, &certificate)
 }
 
 /// Whether the participant of a committee of one signs, and makes a certificate of its attestation and of no less.
@@ -328,6 +315,30 @@ fn without_memory_marked(rt: HostRuntime) -> Result<(), Fail> {
     let nobody = Marked::new(alloc, 1, None)?;
     let payload = MarkedDigest::from_bytes(&[6]);
     assert!(rt; is_quorum_alone(alloc, &me, &nobody, payload)?);
+    Ok(())
+}
+
+/// Whether a certificate certifies a proposal, twice in one list.
+fn is_certified_twice(
+    scheme: &Marked,
+    proposal: &Proposal<MarkedDigest>,
+    certificate: &Listed<Marked>,
+) -> bool {
+    let items = [certificate, certificate].map(|certificate| {
+        let subject = Subject::Notarize { proposal };
+        (subject, certificate)
+    });
+    scheme.verify_all(&items)
+}
+
+#[test]
+fn without_memory_twice(rt: HostRuntime) -> Result<(), Fail> {
+    let alloc = rt.alloc();
+    let nobody = Marked::new(alloc, 1, None)?;
+    let certificate = decode_cfg::<Listed<Marked>>(alloc, &[1, 0, 0xaa], &1)?;
+    let _ = is_out(alloc);
+    let proposal = proposal(MarkedDigest::from_bytes(&[6]));
+    assert!(rt; is_certified_twice(&nobody, &proposal, &certificate));
     Ok(())
 }
 
