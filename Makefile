@@ -22,13 +22,18 @@ inspect:
 library:
 	@.ci/library
 
-# Copies those of the programs that were built, by a target above or by `make test`.
+# Copies to PREFIX/bin what is built of the programs, by a target above or by `make test`, and says which.
 install:
-	@test -x crates/audit/out/audit || { echo 'There is no crates/audit/out/audit yet: make audit' >&2; exit 1; }
-	for it in audit audit_stored inspect; do if test -x crates/$$it/out/$$it; then install -D -m 755 crates/$$it/out/$$it $(DESTDIR)$(PREFIX)/bin/$$it; fi; done
+	@some=; for it in audit audit_stored inspect; do \
+	    test -x crates/$$it/out/$$it || continue; \
+	    install -D -m 755 crates/$$it/out/$$it "$(DESTDIR)$(PREFIX)/bin/$$it" || exit 1; \
+	    echo "$(DESTDIR)$(PREFIX)/bin/$$it"; \
+	    some=1; \
+	done; \
+	test -n "$$some" || { echo 'No program is built yet: make audit, make audit_stored or make inspect' >&2; exit 1; }
 
 # The gate: proves everything from nothing, tries the mutants, runs the tests and the programs, and then tries what was
-# built as its users would, and with each allocation refused in turn.
+# built as its users would, and with each of its allocations made to fail.
 test:
 	.ci/gate
 
