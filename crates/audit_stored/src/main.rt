@@ -1,6 +1,7 @@
 //! `audit_stored NAMESPACE KEY...` or `audit_stored NAMESPACE @EPOCH KEY...`: `audit` for a stored stream. It takes the same
 //! arguments, prints the same lines and ends with the same statuses, but holds all of standard input, and verifies only the
-//! votes and certificates of rounds in which two votes contradict that claim one signer.
+//! votes of suspects, signers of a committee of whom two votes contradict in a round that claim to be theirs, and the
+//! certificates of these rounds.
 #![tactic(auto)]
 
 ghost use Rattle.std.specs.Prelude.{ℕ, List, IfOk, string_bytes};
