@@ -477,10 +477,11 @@ pub extern "C" fn simplex_leader(
     view: u64,
     number: &mut u32,
 ) -> u32
-    ensures leads { result ≡ 0 →
+    ensures leads { result ≡ 0 → (1 ≤ participants) × (1 ≤ term_length) ×
         LeadsRound ⟦<Sha256Digest as Ord>⟧.cmp ⟦<Sha256 as Hasher>⟧.digest_of None
         participants term_length epoch view number.new }
     ensures arguments { result ≡ 2 → (participants ≡ 0) ⊎ (term_length ≡ 0) }
+    ensures memory { result ≡ 3 → (1 ≤ participants) × (1 ≤ term_length) }
     ensures untouched { result ≢ 0 → number.new ≡ number.old }
     ensures status { (result ≡ 0) ⊎ (result ≡ 2) ⊎ (result ≡ 3) }
 {
@@ -498,10 +499,11 @@ pub extern "C" fn simplex_leader_shuffled(
     view: u64,
     number: &mut u32,
 ) -> u32
-    ensures leads { result ≡ 0 →
+    ensures leads { result ≡ 0 → (1 ≤ participants) × (1 ≤ term_length) ×
         LeadsRound ⟦<Sha256Digest as Ord>⟧.cmp ⟦<Sha256 as Hasher>⟧.digest_of (Some seed.now)
         participants term_length epoch view number.new }
     ensures arguments { result ≡ 2 → (participants ≡ 0) ⊎ (term_length ≡ 0) }
+    ensures memory { result ≡ 3 → (1 ≤ participants) × (1 ≤ term_length) }
     ensures untouched { result ≢ 0 → number.new ≡ number.old }
     ensures status { (result ≡ 0) ⊎ (result ≡ 2) ⊎ (result ≡ 3) }
 {

@@ -75,10 +75,11 @@ pub fn leader(
     view: u64,
     number: &mut u32,
 ) -> u32
-    ensures leads { result ≡ 0 →
+    ensures leads { result ≡ 0 → (1 ≤ participants) × (1 ≤ term_length) ×
         LeadsRound ⟦<Sha256Digest as Ord>⟧.cmp ⟦<Sha256 as Hasher>⟧.digest_of
         (option_copied seed.entry) participants term_length epoch view number.new }
     ensures arguments { result ≡ 2 → (participants ≡ 0) ⊎ (term_length ≡ 0) }
+    ensures memory { result ≡ 3 → (1 ≤ participants) × (1 ≤ term_length) }
     ensures untouched { result ≢ 0 → number.new ≡ number.old }
     ensures status { (result ≡ 0) ⊎ (result ≡ 2) ⊎ (result ≡ 3) }
 {
