@@ -3,7 +3,7 @@
  * messages (docs/FORMAT.md) and reports exactly the participants who signed two contradictory
  * votes, each once for each round and kind.
  *
- * Link libsimplex_c.a, and the toolchain's liblibc_c.a behind it (docs/BINDINGS.md).
+ * Link libsimplex_audit.a, which `make library` builds in bindings/out (docs/BINDINGS.md).
  *
  * Ownership: every buffer is the caller's. No call keeps a pointer, and none returns memory that
  *   has to be freed.
@@ -164,7 +164,8 @@ struct simplex_suspect {
  * then the bytes of the subject.
  *
  * The caller writes 01 to each `verdict_place` where it verified the signature, else 00, and
- * audits. No verdict of another attestation has a part in the report.
+ * audits. No verdict of another attestation has a part in the report (tested over streams, not
+ * proved: docs/BINDINGS.md, "What is proved").
  *
  * The first `*needed` records are written; those behind them are as before. The status is
  * SIMPLEX_WHOLE, SIMPLEX_ARGUMENTS, SIMPLEX_MEMORY or SIMPLEX_SHORT; where `records` is too short
@@ -203,6 +204,9 @@ uint32_t simplex_suspects_vouched_96(const uint64_t *epochs, size_t epochs_len,
  * The first `*size` bytes of `evidence` are then the messages; the bytes behind them are as before.
  * The status is SIMPLEX_WHOLE, SIMPLEX_ARGUMENTS, SIMPLEX_MEMORY or SIMPLEX_SHORT. `evidence` may
  * not overlap `stored`.
+ *
+ * To learn what is new, call simplex_records_.. on `stored` with `batch` behind it: a record of
+ * which at least one place is `stored_len` or more is new, and any other was stored before.
  */
 SIMPLEX_NONNULL
 uint32_t simplex_store_vouched_48(const uint64_t *epochs, size_t epochs_len, const uint32_t *sizes,

@@ -1,8 +1,8 @@
 /*
  * Tries what the contracts of the calls say of buffers and refusals, from C: buffers that fit, that
- * are a byte too short or empty, empty slices, arguments that are no committees, verdicts, calls at
- * once in several threads, and each allocation failing in turn. Every buffer is a block of its own,
- * so that AddressSanitizer and valgrind see an access outside.
+ * are a byte too short or empty, empty slices, arguments that are no committees, verdicts, records
+ * that are new, calls at once in several threads, and each allocation failing in turn. Every buffer
+ * is a block of its own, so that AddressSanitizer and valgrind see an access outside.
  *
  *     border < STREAM             STREAM: the sample of crates/audit
  *     border --limit < STREAM     also what needs more memory than the process may have
@@ -101,22 +101,24 @@ struct input {
     int signature; /* 48, 64 or 96, or 0 for the plain scheme */
 };
 
+/* Slices of the input, as calls take them. */
+#define KEYS in->name, in->name_len, in->keys, in->keys_len
+#define SIZES in->epochs, in->epochs_len, in->sizes, in->sizes_len
+#define STORED in->stored, in->stored_len
+#define STREAM in->stream, in->stream_len
+
 static uint32_t audit(const struct input *in, uint8_t *text, size_t room,
                       struct simplex_summary *summary)
 {
     switch (in->signature) {
     case 0:
-        return simplex_audit_plain(in->name, in->name_len, in->keys, in->keys_len, in->stream,
-                                   in->stream_len, text, room, summary);
+        return simplex_audit_plain(KEYS, STREAM, text, room, summary);
     case 48:
-        return simplex_audit_vouched_48(in->epochs, in->epochs_len, in->sizes, in->sizes_len,
-                                        in->stream, in->stream_len, text, room, summary);
+        return simplex_audit_vouched_48(SIZES, STREAM, text, room, summary);
     case 64:
-        return simplex_audit_vouched_64(in->epochs, in->epochs_len, in->sizes, in->sizes_len,
-                                        in->stream, in->stream_len, text, room, summary);
+        return simplex_audit_vouched_64(SIZES, STREAM, text, room, summary);
     default:
-        return simplex_audit_vouched_96(in->epochs, in->epochs_len, in->sizes, in->sizes_len,
-                                        in->stream, in->stream_len, text, room, summary);
+        return simplex_audit_vouched_96(SIZES, STREAM, text, room, summary);
     }
 }
 
@@ -124,21 +126,13 @@ static uint32_t store(const struct input *in, uint8_t *evidence, size_t room, si
 {
     switch (in->signature) {
     case 0:
-        return simplex_store_plain(in->name, in->name_len, in->keys, in->keys_len, in->stored,
-                                   in->stored_len, in->stream, in->stream_len, evidence, room,
-                                   size);
+        return simplex_store_plain(KEYS, STORED, STREAM, evidence, room, size);
     case 48:
-        return simplex_store_vouched_48(in->epochs, in->epochs_len, in->sizes, in->sizes_len,
-                                        in->stored, in->stored_len, in->stream, in->stream_len,
-                                        evidence, room, size);
+        return simplex_store_vouched_48(SIZES, STORED, STREAM, evidence, room, size);
     case 64:
-        return simplex_store_vouched_64(in->epochs, in->epochs_len, in->sizes, in->sizes_len,
-                                        in->stored, in->stored_len, in->stream, in->stream_len,
-                                        evidence, room, size);
+        return simplex_store_vouched_64(SIZES, STORED, STREAM, evidence, room, size);
     default:
-        return simplex_store_vouched_96(in->epochs, in->epochs_len, in->sizes, in->sizes_len,
-                                        in->stored, in->stored_len, in->stream, in->stream_len,
-                                        evidence, room, size);
+        return simplex_store_vouched_96(SIZES, STORED, STREAM, evidence, room, size);
     }
 }
 
@@ -147,14 +141,11 @@ static uint32_t suspects(const struct input *in, struct simplex_suspect *records
 {
     switch (in->signature) {
     case 48:
-        return simplex_suspects_vouched_48(in->epochs, in->epochs_len, in->sizes, in->sizes_len,
-                                           in->stream, in->stream_len, records, room, needed);
+        return simplex_suspects_vouched_48(SIZES, STREAM, records, room, needed);
     case 64:
-        return simplex_suspects_vouched_64(in->epochs, in->epochs_len, in->sizes, in->sizes_len,
-                                           in->stream, in->stream_len, records, room, needed);
+        return simplex_suspects_vouched_64(SIZES, STREAM, records, room, needed);
     default:
-        return simplex_suspects_vouched_96(in->epochs, in->epochs_len, in->sizes, in->sizes_len,
-                                           in->stream, in->stream_len, records, room, needed);
+        return simplex_suspects_vouched_96(SIZES, STREAM, records, room, needed);
     }
 }
 
@@ -163,17 +154,13 @@ static uint32_t enlist(const struct input *in, struct simplex_record *records, s
 {
     switch (in->signature) {
     case 0:
-        return simplex_records_plain(in->name, in->name_len, in->keys, in->keys_len, in->stream,
-                                     in->stream_len, records, room, summary);
+        return simplex_records_plain(KEYS, STREAM, records, room, summary);
     case 48:
-        return simplex_records_vouched_48(in->epochs, in->epochs_len, in->sizes, in->sizes_len,
-                                          in->stream, in->stream_len, records, room, summary);
+        return simplex_records_vouched_48(SIZES, STREAM, records, room, summary);
     case 64:
-        return simplex_records_vouched_64(in->epochs, in->epochs_len, in->sizes, in->sizes_len,
-                                          in->stream, in->stream_len, records, room, summary);
+        return simplex_records_vouched_64(SIZES, STREAM, records, room, summary);
     default:
-        return simplex_records_vouched_96(in->epochs, in->epochs_len, in->sizes, in->sizes_len,
-                                          in->stream, in->stream_len, records, room, summary);
+        return simplex_records_vouched_96(SIZES, STREAM, records, room, summary);
     }
 }
 
@@ -454,6 +441,25 @@ static uint8_t *put_notarize(uint8_t *at, uint8_t epoch, uint8_t signer, uint8_t
     return at + 38 + signature;
 }
 
+/* A finalize in view 10 of an epoch, whose signature is valid. */
+static uint8_t *put_finalize(uint8_t *at, uint8_t epoch, uint8_t signer, uint8_t payload,
+                             size_t signature)
+{
+    uint8_t *end = put_notarize(at, epoch, signer, payload, signature, 1);
+    at[0] = 5;
+    return end;
+}
+
+/* A nullify of view 10 of an epoch, whose signature is valid. */
+static uint8_t *put_nullify(uint8_t *at, uint8_t epoch, uint8_t signer, size_t signature)
+{
+    const uint8_t head[] = {3, epoch, 10, signer};
+    memcpy(at, head, 4);
+    memset(at + 4, 0xee, signature);
+    at[4 + signature] = 1;
+    return at + 5 + signature;
+}
+
 /* Two notarizes that contradict, the second with this verdict. */
 static size_t two(uint8_t *stream, uint8_t epoch, uint8_t signer, size_t signature, uint8_t verdict)
 {
@@ -461,23 +467,28 @@ static size_t two(uint8_t *stream, uint8_t epoch, uint8_t signer, size_t signatu
     return (size_t)(put_notarize(end, epoch, signer, 7, signature, verdict) - stream);
 }
 
-static size_t accused(struct input *in, const uint64_t *epochs, size_t epochs_len,
-                      const uint32_t *sizes, size_t sizes_len)
-{
-    in->epochs = epochs;
-    in->epochs_len = epochs_len;
-    in->sizes = sizes;
-    in->sizes_len = sizes_len;
-    return audits(in, SIMPLEX_WHOLE, 2, 0);
-}
-
-static void refuses_sizes(struct input in, const uint64_t *epochs, size_t epochs_len,
+/* The input with these committees. */
+static struct input under(struct input in, const uint64_t *epochs, size_t epochs_len,
                           const uint32_t *sizes, size_t sizes_len)
 {
     in.epochs = epochs;
     in.epochs_len = epochs_len;
     in.sizes = sizes;
     in.sizes_len = sizes_len;
+    return in;
+}
+
+static size_t accused(struct input *in, const uint64_t *epochs, size_t epochs_len,
+                      const uint32_t *sizes, size_t sizes_len)
+{
+    *in = under(*in, epochs, epochs_len, sizes, sizes_len);
+    return audits(in, SIMPLEX_WHOLE, 2, 0);
+}
+
+static void refuses_sizes(struct input in, const uint64_t *epochs, size_t epochs_len,
+                          const uint32_t *sizes, size_t sizes_len)
+{
+    in = under(in, epochs, epochs_len, sizes, sizes_len);
     refuses(&in);
 }
 
@@ -623,14 +634,69 @@ static void placed(size_t signature)
     CHECK(stands_at(room + certificate, (size_t)(end - room) - certificate, signature,
                     SIMPLEX_CONFLICTING_NOTARIZE, 0, 0));
     /* a finalize, and then a nullify: the nullify is the first vote of the evidence */
-    end = put_notarize(room, 4, 2, 6, signature, 1);
-    room[0] = 5;
-    const uint8_t nullify[] = {3, 4, 10, 2};
-    memcpy(end, nullify, 4);
-    memset(end + 4, 0xee, signature);
-    end[4 + signature] = 1;
-    end += 5 + signature;
+    end = put_finalize(room, 4, 2, 6, signature);
+    end = put_nullify(end, 4, 2, signature);
     CHECK(stands_at(room, (size_t)(end - room), signature, SIMPLEX_NULLIFY_FINALIZE, vote, 0));
+}
+
+/* Of what was stored with the stream behind it, as a batch, the records with at least one place in
+ * the batch are those whom what was stored does not accuse. Returns how many they are. */
+static size_t renewed(const struct input *in)
+{
+    struct input both = *in, before = *in;
+    uint8_t *whole = block(in->stored_len + in->stream_len, 0);
+    memcpy(whole, in->stored, in->stored_len);
+    memcpy(whole + in->stored_len, in->stream, in->stream_len);
+    both.stream = whole;
+    both.stream_len = in->stored_len + in->stream_len;
+    before.stream = in->stored;
+    before.stream_len = in->stored_len;
+    struct simplex_record records[9], stored[9];
+    struct simplex_summary summary, of_stored;
+    size_t fresh = 0;
+    CHECK(enlist(&both, records, 9, &summary) == SIMPLEX_WHOLE);
+    CHECK(enlist(&before, stored, 9, &of_stored) == SIMPLEX_WHOLE);
+    for (size_t i = 0; i < summary.evidence; i++) {
+        const struct simplex_record *it = &records[i];
+        int is_new = it->first_place >= in->stored_len || it->second_place >= in->stored_len;
+        int accused = 0;
+        for (size_t k = 0; k < of_stored.evidence; k++)
+            accused |= it->epoch == stored[k].epoch && it->view == stored[k].view
+                       && it->signer == stored[k].signer && it->kind == stored[k].kind;
+        CHECK(is_new == !accused);
+        fresh += is_new;
+    }
+    CHECK(summary.evidence - fresh == of_stored.evidence);
+    free(whole);
+    return fresh;
+}
+
+/* What is new of a batch: evidence of which one vote was stored and the other is in the batch, and
+ * evidence with both votes in the batch. */
+static void renews(size_t signature)
+{
+    static const uint32_t four[] = {4};
+    static const uint64_t epoch[] = {0};
+    for (int nullified = 0; nullified < 2; nullified++) {
+        uint8_t room[600], stored[600] = {0}, *end = room;
+        size_t n;
+        end = put_finalize(end, 4, 2, 6, signature);
+        end = nullified ? put_nullify(end, 4, 2, signature) : put_finalize(end, 4, 2, 7, signature);
+        struct input in = {.stored = stored, .stream = room, .stream_len = (size_t)(end - room),
+                           .signature = (int)signature, .epochs = epoch, .sizes = four,
+                           .sizes_len = 1};
+        CHECK(renewed(&in) == 1);
+        CHECK(store(&in, stored, sizeof stored, &n) == SIMPLEX_WHOLE);
+        in.stored_len = n;
+        CHECK(renewed(&in) == 0); /* the same batch again */
+        end = room;
+        end = nullified ? put_finalize(end, 4, 2, 7, signature) : put_nullify(end, 4, 2, signature);
+        end += two(end, 4, 1, signature, 1);
+        in.stream_len = (size_t)(end - room);
+        CHECK(renewed(&in) == 2);
+        in.stream_len = 0;
+        CHECK(renewed(&in) == 0);
+    }
 }
 
 static void numbers(void)
@@ -651,7 +717,7 @@ static void numbers(void)
     CHECK(simplex_issuance_floor(5, 0, 13, &floor) == SIMPLEX_NO && floor == 99);
     CHECK(simplex_issuance_floor(5, 2, 13, &floor) == SIMPLEX_YES && floor == 10);
     uint32_t number = 99;
-    uint8_t *seed = block(0, 0);
+    uint8_t *seed = block(0, 0), *words = copy("seed", 4);
     CHECK(simplex_leader(0, 1, 3, 10, &number) == SIMPLEX_ARGUMENTS && number == 99);
     CHECK(simplex_leader(4, 0, 3, 10, &number) == SIMPLEX_ARGUMENTS && number == 99);
     CHECK(simplex_leader_shuffled(seed, 0, 0, 1, 3, 10, &number) == SIMPLEX_ARGUMENTS && number == 99);
@@ -666,17 +732,22 @@ static void numbers(void)
     }
     CHECK(led == 15 && led_by_seed == 15);
     long before = blocks;
-    for (long k = 1;; k++) {
-        number = 99;
-        allowed = k;
-        uint32_t status = simplex_leader_shuffled((const uint8_t *)"seed", 4, 4, 1, 3, 10, &number);
-        int over = allowed > 0;
-        allowed = -1;
-        CHECK(blocks == before);
-        if (over)
-            break;
-        CHECK(status == SIMPLEX_MEMORY && number == 99);
-    }
+    for (int shuffled = 0; shuffled < 2; shuffled++)
+        for (long k = 1;; k++) {
+            number = 99;
+            allowed = k;
+            uint32_t status = shuffled ? simplex_leader_shuffled(words, 4, 4, 1, 3, 10, &number)
+                                       : simplex_leader(4, 1, 3, 10, &number);
+            int over = allowed > 0;
+            allowed = -1;
+            CHECK(blocks == before);
+            if (over) {
+                CHECK(status == SIMPLEX_WHOLE && number < 4 && k > 1);
+                break;
+            }
+            CHECK(status == SIMPLEX_MEMORY && number == 99);
+        }
+    free(words);
     free(seed);
 }
 
@@ -749,6 +820,9 @@ int main(int argc, char **argv)
     placed(48);
     placed(64);
     placed(96);
+    renews(48);
+    renews(64);
+    renews(96);
     numbers();
     threads();
     if (argc > 1 && !strcmp(argv[1], "--limit"))

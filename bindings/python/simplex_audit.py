@@ -17,7 +17,7 @@ import os
 import pathlib
 
 __all__ = ["Committees", "Encoder", "Evidence", "Record", "Report", "Split", "Vote", "admits", "admits_outbound", "audit", "audit_deferred",
-           "issuance_floor", "leader", "max_faults", "quorum", "records", "store", "version"]
+           "issuance_floor", "leader", "max_faults", "new_records", "quorum", "records", "store", "version"]
 
 _FOLDER = os.environ.get("SIMPLEX_AUDIT_LIB") or pathlib.Path(__file__).resolve().parent.parent / "out"
 _library = ctypes.CDLL(os.path.join(_FOLDER, "simplex_audit.so"))
@@ -242,10 +242,34 @@ def _split(line):
 def store(committees, stored, batch):
     """The evidence of what was stored and of a batch behind it, as messages. A batch has to hold every vote of its rounds.
     `ValueError` where what was stored has a fault: nothing behind that would be read."""
-    size, stored = ctypes.c_size_t(), bytes(stored)
+    size, stored = ctypes.c_size_t(), _undamaged(committees, stored)
+    return committees._put("store", [stored, batch], len(stored) + 65536, size, lambda it: it.value)
+
+
+def new_records(committees, stored, batch):
+    """The records of what was stored with a batch behind it that are new: those with at least one place in the batch, at the length
+    of what was stored or behind. All other evidence was stored before. `ValueError` as of `store`.
+
+    >>> committees, stored = Committees.every(64, 4), b""
+    >>> for view in (10, 11):
+    ...     batch = Encoder(64)
+    ...     for payload in (6, 7):
+    ...         batch.vote(Vote("notarize", 3, view, 5, bytes([payload] * 32)), 2, bytes(64), lambda vote, signer, signature: True)
+    ...     print([(it.view, it.signer) for it in new_records(committees, stored, batch.encoded())])
+    ...     stored = store(committees, stored, batch.encoded())
+    [(10, 2)]
+    [(11, 2)]
+    """
+    stored = _undamaged(committees, stored)
+    found = records(committees, stored + bytes(batch))
+    return [it for it in found if max(it.first_place, it.second_place) >= len(stored)]
+
+
+def _undamaged(committees, stored):
+    stored = bytes(stored)
     if audit(committees, stored).fault is not None:
         raise ValueError("what was stored is damaged")
-    return committees._put("store", [stored, batch], len(stored) + 65536, size, lambda it: it.value)
+    return stored
 
 
 class Vote(collections.namedtuple("Vote", "kind epoch view parent payload", defaults=(None, None))):
@@ -283,13 +307,33 @@ class Encoder:
 
     def certificate(self, vote, listed, verify=None):
         """Appends a certificate that lists these pairs of a signer and a signature, signers ascending."""
+        message = self._certificate(vote, listed, verify)
+        self._bytes += bytes([self._VOTES[vote.kind] + 1]) + message
+
+    def certification(self, vote, listed, verify=None):
+        """Appends a certification, a notarization that a node accepted: the same as `certificate` writes of a notarize, with a tag of
+        its own. An audit counts it as a notarization.
+
+        >>> stream = Encoder(64)
+        >>> for payload, signers in ((6, (0, 1, 2)), (7, (1, 2, 3))):
+        ...     vote = Vote("notarize", 3, 10, 5, bytes([payload] * 32))
+        ...     stream.certification(vote, [(it, bytes(64)) for it in signers], lambda vote, signer, signature: True)
+        >>> report = audit(Committees.every(64, 4), stream.encoded())
+        >>> stream.encoded()[0], report.read, [it.signer for it in report.evidence], len(report.splits)
+        (2, 2, [1, 2], 1)
+        """
+        if vote.kind != "notarize":
+            raise ValueError("a certification is of a notarize")
+        self._bytes += bytes([2]) + self._certificate(vote, listed, verify)
+
+    def _certificate(self, vote, listed, verify):
         listed = list(listed)
         signers = [signer for signer, _ in listed]
         if not listed or signers != sorted(set(signers)):
             raise ValueError("signers have to ascend, and there has to be one")
         message = vote.message()
         attestations = b"".join(self._attestation(vote, signer, signature, verify) for signer, signature in listed)
-        self._bytes += bytes([self._VOTES[vote.kind] + 1]) + message + _varint(len(listed)) + attestations
+        return message + _varint(len(listed)) + attestations
 
     def _attestation(self, vote, signer, signature, verify):
         signature = bytes(signature)

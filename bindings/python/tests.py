@@ -5,7 +5,7 @@ import hashlib
 import unittest
 
 import simplex_audit
-from simplex_audit import Committees, Encoder, Vote, audit, audit_deferred, records, store
+from simplex_audit import Committees, Encoder, Vote, audit, audit_deferred, new_records, records, store
 
 
 def valid(vote, signer, signature):
@@ -109,6 +109,24 @@ class Tests(unittest.TestCase):
         stored = store(committees, store(committees, b"", two_votes(10)), two_votes(11, signer=1))
         self.assertEqual([(it.view, it.signer) for it in audit(committees, stored).evidence], [(10, 2), (11, 1)])
 
+    def test_new_records(self):
+        committees = Committees.every(64, 4)
+        finalize, other, nullify = Vote("finalize", 3, 10, 5, b"\6" * 32), Vote("finalize", 3, 10, 5, b"\7" * 32), Vote("nullify", 3, 10)
+
+        def batch(*votes):
+            stream = Encoder(64)
+            for vote in votes:
+                stream.vote(vote, 2, bytes(64), valid)
+            return stream.encoded()
+
+        for first, behind, kind in ((other, nullify, "nullify-finalize"), (nullify, other, "conflicting-finalize")):
+            stored = store(committees, b"", batch(finalize, first))
+            self.assertEqual(new_records(committees, stored, batch(first, finalize)), [])
+            # one vote of the new evidence was stored, the other is in the batch
+            (new,) = new_records(committees, stored, batch(behind))
+            self.assertEqual((new.kind, sorted(it < len(stored) for it in new[4:])), (kind, [False, True]))
+        self.assertEqual(len(new_records(committees, stored, two_votes(11) + two_votes(12, signer=1))), 2)
+
     def test_refusals(self):
         for refused in (
             lambda: audit(Committees.every(64, 0), b""),
@@ -123,11 +141,13 @@ class Tests(unittest.TestCase):
             lambda: Encoder(64).vote(Vote("nullify", 3, 10), 1 << 32, bytes(64), valid),
             lambda: Encoder(64).certificate(Vote("nullify", 3, 10), [], valid),
             lambda: Encoder(64).certificate(Vote("nullify", 3, 10), [(1, bytes(64)), (0, bytes(64))], valid),
+            lambda: Encoder(64).certification(Vote("finalize", 3, 10, 5, bytes(32)), [(0, bytes(64))], valid),
             lambda: Encoder(64).vote(Vote("notarise", 3, 10, 5, bytes(32)), 0, bytes(64), valid),
             lambda: Encoder(64).vote(Vote("notarize", 3, 10, 5, bytes(31)), 0, bytes(64), valid),
             lambda: Encoder(64).vote(Vote("finalize", 3, 10, 5, bytes(106)), 0, bytes(64), valid),
             lambda: Encoder(64).vote(Vote("nullify", 3, 10), 0, array.array("I", bytes(256)), valid),
             lambda: store(Committees.every(64, 4), b"\xff", two_votes(10)),
+            lambda: new_records(Committees.every(64, 4), b"\xff", two_votes(10)),
             lambda: simplex_audit.admits(0, 0, 10, 11),
             lambda: simplex_audit.leader(0, 1, 3, 10),
         ):

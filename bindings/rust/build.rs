@@ -8,6 +8,7 @@ fn main() {
     let folder = env::var_os("SIMPLEX_AUDIT_LIB")
         .map_or_else(|| PathBuf::from(env::var_os("CARGO_MANIFEST_DIR").unwrap_or_default()).join("../out"), PathBuf::from);
     let library = folder.join("libsimplex_audit.a");
+    assert!(library.exists(), "no {}: run `make library`", library.display());
     println!("cargo:rerun-if-changed={}", library.display());
     println!("cargo:rustc-link-search=native={}", folder.display());
     println!("cargo:rustc-link-lib=static=simplex_audit");

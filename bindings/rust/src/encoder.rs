@@ -92,6 +92,35 @@ impl Encoder {
     /// Appends a certificate that lists these signers, in ascending order, with the signatures. `Error::Arguments` where there is no
     /// signer, they do not ascend, or a signature has another size; nothing is written then.
     pub fn certificate(&mut self, vote: &Vote, listed: &[(u32, &[u8])], verifier: &dyn Verifier) -> Result<(), Error> {
+        self.put_certificate(certificate_tag(vote), vote, listed, verifier)
+    }
+
+    /// Appends a certification, a notarization that a node accepted: the same as [`certificate`](Self::certificate) writes of a
+    /// notarize, with a tag of its own. An audit counts it as a notarization. `Error::Arguments` also where the vote is no
+    /// notarize.
+    ///
+    /// ```
+    /// use simplex_audit::{audit, Committees, Encoder, Size, Vote};
+    ///
+    /// let signature = [0; 64];
+    /// let mut stream = Encoder::new(Size::Bytes64);
+    /// for (payload, signers) in [([6; 32], [0, 1, 2]), ([7; 32], [1, 2, 3])] {
+    ///     let vote = Vote::Notarize { epoch: 3, view: 10, parent: 5, payload };
+    ///     let listed = signers.map(|signer| (signer, signature.as_slice()));
+    ///     stream.certification(&vote, &listed, &|_: &Vote, _: u32, _: &[u8]| true)?;
+    /// }
+    /// let report = audit(&Committees::every(Size::Bytes64, 4)?, stream.as_bytes())?;
+    /// assert_eq!((stream.as_bytes()[0], report.read, report.evidence.len(), report.splits.len()), (2, 2, 2, 1));
+    /// # Ok::<(), simplex_audit::Error>(())
+    /// ```
+    pub fn certification(&mut self, vote: &Vote, listed: &[(u32, &[u8])], verifier: &dyn Verifier) -> Result<(), Error> {
+        match vote {
+            Vote::Notarize { .. } => self.put_certificate(2, vote, listed, verifier),
+            Vote::Nullify { .. } | Vote::Finalize { .. } => Err(Error::Arguments),
+        }
+    }
+
+    fn put_certificate(&mut self, tag: u8, vote: &Vote, listed: &[(u32, &[u8])], verifier: &dyn Verifier) -> Result<(), Error> {
         let ascending = listed.windows(2).all(|pair| pair[0].0 < pair[1].0);
         if listed.is_empty() || !ascending {
             return Err(Error::Arguments);
@@ -99,7 +128,7 @@ impl Encoder {
         for (_, signature) in listed {
             self.check(signature)?;
         }
-        let mut message = vec![certificate_tag(vote)];
+        let mut message = vec![tag];
         vote.put_message(&mut message);
         put_number(&mut message, listed.len() as u64);
         for (signer, signature) in listed {

@@ -55,16 +55,30 @@ pub(crate) struct Record {
     pub kind: u32,
 }
 
-type AuditVouched = unsafe extern "C" fn(
+/// A call over a stream under committees of these sizes, which fills a buffer and writes how much that is.
+type ByNumbers<T, W> = unsafe extern "C" fn(
     epochs: *const u64,
     epochs_len: usize,
     sizes: *const u32,
     sizes_len: usize,
     stream: *const u8,
     stream_len: usize,
-    text: *mut u8,
-    text_len: usize,
-    summary: *mut Summary,
+    buffer: *mut T,
+    buffer_len: usize,
+    written: *mut W,
+) -> u32;
+
+/// The same under the committee of these keys.
+type ByKeys<T, W> = unsafe extern "C" fn(
+    name: *const u8,
+    name_len: usize,
+    keys: *const u8,
+    keys_len: usize,
+    stream: *const u8,
+    stream_len: usize,
+    buffer: *mut T,
+    buffer_len: usize,
+    written: *mut W,
 ) -> u32;
 
 type StoreVouched = unsafe extern "C" fn(
@@ -79,30 +93,6 @@ type StoreVouched = unsafe extern "C" fn(
     evidence: *mut u8,
     evidence_len: usize,
     size: *mut usize,
-) -> u32;
-
-type SuspectsVouched = unsafe extern "C" fn(
-    epochs: *const u64,
-    epochs_len: usize,
-    sizes: *const u32,
-    sizes_len: usize,
-    stream: *const u8,
-    stream_len: usize,
-    records: *mut Suspect,
-    records_len: usize,
-    needed: *mut usize,
-) -> u32;
-
-type RecordsVouched = unsafe extern "C" fn(
-    epochs: *const u64,
-    epochs_len: usize,
-    sizes: *const u32,
-    sizes_len: usize,
-    stream: *const u8,
-    stream_len: usize,
-    records: *mut Record,
-    records_len: usize,
-    summary: *mut Summary,
 ) -> u32;
 
 #[rustfmt::skip]
@@ -201,49 +191,86 @@ fn filled<T: Clone + Default>(first: usize, mut call: impl FnMut(&mut [T]) -> (u
     }
 }
 
-/// The text of a stream's report, and its numbers.
-pub(crate) fn audit(committees: &Committees, stream: &[u8]) -> Result<(Vec<u8>, Summary), Error> {
-    let mut summary = Summary::default();
-    let text = filled(4096, |text| {
-        let status = match &committees.members {
-            Members::Vouched { size, epochs, sizes } => {
-                let call: AuditVouched = match size {
-                    Size::Bytes48 => simplex_audit_vouched_48,
-                    Size::Bytes64 => simplex_audit_vouched_64,
-                    Size::Bytes96 => simplex_audit_vouched_96,
-                };
-                // SAFETY: see this module.
-                unsafe {
-                    call(
-                        epochs.as_ptr(),
-                        epochs.len(),
-                        sizes.as_ptr(),
-                        sizes.len(),
-                        stream.as_ptr(),
-                        stream.len(),
-                        text.as_mut_ptr(),
-                        text.len(),
-                        &mut summary,
-                    )
-                }
-            }
+/// A call over a stream: that of each size of signatures.
+struct BySize<T, W> {
+    bytes48: ByNumbers<T, W>,
+    bytes64: ByNumbers<T, W>,
+    bytes96: ByNumbers<T, W>,
+}
+
+impl<T, W> BySize<T, W> {
+    fn call(&self, size: Size, epochs: &[u64], sizes: &[u32], stream: &[u8], buffer: &mut [T], written: &mut W) -> u32 {
+        let call = match size {
+            Size::Bytes48 => self.bytes48,
+            Size::Bytes64 => self.bytes64,
+            Size::Bytes96 => self.bytes96,
+        };
+        // SAFETY: see this module.
+        unsafe {
+            call(
+                epochs.as_ptr(),
+                epochs.len(),
+                sizes.as_ptr(),
+                sizes.len(),
+                stream.as_ptr(),
+                stream.len(),
+                buffer.as_mut_ptr(),
+                buffer.len(),
+                written,
+            )
+        }
+    }
+}
+
+/// The same, and that of the plain scheme.
+struct ByScheme<T, W> {
+    vouched: BySize<T, W>,
+    plain: ByKeys<T, W>,
+}
+
+impl<T, W> ByScheme<T, W> {
+    fn call(&self, committees: &Committees, stream: &[u8], buffer: &mut [T], written: &mut W) -> u32 {
+        match &committees.members {
+            Members::Vouched { size, epochs, sizes } => self.vouched.call(*size, epochs, sizes, stream, buffer, written),
             // SAFETY: see this module.
             Members::Plain { name, keys } => unsafe {
-                simplex_audit_plain(
+                (self.plain)(
                     name.as_ptr(),
                     name.len(),
                     keys.as_ptr(),
                     keys.len(),
                     stream.as_ptr(),
                     stream.len(),
-                    text.as_mut_ptr(),
-                    text.len(),
-                    &mut summary,
+                    buffer.as_mut_ptr(),
+                    buffer.len(),
+                    written,
                 )
             },
-        };
-        (status, summary.length)
-    })?;
+        }
+    }
+}
+
+const AUDIT: ByScheme<u8, Summary> = ByScheme {
+    vouched: BySize { bytes48: simplex_audit_vouched_48, bytes64: simplex_audit_vouched_64, bytes96: simplex_audit_vouched_96 },
+    plain: simplex_audit_plain,
+};
+
+const RECORDS: ByScheme<Record, Summary> = ByScheme {
+    vouched: BySize {
+        bytes48: simplex_records_vouched_48,
+        bytes64: simplex_records_vouched_64,
+        bytes96: simplex_records_vouched_96,
+    },
+    plain: simplex_records_plain,
+};
+
+const SUSPECTS: BySize<Suspect, usize> =
+    BySize { bytes48: simplex_suspects_vouched_48, bytes64: simplex_suspects_vouched_64, bytes96: simplex_suspects_vouched_96 };
+
+/// The text of a stream's report, and its numbers.
+pub(crate) fn audit(committees: &Committees, stream: &[u8]) -> Result<(Vec<u8>, Summary), Error> {
+    let mut summary = Summary::default();
+    let text = filled(4096, |text| (AUDIT.call(committees, stream, text, &mut summary), summary.length))?;
     Ok((text, summary))
 }
 
@@ -301,28 +328,9 @@ pub(crate) fn suspects(committees: &Committees, stream: &[u8]) -> Result<Vec<Sus
     let Members::Vouched { size, epochs, sizes } = &committees.members else {
         return Ok(Vec::new());
     };
-    let call: SuspectsVouched = match size {
-        Size::Bytes48 => simplex_suspects_vouched_48,
-        Size::Bytes64 => simplex_suspects_vouched_64,
-        Size::Bytes96 => simplex_suspects_vouched_96,
-    };
     filled(64, |records| {
         let mut needed = 0;
-        // SAFETY: see this module.
-        let status = unsafe {
-            call(
-                epochs.as_ptr(),
-                epochs.len(),
-                sizes.as_ptr(),
-                sizes.len(),
-                stream.as_ptr(),
-                stream.len(),
-                records.as_mut_ptr(),
-                records.len(),
-                &mut needed,
-            )
-        };
-        (status, needed)
+        (SUSPECTS.call(*size, epochs, sizes, stream, records, &mut needed), needed)
     })
 }
 
@@ -330,44 +338,7 @@ pub(crate) fn suspects(committees: &Committees, stream: &[u8]) -> Result<Vec<Sus
 pub(crate) fn records(committees: &Committees, stream: &[u8]) -> Result<Vec<Record>, Error> {
     filled(64, |records| {
         let mut summary = Summary::default();
-        let status = match &committees.members {
-            Members::Vouched { size, epochs, sizes } => {
-                let call: RecordsVouched = match size {
-                    Size::Bytes48 => simplex_records_vouched_48,
-                    Size::Bytes64 => simplex_records_vouched_64,
-                    Size::Bytes96 => simplex_records_vouched_96,
-                };
-                // SAFETY: see this module.
-                unsafe {
-                    call(
-                        epochs.as_ptr(),
-                        epochs.len(),
-                        sizes.as_ptr(),
-                        sizes.len(),
-                        stream.as_ptr(),
-                        stream.len(),
-                        records.as_mut_ptr(),
-                        records.len(),
-                        &mut summary,
-                    )
-                }
-            }
-            // SAFETY: see this module.
-            Members::Plain { name, keys } => unsafe {
-                simplex_records_plain(
-                    name.as_ptr(),
-                    name.len(),
-                    keys.as_ptr(),
-                    keys.len(),
-                    stream.as_ptr(),
-                    stream.len(),
-                    records.as_mut_ptr(),
-                    records.len(),
-                    &mut summary,
-                )
-            },
-        };
-        (status, summary.evidence)
+        (RECORDS.call(committees, stream, records, &mut summary), summary.evidence)
     })
 }
 

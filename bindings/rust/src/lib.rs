@@ -33,7 +33,7 @@ pub use deferred::{audit_deferred, Deferred};
 pub use encoder::{Encoder, Verifier, Vote};
 pub use error::Error;
 pub use ledger::Ledger;
-pub use records::{records, Record};
+pub use records::{new_records, records, Record};
 pub use report::{audit, Evidence, Kind, Report, Split};
 
 /// The version of the library's calls.

@@ -1,4 +1,4 @@
-use crate::{ffi, Committees, Error, Kind};
+use crate::{audit, ffi, Committees, Error, Kind};
 
 /// An evidence of a report, and where its two votes stand in the stream.
 #[derive(Clone, Copy, Debug, PartialEq, Eq)]
@@ -40,6 +40,36 @@ pub struct Record {
 /// ```
 pub fn records(committees: &Committees, stream: &[u8]) -> Result<Vec<Record>, Error> {
     Ok(ffi::records(committees, stream)?.iter().map(record).collect())
+}
+
+/// The records of what was stored with a batch behind it that are new: those with at least one place in the batch, at the length of
+/// what was stored or behind. All other evidence was stored before. `Error::Arguments` where what was stored has a fault, behind
+/// which nothing would be read.
+///
+/// ```
+/// use simplex_audit::{new_records, Committees, Encoder, Ledger, Size, Vote};
+///
+/// let committees = Committees::every(Size::Bytes64, 4)?;
+/// let mut ledger = Ledger::resume(committees.clone(), Vec::new())?;
+/// for view in [10, 11] {
+///     let mut batch = Encoder::new(Size::Bytes64);
+///     for payload in [[6; 32], [7; 32]] {
+///         let vote = Vote::Finalize { epoch: 3, view, parent: 5, payload };
+///         batch.vote(&vote, 1, &[0; 64], &|_: &Vote, _: u32, _: &[u8]| true)?;
+///     }
+///     let new = new_records(&committees, ledger.stored(), batch.as_bytes())?;
+///     assert_eq!((new.len(), new[0].view, new[0].signer), (1, view, 1));
+///     ledger.feed(batch.as_bytes())?;
+/// }
+/// # Ok::<(), simplex_audit::Error>(())
+/// ```
+pub fn new_records(committees: &Committees, stored: &[u8], batch: &[u8]) -> Result<Vec<Record>, Error> {
+    if audit(committees, stored)?.fault.is_some() {
+        return Err(Error::Arguments);
+    }
+    let mut found = records(committees, &[stored, batch].concat())?;
+    found.retain(|one| one.first_place.max(one.second_place) >= stored.len());
+    Ok(found)
 }
 
 fn record(of: &ffi::Record) -> Record {

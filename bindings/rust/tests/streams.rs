@@ -1,7 +1,8 @@
 //! Streams that an `Encoder` writes, and what is refused.
 
 use simplex_audit::{
-    audit, audit_deferred, records, version, views, Committees, Deferred, Encoder, Error, Kind, Ledger, Size, Split, Vote,
+    audit, audit_deferred, new_records, records, version, views, Committees, Deferred, Encoder, Error, Kind, Ledger, Size, Split,
+    Vote,
 };
 use std::cell::RefCell;
 
@@ -147,6 +148,30 @@ fn more_than_the_first_buffer() {
 }
 
 #[test]
+fn new_evidence_with_a_stored_vote() {
+    let committees = Committees::every(Size::Bytes64, 4).unwrap();
+    let batch = |votes: &[Vote]| {
+        let mut stream = Encoder::new(Size::Bytes64);
+        for vote in votes {
+            stream.vote(vote, 2, &[9; 64], &every).unwrap();
+        }
+        stream.as_bytes().to_vec()
+    };
+    let finalize = |payload| Vote::Finalize { epoch: 3, view: 10, parent: 5, payload };
+    let (one, other, nullify) = (finalize([6; 32]), finalize([7; 32]), Vote::Nullify { epoch: 3, view: 10 });
+    for (first, behind, kind) in [(other, nullify, Kind::NullifyFinalize), (nullify, other, Kind::ConflictingFinalize)] {
+        let mut ledger = Ledger::resume(committees.clone(), Vec::new()).unwrap();
+        ledger.feed(&batch(&[one, first])).unwrap();
+        let stored = ledger.stored();
+        assert_eq!(new_records(&committees, stored, &batch(&[first, one])), Ok(Vec::new()));
+        let new = new_records(&committees, stored, &batch(&[behind])).unwrap();
+        let (first, second) = (new[0].first_place < stored.len(), new[0].second_place < stored.len());
+        assert_eq!((new.len(), new[0].kind, first != second), (1, kind, true));
+    }
+    assert_eq!(new_records(&committees, &[0xff], &[]), Err(Error::Arguments));
+}
+
+#[test]
 fn what_is_refused() {
     assert_eq!(Committees::every(Size::Bytes64, 0), Err(Error::Arguments));
     assert_eq!(Committees::listed(Size::Bytes64, &[]), Err(Error::Arguments));
@@ -160,6 +185,7 @@ fn what_is_refused() {
     assert_eq!(stream.certificate(&vote, &[], &every), Err(Error::Arguments));
     assert_eq!(stream.certificate(&vote, &[(1, &[0; 48]), (1, &[0; 48])], &every), Err(Error::Arguments));
     assert_eq!(stream.certificate(&vote, &[(1, &[0; 48]), (2, &[0; 49])], &every), Err(Error::Arguments));
+    assert_eq!(stream.certification(&vote, &[(1, &[0; 48])], &every), Err(Error::Arguments));
     assert!(stream.as_bytes().is_empty());
 }
 
