@@ -131,6 +131,15 @@ pub fn audit_deferred<S: Listing<D>, D: Digest>(
     // Each stream has one list of messages.
     ensures single { (other : List ℕ) →
         HasOneReading (⟦<S as Audited<D>>⟧.basis committees.now) other }
+    // Who is named does not depend on the order of the messages.
+    ensures any_order { NamesInAnyOrder (⟦<S as Audited<D>>⟧.basis committees.now) }
+    // Who is named stays named, with any bytes behind.
+    ensures stays { NamesStayWithMore (⟦<S as Audited<D>>⟧.basis committees.now) stream.now }
+    // Two certified messages of a round that contradict name at least f + 1 signers there, f of its epoch's committee.
+    ensures enough { ForksNameEnough (⟦<S as Audited<D>>⟧.basis committees.now) stream.now }
+    // Every signer of both certificates is named.
+    ensures accountable { SignersOfBothAreNamed (⟦<S as Audited<D>>⟧.basis committees.now)
+        stream.now }
 {
     // What holds of any messages.
     names_stay::<S, D>();

@@ -2,7 +2,7 @@ use Rattle.std.proofs.Common.{arith}
 use Rattle.simplex_detector.specs.Committees.{Schedule, rules_of}
 use Rattle.simplex_detector.specs.Rules.{Rules}
 use Rattle.simplex_audit.proofs.DeferredLemmas.{needs_suspects}
-use Rattle.simplex_audit.proofs.NamesLemmas.{if_ok, if_both, audited}
+use Rattle.simplex_audit.proofs.NamesLemmas.{if_ok, if_both, audited, names_stay}
 use Rattle.simplex_audit.proofs.StreamLemmas.{messages_once}
 use Rattle.simplex_audit.proofs.audit.audit_deferred.Given as given
 use Rattle.simplex_audit.proofs.audit.audit_deferred.Goals as goal
@@ -37,3 +37,16 @@ returns-clause-suspects g c =
 
 pub returns-clause-single : goal.returns-clause-single
 returns-clause-single g c other = λ messages others rest left are are'. messages_once _ c.audit_suspects.ensures.readable other rest left messages others are are'
+
+pub returns-clause-any_order : goal.returns-clause-any_order
+returns-clause-any_order g c = λ messages. c.names_stay.ensures.any_order (rules g c.args.committees.now) messages
+
+pub returns-clause-stays : goal.returns-clause-stays
+returns-clause-stays g c = λ more n messages rest are later left are'.
+    names_stay _ (rules g c.args.committees.now) c.audit_suspects.ensures.readable c.args.stream.now more rest left messages later (c.names_stay.ensures.later (rules g c.args.committees.now) messages) are are' n
+
+pub returns-clause-enough : goal.returns-clause-enough
+returns-clause-enough g c = λ messages rest are. c.certificates_are_accountable.ensures.enough (rules g c.args.committees.now) messages c.audit_suspects.ensures.lawful
+
+pub returns-clause-accountable : goal.returns-clause-accountable
+returns-clause-accountable g c = λ messages rest are. c.certificates_are_accountable.ensures.signers (rules g c.args.committees.now) messages c.audit_suspects.ensures.lawful
