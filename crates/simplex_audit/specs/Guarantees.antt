@@ -25,8 +25,8 @@ HasOneReading {S} {D} {C} {P} {G} basis stream =
     AreMessages basis.format stream messages rest → AreMessages basis.format stream others left → (messages ≡ others) × (rest ≡ left)
 
 -- the evidence names exactly the signers, rounds and kinds with two valid votes that contradict
-abbrev pub NamesExactlyThem : {S D C P G : Type 0} → Basis S D C P G → List ℕ → Report S D P G → Type 0
-NamesExactlyThem basis stream report = OfMessages basis stream (λ messages. NamesExactly basis.rules.eq (valid_votes basis.rules messages) (evidence_in report))
+abbrev pub AccusesExactlyThem : {S D C P G : Type 0} → Basis S D C P G → List ℕ → Report S D P G → Type 0
+AccusesExactlyThem basis stream report = OfMessages basis stream (λ messages. NamesExactly basis.rules.eq (valid_votes basis.rules messages) (evidence_in report))
 
 -- each evidence is two of the valid votes, which contradict
 abbrev pub ShowsTwoVotes : {S D C P G : Type 0} → Basis S D C P G → List ℕ → Report S D P G → Type 0
@@ -37,26 +37,26 @@ abbrev pub HasNoOtherEvidence : {S D C P G : Type 0} → Basis S D C P G → Lis
 HasNoOtherEvidence basis stream report = OfMessages basis stream (λ messages. EvidenceIsUnique basis.rules.eq (valid_votes basis.rules messages) (evidence_in report))
 
 -- who is named by messages does not depend on their order
-abbrev pub NamesInAnyOrder : {S D C P G : Type 0} → Basis S D C P G → Type 0
-NamesInAnyOrder {S} {D} {C} {P} {G} basis = (messages : List (Activity S D C P G)) → NamedInAnyOrder basis.rules messages
+abbrev pub AccusedInAnyOrder : {S D C P G : Type 0} → Basis S D C P G → Type 0
+AccusedInAnyOrder {S} {D} {C} {P} {G} basis = (messages : List (Activity S D C P G)) → NamedInAnyOrder basis.rules messages
 
 -- who is named by the stream's messages stays named, with any bytes behind
-abbrev pub NamesStayWithMore : {S D C P G : Type 0} → Basis S D C P G → List ℕ → Type 0
-NamesStayWithMore basis stream = (more : List ℕ) (n : Named) → OfMessages basis stream (λ messages. OfMessages basis (stream ++ more) (λ later.
+abbrev pub AccusedStayWithMore : {S D C P G : Type 0} → Basis S D C P G → List ℕ → Type 0
+AccusedStayWithMore basis stream = (more : List ℕ) (n : Named) → OfMessages basis stream (λ messages. OfMessages basis (stream ++ more) (λ later.
     IsTrue (is_named basis.rules.eq (valid_votes basis.rules messages) n) → IsTrue (is_named basis.rules.eq (valid_votes basis.rules later) n)))
 
 -- two certified messages of a round that contradict name at least f + 1 signers there, of whom f may lie in the
 -- committee of the round's epoch
-abbrev pub ForksNameEnough : {S D C P G : Type 0} → Basis S D C P G → List ℕ → Type 0
-ForksNameEnough basis stream = OfMessages basis stream (EnoughAreNamed basis.rules)
+abbrev pub ConflictsAccuseEnough : {S D C P G : Type 0} → Basis S D C P G → List ℕ → Type 0
+ConflictsAccuseEnough basis stream = OfMessages basis stream (EnoughAreNamed basis.rules)
 
 -- who signed in the certificates of both is named there
-abbrev pub SignersOfBothAreNamed : {S D C P G : Type 0} → Basis S D C P G → List ℕ → Type 0
-SignersOfBothAreNamed basis stream = OfMessages basis stream (SignersAreAccountable basis.rules)
+abbrev pub SignersOfBothAreAccused : {S D C P G : Type 0} → Basis S D C P G → List ℕ → Type 0
+SignersOfBothAreAccused basis stream = OfMessages basis stream (SignersAreAccountable basis.rules)
 
 -- the splits are the rounds with two certified messages that contradict, in order, each once with the number of signers
 -- named there and that f + 1, and no other list is
-pub record ShowsForks {S D C P G : Type 0} (basis : Basis S D C P G) (stream : List ℕ) (report : Report S D P G) : Type 0 where
+pub record ShowsSplits {S D C P G : Type 0} (basis : Basis S D C P G) (stream : List ℕ) (report : Report S D P G) : Type 0 where
   pub are_splits : OfMessages basis stream (λ messages. AreSplits basis.rules messages report.splits.items)
   pub only : OfMessages basis stream (λ messages. SplitsAreUnique basis.rules messages report.splits.items)
   pub enough : SplitsHaveNames report.splits.items
@@ -73,12 +73,12 @@ pub record ReadsAgain {S D C P G : Type 0} (basis : Basis S D C P G) (report : R
 pub record IsAudit {S D C P G : Type 0} (basis : Basis S D C P G) (stream : List ℕ) (report : Report S D P G) : Type 0 where
   pub report_is : IsReport basis stream report
   pub single : HasOneReading basis stream
-  pub names : NamesExactlyThem basis stream report
+  pub names : AccusesExactlyThem basis stream report
   pub sound : ShowsTwoVotes basis stream report
   pub only : HasNoOtherEvidence basis stream report
-  pub any_order : NamesInAnyOrder basis
-  pub stays : NamesStayWithMore basis stream
-  pub enough : ForksNameEnough basis stream
-  pub splits : ShowsForks basis stream report
-  pub accountable : SignersOfBothAreNamed basis stream
+  pub any_order : AccusedInAnyOrder basis
+  pub stays : AccusedStayWithMore basis stream
+  pub enough : ConflictsAccuseEnough basis stream
+  pub splits : ShowsSplits basis stream report
+  pub accountable : SignersOfBothAreAccused basis stream
   pub again : ReadsAgain basis report

@@ -3,7 +3,7 @@
 ghost use Rattle.std.specs.Prelude.{◌&&◌, ℕ, List, All, IfOk, nat_eq, refl};
 ghost use Rattle.simplex_base.specs.Format.{IsLawful};
 ghost use Rattle.simplex_audit.specs.Deferred.{NeedsSuspectsAlone};
-ghost use Rattle.simplex_audit.specs.Guarantees.{HasOneReading, NamesExactlyThem, ShowsTwoVotes, HasNoOtherEvidence, NamesInAnyOrder, NamesStayWithMore, ForksNameEnough, SignersOfBothAreNamed, ShowsForks, ReadsAgain, IsAudit};
+ghost use Rattle.simplex_audit.specs.Guarantees.{HasOneReading, AccusesExactlyThem, ShowsTwoVotes, HasNoOtherEvidence, AccusedInAnyOrder, AccusedStayWithMore, ConflictsAccuseEnough, SignersOfBothAreAccused, ShowsSplits, ReadsAgain, IsAudit};
 ghost use Rattle.simplex_audit.specs.Report.{IsReport, as_messages};
 ghost use Rattle.simplex_detector.specs.Rules.{AreLawful};
 
@@ -77,7 +77,7 @@ pub fn audit<S: Listing<D>, D: Digest>(
     ensures single { HasOneReading (⟦<S as Audited<D>>⟧.basis committees.now) stream.now }
     // The evidence names exactly the signers, rounds and kinds with two valid votes that contradict, and no other.
     ensures names { IfOk result (λ report.
-        NamesExactlyThem (⟦<S as Audited<D>>⟧.basis committees.now) stream.now report) }
+        AccusesExactlyThem (⟦<S as Audited<D>>⟧.basis committees.now) stream.now report) }
     // Each evidence is two of the stream's valid votes, which contradict.
     ensures sound { IfOk result (λ report.
         ShowsTwoVotes (⟦<S as Audited<D>>⟧.basis committees.now) stream.now report) }
@@ -85,17 +85,17 @@ pub fn audit<S: Listing<D>, D: Digest>(
     ensures only { IfOk result (λ report.
         HasNoOtherEvidence (⟦<S as Audited<D>>⟧.basis committees.now) stream.now report) }
     // Who is named does not depend on the order of the messages.
-    ensures any_order { NamesInAnyOrder (⟦<S as Audited<D>>⟧.basis committees.now) }
+    ensures any_order { AccusedInAnyOrder (⟦<S as Audited<D>>⟧.basis committees.now) }
     // Who is named stays named, with any bytes behind.
-    ensures stays { NamesStayWithMore (⟦<S as Audited<D>>⟧.basis committees.now) stream.now }
+    ensures stays { AccusedStayWithMore (⟦<S as Audited<D>>⟧.basis committees.now) stream.now }
     // Two certified messages of a round that contradict name at least f + 1 signers there, f of its epoch's committee.
-    ensures enough { ForksNameEnough (⟦<S as Audited<D>>⟧.basis committees.now) stream.now }
+    ensures enough { ConflictsAccuseEnough (⟦<S as Audited<D>>⟧.basis committees.now) stream.now }
     // The splits are the rounds with such messages, each once with the number of who is named there and that f + 1, and
     // no other.
     ensures splits { IfOk result (λ report.
-        ShowsForks (⟦<S as Audited<D>>⟧.basis committees.now) stream.now report) }
+        ShowsSplits (⟦<S as Audited<D>>⟧.basis committees.now) stream.now report) }
     // Every signer of both certificates is named.
-    ensures accountable { SignersOfBothAreNamed (⟦<S as Audited<D>>⟧.basis committees.now)
+    ensures accountable { SignersOfBothAreAccused (⟦<S as Audited<D>>⟧.basis committees.now)
         stream.now }
     // The evidence is enough: encoded as messages and audited again, it gives itself in the same order.
     ensures again { IfOk result (λ report.
@@ -132,13 +132,13 @@ pub fn audit_deferred<S: Listing<D>, D: Digest>(
     ensures single { (other : List ℕ) →
         HasOneReading (⟦<S as Audited<D>>⟧.basis committees.now) other }
     // Who is named does not depend on the order of the messages.
-    ensures any_order { NamesInAnyOrder (⟦<S as Audited<D>>⟧.basis committees.now) }
+    ensures any_order { AccusedInAnyOrder (⟦<S as Audited<D>>⟧.basis committees.now) }
     // Who is named stays named, with any bytes behind.
-    ensures stays { NamesStayWithMore (⟦<S as Audited<D>>⟧.basis committees.now) stream.now }
+    ensures stays { AccusedStayWithMore (⟦<S as Audited<D>>⟧.basis committees.now) stream.now }
     // Two certified messages of a round that contradict name at least f + 1 signers there, f of its epoch's committee.
-    ensures enough { ForksNameEnough (⟦<S as Audited<D>>⟧.basis committees.now) stream.now }
+    ensures enough { ConflictsAccuseEnough (⟦<S as Audited<D>>⟧.basis committees.now) stream.now }
     // Every signer of both certificates is named.
-    ensures accountable { SignersOfBothAreNamed (⟦<S as Audited<D>>⟧.basis committees.now)
+    ensures accountable { SignersOfBothAreAccused (⟦<S as Audited<D>>⟧.basis committees.now)
         stream.now }
 {
     // What holds of any messages.
