@@ -43,7 +43,7 @@ pub report_splits : {S D C P G : Type 0} (basis : Basis S D C P G) → IsLawful 
 report_splits basis law stream report is messages rest are =
     subst (λ ms. AreSplits basis.rules ms report.splits.items) (messages_once basis.format law stream is.rest rest is.messages messages is.are_messages are).0 is.splits_are
 
--- who is named stays named in the stream with anything appended
+-- who is accused stays accused in the stream with anything appended
 pub names_stay : {S D C P G : Type 0} (format : Format (Activity S D C P G)) (rules : Rules S D C P G) → IsLawful format → (stream more rest left : List ℕ) (messages later : List (Activity S D C P G)) → NamesStay rules messages → AreMessages format stream messages rest → AreMessages format (stream ++ more) later left →
     (n : Named) → IsTrue (is_named rules.eq (valid_votes rules messages) n) → IsTrue (is_named rules.eq (valid_votes rules later) n)
 names_stay format rules law stream more rest left messages later stay are are' n h =

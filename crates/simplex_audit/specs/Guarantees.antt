@@ -18,13 +18,13 @@ abbrev pub OfMessages : {S D C P G : Type 0} → Basis S D C P G → List ℕ �
 OfMessages {S} {D} {C} {P} {G} basis stream Holds =
     (messages : List (Activity S D C P G)) (rest : List ℕ) → AreMessages basis.format stream messages rest → Holds messages
 
--- the stream has one list of messages, and one rest
+-- the stream has one list of messages, and one undecoded tail
 abbrev pub HasOneReading : {S D C P G : Type 0} → Basis S D C P G → List ℕ → Type 0
 HasOneReading {S} {D} {C} {P} {G} basis stream =
     (messages others : List (Activity S D C P G)) (rest left : List ℕ) →
     AreMessages basis.format stream messages rest → AreMessages basis.format stream others left → (messages ≡ others) × (rest ≡ left)
 
--- the evidence names exactly the signers, rounds and kinds with two valid votes that contradict
+-- the evidence accuses exactly the signers, rounds and kinds with two valid votes that contradict
 abbrev pub AccusesExactlyThem : {S D C P G : Type 0} → Basis S D C P G → List ℕ → Report S D P G → Type 0
 AccusesExactlyThem basis stream report = OfMessages basis stream (λ messages. NamesExactly basis.rules.eq (valid_votes basis.rules messages) (evidence_in report))
 
@@ -36,26 +36,26 @@ ShowsTwoVotes basis stream report = OfMessages basis stream (λ messages. All (I
 abbrev pub HasNoOtherEvidence : {S D C P G : Type 0} → Basis S D C P G → List ℕ → Report S D P G → Type 0
 HasNoOtherEvidence basis stream report = OfMessages basis stream (λ messages. EvidenceIsUnique basis.rules.eq (valid_votes basis.rules messages) (evidence_in report))
 
--- who is named by messages does not depend on their order
+-- who is accused by messages does not depend on their order
 abbrev pub AccusedInAnyOrder : {S D C P G : Type 0} → Basis S D C P G → Type 0
 AccusedInAnyOrder {S} {D} {C} {P} {G} basis = (messages : List (Activity S D C P G)) → NamedInAnyOrder basis.rules messages
 
--- who is named by the stream's messages stays named, with any bytes behind
+-- who is accused by the stream's messages stays accused, with any bytes behind
 abbrev pub AccusedStayWithMore : {S D C P G : Type 0} → Basis S D C P G → List ℕ → Type 0
 AccusedStayWithMore basis stream = (more : List ℕ) (n : Named) → OfMessages basis stream (λ messages. OfMessages basis (stream ++ more) (λ later.
     IsTrue (is_named basis.rules.eq (valid_votes basis.rules messages) n) → IsTrue (is_named basis.rules.eq (valid_votes basis.rules later) n)))
 
--- two certified messages of a round that contradict name at least f + 1 signers there, of whom f may lie in the
+-- two certified messages of a round that contradict accuse at least f + 1 signers there, of whom f may lie in the
 -- committee of the round's epoch
 abbrev pub ConflictsAccuseEnough : {S D C P G : Type 0} → Basis S D C P G → List ℕ → Type 0
 ConflictsAccuseEnough basis stream = OfMessages basis stream (EnoughAreNamed basis.rules)
 
--- who signed in the certificates of both is named there
+-- who signed in the certificates of both is accused there
 abbrev pub SignersOfBothAreAccused : {S D C P G : Type 0} → Basis S D C P G → List ℕ → Type 0
 SignersOfBothAreAccused basis stream = OfMessages basis stream (SignersAreAccountable basis.rules)
 
 -- the splits are the rounds with two certified messages that contradict, in order, each once with the number of signers
--- named there and that f + 1, and no other list is
+-- accused there and that f + 1, and no other list is
 pub record ShowsSplits {S D C P G : Type 0} (basis : Basis S D C P G) (stream : List ℕ) (report : Report S D P G) : Type 0 where
   pub are_splits : OfMessages basis stream (λ messages. AreSplits basis.rules messages report.splits.items)
   pub only : OfMessages basis stream (λ messages. SplitsAreUnique basis.rules messages report.splits.items)
@@ -67,7 +67,7 @@ pub record ReadsAgain {S D C P G : Type 0} (basis : Basis S D C P G) (report : R
   pub stream : AreMessages basis.format (flat_map basis.format.encoding (as_messages report)) (as_messages report) []
   pub evidence : IsEvidence basis.rules.eq (valid_votes basis.rules (as_messages report)) (evidence_in report)
 
--- The report is that of an audit of the stream: all that an audit says of a stream, and of its report. The evidence names
+-- The report is that of an audit of the stream: all that an audit says of a stream, and of its report. The evidence accuses
 -- exactly who cast two valid votes that contradict, each by two such votes, and the splits are the rounds with certified messages
 -- that contradict.
 pub record IsAudit {S D C P G : Type 0} (basis : Basis S D C P G) (stream : List ℕ) (report : Report S D P G) : Type 0 where

@@ -1,4 +1,4 @@
--- What an audit of a stream answers.
+-- What an audit of a stream returns.
 use Rattle.std.specs.Prelude.{◌≡◌, ℕ, List, map, length}
 use Rattle.std.specs.List.{flat_map}
 use Rattle.simplex_evidence.specs.Contradiction.{Evidence}

@@ -32,7 +32,7 @@ use std::alloc::{AllocError, Global};
 pub struct Fault {
     /// The byte at which the first thing that is no message begins.
     pub place: usize,
-    /// What reading a message there answers; never `OutOfMemory`.
+    /// What reading a message there returns; never `OutOfMemory`.
     pub error: Error,
 }
 
@@ -60,10 +60,10 @@ pub struct Report<S: SchemeTypes, D: Digest> {
 }
 
 /// Reads a stream of messages, one after another, under the bound of the greatest committee until its end or the
-/// first fault, and names exactly the signers, rounds and kinds with two contradictory votes that verify
+/// first fault, and accuses exactly the signers, rounds and kinds with two contradictory votes that verify
 /// there, each once with the earliest such votes. A vote or a certificate is judged by the committee of its epoch, and
 /// none is valid without one. Beside them it reports the rounds whose certificates contradict. Nothing is assumed of the
-/// bytes. `AllocError` comes where memory is refused, and then there is no report.
+/// bytes. `AllocError` is returned only after an allocation failed, and then there is no report.
 pub fn audit<S: Listing<D>, D: Digest>(
     alloc: Global,
     committees: &Committees<S>,
@@ -75,7 +75,7 @@ pub fn audit<S: Listing<D>, D: Digest>(
         IsReport (⟦<S as Audited<D>>⟧.basis committees.now) stream.now report) }
     // A stream has one list of messages.
     ensures single { HasOneReading (⟦<S as Audited<D>>⟧.basis committees.now) stream.now }
-    // The evidence names exactly the signers, rounds and kinds with two valid votes that contradict, and no other.
+    // The evidence accuses exactly the signers, rounds and kinds with two valid votes that contradict, and no other.
     ensures names { IfOk result (λ report.
         AccusesExactlyThem (⟦<S as Audited<D>>⟧.basis committees.now) stream.now report) }
     // Each evidence is two of the stream's valid votes, which contradict.
@@ -84,17 +84,17 @@ pub fn audit<S: Listing<D>, D: Digest>(
     // No other list is the evidence of the stream's valid votes.
     ensures only { IfOk result (λ report.
         HasNoOtherEvidence (⟦<S as Audited<D>>⟧.basis committees.now) stream.now report) }
-    // Who is named does not depend on the order of the messages.
+    // Who is accused does not depend on the order of the messages.
     ensures any_order { AccusedInAnyOrder (⟦<S as Audited<D>>⟧.basis committees.now) }
-    // Who is named stays named, with any bytes behind.
+    // Who is accused stays accused, with any bytes behind.
     ensures stays { AccusedStayWithMore (⟦<S as Audited<D>>⟧.basis committees.now) stream.now }
-    // Two certified messages of a round that contradict name at least f + 1 signers there, f of its epoch's committee.
+    // Two certified messages of a round that contradict accuse at least f + 1 signers there, f of its epoch's committee.
     ensures enough { ConflictsAccuseEnough (⟦<S as Audited<D>>⟧.basis committees.now) stream.now }
-    // The splits are the rounds with such messages, each once with the number of who is named there and that f + 1, and
-    // no other.
+    // The splits are the rounds with such messages, each once with the number of who is accused there and that f + 1,
+    // and no other.
     ensures splits { IfOk result (λ report.
         ShowsSplits (⟦<S as Audited<D>>⟧.basis committees.now) stream.now report) }
-    // Every signer of both certificates is named.
+    // Every signer of both certificates is accused.
     ensures accountable { SignersOfBothAreAccused (⟦<S as Audited<D>>⟧.basis committees.now)
         stream.now }
     // The evidence is enough: encoded as messages and audited again, it gives itself in the same order.
@@ -115,8 +115,8 @@ pub fn audit<S: Listing<D>, D: Digest>(
 /// verified where its signer is suspect and the certificate was not found to certify. Where nobody is suspect, the stream is
 /// read once and nothing is verified; otherwise it is read twice. The first reading records votes with invalid signatures too,
 /// so memory is bounded by the stream and not by the committees alone. That suits a stored stream or a batch of bounded size;
-/// for an endless stream of strangers there is [`Auditor`]. `AllocError` comes where memory is refused, and then there is no
-/// report.
+/// for an endless stream of strangers there is [`Auditor`]. `AllocError` is returned only after an allocation failed, and then
+/// there is no report.
 pub fn audit_deferred<S: Listing<D>, D: Digest>(
     alloc: Global,
     committees: &Committees<S>,
@@ -131,13 +131,13 @@ pub fn audit_deferred<S: Listing<D>, D: Digest>(
     // Each stream has one list of messages.
     ensures single { (other : List ℕ) →
         HasOneReading (⟦<S as Audited<D>>⟧.basis committees.now) other }
-    // Who is named does not depend on the order of the messages.
+    // Who is accused does not depend on the order of the messages.
     ensures any_order { AccusedInAnyOrder (⟦<S as Audited<D>>⟧.basis committees.now) }
-    // Who is named stays named, with any bytes behind.
+    // Who is accused stays accused, with any bytes behind.
     ensures stays { AccusedStayWithMore (⟦<S as Audited<D>>⟧.basis committees.now) stream.now }
-    // Two certified messages of a round that contradict name at least f + 1 signers there, f of its epoch's committee.
+    // Two certified messages of a round that contradict accuse at least f + 1 signers there, f of its epoch's committee.
     ensures enough { ConflictsAccuseEnough (⟦<S as Audited<D>>⟧.basis committees.now) stream.now }
-    // Every signer of both certificates is named.
+    // Every signer of both certificates is accused.
     ensures accountable { SignersOfBothAreAccused (⟦<S as Audited<D>>⟧.basis committees.now)
         stream.now }
 {

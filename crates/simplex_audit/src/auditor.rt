@@ -45,7 +45,7 @@ struct Taken {
     fed: usize,
     /// The number of its messages.
     read: usize,
-    /// What reading a message in front of the rest answers, if anything is left.
+    /// What reading a message at the start of the undecoded tail returns, if anything is left.
     stop: Option<Error>,
     ghost room: { read + vec_len rest ≤ fed },
 }
@@ -72,7 +72,8 @@ impl<'a, S: Listing<D>, D: Digest> Auditor<'a, S, D> {
         }
     }
 
-    /// The auditor of the stream with this piece behind it. Where memory is refused there is none.
+    /// The auditor of the stream with this piece behind it. `AllocError` is returned only after an allocation failed, and then
+    /// there is no auditor.
     pub fn feed(self, piece: &[u8]) -> Result<Self, AllocError>
         requires { fed_of self + length piece.now < 2 ^ 64 }
         ensures fed { IfOk result (λ next. fed_of next ≡ fed_of self.entry + length piece.now) }
@@ -145,7 +146,7 @@ impl<'a, S: Listing<D>, D: Digest> Auditor<'a, S, D> {
         })
     }
 
-    /// Holds the piece behind the rest, and looks for no messages.
+    /// Holds the piece behind the undecoded tail, and looks for no messages.
     fn hold(self, piece: &[u8]) -> Result<Self, AllocError>
         requires { fed_of self + length piece.now < 2 ^ 64 }
         ensures fed { IfOk result (λ next. fed_of next ≡ fed_of self.entry + length piece.now) }
