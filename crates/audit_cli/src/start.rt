@@ -1,6 +1,6 @@
 //! The program as a function over what its process is given.
 
-ghost use Rattle.std.specs.Prelude.{◌≡◌, ◌≢◌, ◌⊎◌, false, IfOk, IfErr, OnErr, map, string_bytes};
+ghost use Rattle.std.specs.Prelude.{◌≡◌, ◌≢◌, ◌⊎◌, false, IsTrue, IfOk, IfErr, OnErr, map, string_bytes};
 ghost use Rattle.std.specs.IoError.{error_kind};
 ghost use Rattle.std.specs.Vec.Iter.{into_iter_items};
 ghost use Rattle.audit_cli.specs.Arguments.{AreNoArguments, words_of};
@@ -71,6 +71,13 @@ pub fn start<R: Read, W: Write, E: Write>(
           flushed = is_flushed output.new;
         })
         ending) }
+    // Where a device failed the number says so, and nothing else is said.
+    ensures read_failed { IsTrue (has_failed input.new) → (result ≡ 3)
+        × AppendsBeginning (E.contents errors.old) (E.contents errors.new)
+        (complaint_of Failure.Read) }
+    ensures write_failed { IsTrue (has_failed output.new) → (result ≡ 3)
+        × AppendsBeginning (E.contents errors.old) (E.contents errors.new)
+        (complaint_of Failure.Write) }
     ensures refused { IfOk given (λ given. AreNoArguments (words_of (into_iter_items given)) →
         (result ≡ 2) ⊎ (result ≡ 3)) }
     ensures untouched { IfOk given (λ given. AreNoArguments (words_of (into_iter_items given)) →
