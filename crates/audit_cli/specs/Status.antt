@@ -1,5 +1,5 @@
 -- How the program ends, and what it says then.
-use Rattle.std.specs.Prelude.{ℕ, List, ◌++◌, codes, decimal}
+use Rattle.std.specs.Prelude.{ℕ, Bool, true, false, List, ◌++◌, codes, decimal}
 use Rattle.simplex_audit.specs.declared.run.RunError.{RunError}
 use Rattle.simplex_audit.specs.declared.run.RunError.TheVariants as errors
 use Rattle.audit_cli.specs.declared.status.Status.{Status}
@@ -39,3 +39,19 @@ complaint_of OutOfMemory = codes "audit: out of memory\n"
 -- what is said of a fault at a byte of the stream
 abbrev pub complaint_at : ℕ → List ℕ
 complaint_at place = codes "audit: fault at byte " ++ (decimal place ++ codes "\n")
+
+-- whether two statuses are the same
+abbrev pub same_status : Status → Status → Bool
+same_status statuses.Whole statuses.Whole = true
+same_status statuses.Fault statuses.Fault = true
+same_status statuses.Usage statuses.Usage = true
+same_status statuses.Failed statuses.Failed = true
+same_status _ _ = false
+
+-- whether two failures are the same
+abbrev pub same_failure : Failure → Failure → Bool
+same_failure Usage Usage = true
+same_failure Read Read = true
+same_failure Write Write = true
+same_failure OutOfMemory OutOfMemory = true
+same_failure _ _ = false

@@ -6,7 +6,7 @@ ghost use Rattle.audit_cli.specs.Status.{number_of, status_after, complaint_of, 
 use arrayvec::ArrayString;
 use itoa::Buffer;
 use simplex_audit::run::RunError;
-use simplex_base::values::ExactClone;
+use simplex_base::values::{EqByParts, ExactClone};
 use std::alloc::AllocError;
 
 /// How the program ends.
@@ -24,6 +24,21 @@ pub enum Status {
 
 impl ExactClone for Status {
     ghost exact = { λ x y same. same };
+}
+
+impl EqByParts for Status {
+    ghost use Rattle.std.specs.Prelude.{refl};
+    ghost use Rattle.audit_cli.specs.Status.{same_status};
+    ghost use Rattle.audit_cli.specs.declared.status.Status.TheVariants.{Whole, Fault, Usage, Failed};
+
+    ghost same = { same_status };
+
+    ghost equal = { elim [
+      | Whole ↦ elim [ Whole ↦ refl | _ ↦ refl ]
+      | Fault ↦ elim [ Fault ↦ refl | _ ↦ refl ]
+      | Usage ↦ elim [ Usage ↦ refl | _ ↦ refl ]
+      | Failed ↦ elim [ Failed ↦ refl | _ ↦ refl ]
+    ] };
 }
 
 impl Status {
@@ -77,6 +92,21 @@ impl From<RunError> for Failure {
 
 impl ExactClone for Failure {
     ghost exact = { λ x y same. same };
+}
+
+impl EqByParts for Failure {
+    ghost use Rattle.std.specs.Prelude.{refl};
+    ghost use Rattle.audit_cli.specs.Status.{same_failure};
+    ghost use Rattle.audit_cli.specs.declared.status.Failure.TheVariants.{Usage, Read, Write, OutOfMemory};
+
+    ghost same = { same_failure };
+
+    ghost equal = { elim [
+      | Usage ↦ elim [ Usage ↦ refl | _ ↦ refl ]
+      | Read ↦ elim [ Read ↦ refl | _ ↦ refl ]
+      | Write ↦ elim [ Write ↦ refl | _ ↦ refl ]
+      | OutOfMemory ↦ elim [ OutOfMemory ↦ refl | _ ↦ refl ]
+    ] };
 }
 
 impl Failure {
