@@ -2,9 +2,9 @@
 
 ghost use Rattle.std.specs.Prelude.{◌≡◌, ◌⊎◌, false, Err, IsTrue, map, string_bytes};
 ghost use Rattle.simplex_audit.specs.Run.{AppendsBeginning};
-ghost use Rattle.simplex_audit.specs.Watched.{inner_of, has_failed, is_flushed};
+ghost use Rattle.simplex_audit.specs.Watched.{has_failed};
 ghost use Rattle.audit_cli.specs.Arguments.{AreNoArguments};
-ghost use Rattle.audit_cli.specs.Answer.{Ends, Ending, status_of, said_of};
+ghost use Rattle.audit_cli.specs.Answer.{Ends, Ending, reader_use, writer_use, status_of, said_of};
 ghost use Rattle.audit_cli.specs.Status.{complaint_of};
 
 use crate::arguments;
@@ -26,18 +26,8 @@ fn audit_input<R: Read, W: Write>(
     requires input_well { has_failed input.old ≡ false }
     requires output_well { has_failed output.old ≡ false }
     ensures ends { Ends ⟦<Plain as Audited<Sha256Digest>>⟧.basis (map string_bytes arguments.now)
-        (record {
-          before = R.remaining (inner_of input.old);
-          after = R.remaining (inner_of input.new);
-          failed = has_failed input.new;
-        })
-        (record {
-          before = W.contents (inner_of output.old);
-          after = W.contents (inner_of output.new);
-          failed = has_failed output.new;
-          flushed = is_flushed output.new;
-        })
-        result }
+        (reader_use R.remaining input.old input.new)
+        (writer_use W.contents output.old output.new) result }
     ensures read_failed { IsTrue (has_failed input.new) → result ≡ Err Failure.Read }
     ensures write_failed { IsTrue (has_failed output.new) → result ≡ Err Failure.Write }
     ensures untouched { AreNoArguments (map string_bytes arguments.now) → (input.new ≡ input.old) ×
@@ -102,18 +92,8 @@ pub fn command<R: Read, W: Write, E: Write>(
     ensures ends { (ending : Ending) × (result ≡ status_of ending)
         × AppendsBeginning (E.contents errors.old) (E.contents errors.new) (said_of ending)
         × Ends ⟦<Plain as Audited<Sha256Digest>>⟧.basis (map string_bytes arguments.now)
-        (record {
-          before = R.remaining (inner_of input.old);
-          after = R.remaining (inner_of input.new);
-          failed = has_failed input.new;
-        })
-        (record {
-          before = W.contents (inner_of output.old);
-          after = W.contents (inner_of output.new);
-          failed = has_failed output.new;
-          flushed = is_flushed output.new;
-        })
-        ending }
+        (reader_use R.remaining input.old input.new)
+        (writer_use W.contents output.old output.new) ending }
     // Where a device failed the status tells it, and nothing else is said.
     ensures read_failed { IsTrue (has_failed input.new) → (result ≡ Status.Failed)
         × AppendsBeginning (E.contents errors.old) (E.contents errors.new)

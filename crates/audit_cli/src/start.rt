@@ -4,10 +4,10 @@ ghost use Rattle.std.specs.Prelude.{◌≡◌, ◌≢◌, ◌⊎◌, false, IsTr
 ghost use Rattle.std.specs.IoError.{error_kind};
 ghost use Rattle.std.specs.Vec.Iter.{into_iter_items};
 ghost use Rattle.audit_cli.specs.Arguments.{AreNoArguments, words_of};
-ghost use Rattle.audit_cli.specs.Answer.{Ends, Ending, status_of, said_of};
+ghost use Rattle.audit_cli.specs.Answer.{Ends, Ending, reader_use, writer_use, status_of, said_of};
 ghost use Rattle.audit_cli.specs.Status.{complaint_of, number_of};
 ghost use Rattle.simplex_audit.specs.Run.{AppendsBeginning};
-ghost use Rattle.simplex_audit.specs.Watched.{inner_of, has_failed, is_flushed};
+ghost use Rattle.simplex_audit.specs.Watched.{has_failed};
 
 use crate::command::{command, conclude};
 use crate::status::{Failure, Status};
@@ -59,18 +59,8 @@ pub fn start<R: Read, W: Write, E: Write>(
     ensures ends { IfOk given (λ given. (ending : Ending) × (result ≡ number_of (status_of ending))
         × AppendsBeginning (E.contents errors.old) (E.contents errors.new) (said_of ending)
         × Ends ⟦<Plain as Audited<Sha256Digest>>⟧.basis (words_of (into_iter_items given))
-        (record {
-          before = R.remaining (inner_of input.old);
-          after = R.remaining (inner_of input.new);
-          failed = has_failed input.new;
-        })
-        (record {
-          before = W.contents (inner_of output.old);
-          after = W.contents (inner_of output.new);
-          failed = has_failed output.new;
-          flushed = is_flushed output.new;
-        })
-        ending) }
+        (reader_use R.remaining input.old input.new)
+        (writer_use W.contents output.old output.new) ending) }
     // Where a device failed the number says so, and nothing else is said.
     ensures read_failed { IsTrue (has_failed input.new) → (result ≡ 3)
         × AppendsBeginning (E.contents errors.old) (E.contents errors.new)

@@ -1,7 +1,7 @@
 use Rattle.std.proofs.Common.{ap, Err, refl}
 use Rattle.std.proofs.lemmas.Result.{err_from_is_err_and}
 use Rattle.std.proofs.KnownBytes.{Keeps-refl}
-use Rattle.simplex_audit.specs.Watched.{inner_of, has_failed, is_flushed}
+use Rattle.audit_cli.specs.Answer.{reader_use, writer_use}
 use Rattle.audit_cli.proofs.EndLemmas.{committees-named, ends-without_committees, ends-given_up}
 use Rattle.audit_cli.proofs.command.audit_input.Goals as goal
 
@@ -11,8 +11,7 @@ returns-in_err-committees-clause-ends g c =
     let input = c.args.input.now in
     let output = c.args.output.now in
     rw (p.1, p.2) (ends-without_committees _ _
-    (record { before = g.R.Read.remaining (inner_of input); after = g.R.Read.remaining (inner_of input); failed = has_failed input })
-    (record { before = g.W.Write.contents (inner_of output); after = g.W.Write.contents (inner_of output); failed = has_failed output; flushed = is_flushed output })
+    (reader_use g.R.Read.remaining input input) (writer_use g.W.Write.contents output output)
     _ (λ e. c.in_err-committees.ensures.usage (ap Err e)) c.in_err-committees.ensures.failure (Keeps-refl _))
 
 pub returns-in_err-summary-clause-ends : goal.returns-in_err-summary-clause-ends
@@ -21,8 +20,7 @@ returns-in_err-summary-clause-ends g c =
     let input = c.run.new.reader in
     let output = c.run.new.writer in
     rw (p.1, p.2) (ends-given_up _ _
-    (record { before = g.R.Read.remaining (inner_of c.args.input.now); after = g.R.Read.remaining (inner_of input); failed = has_failed input })
-    (record { before = g.W.Write.contents (inner_of c.args.output.now); after = g.W.Write.contents (inner_of output); failed = has_failed output; flushed = is_flushed output })
+    (reader_use g.R.Read.remaining c.args.input.now input) (writer_use g.W.Write.contents c.args.output.now output)
     c.in_ok-committees.committees c.in_err-summary.field-0.0 c.in_ok-committees.ensures.committees
     (λ e. c.in_err-summary.ensures.read_failed.1 (ap Err e)) (λ e. c.in_err-summary.ensures.too_long (ap Err e)) (λ other. c.in_err-summary.ensures.nothing other)
     (λ e.

@@ -1,7 +1,7 @@
 use Rattle.std.proofs.Common.{ap, Err}
 use Rattle.std.proofs.lemmas.Result.{err_from_is_err_and}
 use Rattle.std.proofs.KnownBytes.{Keeps-refl}
-use Rattle.simplex_audit.specs.Watched.{inner_of, has_failed, is_flushed}
+use Rattle.audit_cli.specs.Answer.{reader_use, writer_use}
 use Rattle.inspect_cli.proofs.EndLemmas.{given_stands, ends_without, ends_given_up}
 use Rattle.inspect_cli.proofs.command.show_input.Goals as goal
 
@@ -11,8 +11,7 @@ returns-in_err-committees-clause-ends g c =
     let input = c.args.input.now in
     let output = c.args.output.now in
     rw (p.1, p.2) (ends_without _ _
-    (record { before = g.R.Read.remaining (inner_of input); after = g.R.Read.remaining (inner_of input); failed = has_failed input })
-    (record { before = g.W.Write.contents (inner_of output); after = g.W.Write.contents (inner_of output); failed = has_failed output; flushed = is_flushed output })
+    (reader_use g.R.Read.remaining input input) (writer_use g.W.Write.contents output output)
     _ (λ e. c.in_err-committees.ensures.usage (ap Err e)) c.in_err-committees.ensures.failure (Keeps-refl _))
 
 pub returns-in_err-fault-clause-ends : goal.returns-in_err-fault-clause-ends
@@ -22,8 +21,7 @@ returns-in_err-fault-clause-ends g c =
     let output = c.inspect_input.new.writer in
     let (bytes, is, begun) = c.in_err-fault.ensures.begun in
     rw (p.1, p.2) (ends_given_up _ _
-    (record { before = g.R.Read.remaining (inner_of c.args.input.now); after = g.R.Read.remaining (inner_of input); failed = has_failed input })
-    (record { before = g.W.Write.contents (inner_of c.args.output.now); after = g.W.Write.contents (inner_of output); failed = has_failed output; flushed = is_flushed output })
+    (reader_use g.R.Read.remaining c.args.input.now input) (writer_use g.W.Write.contents c.args.output.now output)
     c.in_err-fault.field-0.0
     (λ e. c.in_err-fault.ensures.read_failed.1 (ap Err e)) (λ e. c.in_err-fault.ensures.too_long (ap Err e)) (λ e. c.in_err-fault.ensures.write_failed.1 (ap Err e))
     (record { committees = c.in_ok-committees.committees; input = bytes; given = c.in_ok-committees.ensures.given; input_is = is; written = begun }))
