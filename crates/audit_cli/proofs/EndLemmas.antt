@@ -19,7 +19,7 @@ use Rattle.audit_cli.specs.declared.status.Failure.TheVariants as failures
 pub committees-named : (words : List (List ℕ)) (committees : Schedule PlainScheme) → AreArguments words committees → AreNoArguments words → ⊥
 committees-named words committees named none = none committees named
 
--- no committees could be had
+-- the arguments gave no committees
 pub ends-without_committees : (basis : Bases) (words : List (List ℕ)) (reader : ReaderUse) (writer : WriterUse) (failure : Failure)
     → (failure ≡ failures.Usage → AreNoArguments words) → (failure ≡ failures.Usage) ⊎ (failure ≡ failures.OutOfMemory)
     → Keeps writer.before writer.after → Ends basis words reader writer (Err failure)

@@ -8,7 +8,7 @@ use Rattle.audit_cli.specs.declared.status.Failure.{Failure}
 use Rattle.audit_cli.specs.declared.status.Failure.TheVariants.{Usage, Read, Write, OutOfMemory}
 
 -- the number that the process ends with: 0 where the whole stream was read, 1 where there is a fault in it, 2 where
--- the arguments are no namespace and keys, 3 where a read, a write or memory failed
+-- the arguments are no namespace and keys, 3 where a read, a write or an allocation failed
 abbrev pub number_of : Status → ℕ
 number_of statuses.Whole = 0
 number_of statuses.Fault = 1

@@ -16,7 +16,7 @@ use simplex_scheme::hash::Sha256Digest;
 use std::alloc::Global;
 use std::io::{ErrorKind, Read, Write};
 
-/// Audits the input under the committees that the arguments name, and writes its text. Answers its fault, if there is one.
+/// Audits the input under the committees that the arguments name, and writes its text. Returns its fault, if there is one.
 fn audit_input<R: Read, W: Write>(
     alloc: Global,
     arguments: &[String],
@@ -57,7 +57,7 @@ pub fn say<E: Write>(errors: &mut E, text: &[u8])
     let _ = errors.flush();
 }
 
-/// Says on standard error how a run ended, and gives its status. That it can't be said changes nothing.
+/// Says on standard error how a run ended, and gives its status. That it cannot be said changes nothing.
 pub(crate) fn conclude<E: Write>(errors: &mut E, ended: Result<Option<Fault>, Failure>) -> Status
     ensures status { result ≡ status_of ended }
     ensures said { AppendsBeginning (E.contents errors.old) (E.contents errors.new)
@@ -94,7 +94,7 @@ pub fn command<R: Read, W: Write, E: Write>(
         × Ends ⟦<Plain as Audited<Sha256Digest>>⟧.basis (map string_bytes arguments.now)
         (reader_use R.remaining input.old input.new)
         (writer_use W.contents output.old output.new) ending }
-    // Where a device failed the status tells it, and nothing else is said.
+    // Where a device failed the status says so, and nothing else is said.
     ensures read_failed { IsTrue (has_failed input.new) → (result ≡ Status.Failed)
         × AppendsBeginning (E.contents errors.old) (E.contents errors.new)
         (complaint_of Failure.Read) }

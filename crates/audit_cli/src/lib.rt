@@ -1,5 +1,9 @@
-//! The program `audit` as functions over arguments and any reader and writers: its arguments (of one committee, or of an
-//! epoch and keys), what it says and its exit status.
+//! The program `audit` as functions over arguments and any reader and writers. [`arguments`] has its committees, by [`keys`] the
+//! one of some keys, or by [`groups`] one for each of some epochs; [`status`] how it ends and what it says then; [`command`] its
+//! run over arguments and streams; and [`start`] the same over what its process is given.
+//!
+//! The program rests on [`start::start`] alone; `audit_stored` and `inspect_cli` take the same arguments and end with the same
+//! statuses by [`arguments::parse`], [`start::without_name`], [`start::no_arguments`], [`command::say`] and [`status`].
 #![tactic(auto)]
 
 pub mod arguments;

@@ -30,7 +30,7 @@ pub fn without_name(alloc: Global, given: Args) -> Result<Vec<String>, AllocErro
     Ok(words)
 }
 
-/// Why arguments can't be read: an allocation failed, or one of them is not UTF-8.
+/// Why arguments cannot be read: an allocation failed, or one of them is not UTF-8.
 pub fn no_arguments(error: &io::Error) -> Failure
     ensures memory { error_kind error.now ≡ ErrorKind.OutOfMemory → result ≡ Failure.OutOfMemory }
     ensures usage { error_kind error.now ≢ ErrorKind.OutOfMemory → result ≡ Failure.Usage }
@@ -43,10 +43,10 @@ pub fn no_arguments(error: &io::Error) -> Failure
 }
 
 /// Runs the program over the arguments that its process is given, the program's name first, and its three
-/// streams, and answers the number that the process ends with.
+/// streams, and returns the number that the process ends with.
 ///
-/// Where the arguments can't be had nothing is read or written, and the number is that of a failure for want
-/// of memory, or else of arguments that are no namespace and keys.
+/// Where the arguments cannot be read nothing is read or written, and the number is that of an allocation failure, or else of
+/// arguments that are no namespace and keys.
 pub fn start<R: Read, W: Write, E: Write>(
     alloc: Global,
     given: io::Result<Args>,

@@ -18,7 +18,7 @@ pub enum Status {
     Fault,
     /// The arguments are no namespace and keys, or groups of them.
     Usage,
-    /// A read, a write or memory failed.
+    /// A read, a write or an allocation failed.
     Failed,
 }
 
@@ -60,9 +60,9 @@ impl Status {
 pub enum Failure {
     /// The arguments are no namespace and keys, or groups of them.
     Usage,
-    /// The input can't be read to its end.
+    /// The input cannot be read to its end.
     Read,
-    /// The text can't be written, or flushed.
+    /// The text cannot be written, or flushed.
     Write,
     /// An allocation failed.
     OutOfMemory,

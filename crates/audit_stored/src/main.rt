@@ -62,7 +62,7 @@ fn audit_input<R: Read, W: Write>(
     Ok(summary.fault)
 }
 
-/// Why the input can't be had.
+/// Why the input cannot be read.
 fn read_failure(error: &io::Error) -> Failure {
     if error.kind() == ErrorKind::OutOfMemory {
         Failure::OutOfMemory

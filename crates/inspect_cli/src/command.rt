@@ -43,7 +43,7 @@ fn show_input<R: Read, W: Write>(
     Ok(fault)
 }
 
-/// Says on standard error how a run ended, and gives its status. That it can't be said changes nothing.
+/// Says on standard error how a run ended, and gives its status. That it cannot be said changes nothing.
 pub(crate) fn conclude<E: Write>(errors: &mut E, ended: Result<Option<Fault>, Failure>) -> Status
     ensures status { result ≡ status_of ended }
     ensures said { AppendsBeginning (E.contents errors.old) (E.contents errors.new)
@@ -65,7 +65,7 @@ pub(crate) fn conclude<E: Write>(errors: &mut E, ended: Result<Option<Fault>, Fa
 /// Runs the program over its arguments, without the program's name, and its three streams.
 ///
 /// The arguments are judged before anything is read. The line of a message is written as soon as the message is read, so after
-/// a failure a beginning of the text may have been written. What can't be said on `errors` leaves the status.
+/// a failure a beginning of the text may have been written. What cannot be said on `errors` leaves the status.
 pub fn command<R: Read, W: Write, E: Write>(
     alloc: Global,
     arguments: &[String],

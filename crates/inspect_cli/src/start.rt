@@ -27,7 +27,7 @@ use std::io::{ErrorKind, Read, Write};
 /// Runs the program over the arguments that its process is given, the program's name first, and its three
 /// streams, and returns the number that the process ends with.
 ///
-/// Where the arguments can't be had nothing is read or written, and the number is that of an allocation failure, or else of
+/// Where the arguments cannot be read nothing is read or written, and the number is that of an allocation failure, or else of
 /// arguments that are no namespace and keys.
 pub fn start<R: Read, W: Write, E: Write>(
     alloc: Global,
