@@ -4,7 +4,7 @@
 //!
 //! The verdict has to be the caller's own, written once it has verified the signature, and never one that came with a message.
 
-ghost use Rattle.std.specs.Prelude.{◌≡◌, ◌+◌, ◌*◌, ◌<◌, ◌≤◌, ◌^◌, ℕ, None, Some, Ok, Err, IfOk, IfErr, MatchOption, All, length, nat_eq, nat_lt, ◌&&◌, true};
+ghost use Rattle.std.specs.Prelude.{◌≡◌, ◌+◌, ◌*◌, ◌<◌, ◌≤◌, ◌^◌, ℕ, None, Some, Ok, Err, IsOk, IfOk, IfErr, MatchOption, All, length, nat_eq, nat_lt, ◌&&◌, true};
 ghost use Rattle.std.specs.List.{IsDistinct};
 ghost use Rattle.std.proofs.Common.{lit≤};
 ghost use Rattle.simplex_scheme.specs.Subject.{SubjectValue, subject_value};
@@ -187,6 +187,8 @@ impl<D: Digest, R: Role<N>, const N: usize> Scheme<D> for Vouched<R, N> {
             (quorum_of (length self.now.keys)) (length attestations.items)) }
         ensures enough { quorum_of (length self.now.keys) ≤ length attestations.items →
             IfErr result (λ error. error ≡ AssemblyError.OutOfMemory) }
+        // No memory is taken.
+        ensures ample { quorum_of (length self.now.keys) ≤ length attestations.items → IsOk result }
         ensures made { IfOk result (λ certificate. IsInOrder attestations.items certificate) }
         ensures certified { IfOk result (λ certificate. (subject : SubjectValue D) →
             All (λ a. vouched_valid self.now.keys subject a.signer a.signature ≡ true)
