@@ -126,17 +126,17 @@ all_noted cmp eq key_of votes format stream rest left read stop before after p =
 }
 
 -- some message passes, so the first that does stands at a place
-abbrev Stands : {M : Type 0} → (M → Bool) → (M → List ℕ) → ℕ → List M → Type 0
-Stands test encoding place ms = (p : ℕ) × IsFirstPlace test encoding ms p × (first_place test encoding place ms ≡ Some (place + p))
+abbrev HasFirstPlace : {M : Type 0} → (M → Bool) → (M → List ℕ) → ℕ → List M → Type 0
+HasFirstPlace test encoding place ms = (p : ℕ) × IsFirstPlace test encoding ms p × (first_place test encoding place ms ≡ Some (place + p))
 
-stands_here : {M : Type 0} (test : M → Bool) (encoding : M → List ℕ) (place : ℕ) (m : M) (ms : List M) → test m ≡ true → Stands test encoding place (m ∷ ms)
+stands_here : {M : Type 0} (test : M → Bool) (encoding : M → List ℕ) (place : ℕ) (m : M) (ms : List M) → test m ≡ true → HasFirstPlace test encoding place (m ∷ ms)
 stands_here test encoding place m ms e = (
   0,
   record { before = []; message = m; others = ms; messages_are = refl; passes = e; first = All-nil (λ k. test k ≡ false); place_is = refl },
   ap (λ (b : Bool). option_or (place_if place b) (first_place test encoding (place + length (encoding m)) ms)) e ∙ ap (λ (n : ℕ). Some n) (omega arith),
 )
 
-stands_later : {M : Type 0} (test : M → Bool) (encoding : M → List ℕ) (place : ℕ) (m : M) (ms : List M) → test m ≡ false → Stands test encoding (place + length (encoding m)) ms → Stands test encoding place (m ∷ ms)
+stands_later : {M : Type 0} (test : M → Bool) (encoding : M → List ℕ) (place : ℕ) (m : M) (ms : List M) → test m ≡ false → HasFirstPlace test encoding (place + length (encoding m)) ms → HasFirstPlace test encoding place (m ∷ ms)
 stands_later {M} test encoding place m ms e (p, at, is) =
     let moved : (place + length (encoding m)) + p ≡ place + (length (encoding m) + p) = omega arith in (
       length (encoding m) + p,
@@ -153,7 +153,7 @@ stands_later {M} test encoding place m ms e (p, at, is) =
     )
 
 stands_either : {M : Type 0} (test : M → Bool) (encoding : M → List ℕ) (place : ℕ) (m : M) (ms : List M) (b : Bool) → test m ≡ b → (b || list_any test ms) ≡ true →
-    (list_any test ms ≡ true → Stands test encoding (place + length (encoding m)) ms) → Stands test encoding place (m ∷ ms)
+    (list_any test ms ≡ true → HasFirstPlace test encoding (place + length (encoding m)) ms) → HasFirstPlace test encoding place (m ∷ ms)
 stands_either test encoding place m ms true e some later = stands_here test encoding place m ms e
 stands_either test encoding place m ms false e some later = stands_later test encoding place m ms e (later some)
 

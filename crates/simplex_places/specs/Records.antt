@@ -38,17 +38,17 @@ abbrev pub AreRecords : {S D C P G : Type 0} → Basis S D C P G → (SignedVote
 AreRecords basis carries stream report records = OfMessages basis stream (λ messages. AllZip (IsRecord carries basis.format.encoding messages) (evidence_in report) records)
 
 -- the place that was found of a key
-abbrev pub place_of : Option (Option ℕ) → ℕ
-place_of (Some (Some place)) = place
-place_of _ = 0
+abbrev pub found_place : Option (Option ℕ) → ℕ
+found_place (Some (Some place)) = place
+found_place _ = 0
 
 -- the record of an evidence, by what was found of its votes
 abbrev pub record_by : {D G K : Type 0} → (K → K → Ordering) → (SignedVote D G → K) → BTreeMap K (Option ℕ) → Evidence D G → Record
 record_by cmp key_of places e = record {
   epoch = (round_of e.first.subject).epoch;
   view = (round_of e.first.subject).view;
-  first_place = place_of (get cmp places (key_of e.first));
-  second_place = place_of (get cmp places (key_of e.second));
+  first_place = found_place (get cmp places (key_of e.first));
+  second_place = found_place (get cmp places (key_of e.second));
   signer = e.first.signer;
   kind = kind_rank e.kind;
 }

@@ -9,7 +9,7 @@ use Rattle.simplex_evidence.specs.Activity.{votes_in}
 use Rattle.simplex_evidence.specs.declared.types.activity.Activity.{Activity}
 use Rattle.simplex_places.specs.declared.votes.Said.{Said}
 use Rattle.simplex_places.specs.declared.votes.Said.TheVariants as said
-use Rattle.simplex_places.specs.declared.votes.Vote.{Vote}
+use Rattle.simplex_places.specs.declared.votes.VoteKey.{VoteKey}
 
 -- whether two votes say the same: their kind, and their proposals or rounds. `payload_eq` compares payloads
 abbrev pub same_subject : {D : Type 0} → (D → D → Bool) → SubjectValue D → SubjectValue D → Bool
@@ -19,19 +19,19 @@ same_subject payload_eq (Finalizes p) (Finalizes q) = same_proposal payload_eq p
 same_subject _ _ _ = false
 
 -- whether two votes are the same: in what they say, their signer and their signature. `signature_eq` compares signatures
-abbrev pub same_vote : {D G : Type 0} → (D → D → Bool) → (G → G → Bool) → SignedVote D G → SignedVote D G → Bool
-same_vote payload_eq signature_eq v w = same_subject payload_eq v.subject w.subject && ((v.signer == w.signer) && signature_eq v.signature w.signature)
+abbrev pub same_signed_vote : {D G : Type 0} → (D → D → Bool) → (G → G → Bool) → SignedVote D G → SignedVote D G → Bool
+same_signed_vote payload_eq signature_eq v w = same_subject payload_eq v.subject w.subject && ((v.signer == w.signer) && signature_eq v.signature w.signature)
 
 -- whether a message carries a vote: it is the vote, or its certificate lists the vote, or it is evidence with the vote
 abbrev pub carries : {S D C P G : Type 0} → (D → D → Bool) → (G → G → Bool) → (C → List (Attestation S P G)) → SignedVote D G → Activity S D C P G → Bool
-carries payload_eq signature_eq listed v m = list_any (same_vote payload_eq signature_eq v) (votes_in listed m)
+carries payload_eq signature_eq listed v m = list_any (same_signed_vote payload_eq signature_eq v) (votes_in listed m)
 
 -- what a vote says, as a key
-abbrev pub said_of : {D : Type 0} → SubjectValue D → Said D
-said_of (Notarizes p) = said.Notarizes p
-said_of (Nullifies r) = said.Nullifies r
-said_of (Finalizes p) = said.Finalizes p
+abbrev pub said_in : {D : Type 0} → SubjectValue D → Said D
+said_in (Notarizes p) = said.Notarizes p
+said_in (Nullifies r) = said.Nullifies r
+said_in (Finalizes p) = said.Finalizes p
 
 -- a vote as a key
-abbrev pub key_of : {D G : Type 0} → SignedVote D G → Vote D G
-key_of v = record { said = said_of v.subject; signer = v.signer; signature = v.signature }
+abbrev pub vote_key : {D G : Type 0} → SignedVote D G → VoteKey D G
+vote_key v = record { said = said_in v.subject; signer = v.signer; signature = v.signature }

@@ -1,5 +1,5 @@
-//! Which attestations of a stream a caller has to verify that defers it, and where each stands in the stream; and where the
-//! votes of evidence stand.
+//! Which attestations of a stream have to be verified, for a caller that defers this, and where each stands in the stream; and
+//! where the votes of a report's evidence stand.
 #![tactic(auto)]
 
 mod first_places;

@@ -1,6 +1,6 @@
 //! Where the attestations of a message stand.
 
-ghost use Rattle.std.specs.Prelude.{◌≡◌, ◌+◌, ◌-◌, ◌<◌, ◌^◌, ◌++◌, [], ◌∷◌, true, false, IfOk, OnOk, length};
+ghost use Rattle.std.specs.Prelude.{◌≡◌, ◌+◌, ◌-◌, ◌<◌, ◌^◌, ◌++◌, [], ◌∷◌, ◌&&◌, true, false, IfOk, OnOk, length, nat_eq, refl};
 ghost use Rattle.std.specs.List.{flat_map};
 ghost use Rattle.simplex_base.specs.Readable.{format_of};
 ghost use Rattle.simplex_base.specs.Varint.{number_32};
@@ -10,6 +10,7 @@ use crate::located::Counted;
 use simplex_base::codec::varint::size_u32;
 use simplex_base::codec::{EncodeSize, Encoding, Fixed, Read};
 use simplex_base::positions::{Round, Roundable};
+use simplex_base::values::{EqByParts, ExactClone};
 use simplex_evidence::types::Activity;
 use simplex_scheme::scheme::{Attestation, Digest, Proposal, SchemeTypes};
 use std::alloc::AllocError;
@@ -23,7 +24,8 @@ pub const NULLIFY: u32 = 1;
 /// The number of a finalize in a record.
 pub const FINALIZE: u32 = 2;
 
-/// An attestation that has to be verified, and where it stands in the stream.
+/// An attestation that has to be verified, and where it stands in the stream. Elsewhere a suspect is a signer: this is a vote of
+/// such a signer, or an attestation of a certificate of a suspect round.
 #[repr(C)]
 #[derive(Clone, Copy, Debug, PartialEq, Eq)]
 pub struct Suspect {
@@ -43,13 +45,37 @@ pub struct Suspect {
     pub kind: u32,
 }
 
+impl ExactClone for Suspect {
+    ghost exact = { λ x y same. same };
+}
+
+impl EqByParts for Suspect {
+    ghost same = { λ x y. nat_eq x.epoch y.epoch && (nat_eq x.view y.view &&
+        (nat_eq x.verdict_place y.verdict_place && (nat_eq x.subject_place y.subject_place &&
+        (nat_eq x.subject_length y.subject_length && (nat_eq x.signer y.signer &&
+        nat_eq x.kind y.kind))))) };
+
+    ghost equal = { λ x y. refl };
+}
+
 /// An attestation of the stream.
 #[derive(Clone, Copy, Debug, PartialEq, Eq)]
 pub struct Placed {
     /// Where it stands, whether it has to be verified or not.
     pub suspect: Suspect,
-    /// Whether a certificate lists it. It is a vote by itself if not, or one in evidence.
+    /// Whether a certificate lists it. It is a standalone vote if not, or one in evidence.
     pub is_listed: bool,
+}
+
+impl ExactClone for Placed {
+    ghost exact = { λ x y same. same };
+}
+
+impl EqByParts for Placed {
+    ghost same = { λ x y. ⟦<Suspect as PartialEq>⟧.eq x.suspect y.suspect &&
+        ⟦<bool as PartialEq>⟧.eq x.is_listed y.is_listed };
+
+    ghost equal = { λ x y. refl };
 }
 
 /// What was signed, where its bytes stand, and whether a certificate lists its attestations.
@@ -179,7 +205,7 @@ fn push_certificate<M: EncodeSize + Roundable, S: Counted<D>, D: Digest>(
 }
 
 /// Appends the places of a message that begins at a place, in the order in which they stand.
-pub fn push_message<S: Counted<D>, D: Digest>(
+pub(crate) fn push_message<S: Counted<D>, D: Digest>(
     place: usize,
     message: &Activity<S, D>,
     places: &mut Vec<Placed>,

@@ -1,17 +1,18 @@
 //! The evidence of a report as records, with the places of its votes in the stream.
 
-ghost use Rattle.std.specs.Prelude.{◌≡◌, IfOk, Some, map};
+ghost use Rattle.std.specs.Prelude.{◌≡◌, ◌&&◌, IfOk, Some, map, nat_eq, refl};
 ghost use Rattle.std.specs.BTreeMap.{get};
 ghost use Rattle.simplex_audit.specs.Guarantees.{IsAudit};
 ghost use Rattle.simplex_detector.specs.Named.{kind_rank};
 ghost use Rattle.simplex_detector.specs.Values.{evidence_value};
-ghost use Rattle.simplex_places.specs.Records.{AreRecords, place_of, record_by};
+ghost use Rattle.simplex_places.specs.Records.{AreRecords, found_place, record_by};
 
 use crate::first_places::{find, sought};
 use crate::located::Located;
-use crate::votes::{Key, Vote, first, second};
+use crate::votes::{Key, VoteKey, first, second};
 use simplex_audit::audit::Report;
 use simplex_audit::basis::Audited;
+use simplex_base::values::{EqByParts, ExactClone};
 use simplex_detector::committees::Committees;
 use simplex_detector::evidence::Evidence;
 use simplex_scheme::scheme::{Digest, Listing, SchemeTypes};
@@ -28,7 +29,7 @@ pub const CONFLICTING_FINALIZE: u32 = 1;
 pub const NULLIFY_FINALIZE: u32 = 2;
 
 /// An evidence of a report, and where its votes stand in the stream. A vote stands where the first message begins that carries
-/// it: the vote on its own, a certificate that lists it, or evidence with it.
+/// it: a standalone vote, a certificate that lists it, or evidence with it.
 #[repr(C)]
 #[derive(Clone, Copy, Debug, PartialEq, Eq)]
 pub struct Record {
@@ -46,6 +47,18 @@ pub struct Record {
     pub kind: u32,
 }
 
+impl ExactClone for Record {
+    ghost exact = { λ x y same. same };
+}
+
+impl EqByParts for Record {
+    ghost same = { λ x y. nat_eq x.epoch y.epoch && (nat_eq x.view y.view &&
+        (nat_eq x.first_place y.first_place && (nat_eq x.second_place y.second_place &&
+        (nat_eq x.signer y.signer && nat_eq x.kind y.kind)))) };
+
+    ghost equal = { λ x y. refl };
+}
+
 /// The number of an evidence's kind.
 fn kind<S: SchemeTypes, D: Digest>(evidence: &Evidence<S, D>) -> u32
     ensures { result ≡ kind_rank (evidence_value evidence.now).kind }
@@ -59,7 +72,7 @@ fn kind<S: SchemeTypes, D: Digest>(evidence: &Evidence<S, D>) -> u32
 
 /// The place that was found of a key, or 0.
 fn place<K: Ord>(places: &BTreeMap<K, Option<usize>>, key: &K) -> usize
-    ensures { result ≡ place_of (get K.cmp places.now key.now) }
+    ensures { result ≡ found_place (get K.cmp places.now key.now) }
 {
     match places.get(key) {
         Some(Some(place)) => *place,
@@ -122,7 +135,7 @@ fn records_by<K: Key<D, S::Signature>, S: Listing<D>, D: Digest>(
 
 /// The evidence of the report of a stream as records, in the order of the report, each with the places of its two votes in the
 /// stream. Where there is evidence the stream is read a second time, and nothing is verified: each vote is looked up among those
-/// of the evidence, by its value. Memory is bounded by the report. `AllocError` comes where memory is refused.
+/// of the evidence, by its value. Memory is bounded by the report. `AllocError` comes only after an allocation failed.
 pub fn records<S: Listing<D>, D: Digest>(
     alloc: Global,
     committees: &Committees<S>,
@@ -137,5 +150,5 @@ pub fn records<S: Listing<D>, D: Digest>(
     if report.evidence.as_slice().is_empty() {
         return Ok(Vec::new(alloc));
     }
-    records_by::<Vote<D, S::Signature>, S, D>(alloc, committees, stream, report)
+    records_by::<VoteKey<D, S::Signature>, S, D>(alloc, committees, stream, report)
 }

@@ -22,7 +22,7 @@ use simplex_detector::committees::Committees;
 use simplex_detector::detector::Detector;
 use simplex_detector::judging::{SuspectSigners, suspects_of};
 use simplex_detector::laws::suspects_suffice;
-use simplex_scheme::scheme::{CertificateScheme, Digest};
+use simplex_scheme::scheme::{CertificateScheme, Digest, SchemeTypes};
 use std::alloc::{AllocError, Global};
 
 /// The suspects, and the suspect rounds: those of what the votes claim.
@@ -101,10 +101,10 @@ fn sought<S: CertificateScheme>(
 
 /// The attestations of a stream that have to be verified before it is audited, in the order of the stream. A signer of a
 /// committee is suspect in a round where two votes contradict that claim to be that signer's, and the round is, too. Listed are
-/// the votes of suspects in their rounds, by themselves and in evidence, and of each certificate of a suspect round all
+/// the votes of suspects in their rounds, standalone and in evidence, and of each certificate of a suspect round all
 /// attestations whose signers are in the committee of the epoch. No signature of another attestation has a part in the report.
 /// Nothing is verified here, so the stream may hold any verdicts. It is read once, in memory that is bounded by the stream and
-/// the sizes of the committees. `AllocError` comes where memory is refused.
+/// the sizes of the committees. `AllocError` comes only after an allocation failed.
 pub fn suspects<S: Counted<D>, D: Digest>(
     alloc: Global,
     committees: &Committees<S>,

@@ -5,7 +5,7 @@ ghost use Rattle.simplex_scheme.specs.Subject.{SubjectValue, Notarizes, Nullifie
 ghost use Rattle.simplex_votes.specs.Votes.{SignedVote, notarize_vote, nullify_vote, finalize_vote};
 ghost use Rattle.simplex_detector.specs.Rules.{vote_on};
 ghost use Rattle.simplex_detector.specs.Values.{evidence_value};
-ghost use Rattle.simplex_places.specs.Votes.{key_of, said_of, same_vote};
+ghost use Rattle.simplex_places.specs.Votes.{said_in, same_signed_vote, vote_key};
 ghost use Rattle.simplex_places.specs.KeyLaws.{keys_alike};
 
 use simplex_base::positions::{Participant, Round};
@@ -24,7 +24,7 @@ pub enum Said<D> {
 
 /// A vote by its value: what it says, its signer and its signature. Votes are ordered only so that they can be looked up.
 #[derive(PartialEq, Eq, PartialOrd, Ord, Drop)]
-pub struct Vote<D, G> {
+pub struct VoteKey<D, G> {
     said: Said<D>,
     signer: Participant,
     signature: G,
@@ -47,14 +47,14 @@ pub trait Key<D: Digest, G: Signature>: Ord + Drop {
 
     /// Keys are equal where the votes are the same.
     ghost alike: { (v w : SignedVote D G) →
-        Self.eq (key_of v) (key_of w) ≡ same_vote D.eq G.eq v w };
+        Self.eq (key_of v) (key_of w) ≡ same_signed_vote D.eq G.eq v w };
 }
 
-impl<D: Digest, G: Signature> Key<D, G> for Vote<D, G> {
-    ghost key_of = { key_of };
+impl<D: Digest, G: Signature> Key<D, G> for VoteKey<D, G> {
+    ghost key_of = { vote_key };
 
     fn of(subject: &Subject<'_, D>, signer: Participant, signature: G) -> Self {
-        Vote {
+        VoteKey {
             said: said_in(subject),
             signer,
             signature,
@@ -70,7 +70,7 @@ impl<D: Digest, G: Signature> Key<D, G> for Vote<D, G> {
 
 /// What a subject says.
 fn said_in<D: Digest>(subject: &Subject<'_, D>) -> Said<D>
-    ensures { result ≡ said_of (subject_value subject.now) }
+    ensures { result ≡ said_in (subject_value subject.now) }
 {
     match subject {
         Subject::Notarize { proposal } => Said::Notarizes(**proposal),

@@ -11,7 +11,7 @@ use Rattle.simplex_votes.specs.Votes.{SignedVote}
 use Rattle.simplex_audit.specs.Messages.{AreMessages}
 use Rattle.simplex_places.specs.FirstPlaces.{AreSought, NotesAlong}
 use Rattle.simplex_places.specs.Records.{IsRecord}
-use Rattle.simplex_places.specs.Votes.{carries, same_vote}
+use Rattle.simplex_places.specs.Votes.{carries, same_signed_vote}
 use Rattle.simplex_places.proofs.RecordLemmas.{records_stand}
 use Rattle.simplex_places.proofs.records.records_by.Given as given
 use Rattle.simplex_places.proofs.records.records_by.Goals as goal
@@ -36,8 +36,8 @@ returns g c audit messages rest are =
     let signature_eq = g.S.Signature.PartialEq.eq in
     let listed = g.S.Listing.listed in
     let rules = rules_of payload_eq g.S.CertificateScheme.keys g.S.Scheme.good g.S.CertificateVerifier.certified listed c.args.committees.now in
-    let alike : (v w : SignedVote g.row.D.Denot g.row.S-Signature.Denot) → eq (key_of v) (key_of w) ≡ same_vote payload_eq signature_eq v w = g.met.K.Key.alike in
-    let itself : (v : SignedVote g.row.D.Denot g.row.S-Signature.Denot) → same_vote payload_eq signature_eq v v ≡ true = λ v. sym (alike v v) ∙ g.met.K.Eq.laws.refl (key_of v) in
+    let alike : (v w : SignedVote g.row.D.Denot g.row.S-Signature.Denot) → eq (key_of v) (key_of w) ≡ same_signed_vote payload_eq signature_eq v w = g.met.K.Key.alike in
+    let itself : (v : SignedVote g.row.D.Denot g.row.S-Signature.Denot) → same_signed_vote payload_eq signature_eq v v ≡ true = λ v. sym (alike v v) ∙ g.met.K.Eq.laws.refl (key_of v) in
     let es = c.args.report.now.evidence.items in
     let before = c.in_ok-places.places in
     let after = c.find.new.places in
@@ -46,5 +46,5 @@ returns g c audit messages rest are =
     let same = (audit.single messages noted.messages rest noted.rest are bounded).0 in
     let found = subst (NotesAlong cmp eq key_of (votes_in listed) (format g c.bound.result).encoding before after) (sym same) noted.found in
     let sought = subst (All (λ e. AreSought cmp key_of before (evidence_value e))) c.as_slice-evidence.ensures.value c.in_ok-places.ensures in
-    let stand = records_stand cmp eq key_of (same_vote payload_eq signature_eq) alike itself (votes_in listed) (is_valid rules) (format g c.bound.result).encoding messages before after found evidence_value payload_eq es (audit.sound messages rest are) sought in
+    let stand = records_stand cmp eq key_of (same_signed_vote payload_eq signature_eq) alike itself (votes_in listed) (is_valid rules) (format g c.bound.result).encoding messages before after found evidence_value payload_eq es (audit.sound messages rest are) sought in
     subst (AllZip (IsRecord (carries payload_eq signature_eq listed) (format g c.bound.result).encoding messages) (map evidence_value es)) (sym (c.in_ok-found.ensures ∙ ap (map _) c.as_slice-evidence.ensures.value)) stand
