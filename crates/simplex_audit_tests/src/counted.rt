@@ -1,6 +1,6 @@
 //! A scheme that counts what it verifies.
 
-ghost use Rattle.std.specs.Prelude.{◌≡◌, ◌+◌, ◌*◌, ◌<◌, ◌≤◌, ◌^◌, ◌&&◌, ◌∷◌, [], None, Some, Ok, Err, IsOk, IfOk, MatchOption, All, length, nat_eq, nat_lt, true};
+ghost use Rattle.std.specs.Prelude.{◌≡◌, ◌+◌, ◌*◌, ◌<◌, ◌≤◌, ◌^◌, ◌&&◌, ◌∷◌, [], None, Some, Ok, Err, IsOk, IfOk, MatchOption, All, length, nat_eq, nat_lt, true, refl};
 ghost use Rattle.std.specs.List.{IsDistinct};
 ghost use Rattle.std.specs.Str.{bytes_eq};
 ghost use Rattle.std.proofs.Common.{lit≤};
@@ -13,6 +13,7 @@ ghost use Rattle.simplex_audit_tests.specs.Counted.{nobody};
 use simplex_base::codec::Fixed;
 use simplex_base::codec::fixed_bytes::FixedBytes;
 use simplex_base::positions::Participant;
+use simplex_places::located;
 use simplex_plain::certificates::{AttestationVerifier, are_certified, assembled, is_certified};
 use simplex_plain::listed::Listed;
 use simplex_plain::marked::{MarkedKey, MarkedKeyRole, MarkedSignatureRole};
@@ -208,4 +209,12 @@ impl<D: Digest> Listing<D> for Counted {
         (quorum_meaning (length scheme) (marked_good (length scheme) subject) certificate).0 };
 
     ghost lists_given = { λ given certificate made. made };
+}
+
+impl<D: Digest> located::Counted<D> for Counted {
+    fn count(certificate: &Listed<Counted>) -> u32 {
+        certificate.attestations().len() as u32
+    }
+
+    ghost counted = { λ certificate. refl };
 }

@@ -1,15 +1,17 @@
 //! How many attestations an audit has verified: a vote that changes nothing is not verified, nor is one again whose certificate
 //! was found to certify. A deferred audit verifies those alone of signers that are claimed to contradict in a round, and of the
-//! certificates of that round.
+//! certificates of that round. Listing suspects, and the records of a report, verifies none.
 
 use crate::counted::Counted;
 use simplex_audit::audit::{Committees, audit, audit_deferred};
 use simplex_base::codec::Fixed;
 use simplex_base::positions::Epoch;
 use simplex_clients::ledger::store_batch;
+use simplex_places::records::records;
+use simplex_places::suspects::suspects;
 use simplex_plain::marked::{MarkedDigest, MarkedKey};
 use simplex_scheme::set::Set;
-use std::alloc::Global;
+use std::alloc::{AllocError, Global};
 use std::process::Abort;
 use std::test::Fail;
 
@@ -65,12 +67,18 @@ fn verified(committees: &Committees<Counted>) -> Result<usize, Fail> {
     Ok(committee.verified())
 }
 
-/// How many attestations an audit of some messages verifies, and how many a deferred one does.
-fn counts(rt: &impl Abort, alloc: Global, messages: &[&[u8]]) -> Result<(usize, usize), Fail> {
+/// The stream of some messages.
+fn stream_of(alloc: Global, messages: &[&[u8]]) -> Result<Vec<u8>, AllocError> {
     let mut stream = Vec::new(alloc);
     for message in messages {
         stream.extend_from_slice(message)?;
     }
+    Ok(stream)
+}
+
+/// How many attestations an audit of some messages verifies, and how many a deferred one does.
+fn counts(rt: &impl Abort, alloc: Global, messages: &[&[u8]]) -> Result<(usize, usize), Fail> {
+    let stream = stream_of(alloc, messages)?;
     let (whole, deferred) = (four(rt, alloc)?, four(rt, alloc)?);
     let report = audit::<Counted, MarkedDigest>(alloc, &whole, stream.as_slice())?;
     assert_eq!(rt; report.read, messages.len());
@@ -143,5 +151,22 @@ fn ample_nothing_of_an_honest_stream_is_verified(rt: HostRuntime) -> Result<(), 
     let report = audit_deferred::<Counted, MarkedDigest>(alloc, &committees, stream.as_slice())?;
     assert_eq!(rt; (report.read, report.evidence.len()), (12_501, 1));
     assert_eq!(rt; verified(&committees)?, 5);
+    Ok(())
+}
+
+/// Suspects are listed before the audit, and records after it: neither call verifies anything.
+#[test]
+fn ample_suspects_and_records_are_found_unverified(rt: HostRuntime) -> Result<(), Fail> {
+    let alloc = rt.alloc();
+    let committees = four(&rt, alloc)?;
+    let [_, second, _] = NOTARIZES;
+    let stream = stream_of(alloc, &[NOTARIZATION, second, EVIDENCE])?;
+    let stream = stream.as_slice();
+    let listed = suspects::<Counted, MarkedDigest>(alloc, &committees, stream)?;
+    assert_eq!(rt; (listed.len(), verified(&committees)?), (6, 0));
+    let report = audit::<Counted, MarkedDigest>(alloc, &committees, stream)?;
+    assert_eq!(rt; (report.evidence.len(), verified(&committees)?), (2, 6));
+    let found = records::<Counted, MarkedDigest>(alloc, &committees, stream, &report)?;
+    assert_eq!(rt; (found.len(), verified(&committees)?), (2, 6));
     Ok(())
 }
