@@ -17,6 +17,7 @@ mod model;
 mod names;
 #[cfg(test)]
 mod outcome;
+pub mod recorded;
 #[cfg(test)]
 mod records;
 #[cfg(test)]

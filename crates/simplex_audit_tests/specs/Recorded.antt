@@ -1,0 +1,17 @@
+-- How many votes an auditor has recorded.
+use Rattle.std.specs.Prelude.{◌≡◌, ℕ, List}
+use Rattle.simplex_evidence.specs.declared.types.activity.Activity.{Activity}
+use Rattle.simplex_detector.specs.Committees.{Schedule}
+use Rattle.simplex_detector.specs.Recorded.{votes_recorded}
+use Rattle.simplex_detector.specs.Rules.{valid_votes}
+use Rattle.simplex_audit.specs.Auditor.{Stands}
+use Rattle.simplex_audit.specs.Basis.{Basis}
+use Rattle.simplex_audit.specs.Messages.{AreMessages}
+use Rattle.simplex_audit.specs.declared.auditor.Auditor.{Auditor}
+
+-- it is how many are recorded of the messages of the stream that the auditor stands for
+abbrev pub CountsRecorded : {S D C P G : Type 0} → (Schedule S → Basis S D C P G) → Auditor S D P G → ℕ → Type 0
+CountsRecorded {S} {D} {C} {P} {G} basis auditor count =
+    (committees : Schedule S) (stream : List ℕ) (messages : List (Activity S D C P G)) (rest : List ℕ) →
+    Stands basis committees auditor stream → AreMessages (basis committees).format stream messages rest →
+    count ≡ votes_recorded (basis committees).rules.eq (valid_votes (basis committees).rules messages)
