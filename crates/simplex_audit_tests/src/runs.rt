@@ -237,3 +237,18 @@ fn ample_each_write_in_turn(rt: HostRuntime) -> Result<(), Fail> {
     };
     ends(&rt, rt.alloc(), case)
 }
+
+#[test]
+fn ample_errors_are_printed(rt: HostRuntime) -> Result<(), Fail> {
+    let texts = [
+        (RunError::Read, "a read failed"),
+        (RunError::Write, "a write failed"),
+        (RunError::OutOfMemory, "out of memory"),
+        (RunError::TooLong, "more than 2^64 - 1 bytes were read"),
+    ];
+    for (error, text) in texts {
+        let printed = format!(in rt.alloc(); "{error}")?;
+        assert_eq!(rt; printed.as_str(), text);
+    }
+    Ok(())
+}
