@@ -2,7 +2,7 @@
 #![tactic(auto)]
 
 ghost use Rattle.std.specs.Prelude.{◌≡◌, ◌↔◌, Ok, None, IfOk, IfSome, map};
-ghost use Rattle.example.specs.Named.{AreKeys, AreNamed, IsCommittee, place_of};
+ghost use Rattle.example.specs.Accused.{AreAccused, AreCommitteeKeys, IsPlainCommittee, place_of};
 
 use simplex_audit::audit::{Committees, Evidence, audit};
 use simplex_audit::basis::Audited;
@@ -11,18 +11,18 @@ use simplex_plain::plain::{Plain, PlainKey};
 use simplex_scheme::scheme::{Set, Sha256Digest};
 use std::alloc::{AllocError, Global};
 
-/// Who is named by the stream, in which round, in the order of the evidence. One committee judges every epoch. `None`
+/// Who is accused by the stream, in which round, in the order of the evidence. One committee judges every epoch. `None`
 /// comes where the keys are no committee: none at all, more than 2^32 - 1, or one of them twice.
-pub fn named(
+pub fn accused(
     alloc: Global,
     namespace: &[u8],
     keys: Vec<PlainKey>,
     stream: &[u8],
 ) -> Result<Option<Vec<(Round, Participant)>>, AllocError>
-    ensures named { IfOk result (λ answer.
-        IfSome answer (λ named. AreNamed ⟦<Plain as Audited<Sha256Digest>>⟧.basis namespace.now
-        keys.items stream.now named.items)) }
-    ensures none { result ≡ Ok None ↔ ¬ AreKeys keys.items }
+    ensures accused { IfOk result (λ found. IfSome found (λ accused.
+        AreAccused ⟦<Plain as Audited<Sha256Digest>>⟧.basis namespace.now keys.items stream.now
+        accused.items)) }
+    ensures none { result ≡ Ok None ↔ ¬ AreCommitteeKeys keys.items }
 {
     let Some(committee) = committee_of(alloc, namespace, keys)? else {
         return Ok(None);
@@ -38,9 +38,9 @@ fn committee_of(
     namespace: &[u8],
     keys: Vec<PlainKey>,
 ) -> Result<Option<Plain>, AllocError>
-    ensures committee { IfOk result (λ answer.
-        IfSome answer (IsCommittee namespace.now keys.items)) }
-    ensures none { result ≡ Ok None ↔ ¬ AreKeys keys.items }
+    ensures committee { IfOk result (λ found.
+        IfSome found (IsPlainCommittee namespace.now keys.items)) }
+    ensures none { result ≡ Ok None ↔ ¬ AreCommitteeKeys keys.items }
 {
     if keys.is_empty() || keys.len() > 4_294_967_295 {
         return Ok(None);

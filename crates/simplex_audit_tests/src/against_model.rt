@@ -11,8 +11,8 @@ use std::process::Abort;
 use std::test::Fail;
 
 /// Messages of each of the ten kinds, of views 10 and 11 of epoch 0, which has a committee of four, and of view 10 of
-/// epoch 1, which has a committee of one. Some have a bad signature, some a signer outside their committee, and some
-/// certificates are no quorum.
+/// epoch 1, which has a committee of one. Some have an invalid signature, some a signer outside their committee, and
+/// some certificates are no quorum.
 const MESSAGES: [&[u8]; 24] = [
     // Notarizes.
     &[0, 0, 10, 5, 6, 1, 0xaa],
@@ -48,7 +48,7 @@ const MESSAGES: [&[u8]; 24] = [
     &[9, 1, 10, 0, 0xaa, 1, 10, 5, 7, 0, 0xaa],
 ];
 
-/// The stream of so many messages that a number tells.
+/// The stream of this many messages that a number determines.
 pub(crate) fn stream_of(
     alloc: Global,
     messages: u32,
@@ -63,8 +63,8 @@ pub(crate) fn stream_of(
     Ok(stream)
 }
 
-/// What may follow: nothing, messages that are cut off, an unknown tag, a number spelled wrongly, evidence that
-/// does not contradict.
+/// What may follow: nothing, messages that are cut off, an unknown tag, an invalid number, evidence that does
+/// not contradict.
 pub(crate) const TAILS: [&[u8]; 6] = [
     &[],
     &[0, 0, 10, 5, 6],
@@ -77,7 +77,7 @@ pub(crate) const TAILS: [&[u8]; 6] = [
 /// How many participants the committees of epochs 0 and 1 have, and the bound that messages are read under.
 const SIZES: ([usize; 2], u32) = ([4, 1], 4);
 
-/// The audit of a stream, and the deferred one, answer what its definition does.
+/// The audit of a stream, and the deferred one, return what its definition does.
 fn check<S: Listing<D>, D: Digest>(
     rt: &impl Abort,
     alloc: Global,

@@ -1,6 +1,6 @@
 //! The program as a function over its arguments and streams: its exit status, its text and what it says.
 
-use crate::names::TWICE;
+use crate::example_crate::TWICE;
 use audit_cli::command::command;
 use audit_cli::status::Status;
 use faulty_io::{Source, Target, Trouble};
@@ -66,7 +66,7 @@ fn words(alloc: Global, texts: &[&str]) -> Result<Vec<String>, AllocError> {
     Ok(words)
 }
 
-/// Makes a call, and compares. Returns whether memory was refused; then nothing was written, and the program said so.
+/// Makes a call, and compares. Returns whether an allocation failed; then nothing was written, and the program said so.
 fn is_refused(rt: &impl Abort, alloc: Global, case: Case<'_>) -> bool {
     let Ok(arguments) = words(alloc, case.arguments) else {
         return true;

@@ -23,7 +23,7 @@ const BATCH: &[u8] = &[
     0, 0,
 ];
 
-/// A deferred audit and a batch answer what an audit and a ledger do.
+/// A deferred audit and a batch return what an audit and a ledger do.
 fn check<S: Listing<D>, D: Digest>(
     rt: &impl Abort,
     alloc: Global,

@@ -1,4 +1,5 @@
-//! Tests of the audit that cross the crates, and the plain auditor that it is run against.
+//! Tests of the audit that cross the crates, the plain auditor that it is run against, and the exact number of votes that an
+//! auditor of marked committees records.
 #![tactic(auto)]
 
 #[cfg(test)]
@@ -10,11 +11,11 @@ mod counted;
 #[cfg(test)]
 mod deferred;
 #[cfg(test)]
+mod example_crate;
+#[cfg(test)]
 mod long;
 #[cfg(test)]
 mod model;
-#[cfg(test)]
-mod names;
 #[cfg(test)]
 mod outcome;
 pub mod recorded;

@@ -66,7 +66,7 @@ struct Vote {
     signer: u32,
 }
 
-/// Whom two votes name, with the place of the kind in their order, and the line.
+/// Whom two votes accuse, with the place of the kind in their order, and the line.
 #[derive(Drop)]
 struct Finding {
     round: Round,
@@ -85,7 +85,7 @@ struct Lists {
 /// How many participants the committee of each epoch from 0 on has. There is none in later epochs.
 type Sizes<'a> = &'a [usize];
 
-/// What an audit of the stream has to answer, by marked committees of these sizes. `T` is what is read of it under `bound`.
+/// What an audit of the stream has to return, by marked committees of these sizes. `T` is what is read of it under `bound`.
 pub(crate) fn audit_by_definition<T: Read + Drop>(
     alloc: Global,
     sizes: Sizes<'_>,
@@ -176,7 +176,7 @@ fn size_at(sizes: Sizes<'_>, round: Round) -> usize {
     sizes.get(epoch).copied().unwrap_or(0)
 }
 
-/// How many of so many participants may lie.
+/// How many of this many participants may lie.
 fn faults_of(participants: usize) -> usize {
     participants.saturating_sub(1) / 3
 }
@@ -257,7 +257,7 @@ fn findings_of(alloc: Global, votes: &[Vote]) -> Result<Vec<Finding>, AllocError
     Ok(findings)
 }
 
-/// The line that tells of two votes.
+/// The line that reports two votes.
 fn line_of(alloc: Global, word: &str, first: &Vote, second: &Vote) -> Result<String, AllocError> {
     let round = first.matter.round;
     let (epoch, view, signer) = (round.epoch().get(), round.view().get(), first.signer);
@@ -288,7 +288,7 @@ fn split_rounds(alloc: Global, certified: &[Matter]) -> Result<Vec<Round>, Alloc
     Ok(rounds)
 }
 
-/// The line that tells of a round whose certificates contradict.
+/// The line that reports a round whose certificates contradict.
 fn split_line(
     alloc: Global,
     sizes: Sizes<'_>,

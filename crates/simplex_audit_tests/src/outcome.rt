@@ -1,4 +1,4 @@
-//! What an audit answers, in a form that tests compare.
+//! What an audit returns, in a form that tests compare.
 
 ghost use Rattle.std.specs.Prelude.{◌≤◌};
 
@@ -9,7 +9,7 @@ use simplex_scheme::scheme::{Digest, Listing};
 use std::alloc::Global;
 use std::test::Fail;
 
-/// What an audit answers.
+/// What an audit returns.
 #[derive(Debug, PartialEq, Eq, Drop)]
 pub struct Outcome {
     /// The lines of the evidence, and then those of the splits, each with its end.
@@ -20,7 +20,7 @@ pub struct Outcome {
     pub fault: Option<Fault>,
 }
 
-/// One marked committee of so many participants for every epoch.
+/// One marked committee of this many participants for every epoch.
 pub(crate) fn marked(alloc: Global, participants: u32) -> Result<Committees<Marked>, Fail>
     requires { 1 ≤ participants }
 {
@@ -34,7 +34,7 @@ pub(crate) fn four_and_one(alloc: Global) -> Result<Committees<Marked>, Fail> {
     Ok(Committees::try_from_vec(Vec::from_array(alloc, [four, one])?)?)
 }
 
-/// What the audit of a stream answers.
+/// What the audit of a stream returns.
 pub(crate) fn outcome_of<S: Listing<D>, D: Digest>(
     alloc: Global,
     committees: &Committees<S>,
@@ -43,7 +43,7 @@ pub(crate) fn outcome_of<S: Listing<D>, D: Digest>(
     written(alloc, audit::<S, D>(alloc, committees, stream)?)
 }
 
-/// What the deferred audit of a stream answers.
+/// What the deferred audit of a stream returns.
 pub(crate) fn deferred_outcome_of<S: Listing<D>, D: Digest>(
     alloc: Global,
     committees: &Committees<S>,

@@ -16,7 +16,7 @@ const CONFLICT: &[u8] = b"\x00\x00\x0a\x05\x06\x01\xaa\x00\x00\x0a\x05\x07\x01\x
 
 const LINE: &str = "0 10 1 conflicting-notarize 5 06 5 07\n";
 
-/// One run, what it answers and what the writer then holds.
+/// One run, what it returns and what the writer then holds.
 #[derive(Clone, Copy)]
 struct Case<'a> {
     stream: &'a [u8],
@@ -63,10 +63,10 @@ fn ends_by<S: Listing<D>, D: Digest>(
     let target = Target::new(case.steps.1, case.room, case.writing, case.flushing);
     let (mut reader, mut writer) = (Watched::new(source), Watched::new(target));
     assert!(rt; !reader.failed() && !writer.failed());
-    let answer = run::<S, D, Source, Target>(alloc, committees, &mut reader, &mut writer);
+    let outcome = run::<S, D, Source, Target>(alloc, committees, &mut reader, &mut writer);
     assert_eq!(rt; reader.failed(), case.error == Some(RunError::Read));
     assert_eq!(rt; writer.failed(), case.error == Some(RunError::Write));
-    assert_eq!(rt; answer.err(), case.error);
+    assert_eq!(rt; outcome.err(), case.error);
     let target = writer.into_inner();
     assert_eq!(rt; target.held(), case.held.as_bytes());
     let (writes, flushes) = target.calls();

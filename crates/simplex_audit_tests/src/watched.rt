@@ -1,4 +1,4 @@
-//! What a watched device hands on: each call once, and what it answers.
+//! What a watched device hands on: each call once, and what it returns.
 
 use faulty_io::{Source, Target, Trouble};
 use simplex_audit::audit::Watched;
@@ -6,7 +6,7 @@ use std::io;
 use std::io::{ErrorKind, Read, Write};
 use std::test::Fail;
 
-/// Kinds of errors that a device may answer with.
+/// Kinds of errors that a device may return.
 const KINDS: [ErrorKind; 4] = [
     ErrorKind::Interrupted,
     ErrorKind::OutOfMemory,
@@ -15,8 +15,8 @@ const KINDS: [ErrorKind; 4] = [
 ];
 
 /// The kind of an error, if there is one.
-fn kind_of<T: Copy>(answer: io::Result<T>) -> Option<ErrorKind> {
-    match answer {
+fn kind_of<T: Copy>(outcome: io::Result<T>) -> Option<ErrorKind> {
+    match outcome {
         Ok(_) => None,
         Err(error) => Some(error.kind()),
     }
@@ -43,7 +43,7 @@ fn reads_are_handed_on(rt: HostRuntime) -> Result<(), Fail> {
     Ok(())
 }
 
-/// A write is one write of the device, which takes its bytes or answers its error.
+/// A write is one write of the device, which takes its bytes or returns its error.
 #[test]
 fn writes_are_handed_on(rt: HostRuntime) -> Result<(), Fail> {
     for kind in KINDS {
@@ -75,7 +75,7 @@ fn writes_of_nothing(rt: HostRuntime) -> Result<(), Fail> {
     Ok(())
 }
 
-/// A flush is one flush of the device, which flushes it or answers its error.
+/// A flush is one flush of the device, which flushes it or returns its error.
 #[test]
 fn flushes_are_handed_on(rt: HostRuntime) -> Result<(), Fail> {
     for kind in KINDS {

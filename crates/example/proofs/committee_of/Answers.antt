@@ -6,7 +6,7 @@ use Rattle.std.proofs.lemmas.Bool.{eqb-false, false≢true}
 use Rattle.std.proofs.lemmas.List.Sorted.{length_permutation}
 use Rattle.std.proofs.lemmas.Map.Made.{AllPairs-from_IsDistinct, IsDistinct-from_AllPairs}
 use Rattle.std.proofs.lemmas.Slice.Eq.{bytes_eq-Decides}
-use Rattle.example.specs.Named.{AreKeys}
+use Rattle.example.specs.Accused.{AreCommitteeKeys}
 use Rattle.example.proofs.committee_of.Goals as goal
 
 -- some keys, but not too many
@@ -14,7 +14,7 @@ sizes : (keys : List (List ℕ)) (count : ℕ) → count ≡ length keys → fal
 sizes keys count same some few = let more = eqb-false count 0 (sym some) in (omega arith, omega arith)
 
 -- these are a committee's where none is there twice
-are_keys : (keys : List (List ℕ)) → (1 ≤ length keys) × (length keys < 2 ^ 32) → IsDistinct bytes_eq keys → AreKeys keys
+are_keys : (keys : List (List ℕ)) → (1 ≤ length keys) × (length keys < 2 ^ 32) → IsDistinct bytes_eq keys → AreCommitteeKeys keys
 are_keys keys size distinct = record {
   some = size.0;
   few = size.1;

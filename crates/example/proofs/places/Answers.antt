@@ -1,7 +1,7 @@
 use Rattle.std.proofs.Common.{◌≡◌, ℕ, ◌+◌, ◌<◌, List, [], ◌∷◌, ◌++◌, length, take, get_or, sym, ap, ◌∙◌}
 use Rattle.std.specs.Prelude.{map}
 use Rattle.std.proofs.lemmas.List.{map-append, take_more}
-use Rattle.example.specs.Named.{place_of}
+use Rattle.example.specs.Accused.{place_of}
 use Rattle.example.proofs.places.Goals as goal
 
 -- one more

@@ -1,6 +1,6 @@
 use Rattle.std.proofs.Common.{◌≡◌, take}
 use Rattle.std.specs.Prelude.{map}
-use Rattle.example.specs.Named.{place_of}
+use Rattle.example.specs.Accused.{place_of}
 use Rattle.example.proofs.places.Given as goal
 
 -- those so far

@@ -1,4 +1,4 @@
--- Whom a stream names under one committee.
+-- Whom a stream accuses under one committee.
 use Rattle.std.specs.Cmp.Lexicographic.{slice_cmp}
 use Rattle.std.specs.List.Sorted.{IsStrictlySortedBy}
 use Rattle.std.specs.Ordering.{nat_cmp}
@@ -15,15 +15,15 @@ use Rattle.simplex_audit.specs.Report.{IsReport}
 use Rattle.simplex_audit.specs.declared.audit.Report.{Report}
 
 -- The keys are those of a committee: at least one, fewer than 2^32, and none twice.
-pub record AreKeys (keys : List (List ℕ)) : Type 0 where
+pub record AreCommitteeKeys (keys : List (List ℕ)) : Type 0 where
   pub some : 1 ≤ length keys
   pub few : length keys < 2 ^ 32
   pub distinct : AllPairs (λ a b. a ≢ b) keys
 
 -- The committee of these keys: a participant's number is the place of its key among them in ascending order, and what is
 -- signed is signed under the names of the namespace.
-pub record IsCommittee (namespace : List ℕ) (keys : List (List ℕ)) (committee : PlainScheme) : Type 0 where
-  pub are_keys : AreKeys keys
+pub record IsPlainCommittee (namespace : List ℕ) (keys : List (List ℕ)) (committee : PlainScheme) : Type 0 where
+  pub are_keys : AreCommitteeKeys keys
   pub same : IsPermutation keys committee.keys
   pub ascending : IsStrictlySortedBy (slice_cmp nat_cmp) committee.keys
   pub names_are : committee.names ≡ names_of namespace
@@ -33,11 +33,11 @@ pub record IsCommittee (namespace : List ℕ) (keys : List (List ℕ)) (committe
 abbrev pub place_of : {S D P G : Type 0} → Evidence S D P G → Round × ℕ
 place_of evidence = (round_of (evidence_value evidence).first.subject, (evidence_value evidence).first.signer)
 
--- Named are the rounds and the signers of the evidence of the stream's report, in its order, where the committee of the
+-- Accused are the rounds and the signers of the evidence of the stream's report, in its order, where the committee of the
 -- keys judges every epoch. The basis of committees says how messages are read and judged under them.
-pub record AreNamed {C : Type 0} (basis : Schedule PlainScheme → Basis PlainScheme (List ℕ) C (List ℕ) (List ℕ)) (namespace : List ℕ) (keys : List (List ℕ)) (stream : List ℕ) (named : List (Round × ℕ)) : Type 0 where
+pub record AreAccused {C : Type 0} (basis : Schedule PlainScheme → Basis PlainScheme (List ℕ) C (List ℕ) (List ℕ)) (namespace : List ℕ) (keys : List (List ℕ)) (stream : List ℕ) (accused : List (Round × ℕ)) : Type 0 where
   pub committee : PlainScheme
   pub report : Report PlainScheme (List ℕ) (List ℕ) (List ℕ)
-  pub committee_is : IsCommittee namespace keys committee
+  pub committee_is : IsPlainCommittee namespace keys committee
   pub report_is : IsReport (basis (Every committee)) stream report
-  pub named_are : named ≡ map place_of report.evidence.items
+  pub accused_are : accused ≡ map place_of report.evidence.items

@@ -1,6 +1,6 @@
-//! Whom a stream names, as the README shows it.
+//! Whom a stream accuses, as the README shows it.
 
-use example::named;
+use example::accused;
 use simplex_base::codec::Fixed;
 use simplex_base::positions::{Epoch, Participant, Round, View};
 use simplex_plain::plain::PlainKey;
@@ -15,18 +15,18 @@ pub(crate) const TWICE: &str =
     85c5f612872154ca52e992a79aec3bfdc407bf2873f7f4372e33b4be6de3d71b";
 
 #[test]
-fn ample_the_example_names_the_signer(rt: HostRuntime) -> Result<(), Fail> {
+fn ample_the_example_accuses_the_signer(rt: HostRuntime) -> Result<(), Fail> {
     let alloc = rt.alloc();
     let stream = hex::decode(alloc, TWICE)?;
     let key = PlainKey::from_bytes(&[0; 32]);
     let keys = Vec::from_array(alloc, [key])?;
-    let found = named(alloc, b"test", keys, stream.as_slice())?.ok_or("no committee")?;
+    let found = accused(alloc, b"test", keys, stream.as_slice())?.ok_or("no committee")?;
     let voted_in = Round::new(Epoch::new(0), View::new(10));
     assert_eq!(rt;
         found.as_slice(),
         [(voted_in, Participant::new(0))].as_slice()
     );
     let twice = Vec::from_array(alloc, [key, key])?;
-    assert!(rt; named(alloc, b"test", twice, stream.as_slice())?.is_none());
+    assert!(rt; accused(alloc, b"test", twice, stream.as_slice())?.is_none());
     Ok(())
 }
