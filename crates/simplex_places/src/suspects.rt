@@ -11,18 +11,22 @@ ghost use Rattle.simplex_detector.specs.Named.{round_cmp};
 ghost use Rattle.simplex_detector.specs.Rules.{AreLawful};
 ghost use Rattle.simplex_detector.specs.Suspects.{is_suspect, is_suspect_round};
 ghost use Rattle.simplex_detector.specs.declared.judging.Judging.TheVariants.{Claimed};
+ghost use Rattle.simplex_places.specs.Bytes.{AreVotesAt};
 ghost use Rattle.simplex_places.specs.Suspects.{AreSuspects, is_sought, sought_of, suspected_by};
+ghost use Rattle.simplex_places.specs.declared.places.Suspect as suspect;
+ghost use Rattle.simplex_base.specs.Readable.{format_of};
 
 use crate::located::{Counted, Located};
 use crate::places::{Placed, Suspect};
 use crate::reading::{read_claims, reading_bound};
 use simplex_audit::basis::Audited;
+use simplex_base::codec::Read;
 use simplex_base::positions::{Epoch, Participant, Round, View};
 use simplex_detector::committees::Committees;
 use simplex_detector::detector::Detector;
 use simplex_detector::judging::{SuspectSigners, suspects_of};
 use simplex_detector::laws::suspects_suffice;
-use simplex_scheme::scheme::{CertificateScheme, Digest, SchemeTypes};
+use simplex_scheme::scheme::{CertificateScheme, Digest};
 use std::alloc::{AllocError, Global};
 
 /// The suspects, and the suspect rounds: those of what the votes claim.
@@ -99,6 +103,16 @@ fn sought<S: CertificateScheme>(
     Ok(found)
 }
 
+/// Each attestation that has to be verified is a vote of the stream's messages, as it stands in the stream: the bytes of its
+/// subject are the proposal or the round that is signed, and the signature ends with the verdict.
+pub fn suspects_are_votes<S: Counted<D>, D: Digest>()
+    ensures { (committees : Schedule S) (stream : List ℕ) (found : List suspect.Suspect) →
+        AreSuspects (⟦<S as Audited<D>>⟧.basis committees) ⟦<S as Located<D>>⟧.places stream
+        found →
+        AreVotesAt (⟦<S as Audited<D>>⟧.basis committees) (format_of ⟦<D as Read>⟧)
+        (format_of ⟦<S::Signature as Read>⟧) stream found }
+{}
+
 /// The attestations of a stream that have to be verified before it is audited, in the order of the stream. A signer of a
 /// committee is suspect in a round where two votes contradict that claim to be that signer's, and the round is, too. Listed are
 /// the votes of suspects in their rounds, standalone and in evidence, and of each certificate of a suspect round all
@@ -110,9 +124,12 @@ pub fn suspects<S: Counted<D>, D: Digest>(
     committees: &Committees<S>,
     stream: &[u8],
 ) -> Result<Vec<Suspect>, AllocError>
-    ensures { IfOk result (λ found. AreSuspects (⟦<S as Audited<D>>⟧.basis committees.now)
+    ensures listed { IfOk result (λ found. AreSuspects (⟦<S as Audited<D>>⟧.basis committees.now)
         ⟦<S as Located<D>>⟧.places stream.now found.items) }
+    ensures votes { IfOk result (λ found. AreVotesAt (⟦<S as Audited<D>>⟧.basis committees.now)
+        (format_of ⟦<D as Read>⟧) (format_of ⟦<S::Signature as Read>⟧) stream.now found.items) }
 {
+    suspects_are_votes::<S, D>();
     let bound = reading_bound::<S, D>(committees);
     let claims = read_claims::<S, D>(alloc, committees, bound, stream)?;
     let suspects = claimed_suspects(alloc, &claims.detector)?;

@@ -7,8 +7,8 @@ use Rattle.simplex_places.specs.Suspects.{sought_of, suspected_by, suspected_in}
 use Rattle.simplex_places.proofs.SuspectLemmas.{sought_alike}
 use Rattle.simplex_places.proofs.suspects.suspects.Goals as goal
 
-pub returns : goal.returns
-returns g c =
+pub returns-clause-listed : goal.returns-clause-listed
+returns-clause-listed g c =
     let committees = c.args.committees.now in
     let payload = fixed g.D.FixedSize.SIZE g.D.Fixed.bytes_of g.D.Fixed.of_bytes in
     let signature = fixed g.S.Signature.FixedSize.SIZE g.S.Signature.Fixed.bytes_of g.S.Signature.Fixed.of_bytes in
@@ -28,3 +28,6 @@ returns g c =
             rounds = c.in_ok-suspects.ensures.rounds committees read.messages lawful read.recalled;
           }) places);
     }
+
+pub returns-clause-votes : goal.returns-clause-votes
+returns-clause-votes g c = c.suspects_are_votes.ensures c.args.committees.now c.args.stream.now c.in_ok-found.found.items (returns-clause-listed g c)

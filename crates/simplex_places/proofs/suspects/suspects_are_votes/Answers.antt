@@ -1,0 +1,25 @@
+use Rattle.std.proofs.Common.{sym, subst}
+use Rattle.std.specs.Prelude.{All, Contains}
+use Rattle.std.specs.List.{flat_map}
+use Rattle.simplex_base.specs.Format.{fixed}
+use Rattle.simplex_evidence.specs.Activity.{votes_in}
+use Rattle.simplex_detector.specs.Committees.{committee_of, rules_of, size_by}
+use Rattle.simplex_places.specs.Suspects.{suspected_in}
+use Rattle.simplex_places.proofs.ByteLemmas.{IsCast, sought_stand}
+use Rattle.simplex_places.proofs.suspects.suspects_are_votes.Goals as goal
+
+pub returns : goal.returns
+returns g c committees stream found are =
+    let eq = g.D.PartialEq.eq in
+    let payload = fixed g.D.FixedSize.SIZE g.D.Fixed.bytes_of g.D.Fixed.of_bytes in
+    let signature = fixed g.S.Signature.FixedSize.SIZE g.S.Signature.Fixed.bytes_of g.S.Signature.Fixed.of_bytes in
+    let listed = g.S.Listing.listed in
+    let rules = rules_of eq g.S.CertificateScheme.keys g.S.Scheme.good g.S.CertificateVerifier.certified listed committees in
+    let cast = Contains (flat_map (votes_in listed) are.messages) in
+    record {
+      messages = are.messages;
+      rest = are.rest;
+      are_messages = are.are_messages;
+      each = subst (All (IsCast eq payload g.S.Certificate.Encoding.encoding signature listed g.met.S.Counted.counted stream cast)) (sym are.found_are)
+          (sought_stand eq payload g.S.Certificate.Encoding.encoding signature listed g.met.S.Counted.counted stream cast (suspected_in rules are.messages) rules.size are.messages are.rest are.are_messages.whole (λ v c. c));
+    }
