@@ -1,4 +1,4 @@
--- What stands of the votes that a batcher keeps.
+-- What stands of the votes that a batcher records.
 use Rattle.std.proofs.Common.{◌≡◌, ℕ, ◌≤◌, Bool, true, false, List, [], ◌∷◌, ◌++◌, length, cond, Result, Ok, Err, MatchResult, ◌⊎◌, inr, sym, ap, subst, ◌∙◌, arith}
 use Rattle.std.specs.Prelude.{All}
 use Rattle.std.specs.List.{filter}
@@ -31,11 +31,11 @@ module _ {S D P G : Type 0} (good : SubjectValue D → ℕ → G → Bool) (prop
   -- after an insert of a valid vote for the proposal the votes stand
   pub stands_after : {E : Type 0} (old new : List (Notarize S D P G)) (vote : Notarize S D P G) (result : Result Bool E) (added : Bool) → result ≡ Ok added → AreForProposal good proposal old → vote.proposal ≡ proposal → good (Notarizes vote.proposal) vote.attestation.signer vote.attestation.signature ≡ true →
       (result ≡ Ok true → IsPermutation (vote ∷ old) new) → (result ≡ Ok false → new ≡ old) → AreForProposal good proposal new
-  stands_after old new vote result true is stands same is_good more kept = record {
+  stands_after old new vote result true is stands same valid more kept = record {
     same = All-permutation (λ v. v.proposal ≡ proposal) (vote ∷ old) new (more is) (All-cons (λ v. v.proposal ≡ proposal) vote old same stands.same);
-    each_good = All-permutation (λ v. good (Notarizes v.proposal) v.attestation.signer v.attestation.signature ≡ true) (vote ∷ old) new (more is) (All-cons (λ v. good (Notarizes v.proposal) v.attestation.signer v.attestation.signature ≡ true) vote old is_good stands.each_good);
+    each_valid = All-permutation (λ v. good (Notarizes v.proposal) v.attestation.signer v.attestation.signature ≡ true) (vote ∷ old) new (more is) (All-cons (λ v. good (Notarizes v.proposal) v.attestation.signer v.attestation.signature ≡ true) vote old valid stands.each_valid);
   }
-  stands_after old new vote result false is stands same is_good more kept = subst (AreForProposal good proposal) (sym (kept is)) stands
+  stands_after old new vote result false is stands same valid more kept = subst (AreForProposal good proposal) (sym (kept is)) stands
 
 -- one more that passes a test
 pub one_more_passes : {X : Type 0} (p : X → Bool) (xs : List X) (x : X) → p x ≡ true → filter p (xs ++ x ∷ []) ≡ filter p xs ++ x ∷ []

@@ -1,4 +1,4 @@
--- What a batcher keeps of the notarizes that come.
+-- What a batcher records of the notarizes that come.
 use Rattle.std.specs.Prelude.{◌≡◌, ℕ, ◌≤◌, ◌&&◌, Bool, true, List, length, filter, All}
 use Rattle.simplex_scheme.specs.Committee.{quorum_of}
 use Rattle.simplex_scheme.specs.declared.proposal.Proposal.{Proposal}
@@ -7,7 +7,7 @@ use Rattle.simplex_votes.specs.Votes.{same_proposal}
 use Rattle.simplex_votes.specs.declared.types.notarize.Notarize.{Notarize}
 use Rattle.simplex_evidence.specs.VoteMap.{IsFirsts, signers_among}
 
--- who verifies, which proposal the votes are for, and the votes that are kept. S, P and G are the types of the scheme, its
+-- who verifies, which proposal the votes are for, and the votes that are recorded. S, P and G are the types of the scheme, its
 -- keys and its signatures, D that of payloads
 pub record Batch (S D P G : Type 0) : Type 0 where
   pub scheme : S
@@ -21,7 +21,7 @@ signer_of v = v.attestation.signer
 -- votes for one proposal, each valid
 pub record AreForProposal {S D P G : Type 0} (good : SubjectValue D → ℕ → G → Bool) (proposal : Proposal D) (votes : List (Notarize S D P G)) : Type 0 where
   pub same : All (λ v. v.proposal ≡ proposal) votes
-  pub each_good : All (λ v. good (Notarizes v.proposal) v.attestation.signer v.attestation.signature ≡ true) votes
+  pub each_valid : All (λ v. good (Notarizes v.proposal) v.attestation.signer v.attestation.signature ≡ true) votes
 
 -- `eq` compares payloads, `keys` gives a scheme's keys, and `good` says which signatures are valid
 module _ {S D P G : Type 0} (eq : D → D → Bool) (keys : S → List P) (good : S → SubjectValue D → ℕ → G → Bool) where
@@ -30,7 +30,7 @@ module _ {S D P G : Type 0} (eq : D → D → Bool) (keys : S → List P) (good 
   is_wanted batch v =
       same_proposal eq v.proposal batch.proposal && good batch.scheme (Notarizes v.proposal) v.attestation.signer v.attestation.signature
 
-  -- of the votes that came, the first wanted one of each participant is kept, and no other
+  -- of the votes that came, the first wanted one of each participant is recorded, and no other
   abbrev pub HasTaken : Batch S D P G → List (Notarize S D P G) → Type 0
   HasTaken batch came = IsFirsts signer_of (length (keys batch.scheme)) (filter (is_wanted batch) came) batch.votes
 

@@ -12,8 +12,8 @@ use simplex_votes::types::{Notarization, Notarize};
 use std::alloc::{AllocError, Global};
 use std::marker::Model;
 
-/// Of each participant the first valid notarize of one proposal. It keeps at most one vote of a participant, whatever
-/// comes.
+/// Of each participant the first valid notarize of one proposal. It records at most one vote of a participant, no matter how
+/// many come.
 #[derive(Drop)]
 pub struct Batcher<'a, S: Scheme<D>, D: Digest> {
     scheme: &'a S,
@@ -52,9 +52,9 @@ impl<'a, S: Scheme<D>, D: Digest> Batcher<'a, S, D> {
         }
     }
 
-    /// Takes a vote of any signer for any proposal. It is kept if it is valid, for the proposal, and its signer's first
-    /// such; so no bad vote is in a valid one's place. From then on that a quorum of participants has signed such votes
-    /// there is a notarization, and before there is none. Where an allocation failed the vote may have been kept or not.
+    /// Takes a vote of any signer for any proposal. It is recorded if it is valid, for the proposal, and its signer's first
+    /// such; so no invalid vote is in a valid one's place. Once a quorum of participants has signed such votes there is a
+    /// notarization, and before there is none. Where an allocation failed the vote may have been recorded or not.
     pub fn take(
         &mut self,
         alloc: Global,
@@ -76,14 +76,14 @@ impl<'a, S: Scheme<D>, D: Digest> Batcher<'a, S, D> {
             IfOk result (λ answer. IsSome answer ↔
             HasQuorum D.eq S.keys S.good self.new (came ++ vote ∷ [])) }
     {
-        match self.keep(vote) {
+        match self.record_vote(vote) {
             Ok(()) => self.notarization(alloc),
             Err(error) => Err(error),
         }
     }
 
-    /// Keeps a vote if it is valid, for the proposal, and its signer's first.
-    fn keep(&mut self, vote: Notarize<S, D>) -> Result<(), AllocError>
+    /// Records a vote if it is valid, for the proposal, and its signer's first.
+    fn record_vote(&mut self, vote: Notarize<S, D>) -> Result<(), AllocError>
         ensures same { (self.new.scheme ≡ self.old.scheme) ×
             (self.new.proposal ≡ self.old.proposal) }
         ensures taken { (came : List (Notarize S D S.PublicKey S.Signature)) →
@@ -102,7 +102,7 @@ impl<'a, S: Scheme<D>, D: Digest> Batcher<'a, S, D> {
     fn is_wanted(&self, vote: &Notarize<S, D>) -> bool
         ensures value { result ≡ is_wanted D.eq S.keys S.good self.now vote.now }
         ensures proposal { IsTrue result → vote.now.proposal ≡ self.now.proposal }
-        ensures good { IsTrue result →
+        ensures valid { IsTrue result →
             S.good self.now.scheme (Notarizes vote.now.proposal) vote.now.attestation.signer
             vote.now.attestation.signature ≡ true }
     {
@@ -119,7 +119,7 @@ impl<'a, S: Scheme<D>, D: Digest> Batcher<'a, S, D> {
         self.votes.len()
     }
 
-    /// The notarization of the votes that are kept, if they are a quorum.
+    /// The notarization of the votes that are recorded, if they are a quorum.
     pub fn notarization(&self, alloc: Global) -> Result<Option<Notarization<S, D>>, AllocError>
         ensures certifies { IfOk result (λ answer.
             IfSome answer (λ n. (n.proposal ≡ self.now.proposal) ×

@@ -1,4 +1,4 @@
-//! Keeps the certificates that certify.
+//! Selects the certificates that certify.
 
 ghost use Rattle.std.specs.Prelude.{◌≡◌, IfOk, map};
 ghost use Rattle.std.specs.List.{filter};
@@ -15,16 +15,16 @@ pub fn resolve<'a, 'b, S: CertificateVerifier<D>, D: Digest>(
     scheme: &S,
     items: &'b [(Subject<'a, D>, &'a S::Certificate)],
 ) -> Result<Vec<&'b (Subject<'a, D>, &'a S::Certificate)>, AllocError>
-    ensures { IfOk result (λ kept.
-        map (λ item. item.now) kept.items ≡
+    ensures { IfOk result (λ selected.
+        map (λ item. item.now) selected.items ≡
         filter (λ item. S.certified scheme.now (subject_value item.0) item.1.now) items.now) }
 {
     let answers = verify_certificates(alloc, scheme, items)?;
-    let mut kept = Vec::new(alloc);
+    let mut selected = Vec::new(alloc);
     for place in 0..items.len() {
         if answers[place] {
-            kept.push(&items[place])?;
+            selected.push(&items[place])?;
         }
     }
-    Ok(kept)
+    Ok(selected)
 }

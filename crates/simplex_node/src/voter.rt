@@ -21,7 +21,7 @@ pub fn takes(viewport: &Viewport, view: View) -> bool
         (IsRetained viewport.now.finalized viewport.now.view_retention view ×
         IsAdmitted viewport.now.lookahead.term_length viewport.now.lookahead.optimistic_views
         viewport.now.current view) }
-    // Of the views later than its own it takes votes of this many at most, whatever is sent.
+    // Of the views later than its own it takes votes of this many at most, no matter how many are sent.
     ensures held { NumberExactly
         (λ q. (viewport.now.current < q) ×
         IsAdmitted viewport.now.lookahead.term_length viewport.now.lookahead.optimistic_views

@@ -15,12 +15,12 @@ loop-place-preserved g c =
     elim c.if-index.branch [
       | then-index+in_ok-push w ↦
           let one = w.index-items-place.result in
-          let before = c.loop-place.kept.items in
-          ap (λ kept. map (λ item. item.now) kept.items) w.kept-is
+          let before = c.loop-place.selected.items in
+          ap (λ selected. map (λ item. item.now) selected.items) w.selected-is
           ∙ ap (map (λ item. item.now)) w.in_ok-push.ensures.items
           ∙ map-append (λ item. item.now) before _
           ∙ ap (λ xs. xs ++ one ∷ []) c.loop-place.invariant
           ∙ ap (λ x. filter (λ item. g.S.CertificateVerifier.certified c.args.scheme.now (subject_value item.0) item.1.now) (take i items) ++ x ∷ []) w.index-items-place.is
           ∙ sym (one_more _ items i e one c.loop-place-test.true (sym told ∙ w.if-index.true))
-      | else-index w ↦ ap (λ kept. map (λ item. item.now) kept.items) w.kept-is ∙ c.loop-place.invariant ∙ sym (none_more _ items i e c.loop-place-test.true (sym told ∙ w.if-index.false))
+      | else-index w ↦ ap (λ selected. map (λ item. item.now) selected.items) w.selected-is ∙ c.loop-place.invariant ∙ sym (none_more _ items i e c.loop-place-test.true (sym told ∙ w.if-index.false))
     ]

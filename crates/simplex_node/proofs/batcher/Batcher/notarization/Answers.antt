@@ -51,5 +51,5 @@ returns-in-Ok-clause-certifies g c =
       one_proposal inside.votes.items c.in-Ok.notarization.proposal inside.proposal some (subst (All (λ v. v.proposal ≡ c.in-Ok.notarization.proposal)) is c.in-Ok.ensures.proposal) stands.same
           ∙ ap (λ b. b.proposal) c.self.view_is,
       subst (λ b. g.S.CertificateVerifier.certified b.scheme (Notarizes c.in-Ok.notarization.proposal) c.in-Ok.notarization.certificate ≡ true) c.self.view_is
-          (c.in-Ok.ensures.certified (subst (All (λ v. good (Notarizes v.proposal) v.attestation.signer v.attestation.signature ≡ true)) (sym is) stands.each_good)),
+          (c.in-Ok.ensures.certified (subst (All (λ v. good (Notarizes v.proposal) v.attestation.signer v.attestation.signature ≡ true)) (sym is) stands.each_valid)),
     )

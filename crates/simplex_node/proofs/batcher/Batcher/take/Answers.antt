@@ -11,4 +11,4 @@ returns-in-Err-clause-taken g c came taken = inl (c.in-Err.ensures.taken came ta
 
 pub returns-in-Ok-clause-taken : goal.returns-in-Ok-clause-taken
 returns-in-Ok-clause-taken g c came taken =
-    either_way c.notarization.result (HasTaken g.D.PartialEq.eq g.S.CertificateScheme.keys g.S.Scheme.good c.keep.new.self came) _ (c.in-Ok.ensures.taken came taken)
+    either_way c.notarization.result (HasTaken g.D.PartialEq.eq g.S.CertificateScheme.keys g.S.Scheme.good c.record_vote.new.self came) _ (c.in-Ok.ensures.taken came taken)

@@ -4,7 +4,7 @@ use Rattle.simplex_evidence.specs.VoteMap.{IsFirsts}
 use Rattle.simplex_scheme.specs.Subject.{Notarizes}
 use Rattle.simplex_node.specs.Batch.{Batch, HasTaken, is_wanted, signer_of}
 use Rattle.simplex_node.proofs.BatchLemmas.{stands_after, one_more_passes, answered}
-use Rattle.simplex_node.proofs.batcher.Batcher.keep.Goals as goal
+use Rattle.simplex_node.proofs.batcher.Batcher.record_vote.Goals as goal
 
 pub invariant_of-self : goal.invariant_of-self
 invariant_of-self g c =
@@ -12,10 +12,10 @@ invariant_of-self g c =
     let good = g.S.Scheme.good in
     let vote = c.args.vote in
     let same : vote.proposal ≡ inside.proposal = c.is_wanted.ensures.proposal c.if-is_wanted.true ∙ sym (ap (λ b. b.proposal) c.self.view_is) in
-    let is_good : good inside.scheme.now (Notarizes vote.proposal) vote.attestation.signer vote.attestation.signature ≡ true =
-    subst (λ b. good b.scheme (Notarizes vote.proposal) vote.attestation.signer vote.attestation.signature ≡ true) (sym c.self.view_is) (c.is_wanted.ensures.good c.if-is_wanted.true) in (
+    let valid : good inside.scheme.now (Notarizes vote.proposal) vote.attestation.signer vote.attestation.signature ≡ true =
+    subst (λ b. good b.scheme (Notarizes vote.proposal) vote.attestation.signer vote.attestation.signature ≡ true) (sym c.self.view_is) (c.is_wanted.ensures.valid c.if-is_wanted.true) in (
       c.insert.ensures.participants ∙ c.self.invariant.0,
-      stands_after (good inside.scheme.now) inside.proposal inside.votes.items c.insert.new.self.items vote c.insert.result c.in_ok-insert.field-0 c.in_ok-insert.was c.self.invariant.1 same is_good c.insert.ensures.more c.insert.ensures.kept,
+      stands_after (good inside.scheme.now) inside.proposal inside.votes.items c.insert.new.self.items vote c.insert.result c.in_ok-insert.field-0 c.in_ok-insert.was c.self.invariant.1 same valid c.insert.ensures.more c.insert.ensures.kept,
     )
 
 pub returns-in_ok-insert-clause-taken : goal.returns-in_ok-insert-clause-taken
