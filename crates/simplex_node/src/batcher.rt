@@ -1,6 +1,6 @@
 //! Collects the notarizes of one proposal until they make a notarization.
 
-ghost use Rattle.std.specs.Prelude.{◌≡◌, ◌<◌, ◌≤◌, ◌↔◌, ◌++◌, ◌∷◌, ◌⊎◌, List, [], Ok, None, IfOk, IfSome, IsSome, IsTrue, MatchResult, length, true};
+ghost use Rattle.std.specs.Prelude.{◌≡◌, ◌<◌, ◌≤◌, ◌↔◌, ◌++◌, ◌∷◌, ◌⊎◌, List, [], Ok, None, IfOk, IfSome, IsSome, IsTrue, MatchResult, length, map, true};
 ghost use Rattle.simplex_scheme.specs.Subject.{Notarizes};
 ghost use Rattle.simplex_node.specs.Batch.{HasTaken, HasQuorum, is_wanted, signers_in};
 
@@ -54,7 +54,8 @@ impl<'a, S: Scheme<D>, D: Digest> Batcher<'a, S, D> {
 
     /// Takes a vote of any signer for any proposal. It is recorded if it is valid, for the proposal, and its signer's first
     /// such; so no invalid vote is in a valid one's place. Once a quorum of participants has signed such votes there is a
-    /// notarization, and before there is none. Where an allocation failed the vote may have been recorded or not.
+    /// notarization, made of all that are recorded, and before there is none. Where an allocation failed the vote may have been
+    /// recorded or not.
     pub fn take(
         &mut self,
         alloc: Global,
@@ -65,6 +66,8 @@ impl<'a, S: Scheme<D>, D: Digest> Batcher<'a, S, D> {
         ensures certifies { IfOk result (λ answer.
             IfSome answer (λ n. (n.proposal ≡ self.old.proposal) ×
             (S.certified self.old.scheme (Notarizes n.proposal) n.certificate ≡ true))) }
+        ensures made { IfOk result (λ answer. IfSome answer (λ n.
+            S.made_of (map (λ v. v.attestation) self.new.votes) n.certificate)) }
         ensures taken { (came : List (Notarize S D S.PublicKey S.Signature)) →
             HasTaken D.eq S.keys S.good self.old came →
             MatchResult result
@@ -119,11 +122,13 @@ impl<'a, S: Scheme<D>, D: Digest> Batcher<'a, S, D> {
         self.votes.len()
     }
 
-    /// The notarization of the votes that are recorded, if they are a quorum.
+    /// The notarization of all votes that are recorded, if they are a quorum.
     pub fn notarization(&self, alloc: Global) -> Result<Option<Notarization<S, D>>, AllocError>
         ensures certifies { IfOk result (λ answer.
             IfSome answer (λ n. (n.proposal ≡ self.now.proposal) ×
             (S.certified self.now.scheme (Notarizes n.proposal) n.certificate ≡ true))) }
+        ensures made { IfOk result (λ answer. IfSome answer (λ n.
+            S.made_of (map (λ v. v.attestation) self.now.votes) n.certificate)) }
         ensures answers { (came : List (Notarize S D S.PublicKey S.Signature)) →
             HasTaken D.eq S.keys S.good self.now came →
             IfOk result (λ answer. IsSome answer ↔ HasQuorum D.eq S.keys S.good self.now came) }

@@ -1,4 +1,4 @@
-use Rattle.std.proofs.Common.{◌≡◌, ◌<◌, ◌≤◌, refl, length, true, sym, ap, subst, ◌∙◌, arith}
+use Rattle.std.proofs.Common.{◌≡◌, ◌<◌, ◌≤◌, refl, length, map, true, sym, ap, subst, ◌∙◌, arith}
 use Rattle.std.specs.Prelude.{All}
 use Rattle.std.proofs.lemmas.Bool.{false≢true}
 use Rattle.simplex_scheme.specs.Committee.{quorum_of}
@@ -53,3 +53,9 @@ returns-in-Ok-clause-certifies g c =
       subst (λ b. g.S.CertificateVerifier.certified b.scheme (Notarizes c.in-Ok.notarization.proposal) c.in-Ok.notarization.certificate ≡ true) c.self.view_is
           (c.in-Ok.ensures.certified (subst (All (λ v. good (Notarizes v.proposal) v.attestation.signer v.attestation.signature ≡ true)) (sym is) stands.each_valid)),
     )
+
+pub returns-in-Ok-clause-made : goal.returns-in-Ok-clause-made
+returns-in-Ok-clause-made g c =
+    let certificate = c.in-Ok.notarization.certificate in
+    subst (λ b. g.S.Scheme.made_of (map (λ v. v.attestation) b.votes) certificate) c.self.view_is
+    (subst (λ votes. g.S.Scheme.made_of (map (λ v. v.attestation) votes) certificate) c.as_slice-votes.ensures.items c.in-Ok.ensures.made)
