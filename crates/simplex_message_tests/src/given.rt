@@ -2,13 +2,15 @@
 
 use crate::without_memory::is_out;
 use simplex_base::codec::MaxEncodeSize;
+use simplex_base::positions::{Epoch, Participant, Round, View};
 use simplex_plain::marked::{Marked, MarkedDigest};
 use simplex_plain::plain::Plain;
 use simplex_scheme::faults::{max_faults, quorum};
 use simplex_scheme::proposal::Proposal;
-use simplex_scheme::scheme::{CertificateScheme, Digest, Sha256Digest};
+use simplex_scheme::scheme::{Attestation, CertificateScheme, Digest, Sha256Digest};
 use simplex_votes::types::{
-    Certificate, Context, Finalization, Kind, Notarization, Nullification, Vote,
+    Certificate, Context, Finalization, Finalize, Kind, Notarization, Notarize, Nullification,
+    Nullify, Vote,
 };
 use std::process::Abort;
 use std::test::Fail;
@@ -43,11 +45,20 @@ fn one_of_four_may_lie(rt: HostRuntime) {
     }
 }
 
-/// Greatest sizes of a proposal, a vote, a context, and for four participants of a certificate, a notarization, a
-/// nullification, a finalization and a certificate message.
-fn sizes<S: CertificateScheme, D: Digest>() -> [usize; 8] {
+/// Greatest sizes of an epoch, a view, a participant and a round, of an attestation, a proposal, a notarize, a nullify, a
+/// finalize, a vote and a context, and for four participants of a certificate, a notarization, a nullification, a finalization
+/// and a certificate message.
+fn sizes<S: CertificateScheme, D: Digest>() -> [usize; 16] {
     [
+        Epoch::max_encode_size(),
+        View::max_encode_size(),
+        Participant::max_encode_size(),
+        Round::max_encode_size(),
+        Attestation::<S>::max_encode_size(),
         Proposal::<D>::max_encode_size(),
+        Notarize::<S, D>::max_encode_size(),
+        Nullify::<S>::max_encode_size(),
+        Finalize::<S, D>::max_encode_size(),
         Vote::<S, D>::max_encode_size(),
         Context::<D, S::PublicKey>::max_encode_size(),
         S::max_certificate_size(4),
@@ -66,6 +77,10 @@ fn are_sizes<S: CertificateScheme, D: Digest>(wanted: &[usize]) -> bool {
 #[test]
 fn without_memory(rt: HostRuntime) {
     let _ = is_out(rt.alloc());
-    assert!(rt; are_sizes::<Plain, Sha256Digest>(&[62, 100, 94, 153, 215, 173, 215, 216]));
-    assert!(rt; are_sizes::<Marked, MarkedDigest>(&[31, 38, 35, 29, 60, 49, 60, 61]));
+    let plain = [
+        10, 10, 5, 20, 37, 62, 99, 57, 99, 100, 94, 153, 215, 173, 215, 216,
+    ];
+    assert!(rt; are_sizes::<Plain, Sha256Digest>(&plain));
+    let marked = [10, 10, 5, 20, 6, 31, 37, 26, 37, 38, 35, 29, 60, 49, 60, 61];
+    assert!(rt; are_sizes::<Marked, MarkedDigest>(&marked));
 }

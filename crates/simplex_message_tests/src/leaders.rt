@@ -246,6 +246,24 @@ fn without_memory_leaders(rt: HostRuntime) -> Result<(), Fail> {
     check(&rt, rt.alloc(), &four, rotation, wanted, &[0, 1, 2, 3, 0])
 }
 
+/// A rotation is made, and has terms of 20 views, without memory. Its elector takes memory.
+#[test]
+fn without_memory_rotation(rt: HostRuntime) -> Result<(), Fail> {
+    let four = Marked::new(rt.alloc(), 4, None)?;
+    let is_out = is_out(rt.alloc());
+    let (length, second) = (TermLength::new(20), Duration::from_secs(1));
+    assert!(rt; can_be_stable(length, second));
+    let rotation = RoundRobin::<Sha256>::default().with_term(length, second, ViewDelta::new(2));
+    match Config::<Marked>::build(rotation, rt.alloc(), four.participants()) {
+        Ok(elector) => {
+            let terms = Elector::<Marked>::terms(&elector);
+            assert!(rt; terms == Terms::stable(length, second, ViewDelta::new(2)));
+        }
+        Err(_) => assert!(rt; is_out),
+    }
+    Ok(())
+}
+
 /// What each mode makes of a certificate.
 #[test]
 fn without_memory_modes(rt: HostRuntime) {

@@ -355,6 +355,35 @@ fn key_of_zeros(alloc: Global) -> Result<Set<PlainKey>, Fail>
     Ok(keys)
 }
 
+/// As [`is_certified_twice`], by the plain scheme.
+fn is_plain_certified_twice(
+    scheme: &Plain,
+    proposal: &Proposal<Sha256Digest>,
+    certificate: &Listed<Plain>,
+) -> bool {
+    let items = [certificate, certificate].map(|certificate| {
+        let subject = Subject::Notarize { proposal };
+        (subject, certificate)
+    });
+    scheme.verify_all(&items)
+}
+
+/// The certificate by the key of zeros alone of the proposal whose payload is sixes, under the base `test`, in hexadecimal.
+const PLAIN_CERTIFICATE: &str =
+    "01008c6774d2f68c567d3d7099353ba7b9a73b4a3919f00bf8571c6cf14b8b0e1fbc";
+
+#[test]
+fn without_memory_plain_twice(rt: HostRuntime) -> Result<(), Fail> {
+    let alloc = rt.alloc();
+    let nobody = Plain::verifier(alloc, b"test", key_of_zeros(alloc)?)?;
+    let encoding = hex::decode(alloc, PLAIN_CERTIFICATE)?;
+    let certificate = decode_cfg::<Listed<Plain>>(alloc, encoding.as_slice(), &1)?;
+    let _ = is_out(alloc);
+    let proposal = proposal(Sha256Digest::from_bytes(&[6; 32]));
+    assert!(rt; is_plain_certified_twice(&nobody, &proposal, &certificate));
+    Ok(())
+}
+
 #[test]
 fn without_memory_plain(rt: HostRuntime) -> Result<(), Fail> {
     let alloc = rt.alloc();
@@ -385,6 +414,7 @@ fn without_memory_sets(rt: HostRuntime) -> Result<(), Fail> {
     let _ = is_out(rt.alloc());
     let set = Set::<u32>::try_from_vec(falling)?;
     assert!(rt; set.len() == 3 && set.position(&3) == Some(2));
+    assert!(rt; set.get(0) == Some(&1) && set.get(3).is_none() && !set.is_empty());
     let set = Set::<u32>::try_from_vec(repeated);
     assert!(rt; matches!(set, Err(SetError::Repeated)));
     assert!(rt; Set::<u32>::are_ascending(&[1, 2]) && !Set::<u32>::are_ascending(&[1, 1]));
