@@ -11,7 +11,7 @@ use simplex_plain::marked::Marked;
 use simplex_scheme::scheme::{Digest, Listing, SchemeTypes};
 use std::alloc::{AllocError, Global};
 
-/// The marked committee of so many participants for every epoch, or `EPOCH:NUMBER`s parted by commas, of which each is the
+/// The marked committee of this many participants for every epoch, or `EPOCH:NUMBER`s parted by commas, of which each is the
 /// committee of an epoch. The epochs have to rise strictly.
 pub(crate) fn committees(alloc: Global, word: &str) -> Result<Committees<Marked>, Unanswered> {
     if !word.contains(':') {
@@ -40,9 +40,9 @@ pub(crate) fn audit_vector<S: Listing<D>, D: Digest>(
     stream: &[u8],
 ) -> Result<String, Unanswered> {
     let report = audit::<S, D>(alloc, committees, stream)?;
-    let answer = told(alloc, &report)?;
+    let answer = text_of(alloc, &report)?;
     let deferred = audit_deferred::<S, D>(alloc, committees, stream)?;
-    if told(alloc, &deferred)? != answer {
+    if text_of(alloc, &deferred)? != answer {
         return Ok("the audits differ".to_string(alloc)?);
     }
     for step in [usize::MAX, 1] {
@@ -53,7 +53,7 @@ pub(crate) fn audit_vector<S: Listing<D>, D: Digest>(
     Ok(answer)
 }
 
-/// What a run says that reads so many bytes a call.
+/// What a run says that reads this many bytes a call.
 fn ran<S: Listing<D>, D: Digest>(
     alloc: Global,
     committees: &Committees<S>,
@@ -94,7 +94,7 @@ pub(crate) fn feed_vector<S: Listing<D>, D: Digest>(
         text.push_str(standing(alloc, &auditor)?.as_str())?;
         text.push_str(" | ")?;
     }
-    text.push_str(told(alloc, &auditor.report()?)?.as_str())?;
+    text.push_str(text_of(alloc, &auditor.report()?)?.as_str())?;
     Ok(text)
 }
 
@@ -110,7 +110,7 @@ fn fed_on<'a, S: Listing<D>, D: Digest>(
 }
 
 /// How an auditor stands: how many bytes it was fed, how many are left after the last whole message, and how many votes it
-/// keeps.
+/// has recorded.
 fn standing<S: Listing<D>, D: Digest>(
     alloc: Global,
     auditor: &Auditor<'_, S, D>,
@@ -120,7 +120,7 @@ fn standing<S: Listing<D>, D: Digest>(
 }
 
 /// What a report says: how many messages were read, the lines of the evidence and of the splits, and the fault.
-fn told<S: Listing<D>, D: Digest>(
+fn text_of<S: Listing<D>, D: Digest>(
     alloc: Global,
     report: &Report<S, D>,
 ) -> Result<String, AllocError> {

@@ -1,4 +1,4 @@
-//! What those answer who audit what nodes say: a light client and a ledger.
+//! What callers of the audit return: a light client and a ledger.
 
 use crate::audits::lines;
 use conformance_messages::refusals::name;
@@ -9,7 +9,7 @@ use simplex_clients::light_client::{Followed, LightClient};
 use simplex_scheme::scheme::{Digest, Listing};
 use std::alloc::{AllocError, Global};
 
-/// What a light client answers to each finalization that comes as bytes.
+/// What a light client returns for each finalization that comes as bytes.
 pub(crate) fn follow<S: Listing<D>, D: Digest>(
     alloc: Global,
     committees: &Committees<S>,
@@ -27,7 +27,7 @@ pub(crate) fn follow<S: Listing<D>, D: Digest>(
     Ok(text)
 }
 
-/// What a light client answers to the finalization that the bytes are.
+/// What a light client returns for the finalization that the bytes are.
 fn followed<S: Listing<D>, D: Digest>(
     alloc: Global,
     client: &mut LightClient<'_, S, D>,

@@ -5,7 +5,7 @@ ghost use Rattle.conformance_messages.specs.declared.vectors.Unanswered.TheVaria
 
 use crate::leaders::leader;
 use crate::maps::map;
-use crate::names::{derive, subject};
+use crate::namespaces::{derive, subject};
 use crate::nodes::{batch, hear, resolved};
 use crate::plans::forward;
 use crate::reads::{Asked, read_vector};
@@ -146,7 +146,7 @@ fn window_vector(alloc: Global, words: &[&str]) -> Result<String, Unanswered>
     }
 }
 
-/// The views that a node keeps and takes.
+/// The views that a node retains and takes.
 fn viewport(
     finalized: &str,
     current: &str,

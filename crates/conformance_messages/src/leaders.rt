@@ -15,7 +15,7 @@ use std::time::Duration;
 /// The word in the place of a seed where there is none.
 const NO_SEED: &str = "-";
 
-/// A rotation by this seed, in terms of so many views.
+/// A rotation by this seed, in terms of this many views.
 fn rotation(alloc: Global, seed: &str, length: TermLength) -> Result<RoundRobin, Unanswered>
     ensures { IfOk result (λ settings. settings.terms.term_length ≡ length) }
 {

@@ -6,7 +6,7 @@ mod leaders;
 mod many;
 mod maps;
 mod memory;
-mod names;
+mod namespaces;
 mod nodes;
 mod plans;
 mod reads;

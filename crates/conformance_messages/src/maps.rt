@@ -20,7 +20,7 @@ impl Attributable for Signed {
     }
 }
 
-/// Inserts an item of each signer into an empty map: what each insert answers, and then the map.
+/// Inserts an item of each signer into an empty map: what each insert returns, and then the map.
 pub(crate) fn map(
     alloc: Global,
     participants: u32,

@@ -1,4 +1,4 @@
-//! What those answer who are part of a node: a batcher, a resolver and a voter.
+//! What the parts of a node return: a batcher, a resolver and a voter.
 
 use crate::refusals::name;
 use crate::vectors::{Unanswered, bytes};
@@ -16,7 +16,7 @@ use simplex_scheme::subject::Subject;
 use simplex_votes::types::{Notarization, Notarize};
 use std::alloc::{AllocError, Global};
 
-/// What a batcher answers to each vote that comes: the notarization, or how many it keeps.
+/// What a batcher returns for each vote that comes: the notarization, or how many votes it has recorded.
 pub(crate) fn batch<S: Scheme<D>, D: Digest>(
     alloc: Global,
     scheme: &S,
@@ -36,7 +36,7 @@ pub(crate) fn batch<S: Scheme<D>, D: Digest>(
     Ok(text)
 }
 
-/// What a batcher answers to the vote that the bytes are.
+/// What a batcher returns for the vote that the bytes are.
 fn taken<S: Scheme<D>, D: Digest>(
     alloc: Global,
     batcher: &mut Batcher<'_, S, D>,
@@ -52,7 +52,7 @@ fn taken<S: Scheme<D>, D: Digest>(
     }
 }
 
-/// What a resolver keeps of the notarizations that the bytes are: the proposals that are certified.
+/// What a resolver selects of the notarizations that the bytes are: the proposals that are certified.
 pub(crate) fn resolved<S: Scheme<D>, D: Digest>(
     alloc: Global,
     scheme: &S,
@@ -67,11 +67,11 @@ pub(crate) fn resolved<S: Scheme<D>, D: Digest>(
         .iter()
         .map(item_of)
         .collect(alloc)?;
-    let kept = resolve(alloc, scheme, items.as_slice())?;
+    let selected = resolve(alloc, scheme, items.as_slice())?;
     let mut text = "kept".to_string(alloc)?;
-    for place in 0..kept.len() {
+    for place in 0..selected.len() {
         text.push_str(" ")?;
-        text.push_str(told(alloc, &kept[place].0)?.as_str())?;
+        text.push_str(text_of(alloc, &selected[place].0)?.as_str())?;
     }
     Ok(text)
 }
@@ -85,12 +85,12 @@ fn item_of<'a, S: Scheme<D>, D: Digest>(
 }
 
 /// A subject, as its message encodes it.
-fn told<D: Digest>(alloc: Global, subject: &Subject<'_, D>) -> Result<String, AllocError> {
+fn text_of<D: Digest>(alloc: Global, subject: &Subject<'_, D>) -> Result<String, AllocError> {
     let message = subject.message(alloc)?;
     hex::encode(alloc, message.as_slice())
 }
 
-/// What a voter answers of a view: whether it takes votes of it, whether one that has certified a view casts them, and
+/// What a voter returns for a view: whether it takes votes of it, whether one that has certified a view casts them, and
 /// whether it hears what that one casts. Where all that is counted is no view there is no answer.
 pub(crate) fn hear(
     alloc: Global,

@@ -15,11 +15,11 @@ pub(crate) fn forward(alloc: Global, round: Round, signers: &[&str]) -> Result<S
     }
     let recipients = Recipients::Some(recipients);
     let plan = Plan::Forward { round, recipients };
-    Ok(told(alloc, &plan.clone()?)?)
+    Ok(text_of(alloc, &plan.clone()?)?)
 }
 
 /// The round of a plan, and to whom it sends.
-fn told(alloc: Global, plan: &Plan<Participant>) -> Result<String, AllocError> {
+fn text_of(alloc: Global, plan: &Plan<Participant>) -> Result<String, AllocError> {
     let Plan::Forward { round, recipients } = plan else {
         return "in the round".to_string(alloc);
     };

@@ -26,15 +26,15 @@ use std::alloc::{AllocError, Global};
 /// What is asked of some bytes.
 #[derive(Clone, Copy)]
 pub(crate) enum Asked {
-    /// The value at their front.
+    /// The value that a prefix of them encodes.
     Read,
-    /// The value that they are.
+    /// The value that all of them encode.
     Decode,
-    /// What is refused of their fronts, and of them with a bit turned.
+    /// How their prefixes are refused, and they themselves with a bit flipped.
     Cut,
 }
 
-/// The value at the front of the bytes, or that they are, of a type that is read without a bound, and so without memory.
+/// The value that a prefix of the bytes encodes, or all of them, of a type that is read without a bound, and so without memory.
 fn read_free<T: ReadExt + Encode + Clone>(
     alloc: Global,
     asked: Asked,
@@ -51,7 +51,7 @@ fn read_free<T: ReadExt + Encode + Clone>(
     };
     memory::returns(alloc);
     match read {
-        Ok(value) => told(alloc, asked, &value.clone()?, rest.len()),
+        Ok(value) => text_of(alloc, asked, &value.clone()?, rest.len()),
         Err(error) => Ok(name(alloc, error)?),
     }
 }
@@ -73,13 +73,13 @@ fn read_under<T: Read + Encode + Drop, C: FnOnce(&T) -> Result<T, AllocError>>(
         Asked::Cut => return Ok(cut::<T>(alloc, true, bound, bytes)?),
     };
     match read {
-        Ok(value) => told(alloc, asked, &clone(&value)?, rest.len()),
+        Ok(value) => text_of(alloc, asked, &clone(&value)?, rest.len()),
         Err(error) => Ok(name(alloc, error)?),
     }
 }
 
 /// What is said of a value: how long its encoding is, the encoding, and how many bytes are left behind it.
-fn told<T: Encode>(
+fn text_of<T: Encode>(
     alloc: Global,
     asked: Asked,
     value: &T,
@@ -95,7 +95,7 @@ fn told<T: Encode>(
     }
 }
 
-/// A letter for each front of the bytes, and then for the bytes with each of their bits turned, the lowest of the first
+/// A letter for each prefix of the bytes, and then for the bytes with each of their bits flipped, the lowest of the first
 /// byte first. `bounded` says whether the type is read under a bound.
 fn cut<T: Read + Drop>(
     alloc: Global,
@@ -114,7 +114,7 @@ fn cut<T: Read + Drop>(
     Ok(letters)
 }
 
-/// The letters for the bytes with each bit of one of them turned.
+/// The letters for the bytes with each bit of one of them flipped.
 fn turned<T: Read + Drop>(
     alloc: Global,
     bounded: bool,
@@ -133,7 +133,7 @@ fn turned<T: Read + Drop>(
     Ok(letters)
 }
 
-/// What a read of the front of the bytes answers: `r` where there is a value, and else the first letter of the refusal,
+/// What a read of a prefix of the bytes returns: `r` where there is a value, and else the first letter of the refusal,
 /// of which `V` is a number's and `B` a truth value's. `!` tells that the slice was moved though nothing was read. Where
 /// the type is read without a bound the read takes no memory.
 fn letter<T: Read + Drop>(

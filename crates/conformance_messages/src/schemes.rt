@@ -10,7 +10,7 @@ use simplex_plain::plain::{Plain, PlainKey};
 use simplex_scheme::set::Set;
 use std::alloc::{AllocError, Global};
 
-/// The marked scheme of a committee of so many, `N`, or of this participant of it, `N/SIGNER`.
+/// The marked scheme of a committee of this many, `N`, or of this participant of it, `N/SIGNER`.
 pub(crate) fn marked(alloc: Global, word: &str) -> Result<Marked, Unanswered> {
     match word.split_once('/') {
         None => Ok(Marked::new(alloc, committee_size(word)?, None)?),
@@ -24,7 +24,7 @@ pub(crate) fn marked(alloc: Global, word: &str) -> Result<Marked, Unanswered> {
     }
 }
 
-/// The plain scheme under a base of a committee of so many, `N`, whose keys have the numbers from 0 on, or `FIRST+N`, from
+/// The plain scheme under a base of a committee of this many, `N`, whose keys have the numbers from 0 on, or `FIRST+N`, from
 /// FIRST on; or of a participant of it, as [`marked`] has it.
 pub(crate) fn plain(alloc: Global, base: &str, word: &str) -> Result<Plain, Unanswered> {
     let base = bytes(alloc, &[base])?;

@@ -13,7 +13,7 @@ use std::alloc::{AllocError, Global};
 pub enum Unanswered {
     /// It is no test vector.
     NoVector,
-    /// Memory was refused.
+    /// An allocation failed.
     OutOfMemory,
 }
 
@@ -97,7 +97,7 @@ pub(crate) fn committee_size(word: &str) -> Result<u32, Unanswered>
     Ok(size)
 }
 
-/// The marked committee of so many participants, for who only verifies. `NoVector` comes where the word is no number from 1
+/// The marked committee of this many participants, which signs nothing. `NoVector` comes where the word is no number from 1
 /// to 2^32 - 1 in decimal digits.
 pub fn committee(alloc: Global, word: &str) -> Result<Marked, Unanswered>
     ensures { IfOk result (λ scheme. IsCommitteeOf word.now scheme) }

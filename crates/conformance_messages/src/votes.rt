@@ -54,7 +54,7 @@ fn scheme_vector<S: Scheme<D>, D: Digest + 'static>(
     }
 }
 
-/// Whether the message at the front of the bytes is of a kind that is verified before it is reported, and whether it is
+/// Whether the message that a prefix of the bytes encodes is of a kind that is verified before it is reported, and whether it is
 /// valid.
 fn verify<S: Scheme<D>, D: Digest>(
     alloc: Global,
@@ -85,21 +85,21 @@ fn sign<S: Scheme<D>, D: Digest + 'static>(
         "nullify" => match decode(alloc, bytes) {
             Ok(round) => {
                 memory::ends(alloc);
-                told(alloc, Nullify::sign::<D>(alloc, scheme, round))
+                text_of(alloc, Nullify::sign::<D>(alloc, scheme, round))
             }
             Err(error) => Ok(name(alloc, error)?),
         },
         "notarize" => match decode(alloc, bytes) {
             Ok(proposal) => {
                 memory::ends(alloc);
-                told(alloc, Notarize::sign(alloc, scheme, proposal))
+                text_of(alloc, Notarize::sign(alloc, scheme, proposal))
             }
             Err(error) => Ok(name(alloc, error)?),
         },
         "finalize" => match decode(alloc, bytes) {
             Ok(proposal) => {
                 memory::ends(alloc);
-                told(alloc, Finalize::sign(alloc, scheme, proposal))
+                text_of(alloc, Finalize::sign(alloc, scheme, proposal))
             }
             Err(error) => Ok(name(alloc, error)?),
         },
@@ -108,7 +108,7 @@ fn sign<S: Scheme<D>, D: Digest + 'static>(
 }
 
 /// A vote that was signed without memory, if there is one.
-fn told<V: Encode + Drop>(
+fn text_of<V: Encode + Drop>(
     alloc: Global,
     signed: Result<Option<V>, AllocError>,
 ) -> Result<String, Unanswered> {
@@ -216,7 +216,7 @@ fn no_assembly(alloc: Global) -> Result<String, Unanswered> {
     Ok("no assembly".to_string(alloc)?)
 }
 
-/// Has memory where so many votes are a quorum, as a certificate is made of them. Of fewer nothing is made, without memory.
+/// Has memory where this many votes are a quorum, as a certificate is made of them. Of fewer nothing is made, without memory.
 fn take_memory<S: CertificateScheme>(alloc: Global, scheme: &S, votes: usize) {
     if votes >= quorum(scheme.participants().len() as u32) as usize {
         memory::returns(alloc);

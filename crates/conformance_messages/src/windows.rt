@@ -11,7 +11,7 @@ use std::alloc::{AllocError, Global};
 /// What is said where a call counts past the last view.
 pub(crate) const PAST: &str = "past the end";
 
-/// How far ahead a node looks, in terms of so many views.
+/// How far ahead a node looks, in terms of this many views.
 pub(crate) fn lookahead(length: &str, ahead: &str) -> Result<Lookahead, Unanswered> {
     Ok(Lookahead {
         term_length: term_length(length)?,
@@ -101,7 +101,7 @@ pub(crate) fn floor_vector(
     place(alloc, lookahead.issuance_floor(view), "none")
 }
 
-/// The answer to a test vector that asks what a node keeps, and whether it takes votes and certificates of the view.
+/// The answer to a test vector that asks what a node retains, and whether it takes votes and certificates of the view.
 pub(crate) fn viewport_vector(
     alloc: Global,
     viewport: Viewport,

@@ -31,14 +31,14 @@ pub(crate) fn subject<D: Digest>(
     let encoding = encoding.as_slice();
     match kind {
         "nullify" => match decode(alloc, encoding) {
-            Ok(round) => told::<D>(alloc, &names, &Subject::Nullify { round }),
+            Ok(round) => text_of::<D>(alloc, &names, &Subject::Nullify { round }),
             Err(error) => Ok(name(alloc, error)?),
         },
         "notarize" | "finalize" => match &decode::<Proposal<D>>(alloc, encoding) {
             Ok(proposal) if kind == "notarize" => {
-                told(alloc, &names, &Subject::Notarize { proposal })
+                text_of(alloc, &names, &Subject::Notarize { proposal })
             }
-            Ok(proposal) => told(alloc, &names, &Subject::Finalize { proposal }),
+            Ok(proposal) => text_of(alloc, &names, &Subject::Finalize { proposal }),
             Err(error) => Ok(name(alloc, *error)?),
         },
         _ => Err(Unanswered::NoVector),
@@ -46,7 +46,7 @@ pub(crate) fn subject<D: Digest>(
 }
 
 /// The name of a subject and its message.
-fn told<D: Digest>(
+fn text_of<D: Digest>(
     alloc: Global,
     names: &Namespace,
     subject: &Subject<'_, D>,
