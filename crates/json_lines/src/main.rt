@@ -9,7 +9,7 @@ use serde_json::{Error, Value};
 use std::alloc::Global;
 use std::io;
 
-/// Whether a text is a JSON object. The error comes where memory is refused.
+/// Whether a text is a JSON object. The error comes only after an allocation failed.
 fn is_object(alloc: Global, text: &str) -> Result<bool, Error>
     ensures { IfOk result (λ it. it ≡ is_some (option_and_then as_object (read text.now))) }
 {
