@@ -1,7 +1,7 @@
 //! Writes the lines of a stream.
 
 ghost use Rattle.std.specs.Prelude.{◌≡◌, ◌⊎◌, ◌↔◌, ◌+◌, ◌<◌, ◌^◌, ℕ, List, Option, false, Err, IsTrue, IfOk, IfErr, OnOk, length, string_bytes};
-ghost use Rattle.std.specs.Io.KnownBytes.{Appends};
+ghost use Rattle.std.specs.Io.KnownBytes.{Appends, Keeps};
 ghost use Rattle.simplex_audit.specs.Progress.{fault_of};
 ghost use Rattle.simplex_audit.specs.Run.{AppendsBeginning};
 ghost use Rattle.simplex_audit.specs.Watched.{inner_of, has_failed, is_flushed};
@@ -84,6 +84,9 @@ pub(crate) fn finish<S: Listing<D>, D: Digest, W: Write>(
         AppendsPart (⟦<S as Inspected<D>>⟧.lines committees.now) input
         start (W.contents (inner_of writer.new))) }
     ensures flushed { OnOk result (IsTrue (is_flushed writer.new)) }
+    // Where an allocation failed nothing was written.
+    ensures nothing { result ≡ Err RunError.OutOfMemory →
+        Keeps (W.contents (inner_of writer.old)) (W.contents (inner_of writer.new)) }
     ensures failed { IsTrue (has_failed writer.new) ↔ (result ≡ Err RunError.Write) }
     ensures error { IfErr result (λ e. (e ≡ RunError.Write) ⊎ (e ≡ RunError.OutOfMemory)) }
 {
@@ -97,8 +100,8 @@ pub(crate) fn finish<S: Listing<D>, D: Digest, W: Write>(
 }
 
 /// Writes the lines of a whole stream: one for each of its messages, in order, and one for its fault, if there is one.
-/// Returns the fault. The messages and the fault are those of an audit of the stream. After an error a beginning of the text
-/// was written; `Write` comes from the writer alone, and `OutOfMemory` where an allocation failed before the first write.
+/// Returns the fault. The messages and the fault are those of an audit of the stream. After `Write`, which comes from the
+/// writer alone, a beginning of the text was written, and after `OutOfMemory`, where an allocation failed, nothing.
 pub fn inspect<S: Listing<D>, D: Digest, W: Write>(
     alloc: Global,
     committees: &Option<Committees<S>>,
@@ -115,6 +118,9 @@ pub fn inspect<S: Listing<D>, D: Digest, W: Write>(
     ensures begun { IfErr result (λ e.
         AppendsPart (⟦<S as Inspected<D>>⟧.lines committees.now) stream.now
         (W.contents (inner_of writer.old)) (W.contents (inner_of writer.new))) }
+    // Where an allocation failed nothing was written.
+    ensures nothing { result ≡ Err RunError.OutOfMemory →
+        Keeps (W.contents (inner_of writer.old)) (W.contents (inner_of writer.new)) }
     ensures failed { IsTrue (has_failed writer.new) ↔ (result ≡ Err RunError.Write) }
     ensures error { IfErr result (λ e. (e ≡ RunError.Write) ⊎ (e ≡ RunError.OutOfMemory)) }
 {
