@@ -1,10 +1,12 @@
 //! What is said of a signature and of a certificate.
 
-ghost use Rattle.std.specs.Prelude.{◌≡◌};
+ghost use Rattle.std.specs.Prelude.{◌≡◌, refl};
 ghost use Rattle.simplex_inspect.specs.Verdict.{verdict_on_signature, verdict_on_certificate};
 
+use simplex_base::values::{EqByParts, ExactClone};
+
 /// Whether a signature or a certificate is valid, and why not.
-#[derive(Clone, Copy)]
+#[derive(Clone, Copy, Debug, PartialEq, Eq)]
 pub enum Verdict {
     /// It is valid.
     Valid,
@@ -18,6 +20,26 @@ pub enum Verdict {
     TooFew,
     /// Of a certificate: it lists enough attestations, and one of them is not valid.
     WrongAttestation,
+}
+
+impl ExactClone for Verdict {
+    ghost exact = { λ x y same. same };
+}
+
+impl EqByParts for Verdict {
+    ghost use Rattle.simplex_inspect.specs.Verdict.{same_verdict};
+    ghost use Rattle.simplex_inspect.specs.declared.verdict.Verdict.TheVariants.{Valid, NoCommittee, OutsideSigner, WrongSignature, TooFew, WrongAttestation};
+
+    ghost same = { same_verdict };
+
+    ghost equal = { elim [
+      | Valid ↦ elim [ Valid ↦ refl | _ ↦ refl ]
+      | NoCommittee ↦ elim [ NoCommittee ↦ refl | _ ↦ refl ]
+      | OutsideSigner ↦ elim [ OutsideSigner ↦ refl | _ ↦ refl ]
+      | WrongSignature ↦ elim [ WrongSignature ↦ refl | _ ↦ refl ]
+      | TooFew ↦ elim [ TooFew ↦ refl | _ ↦ refl ]
+      | WrongAttestation ↦ elim [ WrongAttestation ↦ refl | _ ↦ refl ]
+    ] };
 }
 
 /// The verdict on a signature, by whether it is valid, how many participants the epoch's committee has (0 where there is
