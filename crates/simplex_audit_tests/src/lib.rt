@@ -11,7 +11,7 @@ mod counted;
 #[cfg(test)]
 mod deferred;
 #[cfg(test)]
-mod example_crate;
+mod inspected;
 #[cfg(test)]
 mod long;
 #[cfg(test)]
