@@ -198,8 +198,10 @@ uint32_t simplex_suspects_vouched_96(const uint64_t *epochs, size_t epochs_len,
  * batch by batch, and no handle is held meanwhile. The signers whom `stored` accuses stay accused.
  * Votes of earlier batches that contradict nothing in their batch are not stored: a batch has to
  * hold every vote of its rounds. What is behind a fault of the batch is ignored, so audit the batch
- * to learn of a fault. Nothing checks `stored`: where it is cut or damaged, no message of the batch
- * is read, and the status is SIMPLEX_WHOLE. So audit it first if it may be: it has no fault.
+ * to learn of a fault. Nothing checks `stored`: behind a fault in it no message of the batch is read,
+ * and the status is SIMPLEX_WHOLE. What an earlier call wrote has no fault, so audit it first to find
+ * one. Bytes that were changed or cut off may leave no fault, as where a signature is not valid any
+ * more, and what they accused is lost then: guard what you store by a checksum.
  *
  * The first `*size` bytes of `evidence` are then the messages; the bytes behind them are as before.
  * The status is SIMPLEX_WHOLE, SIMPLEX_ARGUMENTS, SIMPLEX_MEMORY or SIMPLEX_SHORT. `evidence` may

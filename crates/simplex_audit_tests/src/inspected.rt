@@ -21,7 +21,8 @@ const STREAM: &[u8] = &[
 ];
 
 /// Their lines under a committee of four.
-const LINES: &str = "{\"offset\":0,\"length\":7,\"kind\":\"notarize\",\"epoch\":0,\"view\":10,\"statements\":[\
+const LINES: &str =
+    "{\"offset\":0,\"length\":7,\"kind\":\"notarize\",\"epoch\":0,\"view\":10,\"statements\":[\
     {\"vote\":\"notarize\",\"parent\":5,\"payload\":\"06\",\"signatures\":[\
     {\"signer\":1,\"signature\":\"aa\",\"valid\":true}]}]}\n\
     {\"offset\":7,\"length\":5,\"kind\":\"nullify\",\"epoch\":0,\"view\":11,\"statements\":[\

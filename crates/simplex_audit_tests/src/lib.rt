@@ -11,6 +11,8 @@ mod counted;
 #[cfg(test)]
 mod deferred;
 #[cfg(test)]
+mod example_crate;
+#[cfg(test)]
 mod inspected;
 #[cfg(test)]
 mod long;
