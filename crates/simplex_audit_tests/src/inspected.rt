@@ -61,10 +61,10 @@ fn is_refused<S: Listing<D>, D: Digest>(
 
 /// Writes the lines under a committee of four.
 fn any_is_refused(rt: &(impl Abort + AllocGlobal)) -> bool {
-    let Ok(committees) = marked(rt.alloc(), 4) else {
+    let Ok(committee) = Marked::new(rt.alloc(), 4, None) else {
         return true;
     };
-    is_refused::<Marked, MarkedDigest>(rt, &Some(committees))
+    is_refused::<Marked, MarkedDigest>(rt, &Some(Committees::every(committee)))
 }
 
 #[test]

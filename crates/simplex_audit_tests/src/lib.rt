@@ -1,5 +1,4 @@
-//! Tests of the audit that cross the crates, the plain auditor that it is run against, and the exact number of votes that an
-//! auditor of marked committees records.
+//! Tests of the audit that cross the crates, and the plain auditor that it is run against.
 #![tactic(auto)]
 
 #[cfg(test)]
@@ -20,7 +19,6 @@ mod long;
 mod model;
 #[cfg(test)]
 mod outcome;
-pub mod recorded;
 #[cfg(test)]
 mod records;
 #[cfg(test)]
