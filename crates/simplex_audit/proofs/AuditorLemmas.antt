@@ -17,7 +17,7 @@ use Rattle.simplex_audit.specs.Guarantees.{IsAudit}
 use Rattle.simplex_audit.specs.Report.{IsReport, as_messages}
 use Rattle.simplex_audit.specs.declared.audit.Report.{Report}
 use Rattle.simplex_audit.specs.declared.auditor.Auditor.{Auditor}
-use Rattle.simplex_audit.proofs.NamesLemmas.{Laws, audited}
+use Rattle.simplex_audit.proofs.AccusedLemmas.{Laws, audited}
 use Rattle.simplex_audit.proofs.StreamLemmas.{IsNeverEmpty, nothing_stuck, progress_of_pieces}
 
 -- ---- from message to message

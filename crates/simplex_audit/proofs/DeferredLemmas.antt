@@ -13,7 +13,7 @@ use Rattle.simplex_audit.specs.Basis.{Basis}
 use Rattle.simplex_audit.specs.Deferred.{NeedsSuspectsAlone}
 use Rattle.simplex_audit.specs.Report.{IsReport, evidence_in}
 use Rattle.simplex_audit.specs.declared.audit.Report.{Report}
-use Rattle.simplex_audit.proofs.NamesLemmas.{report_evidence}
+use Rattle.simplex_audit.proofs.AccusedLemmas.{report_evidence}
 use Rattle.simplex_audit.proofs.StreamLemmas.{messages_once}
 
 no_items : {X : Type 0} (xs : List X) → length xs ≡ 0 → xs ≡ []

@@ -3,11 +3,11 @@ use Rattle.std.specs.Prelude.{◌≡◌, ℕ, List, [], ◌++◌, All, IsTrue}
 use Rattle.std.specs.List.{flat_map}
 use Rattle.simplex_evidence.specs.declared.types.activity.Activity.{Activity}
 use Rattle.simplex_detector.specs.Evidence.{IsEvidence, IsEquivocation}
-use Rattle.simplex_detector.specs.Laws.{EvidenceIsUnique, NamesExactly, NamedInAnyOrder}
-use Rattle.simplex_detector.specs.Named.{Named, is_named}
+use Rattle.simplex_detector.specs.Laws.{EvidenceIsUnique, AccusesExactly, ReorderingAccusesSame}
+use Rattle.simplex_detector.specs.Accusation.{Accusation, is_accused}
 use Rattle.simplex_detector.specs.Rules.{valid_votes}
 use Rattle.simplex_detector.specs.Splits.{AreSplits}
-use Rattle.simplex_detector.specs.SplitLaws.{EnoughAreNamed, SignersAreAccountable, SplitsAreUnique, SplitsHaveNames}
+use Rattle.simplex_detector.specs.SplitLaws.{EnoughAreAccused, SignersAreAccountable, SplitsAreUnique, SplitsHaveAccused}
 use Rattle.simplex_audit.specs.Basis.{Basis}
 use Rattle.simplex_audit.specs.Messages.{AreMessages}
 use Rattle.simplex_audit.specs.Report.{IsReport, evidence_in, as_messages}
@@ -26,7 +26,7 @@ HasOneReading {S} {D} {C} {P} {G} basis stream =
 
 -- the evidence accuses exactly the signers, rounds and kinds with two valid votes that contradict
 abbrev pub AccusesExactlyThem : {S D C P G : Type 0} → Basis S D C P G → List ℕ → Report S D P G → Type 0
-AccusesExactlyThem basis stream report = OfMessages basis stream (λ messages. NamesExactly basis.rules.eq (valid_votes basis.rules messages) (evidence_in report))
+AccusesExactlyThem basis stream report = OfMessages basis stream (λ messages. AccusesExactly basis.rules.eq (valid_votes basis.rules messages) (evidence_in report))
 
 -- each evidence is two of the valid votes, which contradict
 abbrev pub ShowsTwoVotes : {S D C P G : Type 0} → Basis S D C P G → List ℕ → Report S D P G → Type 0
@@ -38,17 +38,17 @@ HasNoOtherEvidence basis stream report = OfMessages basis stream (λ messages. E
 
 -- who is accused by messages does not depend on their order
 abbrev pub AccusedInAnyOrder : {S D C P G : Type 0} → Basis S D C P G → Type 0
-AccusedInAnyOrder {S} {D} {C} {P} {G} basis = (messages : List (Activity S D C P G)) → NamedInAnyOrder basis.rules messages
+AccusedInAnyOrder {S} {D} {C} {P} {G} basis = (messages : List (Activity S D C P G)) → ReorderingAccusesSame basis.rules messages
 
 -- who is accused by the stream's messages stays accused, with any bytes behind
 abbrev pub AccusedStayWithMore : {S D C P G : Type 0} → Basis S D C P G → List ℕ → Type 0
-AccusedStayWithMore basis stream = (more : List ℕ) (n : Named) → OfMessages basis stream (λ messages. OfMessages basis (stream ++ more) (λ later.
-    IsTrue (is_named basis.rules.eq (valid_votes basis.rules messages) n) → IsTrue (is_named basis.rules.eq (valid_votes basis.rules later) n)))
+AccusedStayWithMore basis stream = (more : List ℕ) (n : Accusation) → OfMessages basis stream (λ messages. OfMessages basis (stream ++ more) (λ later.
+    IsTrue (is_accused basis.rules.eq (valid_votes basis.rules messages) n) → IsTrue (is_accused basis.rules.eq (valid_votes basis.rules later) n)))
 
 -- two certified messages of a round that contradict accuse at least f + 1 signers there, of whom f may lie in the
 -- committee of the round's epoch
 abbrev pub ConflictsAccuseEnough : {S D C P G : Type 0} → Basis S D C P G → List ℕ → Type 0
-ConflictsAccuseEnough basis stream = OfMessages basis stream (EnoughAreNamed basis.rules)
+ConflictsAccuseEnough basis stream = OfMessages basis stream (EnoughAreAccused basis.rules)
 
 -- who signed in the certificates of both is accused there
 abbrev pub SignersOfBothAreAccused : {S D C P G : Type 0} → Basis S D C P G → List ℕ → Type 0
@@ -59,7 +59,7 @@ SignersOfBothAreAccused basis stream = OfMessages basis stream (SignersAreAccoun
 pub record ShowsSplits {S D C P G : Type 0} (basis : Basis S D C P G) (stream : List ℕ) (report : Report S D P G) : Type 0 where
   pub are_splits : OfMessages basis stream (λ messages. AreSplits basis.rules messages report.splits.items)
   pub only : OfMessages basis stream (λ messages. SplitsAreUnique basis.rules messages report.splits.items)
-  pub enough : SplitsHaveNames report.splits.items
+  pub enough : SplitsHaveAccused report.splits.items
 
 -- the evidence, written as messages one after the other, is a stream of these messages, and the evidence of that stream is
 -- the same in the same order

@@ -20,7 +20,7 @@ use simplex_detector::detector::Detector;
 pub use simplex_detector::evidence::Evidence;
 use simplex_detector::judging::{Judging, suspects_of};
 use simplex_detector::laws::{
-    certificates_are_accountable, evidence_is_determined, names_stay, splits_are_determined,
+    certificates_are_accountable, evidence_is_determined, accused_stay, splits_are_determined,
     suspects_suffice, suspects_tell_all,
 };
 pub use simplex_detector::split::Split;
@@ -102,7 +102,7 @@ pub fn audit<S: Listing<D>, D: Digest>(
         ReadsAgain (⟦<S as Audited<D>>⟧.basis committees.now) report) }
 {
     // What holds of any messages.
-    names_stay::<S, D>();
+    accused_stay::<S, D>();
     evidence_is_determined::<S, D>();
     certificates_are_accountable::<S, D>();
     splits_are_determined::<S, D>();
@@ -142,7 +142,7 @@ pub fn audit_deferred<S: Listing<D>, D: Digest>(
         stream.now }
 {
     // What holds of any messages.
-    names_stay::<S, D>();
+    accused_stay::<S, D>();
     evidence_is_determined::<S, D>();
     certificates_are_accountable::<S, D>();
     splits_are_determined::<S, D>();

@@ -17,7 +17,7 @@ use simplex_detector::committees::Committees;
 use simplex_detector::detector::Detector;
 use simplex_detector::judging::Judging;
 use simplex_detector::laws::{
-    certificates_are_accountable, evidence_is_determined, few_votes_are_recorded, names_stay,
+    certificates_are_accountable, evidence_is_determined, few_votes_are_recorded, accused_stay,
     recorded_votes_have_room, splits_are_determined,
 };
 use simplex_scheme::scheme::{Digest, Listing, SchemeTypes};
@@ -239,7 +239,7 @@ impl<'a, S: Listing<D>, D: Digest> Auditor<'a, S, D> {
             Stands ⟦<S as Audited<D>>⟧.basis committees self.now stream →
             HasOneReading (⟦<S as Audited<D>>⟧.basis committees) other }
     {
-        names_stay::<S, D>();
+        accused_stay::<S, D>();
         evidence_is_determined::<S, D>();
         certificates_are_accountable::<S, D>();
         splits_are_determined::<S, D>();

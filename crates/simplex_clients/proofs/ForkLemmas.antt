@@ -1,4 +1,4 @@
--- Who is named where two finalizations contradict.
+-- Who is accused where two finalizations contradict.
 use Rattle.std.proofs.Common.{◌≡◌, ℕ, Bool, true, false, List, [], ◌∷◌, ◌++◌, sym, refl, ap, subst, ◌∙◌, inl, inr, arith}
 use Rattle.std.specs.Prelude.{◌||◌, All, Contains, IsTrue, Some}
 use Rattle.std.specs.List.{flat_map}
@@ -12,10 +12,10 @@ use Rattle.simplex_votes.specs.Votes.{SignedVote}
 use Rattle.simplex_evidence.specs.Contradiction.{Kind, Evidence, Conflicting_notarize, Conflicting_finalize, Nullify_finalize}
 use Rattle.simplex_detector.specs.Committees.{bound_of}
 use Rattle.simplex_detector.specs.Evidence.{IsEvidence}
-use Rattle.simplex_detector.specs.Laws.{NamesExactly}
-use Rattle.simplex_detector.specs.Named.{is_named}
+use Rattle.simplex_detector.specs.Laws.{AccusesExactly}
+use Rattle.simplex_detector.specs.Accusation.{is_accused}
 use Rattle.simplex_detector.specs.Rules.{Rules, valid_votes}
-use Rattle.simplex_detector.specs.Splits.{is_named_in}
+use Rattle.simplex_detector.specs.Splits.{is_accused_in}
 use Rattle.simplex_detector.specs.SplitLaws.{IsAccountable, shared_signers}
 use Rattle.simplex_evidence.specs.declared.types.activity.Activity.{Activity}
 use Rattle.simplex_audit.specs.Messages.{AreMessages}
@@ -24,14 +24,14 @@ use Rattle.simplex_clients.specs.declared.light_client.Followed.{Followed}
 use Rattle.simplex_clients.specs.declared.light_client.Followed.TheVariants as followed
 use Rattle.simplex_clients.specs.Following.{Following, latest_after, BlamesEnough}
 
--- who is named in a round is named there for some kind of contradiction
-kind_of_named : {D G : Type 0} (eq : D → D → Bool) (vs : List (SignedVote D G)) (round : Round) (q : ℕ) → is_named_in eq vs round q ≡ true →
-    (kind : Kind) × IsTrue (is_named eq vs (record { round = round; signer = q; kind = kind }))
-kind_of_named eq vs round q h =
-    elim (cases_Bool (is_named eq vs (record { round = round; signer = q; kind = Conflicting_notarize }))) [
+-- who is accused in a round is accused there for some kind of contradiction
+kind_of_accused : {D G : Type 0} (eq : D → D → Bool) (vs : List (SignedVote D G)) (round : Round) (q : ℕ) → is_accused_in eq vs round q ≡ true →
+    (kind : Kind) × IsTrue (is_accused eq vs (record { round = round; signer = q; kind = kind }))
+kind_of_accused eq vs round q h =
+    elim (cases_Bool (is_accused eq vs (record { round = round; signer = q; kind = Conflicting_notarize }))) [
       | inl a ↦ (Conflicting_notarize, a)
       | inr a ↦
-          elim (cases_Bool (is_named eq vs (record { round = round; signer = q; kind = Conflicting_finalize }))) [
+          elim (cases_Bool (is_accused eq vs (record { round = round; signer = q; kind = Conflicting_finalize }))) [
             | inl b ↦ (Conflicting_finalize, b)
             | inr b ↦ (Nullify_finalize, third _ _ _ a b h)
           ]
@@ -40,15 +40,15 @@ kind_of_named eq vs round q h =
     third : (a b c : Bool) → a ≡ false → b ≡ false → (a || (b || c)) ≡ true → c ≡ true
     third a b c first second h = sym (ap (λ x. x || (b || c)) first ∙ ap (λ x. x || c) second) ∙ h
 
--- evidence that names exactly who is named blames every signer of both of two certificates
+-- evidence that names exactly who is accused blames every signer of both of two certificates
 pub blames : {S D C P G : Type 0} (rules : Rules S D C P G) (messages : List (Activity S D C P G)) (round : Round) (c d : C) (es : List (Evidence D G)) →
-    NamesExactly rules.eq (valid_votes rules messages) es → IsAccountable rules messages round c d → BlamesEnough (rules.size round.epoch) round es
+    AccusesExactly rules.eq (valid_votes rules messages) es → IsAccountable rules messages round c d → BlamesEnough (rules.size round.epoch) round es
 blames rules messages round c d es names accountable = record {
   signers = shared_signers rules c d;
   distinct = accountable.distinct;
   enough = omega (arith, accountable.many, accountable.more_than_faults);
   blamed = λ k q lt.
-      let (kind, named) = kind_of_named rules.eq (valid_votes rules messages) round _ (accountable.named k q lt) in
+      let (kind, named) = kind_of_accused rules.eq (valid_votes rules messages) round _ (accountable.named k q lt) in
       (kind, (names (record { round = round; signer = _; kind = kind })).1 named);
 }
 

@@ -12,8 +12,8 @@ use Rattle.simplex_evidence.specs.Activity.{votes_in}
 use Rattle.simplex_evidence.specs.Contradiction as contradiction
 use Rattle.simplex_evidence.specs.declared.types.activity.Activity.{Activity}
 use Rattle.simplex_detector.specs.Evidence.{IsEvidence, IsEquivocation}
-use Rattle.simplex_detector.specs.Laws.{EvidenceIsUnique, NamesExactly}
-use Rattle.simplex_detector.specs.Named.{Named, is_named}
+use Rattle.simplex_detector.specs.Laws.{EvidenceIsUnique, AccusesExactly}
+use Rattle.simplex_detector.specs.Accusation.{Accusation, is_accused}
 use Rattle.simplex_detector.specs.Rules.{Rules, valid_votes, is_valid}
 use Rattle.simplex_detector.specs.Values.{evidence_value, message_of}
 use Rattle.simplex_detector.specs.declared.evidence.Evidence.{Evidence}
@@ -39,8 +39,8 @@ and_more true b c more h = more h
 and_more false b c more h = h
 
 -- more votes name more
-named_within : {D G : Type 0} (eq : D → D → Bool) (vs ws : List (SignedVote D G)) (n : Named) → Within vs ws → IsTrue (is_named eq vs n) → IsTrue (is_named eq ws n)
-named_within eq vs ws n within h =
+accused_within : {D G : Type 0} (eq : D → D → Bool) (vs ws : List (SignedVote D G)) (n : Accusation) → Within vs ws → IsTrue (is_accused eq vs n) → IsTrue (is_accused eq ws n)
+accused_within eq vs ws n within h =
     any_within _ _ vs ws within
     (λ v. and_more (is_of n.round n.signer v) _ _ (any_within (contradiction.contradicts eq n.kind v) _ vs ws within (λ w yes. yes))) h
 
@@ -90,7 +90,7 @@ joined format bytes piece rest messages further are are' = record {
 
 -- what holds of the evidence of any votes
 pub record Laws (D G : Type 0) (eq : D → D → Bool) : Type 0 where
-  pub names : (vs : List (SignedVote D G)) (es : List (contradiction.Evidence D G)) → IsEvidence eq vs es → NamesExactly eq vs es
+  pub names : (vs : List (SignedVote D G)) (es : List (contradiction.Evidence D G)) → IsEvidence eq vs es → AccusesExactly eq vs es
   pub sound : (vs : List (SignedVote D G)) (es : List (contradiction.Evidence D G)) → IsEvidence eq vs es → All (IsEquivocation eq vs) es
   pub only : (vs : List (SignedVote D G)) (es : List (contradiction.Evidence D G)) → IsEvidence eq vs es → EvidenceIsUnique eq vs es
 
@@ -120,9 +120,9 @@ stored {S} {D} {C} {P} {G} basis laws single stream bytes es given is same joine
           record {
             evidence_is = both_are;
             names = both;
-            stay = λ n named. (both n).1 (named_within basis.rules.eq _ _ n (within_left basis.rules (map message_of es) further) ((names n).0 named));
-            more = λ n named. (both n).1 (named_within basis.rules.eq _ _ n (within_right basis.rules (map message_of es) further) named);
-            only = λ n named. named_within basis.rules.eq _ _ n (within_both basis.rules (map message_of es) is.messages further inside) ((both n).0 named);
+            stay = λ n named. (both n).1 (accused_within basis.rules.eq _ _ n (within_left basis.rules (map message_of es) further) ((names n).0 named));
+            more = λ n named. (both n).1 (accused_within basis.rules.eq _ _ n (within_right basis.rules (map message_of es) further) named);
+            only = λ n named. accused_within basis.rules.eq _ _ n (within_both basis.rules (map message_of es) is.messages further inside) ((both n).0 named);
           };
     }
 

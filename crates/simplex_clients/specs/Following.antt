@@ -11,7 +11,7 @@ use Rattle.simplex_evidence.specs.Contradiction.{Kind, Evidence}
 use Rattle.simplex_evidence.specs.declared.types.activity.Activity.TheVariants as activity
 use Rattle.simplex_detector.specs.Certificates.{subjects_contradict}
 use Rattle.simplex_detector.specs.Committees.{Schedule, bound_of, certified_by, committee_of}
-use Rattle.simplex_detector.specs.Named.{named_by}
+use Rattle.simplex_detector.specs.Accusation.{accused_by}
 use Rattle.simplex_detector.specs.Evidence.{IsEvidence}
 use Rattle.simplex_detector.specs.Rules.{Rules, valid_votes}
 use Rattle.simplex_detector.specs.Values.{evidence_value}
@@ -43,7 +43,7 @@ pub record IsFollowed {S D C P G : Type 0} (payload : Format D) (fits : ℕ → 
 
 -- evidence names a signer in a round
 abbrev pub IsBlamed : {D G : Type 0} → Round → List (Evidence D G) → ℕ → Type 0
-IsBlamed round es signer = (kind : Kind) × Contains (map named_by es) (record { round = round; signer = signer; kind = kind })
+IsBlamed round es signer = (kind : Kind) × Contains (map accused_by es) (record { round = round; signer = signer; kind = kind })
 
 -- in a round whose committee has n participants, evidence names more of them than may lie
 pub record BlamesEnough {D G : Type 0} (n : ℕ) (round : Round) (es : List (Evidence D G)) : Type 0 where

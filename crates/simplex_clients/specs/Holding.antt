@@ -4,8 +4,8 @@ use Rattle.std.specs.List.{flat_map}
 use Rattle.simplex_evidence.specs.declared.types.activity.Activity.{Activity}
 use Rattle.simplex_detector.specs.Committees.{Schedule}
 use Rattle.simplex_detector.specs.Evidence.{IsEvidence}
-use Rattle.simplex_detector.specs.Laws.{NamesExactly}
-use Rattle.simplex_detector.specs.Named.{Named, is_named, named_by}
+use Rattle.simplex_detector.specs.Laws.{AccusesExactly}
+use Rattle.simplex_detector.specs.Accusation.{Accusation, is_accused, accused_by}
 use Rattle.simplex_detector.specs.Rules.{valid_votes}
 use Rattle.simplex_detector.specs.Values.{evidence_value, message_of}
 use Rattle.simplex_detector.specs.declared.evidence.Evidence.{Evidence}
@@ -23,26 +23,26 @@ abbrev pub WasFed : {S D C P G : Type 0} → (Schedule S → Basis S D C P G) �
 WasFed basis committees ledger stream = Stands basis committees ledger.auditor stream
 
 -- The messages of the stream, up to its end or first fault, and the evidence of their valid votes: in the order of rounds,
--- signers and kinds, each once, and nobody who is named left out.
+-- signers and kinds, each once, and nobody who is accused left out.
 pub record IsEvidenceOf {S D C P G : Type 0} (basis : Basis S D C P G) (stream : List ℕ) (es : List (Evidence S D P G)) : Type 0 where
   pub messages : List (Activity S D C P G)
   pub rest : List ℕ
   pub are_messages : AreMessages basis.format stream messages rest
   pub evidence_is : IsEvidence basis.rules.eq (valid_votes basis.rules messages) (map evidence_value es)
-  pub names : NamesExactly basis.rules.eq (valid_votes basis.rules messages) (map evidence_value es)
+  pub names : AccusesExactly basis.rules.eq (valid_votes basis.rules messages) (map evidence_value es)
 
 -- evidence names a signer, in a round, with a kind of contradiction
-abbrev pub Accuses : {S D P G : Type 0} → List (Evidence S D P G) → Named → Type 0
-Accuses es n = Contains (map named_by (map evidence_value es)) n
+abbrev pub Accuses : {S D P G : Type 0} → List (Evidence S D P G) → Accusation → Type 0
+Accuses es n = Contains (map accused_by (map evidence_value es)) n
 
--- What is held after stored evidence and then further messages: it is the evidence of the votes of both. So who is named by the stored evidence, or by the further messages alone, is named, and nobody whom the messages before and the further ones do not
+-- What is held after stored evidence and then further messages: it is the evidence of the votes of both. So who is accused by the stored evidence, or by the further messages alone, is accused, and nobody whom the messages before and the further ones do not
 -- name.
 pub record HoldsBoth {S D C P G : Type 0} (basis : Basis S D C P G) (before : List (Activity S D C P G)) (stored : List (Evidence S D P G)) (further : List (Activity S D C P G)) (held : List (Evidence S D P G)) : Type 0 where
   pub evidence_is : IsEvidence basis.rules.eq (valid_votes basis.rules (map message_of stored ++ further)) (map evidence_value held)
-  pub names : NamesExactly basis.rules.eq (valid_votes basis.rules (map message_of stored ++ further)) (map evidence_value held)
-  pub stay : (n : Named) → Accuses stored n → Accuses held n
-  pub more : (n : Named) → IsTrue (is_named basis.rules.eq (valid_votes basis.rules further) n) → Accuses held n
-  pub only : (n : Named) → Accuses held n → IsTrue (is_named basis.rules.eq (valid_votes basis.rules (before ++ further)) n)
+  pub names : AccusesExactly basis.rules.eq (valid_votes basis.rules (map message_of stored ++ further)) (map evidence_value held)
+  pub stay : (n : Accusation) → Accuses stored n → Accuses held n
+  pub more : (n : Accusation) → IsTrue (is_accused basis.rules.eq (valid_votes basis.rules further) n) → Accuses held n
+  pub only : (n : Accusation) → Accuses held n → IsTrue (is_accused basis.rules.eq (valid_votes basis.rules (before ++ further)) n)
 
 -- The bytes encode the evidence of the stream as messages, in order. That evidence is the evidence of the bytes, and there is no
 -- other. Behind the bytes a piece is read as it is alone, and what is held then is the evidence of both.

@@ -1,7 +1,7 @@
--- Two certified messages that contradict name more participants than may lie.
-use Rattle.simplex_detector.proofs.Prelude.{Activity, All, All-append, All-contains, All-filter, All-from_recursion, All-map, AllByRecursion, AreLawful, Attestation, Bool, Conflicting_finalize, Conflicting_notarize, Contains, Contains-from_any, EnoughAreNamed, IsAccountable, IsTrue, Kind, List, None, Nullify_finalize, Option, Round, Rules, SignedVote, SignersAreAccountable, Some, SubjectValue, [], activity_round, and_from, and_parts, ap, arith, certificate_in, certificates_contradict, certified_in, clash, cond, cond_some, distinct_count, eqb-true, excludes, false, faults_of, filter, filter_passes, if_certified, is_member, is_named, is_named_in, is_of, length, length-append, length-filter_both, length-le_from_distinct_below, length-le_from_is_member, length-map, list_any, list_any-from_Contains, list_any_congr, map, named_count, nat_eq, nat_eq_equiv, not, not-true, or_cases, or_left, or_parts, or_right, quorum_of, recursion_from_All, refl, round_of, same_Some, same_round, shared_signers, signers_of, subst, sym, true, unique_keys, valid_votes, vote_on, votes_in, ℕ, ⊎_elim, ◌++◌, ◌+◌, ◌<◌, ◌||◌, ◌∙◌, ◌∷◌, ◌≡◌, ◌≤◌}
+-- Two certified messages that contradict accuse more participants than may lie.
+use Rattle.simplex_detector.proofs.Prelude.{Activity, All, All-append, All-contains, All-filter, All-from_recursion, All-map, AllByRecursion, AreLawful, Attestation, Bool, Conflicting_finalize, Conflicting_notarize, Contains, Contains-from_any, EnoughAreAccused, IsAccountable, IsTrue, Kind, List, None, Nullify_finalize, Option, Round, Rules, SignedVote, SignersAreAccountable, Some, SubjectValue, [], activity_round, and_from, and_parts, ap, arith, certificate_in, certificates_contradict, certified_in, clash, cond, cond_some, distinct_count, eqb-true, excludes, false, faults_of, filter, filter_passes, if_certified, is_member, is_accused, is_accused_in, is_of, length, length-append, length-filter_both, length-le_from_distinct_below, length-le_from_is_member, length-map, list_any, list_any-from_Contains, list_any_congr, map, accused_count, nat_eq, nat_eq_equiv, not, not-true, or_cases, or_left, or_parts, or_right, quorum_of, recursion_from_All, refl, round_of, same_Some, same_round, shared_signers, signers_of, subst, sym, true, unique_keys, valid_votes, vote_on, votes_in, ℕ, ⊎_elim, ◌++◌, ◌+◌, ◌<◌, ◌||◌, ◌∙◌, ◌∷◌, ◌≡◌, ◌≤◌}
 use Rattle.std.specs.List.{IsDistinct}
-use Rattle.simplex_detector.proofs.EvidenceLemmas.{named_from_votes, valid_in, votes_from_named}
+use Rattle.simplex_detector.proofs.EvidenceLemmas.{accused_from_votes, valid_in, votes_from_accused}
 use Rattle.simplex_detector.proofs.Lists.{Contains-filter, Contains-from_filter, Contains-from_map, Contains-map, each, some_from_is_some}
 use Rattle.simplex_detector.proofs.Places.{is_of-from, is_of-true, kind_from_excludes, same_round-true}
 use Rattle.simplex_evidence.specs.declared.types.activity.Activity.TheVariants as activity
@@ -78,39 +78,39 @@ distinct_count-same xs ys to from =
 pub distinct_count-below : (n : ℕ) (xs : List ℕ) → ((q : ℕ) → Contains xs q → q < n) → distinct_count nat_eq xs ≤ n
 distinct_count-below n xs below = length-le_from_distinct_below (unique_keys nat_eq xs) n (IsDistinct-unique_keys xs) (λ q h. below q (Contains-from_member xs q (sym (is_member-unique_keys xs q) ∙ h)))
 
--- ---- who is named in a round
+-- ---- who is accused in a round
 
 module _ {D G : Type 0} (eq : D → D → Bool) (vs : List (SignedVote D G)) (round : Round) (signer : ℕ) where
-  -- named for some kind
-  pub named_in : (kind : Kind) → is_named eq vs (record { round = round; signer = signer; kind = kind }) ≡ true → is_named_in eq vs round signer ≡ true
-  named_in Conflicting_notarize h = or_left _ _ h
-  named_in Conflicting_finalize h = or_right _ _ (or_left _ _ h)
-  named_in Nullify_finalize h = or_right _ _ (or_right _ _ h)
+  -- accused for some kind
+  pub accused_in : (kind : Kind) → is_accused eq vs (record { round = round; signer = signer; kind = kind }) ≡ true → is_accused_in eq vs round signer ≡ true
+  accused_in Conflicting_notarize h = or_left _ _ h
+  accused_in Conflicting_finalize h = or_right _ _ (or_left _ _ h)
+  accused_in Nullify_finalize h = or_right _ _ (or_right _ _ h)
 
-  pub kind_from_named_in : is_named_in eq vs round signer ≡ true → (kind : Kind) × (is_named eq vs (record { round = round; signer = signer; kind = kind }) ≡ true)
-  kind_from_named_in h =
-      let named = λ (kind : Kind). is_named eq vs (record { round = round; signer = signer; kind = kind }) in
+  pub kind_from_accused_in : is_accused_in eq vs round signer ≡ true → (kind : Kind) × (is_accused eq vs (record { round = round; signer = signer; kind = kind }) ≡ true)
+  kind_from_accused_in h =
+      let named = λ (kind : Kind). is_accused eq vs (record { round = round; signer = signer; kind = kind }) in
       ⊎_elim
       (λ e. (Conflicting_notarize, e))
       (λ e. ⊎_elim (λ f. (Conflicting_finalize, f)) (λ f. (Nullify_finalize, f)) (or_cases (named Conflicting_finalize) (named Nullify_finalize) e))
       (or_cases (named Conflicting_notarize) (named Conflicting_finalize || named Nullify_finalize) h)
 
-  -- a signer who is named is among those who are counted
-  pub counted_signer : is_named_in eq vs round signer ≡ true → Contains (filter (is_named_in eq vs round) (map (λ v. v.signer) vs)) signer
+  -- a signer who is accused is among those who are counted
+  pub counted_signer : is_accused_in eq vs round signer ≡ true → Contains (filter (is_accused_in eq vs round) (map (λ v. v.signer) vs)) signer
   counted_signer h =
-      let (kind, e) = kind_from_named_in h in
-      let (v, w, v_in, w_in, of_v, against) = votes_from_named eq vs (record { round = round; signer = signer; kind = kind }) e in
-      Contains-filter (is_named_in eq vs round) _ signer (subst (Contains (map (λ v. v.signer) vs)) ((is_of-true round signer v of_v).1) (Contains-map (λ v. v.signer) vs v v_in)) h
+      let (kind, e) = kind_from_accused_in h in
+      let (v, w, v_in, w_in, of_v, against) = votes_from_accused eq vs (record { round = round; signer = signer; kind = kind }) e in
+      Contains-filter (is_accused_in eq vs round) _ signer (subst (Contains (map (λ v. v.signer) vs)) ((is_of-true round signer v of_v).1) (Contains-map (λ v. v.signer) vs v v_in)) h
 
--- whose two votes of a round exclude each other is named there
-named_from_excludes : {D G : Type 0} (eq : D → D → Bool) (vs : List (SignedVote D G)) (round : Round) (q : ℕ) (v w : SignedVote D G) → Contains vs v → Contains vs w → is_of round q v ≡ true → is_of round q w ≡ true → excludes eq v.subject w.subject ≡ true → is_named_in eq vs round q ≡ true
-named_from_excludes {D} {G} eq vs round q v w v_in w_in v_of w_of h =
+-- whose two votes of a round exclude each other is accused there
+accused_from_excludes : {D G : Type 0} (eq : D → D → Bool) (vs : List (SignedVote D G)) (round : Round) (q : ℕ) (v w : SignedVote D G) → Contains vs v → Contains vs w → is_of round q v ≡ true → is_of round q w ≡ true → excludes eq v.subject w.subject ≡ true → is_accused_in eq vs round q ≡ true
+accused_from_excludes {D} {G} eq vs round q v w v_in w_in v_of w_of h =
     let (kind, against) = kind_from_excludes eq v.subject w.subject h in
-    let by : (a b : SignedVote D G) → Contains vs a → Contains vs b → is_of round q a ≡ true → is_of round q b ≡ true → clash eq kind a.subject b.subject ≡ true → is_named_in eq vs round q ≡ true =
+    let by : (a b : SignedVote D G) → Contains vs a → Contains vs b → is_of round q a ≡ true → is_of round q b ≡ true → clash eq kind a.subject b.subject ≡ true → is_accused_in eq vs round q ≡ true =
     λ a b a_in b_in a_of b_of e.
     let a_at = is_of-true round q a a_of in
     let b_at = is_of-true round q b b_of in
-    named_in eq vs round q kind (named_from_votes eq vs _ a b a_in b_in a_of (and_from _ _ (is_of-from _ _ b (b_at.0 ∙ sym a_at.0) (b_at.1 ∙ sym a_at.1)) e)) in
+    accused_in eq vs round q kind (accused_from_votes eq vs _ a b a_in b_in a_of (and_from _ _ (is_of-from _ _ b (b_at.0 ∙ sym a_at.0) (b_at.1 ∙ sym a_at.1)) e)) in
     ⊎_elim (by v w v_in w_in v_of w_of) (by w v w_in v_in w_of v_of) against
 
 -- ---- what a message certifies
@@ -180,14 +180,14 @@ module _ {S D C P G : Type 0} (rules : Rules S D C P G) (l : AreLawful rules) (m
             let (q_in_xs, in_ys) = Contains-from_filter (is_member nat_eq ys) xs q q_in in
             let (v, v_in, v_on, v_of) = signer_votes x s q q_in_xs in
             let (w, w_in, w_on, w_of) = signer_votes y t q (Contains-from_member ys q in_ys) in
-            named_from_excludes rules.eq (valid_votes rules messages) round q v w v_in w_in (subst (λ r. is_of r q v ≡ true) x_here v_of) (subst (λ r. is_of r q w ≡ true) y_here w_of) ((λ i. excludes rules.eq (v_on i) (w_on i)) ∙ h));
+            accused_from_excludes rules.eq (valid_votes rules messages) round q v w v_in w_in (subst (λ r. is_of r q v ≡ true) x_here v_of) (subst (λ r. is_of r q w ≡ true) y_here w_of) ((λ i. excludes rules.eq (v_on i) (w_on i)) ∙ h));
       }
 
-  -- so enough are named
-  pub enough_for : (round : Round) (c d : C) → IsAccountable rules messages round c d → faults_of (rules.size round.epoch) + 1 ≤ named_count rules.eq (valid_votes rules messages) round
+  -- so enough are accused
+  pub enough_for : (round : Round) (c d : C) → IsAccountable rules messages round c d → faults_of (rules.size round.epoch) + 1 ≤ accused_count rules.eq (valid_votes rules messages) round
   enough_for round c d a =
-      let counted = distinct_count-at_least (shared_signers rules c d) (filter (is_named_in rules.eq (valid_votes rules messages) round) (map (λ v. v.signer) (valid_votes rules messages))) a.distinct
-      (λ q q_in. counted_signer rules.eq (valid_votes rules messages) round q (All-contains (λ q. IsTrue (is_named_in rules.eq (valid_votes rules messages) round q)) _ q a.named q_in)) in
+      let counted = distinct_count-at_least (shared_signers rules c d) (filter (is_accused_in rules.eq (valid_votes rules messages) round) (map (λ v. v.signer) (valid_votes rules messages))) a.distinct
+      (λ q q_in. counted_signer rules.eq (valid_votes rules messages) round q (All-contains (λ q. IsTrue (is_accused_in rules.eq (valid_votes rules messages) round q)) _ q a.named q_in)) in
       omega (arith, a.many, a.more_than_faults, counted)
 
   pub accountable : SignersAreAccountable rules messages
@@ -197,7 +197,7 @@ module _ {S D C P G : Type 0} (rules : Rules S D C P G) (l : AreLawful rules) (m
       accountable_for (activity_round m) x y (record { message = m; certificate = c; is_in = m_in; has = m_has; certifies = m_certified }) (record { message = k; certificate = d; is_in = k_in; has = k_has; certifies = k_certified })
       here (sym (same_round-true _ _ p.0) ∙ here) p.1
 
-  pub enough : EnoughAreNamed rules messages
+  pub enough : EnoughAreAccused rules messages
   enough m k m_in k_in against m_certified k_certified =
       let (x, x_is) = some_from_is_some (certified_in rules m) m_certified in
       let (y, y_is) = some_from_is_some (certified_in rules k) k_certified in

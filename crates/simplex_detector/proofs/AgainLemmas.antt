@@ -1,6 +1,6 @@
 -- The votes of a report's evidence have that report.
-use Rattle.simplex_detector.proofs.Prelude.{with_first, with_second, Activity, All-contains, All-from_recursion, Bool, Conflicting_finalize, Conflicting_notarize, Contains, Evidence, Finalizing, IsEquivalence, IsEvidence, Kind, List, Named, None, Notarizing, Nullify_finalize, Option, Rules, SignedVote, Some, [], and_parts, ap, arith, cond, cond-true, contradicts, evidence_of, evidence_value, excludes, false, false≢true, filter, find, first_sort, flat_map, flat_map-map, inl, inr, is_at, is_named, is_some, is_valid, map, message_of, named_by, refl, round_of, same_Some, subst, sym, true, valid_votes, votes_in, ◌&&◌, ◌∙◌, ◌∷◌, ◌≡◌, ◌⊎◌}
-use Rattle.simplex_detector.proofs.EvidenceLemmas.{EvidenceIs, evidence_exists, evidence_is, first_spot, moved_evidence, named_from_votes}
+use Rattle.simplex_detector.proofs.Prelude.{with_first, with_second, Activity, All-contains, All-from_recursion, Bool, Conflicting_finalize, Conflicting_notarize, Contains, Evidence, Finalizing, IsEquivalence, IsEvidence, Kind, List, Accusation, None, Notarizing, Nullify_finalize, Option, Rules, SignedVote, Some, [], and_parts, ap, arith, cond, cond-true, contradicts, evidence_of, evidence_value, excludes, false, false≢true, filter, find, first_sort, flat_map, flat_map-map, inl, inr, is_at, is_accused, is_some, is_valid, map, message_of, accused_by, refl, round_of, same_Some, subst, sym, true, valid_votes, votes_in, ◌&&◌, ◌∙◌, ◌∷◌, ◌≡◌, ◌⊎◌}
+use Rattle.simplex_detector.proofs.EvidenceLemmas.{EvidenceIs, evidence_exists, evidence_is, first_spot, moved_evidence, accused_from_votes}
 use Rattle.simplex_detector.proofs.Lists.{Contains-cons, Contains-first, Contains-flat_map, Contains-from_filter, Contains-from_flat_map, Contains-from_map, found}
 use Rattle.simplex_detector.proofs.Places.{Spot, excludes_itself, is_at-from, is_at-true, is_of-from, spot}
 use Rattle.simplex_detector.proofs.RecordedLemmas.{second_agrees, second_by}
@@ -26,16 +26,16 @@ abbrev at : {D G : Type 0} → Spot → SignedVote D G → Bool
 at s = is_at s.sort s.round s.signer
 
 module _ {D G : Type 0} (eq : D → D → Bool) (l : IsEquivalence eq) (vs : List (SignedVote D G)) (es : List (Evidence D G)) (report : IsEvidence eq vs es) where
-  own : (e : Evidence D G) → Contains es e → EvidenceIs eq vs (named_by e) e
-  own e e_in = evidence_is eq vs (named_by e) e (All-contains (λ x. evidence_of eq vs (named_by x) ≡ Some x) es e report.sound e_in)
+  own : (e : Evidence D G) → Contains es e → EvidenceIs eq vs (accused_by e) e
+  own e e_in = evidence_is eq vs (accused_by e) e (All-contains (λ x. evidence_of eq vs (accused_by x) ≡ Some x) es e report.sound e_in)
 
   -- the first vote of an evidence is the earliest at its spot
   first_earliest : (e : Evidence D G) → Contains es e → find (at (spot e.first)) vs ≡ Some e.first
-  first_earliest e e_in = let is = own e e_in in subst (λ (s : Spot). find (at s) vs ≡ Some e.first) (sym (is_at-true (first_spot (named_by e)) e.first (found _ vs e.first is.first).1)) is.first
+  first_earliest e e_in = let is = own e e_in in subst (λ (s : Spot). find (at s) vs ≡ Some e.first) (sym (is_at-true (first_spot (accused_by e)) e.first (found _ vs e.first is.first).1)) is.first
 
   -- so is the second, or it is at the first one's spot and the earliest there that excludes that
   second_there : (e : Evidence D G) → Contains es e → (find (at (spot e.second)) vs ≡ Some e.second) ⊎ ((spot e.second ≡ spot e.first) × (find (λ w. at (spot e.first) w && excludes eq e.first.subject w.subject) vs ≡ Some e.second))
-  second_there e e_in = by e.kind (is_at-true (first_spot (named_by e)) e.first (found _ vs e.first (own e e_in).first).1) (own e e_in).second
+  second_there e e_in = by e.kind (is_at-true (first_spot (accused_by e)) e.first (found _ vs e.first (own e e_in).first).1) (own e e_in).second
     where
       other : (s : Spot) → spot e.first ≡ s → find (λ w. at s w && excludes eq e.first.subject w.subject) vs ≡ Some e.second → (find (at (spot e.second)) vs ≡ Some e.second) ⊎ ((spot e.second ≡ spot e.first) × (find (λ w. at (spot e.first) w && excludes eq e.first.subject w.subject) vs ≡ Some e.second))
       other s here f = inr (is_at-true s e.second (and_parts (at s e.second) (excludes eq e.first.subject e.second.subject) (found _ vs e.second f).1).0 ∙ sym here, subst (λ (t : Spot). find (λ w. at t w && excludes eq e.first.subject w.subject) vs ≡ Some e.second) (sym here) f)
@@ -80,17 +80,17 @@ module _ {D G : Type 0} (eq : D → D → Bool) (l : IsEquivalence eq) (vs : Lis
       not_a : (v : SignedVote D G) → test v ≡ true → find (at s) vs ≡ Some v → ⊥
       not_a v passes is_v = false≢true (sym (excludes_itself eq l a.subject) ∙ (λ i. excludes eq a.subject (same_Some a v (sym is_a ∙ is_v) i).subject) ∙ (parts v passes).1)
 
-  -- who is named by all votes is named by those of the evidence
-  named_again : (n : Named) → is_named eq vs n ≡ true → is_named eq (flat_map pair es) n ≡ true
-  named_again n h =
-      let (e, e_in, e_is) = Contains-from_map named_by es n (report.complete n h) in
-      subst (λ m. is_named eq (flat_map pair es) m ≡ true) e_is (named_from_votes eq (flat_map pair es) (named_by e) e.first e.second
+  -- who is accused by all votes is accused by those of the evidence
+  accused_again : (n : Accusation) → is_accused eq vs n ≡ true → is_accused eq (flat_map pair es) n ≡ true
+  accused_again n h =
+      let (e, e_in, e_is) = Contains-from_map accused_by es n (report.complete n h) in
+      subst (λ m. is_accused eq (flat_map pair es) m ≡ true) e_is (accused_from_votes eq (flat_map pair es) (accused_by e) e.first e.second
       (Contains-flat_map pair es e e.first e_in (0, omega arith, refl)) (Contains-flat_map pair es e e.second e_in (1, omega arith, refl))
       (is_of-from _ _ e.first refl refl) (found _ vs e.second (own e e_in).second).1)
 
   -- so everyone has the same evidence
-  same_again : (n : Named) → evidence_of eq (flat_map pair es) n ≡ evidence_of eq vs n
-  same_again n = same (evidence_of eq (flat_map pair es) n) (evidence_of eq vs n) also (λ h. evidence_exists eq (flat_map pair es) l n ∙ named_again n (sym (evidence_exists eq vs l n) ∙ h))
+  same_again : (n : Accusation) → evidence_of eq (flat_map pair es) n ≡ evidence_of eq vs n
+  same_again n = same (evidence_of eq (flat_map pair es) n) (evidence_of eq vs n) also (λ h. evidence_exists eq (flat_map pair es) l n ∙ accused_again n (sym (evidence_exists eq vs l n) ∙ h))
     where
       same : {X : Type 0} (o p : Option X) → ((x : X) → o ≡ Some x → p ≡ Some x) → (is_some p ≡ true → is_some o ≡ true) → o ≡ p
       same None None f g = refl
@@ -129,7 +129,7 @@ evidence_again {S} {D} {C} {P} {G} rules l ms es report =
         let (e, e_in, v_at) = Contains-from_flat_map pair (map evidence_value es) v v_in in
         let is = own rules.eq l (valid_votes rules ms) (map evidence_value es) report e e_in in
         let keeps = λ (w : SignedVote D G) (h : Contains vs w). (Contains-from_filter (is_valid rules) (flat_map (votes_in rules.listed) ms) w h).1 in
-        All-contains (λ w. is_valid rules w ≡ true) (pair e) v (All-from_recursion (λ w. is_valid rules w ≡ true) (pair e) (keeps e.first (found (is_at (first_sort (named_by e).kind) (named_by e).round (named_by e).signer) vs e.first is.first).0, (keeps e.second (found (contradicts rules.eq (named_by e).kind e.first) vs e.second is.second).0, tt))) v_at
+        All-contains (λ w. is_valid rules w ≡ true) (pair e) v (All-from_recursion (λ w. is_valid rules w ≡ true) (pair e) (keeps e.first (found (is_at (first_sort (accused_by e).kind) (accused_by e).round (accused_by e).signer) vs e.first is.first).0, (keeps e.second (found (contradicts rules.eq (accused_by e).kind e.first) vs e.second is.second).0, tt))) v_at
 
     filter_all : (xs : List (SignedVote D G)) → ((v : SignedVote D G) → Contains xs v → is_valid rules v ≡ true) → filter (is_valid rules) xs ≡ xs
     filter_all [] h = refl

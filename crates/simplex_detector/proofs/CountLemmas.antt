@@ -1,9 +1,9 @@
--- How many votes are recorded, how many are named in a round, and the split that this gives.
-use Rattle.simplex_detector.proofs.Prelude.{Activity, All, All-contains, AllByRecursion, AreSplits, Bool, CertifiedSubjects, Contains, Detector, Equal, Evidence, Greater, HaveCommittees, IsEquivalence, IsNonDecreasing, IsOrdered, Less, Less-from_sorted, List, Named, None, Option, Recalls, RecallsRound, RecordsFirsts, Round, RoundState, Rules, SignedVote, Some, [], ap, append_assoc, arith, cases_lt, certified_subjects, cond, cond-false, cond-true, cons_option, distinct_count, drop, drop_more, eqb-false, evidence_of, false, false_from_ne_true, false≢true, faults_of, filter, filter_map, get_or, get_or-map, if◌then◌else◌, inl, inr, is_gt, is_member, is_named, is_named_in, is_some, is_split, kind_rank, le_from_not_gt, length, length-filter_both, length-map, map, min, named_by, named_cmp, named_count, nat_cmp, nat_eq, not, not-true, option_eq, option_to_list, ordering_then, recorded_of, recursion_from_All, refl, round_cmp, round_count, round_of, split_of, subst, suc, sym, tied_itself, true, unique_keys, valid_votes, votes_recorded, ℕ, ⊎_elim, ◌++◌, ◌+◌, ◌-◌, ◌<◌, ◌^◌, ◌||◌, ◌∙◌, ◌∷◌, ◌≡◌, ◌≤◌}
+-- How many votes are recorded, how many are accused in a round, and the split that this gives.
+use Rattle.simplex_detector.proofs.Prelude.{Activity, All, All-contains, AllByRecursion, AreSplits, Bool, CertifiedSubjects, Contains, Detector, Equal, Evidence, Greater, HaveCommittees, IsEquivalence, IsNonDecreasing, IsOrdered, Less, Less-from_sorted, List, Accusation, None, Option, Recalls, RecallsRound, RecordsFirsts, Round, RoundState, Rules, SignedVote, Some, [], ap, append_assoc, arith, cases_lt, certified_subjects, cond, cond-false, cond-true, cons_option, distinct_count, drop, drop_more, eqb-false, evidence_of, false, false_from_ne_true, false≢true, faults_of, filter, filter_map, get_or, get_or-map, if◌then◌else◌, inl, inr, is_gt, is_member, is_accused, is_accused_in, is_some, is_split, kind_rank, le_from_not_gt, length, length-filter_both, length-map, map, min, accused_by, accused_cmp, accused_count, nat_cmp, nat_eq, not, not-true, option_eq, option_to_list, ordering_then, recorded_of, recursion_from_All, refl, round_cmp, round_count, round_of, split_of, subst, suc, sym, tied_itself, true, unique_keys, valid_votes, votes_recorded, ℕ, ⊎_elim, ◌++◌, ◌+◌, ◌-◌, ◌<◌, ◌^◌, ◌||◌, ◌∙◌, ◌∷◌, ◌≡◌, ◌≤◌}
 use Rattle.std.specs.List.Sorted.{IsStrictlySortedBy}
-use Rattle.simplex_detector.proofs.AccountLemmas.{Contains-from_member, counted_signer, distinct_count-below, distinct_count-same, kind_from_named_in, named_in}
+use Rattle.simplex_detector.proofs.AccountLemmas.{Contains-from_member, counted_signer, distinct_count-below, distinct_count-same, kind_from_accused_in, accused_in}
 use Rattle.simplex_detector.proofs.CommitteeLemmas.{most}
-use Rattle.simplex_detector.proofs.EvidenceLemmas.{named-from_evidence, valid_from, votes_from_named}
+use Rattle.simplex_detector.proofs.EvidenceLemmas.{accused-from_evidence, valid_from, votes_from_accused}
 use Rattle.simplex_detector.proofs.Lists.{Contains-cons_cases, Contains-first, Contains-from_filter, Contains-from_map, Contains-map, Contains-none, found}
 use Rattle.simplex_detector.proofs.Places.{is_of-true, round_cmp_total, same_round-from, same_round-true}
 use Rattle.simplex_detector.proofs.RecordedLemmas.{none_of_round, of_round}
@@ -78,36 +78,36 @@ splits_next f found more all x xs o more_is o_is so_far =
     let joined = elim o as (λ p. option_to_list p ++ filter_map f xs ≡ cons_option p (filter_map f xs)) [ None ↦ refl | Some y ↦ refl ] in
     ap (λ ys. ys ++ filter_map f xs) more_is ∙ append_assoc found (option_to_list o) (filter_map f xs) ∙ ap (λ ys. found ++ ys) (joined ∙ ap (λ p. cons_option p (filter_map f xs)) o_is) ∙ so_far
 
--- ---- how many are named in a round
+-- ---- how many are accused in a round
 
 -- by its evidence
-counted_in : {D G : Type 0} (eq : D → D → Bool) (vs : List (SignedVote D G)) (round : Round) (es : List (Evidence D G)) → IsEvidenceIn eq vs round es → named_count eq vs round ≡ distinct_count nat_eq (map (λ e. e.first.signer) es)
+counted_in : {D G : Type 0} (eq : D → D → Bool) (vs : List (SignedVote D G)) (round : Round) (es : List (Evidence D G)) → IsEvidenceIn eq vs round es → accused_count eq vs round ≡ distinct_count nat_eq (map (λ e. e.first.signer) es)
 counted_in {D} {G} eq vs round es is =
     distinct_count-same _ _
     (λ q h.
-    let (kind, e) = kind_from_named_in eq vs round q (Contains-from_filter (is_named_in eq vs round) _ q h).1 in
-    let (f, f_in, f_is) = Contains-from_map named_by es (record { round = round; signer = q; kind = kind }) (is.complete _ refl e) in
-    subst (Contains (map (λ e. e.first.signer) es)) (ap (λ (m : Named). m.signer) f_is) (Contains-map (λ e. e.first.signer) es f f_in))
+    let (kind, e) = kind_from_accused_in eq vs round q (Contains-from_filter (is_accused_in eq vs round) _ q h).1 in
+    let (f, f_in, f_is) = Contains-from_map accused_by es (record { round = round; signer = q; kind = kind }) (is.complete _ refl e) in
+    subst (Contains (map (λ e. e.first.signer) es)) (ap (λ (m : Accusation). m.signer) f_is) (Contains-map (λ e. e.first.signer) es f f_in))
     (λ q h.
     let (f, f_in, f_is) = Contains-from_map (λ (e : Evidence D G). e.first.signer) es q h in
-    let found = All-contains (λ e. evidence_of eq vs (named_by e) ≡ Some e) es f is.sound f_in in
+    let found = All-contains (λ e. evidence_of eq vs (accused_by e) ≡ Some e) es f is.sound f_in in
     let at = All-contains (λ e. round_of e.first.subject ≡ round) es f is.here f_in in
-    counted_signer eq vs round q (named_in eq vs round q f.kind (sym (λ i. is_named eq vs (record { round = at i; signer = f_is i; kind = f.kind })) ∙ named-from_evidence eq vs (named_by f) (ap is_some found))))
+    counted_signer eq vs round q (accused_in eq vs round q f.kind (sym (λ i. is_accused eq vs (record { round = at i; signer = f_is i; kind = f.kind })) ∙ accused-from_evidence eq vs (accused_by f) (ap is_some found))))
 
--- no more are named than its committee has participants
-count_within : {S D C P G : Type 0} (rules : Rules S D C P G) → HaveCommittees rules → (messages : List (Activity S D C P G)) (round : Round) → named_count rules.eq (valid_votes rules messages) round ≤ rules.size round.epoch
+-- no more are accused than its committee has participants
+count_within : {S D C P G : Type 0} (rules : Rules S D C P G) → HaveCommittees rules → (messages : List (Activity S D C P G)) (round : Round) → accused_count rules.eq (valid_votes rules messages) round ≤ rules.size round.epoch
 count_within rules l messages round =
     let vs = valid_votes rules messages in
     let signers = map (λ v. v.signer) vs in
-    distinct_count-below (rules.size round.epoch) (filter (is_named_in rules.eq vs round) signers) (λ q h.
-    let (kind, e) = kind_from_named_in rules.eq vs round q (Contains-from_filter (is_named_in rules.eq vs round) signers q h).1 in
-    let (v, w, v_in, w_in, of_v, against) = votes_from_named rules.eq vs (record { round = round; signer = q; kind = kind }) e in
+    distinct_count-below (rules.size round.epoch) (filter (is_accused_in rules.eq vs round) signers) (λ q h.
+    let (kind, e) = kind_from_accused_in rules.eq vs round q (Contains-from_filter (is_accused_in rules.eq vs round) signers q h).1 in
+    let (v, w, v_in, w_in, of_v, against) = votes_from_accused rules.eq vs (record { round = round; signer = q; kind = kind }) e in
     let (m, m_in, own, valid) = valid_from rules messages v v_in in
     let at = is_of-true round q v of_v in
     subst (λ s. s < rules.size round.epoch) at.1 (subst (λ r. v.signer < rules.size r.epoch) at.0 (l.members v.subject v.signer v.signature valid)))
 
 -- the signers of the evidence of a round are in order
-signers_in_order : {D G : Type 0} (round : Round) (es : List (Evidence D G)) → IsStrictlySortedBy named_cmp (map named_by es) → All (λ e. round_of e.first.subject ≡ round) es → IsNonDecreasing (map (λ e. e.first.signer) es)
+signers_in_order : {D G : Type 0} (round : Round) (es : List (Evidence D G)) → IsStrictlySortedBy accused_cmp (map accused_by es) → All (λ e. round_of e.first.subject ≡ round) es → IsNonDecreasing (map (λ e. e.first.signer) es)
 signers_in_order round [] ordered here i j d le lt = absurd (omega (arith, lt))
 signers_in_order {D} {G} round (e ∷ es) ordered here i j d le lt =
     let all = e ∷ es in
@@ -118,13 +118,13 @@ signers_in_order {D} {G} round (e ∷ es) ordered here i j d le lt =
         arith,
         at i (omega arith),
         at j within,
-        rise (named_by (get_or all i e)) (named_by (get_or all j e)) (here i e (omega arith) ∙ sym (here j e within))
-            ((λ k. named_cmp (sym (get_or-map named_by all i e (named_by e) (omega arith)) k) (sym (get_or-map named_by all j e (named_by e) within) k)) ∙ Less-from_sorted named_cmp (map named_by all) i j (named_by e) ordered less (omega (arith, within, length-map all named_by))),
+        rise (accused_by (get_or all i e)) (accused_by (get_or all j e)) (here i e (omega arith) ∙ sym (here j e within))
+            ((λ k. accused_cmp (sym (get_or-map accused_by all i e (accused_by e) (omega arith)) k) (sym (get_or-map accused_by all j e (accused_by e) within) k)) ∙ Less-from_sorted accused_cmp (map accused_by all) i j (accused_by e) ordered less (omega (arith, within, length-map all accused_by))),
       )
       | inr more ↦ (let same : i ≡ j = omega arith in omega (arith, ap (λ k. get_or (map (λ e. e.first.signer) all) k d) same))
     ]
   where
-    rise : (n m : Named) → n.round ≡ m.round → named_cmp n m ≡ Less → n.signer ≤ m.signer
+    rise : (n m : Accusation) → n.round ≡ m.round → accused_cmp n m ≡ Less → n.signer ≤ m.signer
     rise n m same less =
         let kinds = nat_cmp (kind_rank n.kind) (kind_rank m.kind) in
         let signers : ordering_then (nat_cmp n.signer m.signer) kinds ≡ Less = sym (ap (λ o. ordering_then o (ordering_then (nat_cmp n.signer m.signer) kinds)) (ap (λ r. round_cmp r m.round) same ∙ tied_itself round_cmp_total m.round)) ∙ less in
@@ -138,9 +138,9 @@ split_found rules l messages round recorded records split es is n size small nam
     let count = counted_in rules.eq (valid_votes rules messages) round es is in
     let within = count_within rules l messages round in
     let own = counted (signers_in_order round es is.ordered is.here) in
-    let named_is : named ≡ named_count rules.eq (valid_votes rules messages) round = omega (arith, count, within, own, size, small) in
+    let accused_is : named ≡ accused_count rules.eq (valid_votes rules messages) round = omega (arith, count, within, own, size, small) in
     let least_of : least ≡ faults_of (rules.size round.epoch) + 1 = least_is ∙ ap (λ k. faults_of k + 1) (sym size) in
-    (λ i. Some (record { round = round; named = named_is i; least = least_of i })) ∙ sym (cond-true (is_split rules messages round) _ None (from_subjects rules messages round ∙ sym records.split ∙ split))
+    (λ i. Some (record { round = round; named = accused_is i; least = least_of i })) ∙ sym (cond-true (is_split rules messages round) _ None (from_subjects rules messages round ∙ sym records.split ∙ split))
 
 -- ---- how many distinct numbers a list in order has
 

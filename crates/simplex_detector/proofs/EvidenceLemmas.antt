@@ -1,5 +1,5 @@
--- Who is named, the evidence of everyone who is named, and that the votes determine a report.
-use Rattle.simplex_detector.proofs.Prelude.{Activity, All, All-contains, Bool, Contains, Contains-permutation, Evidence, IsEquivalence, IsEquivocation, IsEvidence, IsPermutation, IsPermutation-sym, List, Named, NamedInAnyOrder, None, Rules, SignedVote, Some, [], and_from, and_parts, ap, append-nil, clash, contradicts, evidence_of, filter, filter-append, find, first_sort, flat_map, flat_map-append, is_at, is_named, is_of, is_some, is_valid, list_any, named_by, named_cmp, refl, round_of, same_Some, same_sort, sort_of, subst, sym, true, valid_votes, votes_in, with_first, with_second, ⊎_elim, ◌&&◌, ◌++◌, ◌∙◌, ◌∷◌, ◌≡◌}
+-- Who is accused, the evidence of everyone who is accused, and that the votes determine a report.
+use Rattle.simplex_detector.proofs.Prelude.{Activity, All, All-contains, Bool, Contains, Contains-permutation, Evidence, IsEquivalence, IsEquivocation, IsEvidence, IsPermutation, IsPermutation-sym, List, Accusation, ReorderingAccusesSame, None, Rules, SignedVote, Some, [], and_from, and_parts, ap, append-nil, clash, contradicts, evidence_of, filter, filter-append, find, first_sort, flat_map, flat_map-append, is_at, is_accused, is_of, is_some, is_valid, list_any, accused_by, accused_cmp, refl, round_of, same_Some, same_sort, sort_of, subst, sym, true, valid_votes, votes_in, with_first, with_second, ⊎_elim, ◌&&◌, ◌++◌, ◌∙◌, ◌∷◌, ◌≡◌}
 use Rattle.simplex_detector.proofs.Lists.{Contains-filter, Contains-flat_map, Contains-from_filter, Contains-from_flat_map, Contains-from_list_any, IsListing, any_from_Contains, each, find_from_Contains, found, same_bool, some_from_is_some}
 use Rattle.simplex_detector.proofs.Places.{Spot, clash_parts, clash_with_one, is_at-from, is_at-true, is_of-from, is_of-true}
 
@@ -22,46 +22,46 @@ valid_votes-append rules ms ks = ap (filter (is_valid rules)) (flat_map-append (
 pub valid_votes-push : {S D C P G : Type 0} (rules : Rules S D C P G) (ms : List (Activity S D C P G)) (m : Activity S D C P G) → valid_votes rules (ms ++ m ∷ []) ≡ valid_votes rules ms ++ filter (is_valid rules) (votes_in rules.listed m)
 valid_votes-push rules ms m = valid_votes-append rules ms (m ∷ []) ∙ ap (λ vs. valid_votes rules ms ++ filter (is_valid rules) vs) (append-nil (votes_in rules.listed m))
 
--- ---- who is named
+-- ---- who is accused
 
--- the spot of the first vote of the evidence of whom is named
-abbrev pub first_spot : Named → Spot
+-- the spot of the first vote of the evidence of whom is accused
+abbrev pub first_spot : Accusation → Spot
 first_spot n = record { sort = first_sort n.kind; round = n.round; signer = n.signer }
 
-module _ {D G : Type 0} (eq : D → D → Bool) (vs : List (SignedVote D G)) (n : Named) where
-  -- two votes that contradict name their signer
-  pub named_from_votes : (v w : SignedVote D G) → Contains vs v → Contains vs w → is_of n.round n.signer v ≡ true → contradicts eq n.kind v w ≡ true → is_named eq vs n ≡ true
-  named_from_votes v w h k a c = any_from_Contains (λ x. is_of n.round n.signer x && list_any (contradicts eq n.kind x) vs) vs v h (and_from _ _ a (any_from_Contains (contradicts eq n.kind v) vs w k c))
+module _ {D G : Type 0} (eq : D → D → Bool) (vs : List (SignedVote D G)) (n : Accusation) where
+  -- two votes that contradict accuse their signer
+  pub accused_from_votes : (v w : SignedVote D G) → Contains vs v → Contains vs w → is_of n.round n.signer v ≡ true → contradicts eq n.kind v w ≡ true → is_accused eq vs n ≡ true
+  accused_from_votes v w h k a c = any_from_Contains (λ x. is_of n.round n.signer x && list_any (contradicts eq n.kind x) vs) vs v h (and_from _ _ a (any_from_Contains (contradicts eq n.kind v) vs w k c))
 
-  -- who is named has two such votes
-  pub votes_from_named : is_named eq vs n ≡ true → (v w : SignedVote D G) × Contains vs v × Contains vs w × (is_of n.round n.signer v ≡ true) × (contradicts eq n.kind v w ≡ true)
-  votes_from_named h =
+  -- who is accused has two such votes
+  pub votes_from_accused : is_accused eq vs n ≡ true → (v w : SignedVote D G) × Contains vs v × Contains vs w × (is_of n.round n.signer v ≡ true) × (contradicts eq n.kind v w ≡ true)
+  votes_from_accused h =
       let a = Contains-from_list_any (λ x. is_of n.round n.signer x && list_any (contradicts eq n.kind x) vs) vs h in
       let p = and_parts (is_of n.round n.signer a.0) (list_any (contradicts eq n.kind a.0) vs) a.2 in
       let b = Contains-from_list_any (contradicts eq n.kind a.0) vs p.1 in
       (a.0, b.0, a.1, b.1, p.0, b.2)
 
--- a signer who is named by some of the votes is named by all
-pub named_by_more : {D G : Type 0} (eq : D → D → Bool) (vs ws : List (SignedVote D G)) → ((v : SignedVote D G) → Contains ws v → Contains vs v) → (n : Named) → is_named eq ws n ≡ true → is_named eq vs n ≡ true
-named_by_more eq vs ws more n h =
-    let (v, w, in_v, in_w, of_v, against) = votes_from_named eq ws n h in
-    named_from_votes eq vs n v w (more v in_v) (more w in_w) of_v against
+-- a signer who is accused by some of the votes is accused by all
+pub accused_by_more : {D G : Type 0} (eq : D → D → Bool) (vs ws : List (SignedVote D G)) → ((v : SignedVote D G) → Contains ws v → Contains vs v) → (n : Accusation) → is_accused eq ws n ≡ true → is_accused eq vs n ≡ true
+accused_by_more eq vs ws more n h =
+    let (v, w, in_v, in_w, of_v, against) = votes_from_accused eq ws n h in
+    accused_from_votes eq vs n v w (more v in_v) (more w in_w) of_v against
 
--- the same messages in another order name the same
-pub named_in_any_order : {S D C P G : Type 0} (rules : Rules S D C P G) (ms : List (Activity S D C P G)) → NamedInAnyOrder rules ms
-named_in_any_order {S} {D} {C} {P} {G} rules ms ks moved n =
+-- the same messages in another order accuse the same
+pub accused_in_any_order : {S D C P G : Type 0} (rules : Rules S D C P G) (ms : List (Activity S D C P G)) → ReorderingAccusesSame rules ms
+accused_in_any_order {S} {D} {C} {P} {G} rules ms ks moved n =
     let also : (ms ks : List (Activity S D C P G)) → IsPermutation ms ks → (v : SignedVote D G) → Contains (valid_votes rules ms) v → Contains (valid_votes rules ks) v =
     λ ms ks moved v h. let (m, m_in, own, valid) = valid_from rules ms v h in valid_in rules ks v m (Contains-permutation ms ks m moved m_in) own valid in
-    same_bool _ _ (named_by_more rules.eq _ _ (also ms ks moved) n) (named_by_more rules.eq _ _ (also ks ms (IsPermutation-sym ms ks moved)) n)
+    same_bool _ _ (accused_by_more rules.eq _ _ (also ms ks moved) n) (accused_by_more rules.eq _ _ (also ks ms (IsPermutation-sym ms ks moved)) n)
 
 -- its first vote is the earliest at its spot, and its second the earliest that contradicts that
-pub record EvidenceIs {D G : Type 0} (eq : D → D → Bool) (vs : List (SignedVote D G)) (n : Named) (e : Evidence D G) : Type 0 where
-  pub named : named_by e ≡ n
+pub record EvidenceIs {D G : Type 0} (eq : D → D → Bool) (vs : List (SignedVote D G)) (n : Accusation) (e : Evidence D G) : Type 0 where
+  pub named : accused_by e ≡ n
   pub first : find (is_at (first_sort n.kind) n.round n.signer) vs ≡ Some e.first
   pub second : find (contradicts eq n.kind e.first) vs ≡ Some e.second
 
 module _ {D G : Type 0} (eq : D → D → Bool) (vs : List (SignedVote D G)) where
-  pub evidence_is : (n : Named) (e : Evidence D G) → evidence_of eq vs n ≡ Some e → EvidenceIs eq vs n e
+  pub evidence_is : (n : Accusation) (e : Evidence D G) → evidence_of eq vs n ≡ Some e → EvidenceIs eq vs n e
   evidence_is n e h =
       (elim (find (is_at (first_sort n.kind) n.round n.signer) vs) as (λ o. find (is_at (first_sort n.kind) n.round n.signer) vs ≡ o → with_first eq vs n.kind o ≡ Some e → EvidenceIs eq vs n e) [
         | None ↦ λ first is. absurd cc
@@ -73,19 +73,19 @@ module _ {D G : Type 0} (eq : D → D → Bool) (vs : List (SignedVote D G)) whe
         ]) refl
       ]) refl h
 
-  -- who has evidence is named
-  pub named-from_evidence : (n : Named) → is_some (evidence_of eq vs n) ≡ true → is_named eq vs n ≡ true
-  named-from_evidence n h =
+  -- who has evidence is accused
+  pub accused-from_evidence : (n : Accusation) → is_some (evidence_of eq vs n) ≡ true → is_accused eq vs n ≡ true
+  accused-from_evidence n h =
       let (e, found_e) = some_from_is_some (evidence_of eq vs n) h in
       let is = evidence_is n e found_e in
       let (first_in, at) = found _ vs e.first is.first in
       let (second_in, against) = found _ vs e.second is.second in
-      named_from_votes eq vs n e.first e.second first_in second_in (and_parts (same_sort (sort_of e.first.subject) (first_sort n.kind)) (is_of n.round n.signer e.first) at).1 against
+      accused_from_votes eq vs n e.first e.second first_in second_in (and_parts (same_sort (sort_of e.first.subject) (first_sort n.kind)) (is_of n.round n.signer e.first) at).1 against
 
-  -- who is named has evidence
-  pub evidence-from_named : IsEquivalence eq → (n : Named) → is_named eq vs n ≡ true → is_some (evidence_of eq vs n) ≡ true
-  evidence-from_named l n h =
-      let (v, w, v_in, w_in, of_v, against) = votes_from_named eq vs n h in
+  -- who is accused has evidence
+  pub evidence-from_accused : IsEquivalence eq → (n : Accusation) → is_accused eq vs n ≡ true → is_some (evidence_of eq vs n) ≡ true
+  evidence-from_accused l n h =
+      let (v, w, v_in, w_in, of_v, against) = votes_from_accused eq vs n h in
       let p = and_parts (is_of (round_of v.subject) v.signer w) (clash eq n.kind v.subject w.subject) against in
       let v_at = is_of-true n.round n.signer v of_v in
       let w_at = is_of-true (round_of v.subject) v.signer w p.0 in
@@ -96,24 +96,24 @@ module _ {D G : Type 0} (eq : D → D → Bool) (vs : List (SignedVote D G)) whe
       let b = ⊎_elim (second v v_in v_at.0 v_at.1) (second w w_in (w_at.0 ∙ v_at.0) (w_at.1 ∙ v_at.1)) (clash_with_one eq l n.kind a.0.subject v.subject w.subject (λ i. (at i).sort) p.1) in
       rw (a.1, b.1)
 
-  pub evidence_exists : IsEquivalence eq → (n : Named) → is_some (evidence_of eq vs n) ≡ is_named eq vs n
-  evidence_exists l n = same_bool _ _ (named-from_evidence n) (evidence-from_named l n)
+  pub evidence_exists : IsEquivalence eq → (n : Accusation) → is_some (evidence_of eq vs n) ≡ is_accused eq vs n
+  evidence_exists l n = same_bool _ _ (accused-from_evidence n) (evidence-from_accused l n)
 
-  -- the evidence of votes lists the evidence of everyone who is named
-  pub as_listing : (es : List (Evidence D G)) → IsEvidence eq vs es → IsListing named_by named_cmp (evidence_of eq vs) es
-  as_listing es is = record { ordered = is.ordered; sound = is.sound; complete = λ n h. is.complete n (named-from_evidence n h) }
+  -- the evidence of votes lists the evidence of everyone who is accused
+  pub as_listing : (es : List (Evidence D G)) → IsEvidence eq vs es → IsListing accused_by accused_cmp (evidence_of eq vs) es
+  as_listing es is = record { ordered = is.ordered; sound = is.sound; complete = λ n h. is.complete n (accused-from_evidence n h) }
 
-  pub from_listing : IsEquivalence eq → (es : List (Evidence D G)) → IsListing named_by named_cmp (evidence_of eq vs) es → IsEvidence eq vs es
-  from_listing l es is = record { ordered = is.ordered; sound = is.sound; complete = λ n h. is.complete n (evidence-from_named l n h) }
+  pub from_listing : IsEquivalence eq → (es : List (Evidence D G)) → IsListing accused_by accused_cmp (evidence_of eq vs) es → IsEvidence eq vs es
+  from_listing l es is = record { ordered = is.ordered; sound = is.sound; complete = λ n h. is.complete n (evidence-from_accused l n h) }
 
   -- each evidence of a report is two of the votes that contradict
   pub all_equivocations : (es : List (Evidence D G)) → IsEvidence eq vs es → All (IsEquivocation eq vs) es
   all_equivocations es is = each (IsEquivocation eq vs) es (λ e e_in.
-      let own = evidence_is (named_by e) e (All-contains (λ e. evidence_of eq vs (named_by e) ≡ Some e) es e is.sound e_in) in
+      let own = evidence_is (accused_by e) e (All-contains (λ e. evidence_of eq vs (accused_by e) ≡ Some e) es e is.sound e_in) in
       let (first_in, _) = found _ vs e.first own.first in
       let (second_in, against) = found _ vs e.second own.second in
       record { first_cast = first_in; second_cast = second_in; contradict = against })
 
 -- votes of which everyone has the same evidence have the same report
-pub moved_evidence : {D G : Type 0} (eq : D → D → Bool) → IsEquivalence eq → (vs ws : List (SignedVote D G)) → ((n : Named) → evidence_of eq ws n ≡ evidence_of eq vs n) → (es : List (Evidence D G)) → IsEvidence eq ws es → IsEvidence eq vs es
-moved_evidence eq l vs ws same es is = from_listing eq vs l es (subst (λ f. IsListing named_by named_cmp f es) (λ i n. same n i) (as_listing eq ws es is))
+pub moved_evidence : {D G : Type 0} (eq : D → D → Bool) → IsEquivalence eq → (vs ws : List (SignedVote D G)) → ((n : Accusation) → evidence_of eq ws n ≡ evidence_of eq vs n) → (es : List (Evidence D G)) → IsEvidence eq ws es → IsEvidence eq vs es
+moved_evidence eq l vs ws same es is = from_listing eq vs l es (subst (λ f. IsListing accused_by accused_cmp f es) (λ i n. same n i) (as_listing eq ws es is))

@@ -1,5 +1,5 @@
 -- Where votes are: the tests on rounds, signers, sorts and proposals, which subjects exclude each other, and the orders of a report.
-use Rattle.simplex_detector.proofs.Prelude.{Bool, CmpEqualImpliesEq, Conflicting_finalize, Conflicting_notarize, Equal, Finalizes, Finalizing, IsEquivalence, IsTotalOrder, Kind, Named, Notarizes, Notarizing, Nullifies, Nullify_finalize, Nullifying, Proposal, Round, SignedVote, Sort, SubjectValue, and_equiv, and_from, and_parts, ap, cases_Bool, clash, eq-eqb, eqb, eqb-true, exact_pairs, exact_unsigned, excludes, false, false_from_ne_true, false≢true, first_sort, inl, inr, is_at, is_eq, is_key, is_of, kind_rank, named_cmp, nat_cmp, nat_cmp_total, nat_eq_equiv, not, on_equiv, on_total, refl, round_cmp, round_of, same_proposal, same_round, same_sort, signer_cmp, sort_of, subst, sym, then_total, tied_itself, true, ℕ, ⊎_elim, ◌&&◌, ◌∙◌, ◌≡◌, ◌⊎◌}
+use Rattle.simplex_detector.proofs.Prelude.{Bool, CmpEqualImpliesEq, Conflicting_finalize, Conflicting_notarize, Equal, Finalizes, Finalizing, IsEquivalence, IsTotalOrder, Kind, Accusation, Notarizes, Notarizing, Nullifies, Nullify_finalize, Nullifying, Proposal, Round, SignedVote, Sort, SubjectValue, and_equiv, and_from, and_parts, ap, cases_Bool, clash, eq-eqb, eqb, eqb-true, exact_pairs, exact_unsigned, excludes, false, false_from_ne_true, false≢true, first_sort, inl, inr, is_at, is_eq, is_key, is_of, kind_rank, accused_cmp, nat_cmp, nat_cmp_total, nat_eq_equiv, not, on_equiv, on_total, refl, round_cmp, round_of, same_proposal, same_round, same_sort, signer_cmp, sort_of, subst, sym, then_total, tied_itself, true, ℕ, ⊎_elim, ◌&&◌, ◌∙◌, ◌≡◌, ◌⊎◌}
 
 -- ---- rounds, proposals and sorts
 
@@ -141,8 +141,8 @@ round_cmp_total = then_total (on_total (λ (r : Round). r.epoch) nat_cmp_total) 
 pub signer_cmp_total : IsTotalOrder signer_cmp
 signer_cmp_total = then_total (on_total (λ (s : Round × ℕ). s.0) round_cmp_total) (on_total (λ (s : Round × ℕ). s.1) nat_cmp_total)
 
-pub named_cmp_total : IsTotalOrder named_cmp
-named_cmp_total = then_total (on_total (λ (n : Named). n.round) round_cmp_total) (then_total (on_total (λ (n : Named). n.signer) nat_cmp_total) (on_total (λ (n : Named). kind_rank n.kind) nat_cmp_total))
+pub accused_cmp_total : IsTotalOrder accused_cmp
+accused_cmp_total = then_total (on_total (λ (n : Accusation). n.round) round_cmp_total) (then_total (on_total (λ (n : Accusation). n.signer) nat_cmp_total) (on_total (λ (n : Accusation). kind_rank n.kind) nat_cmp_total))
 
 -- what an order ties is one
 pub exact_rounds : CmpEqualImpliesEq round_cmp
@@ -151,8 +151,8 @@ exact_rounds a b h = ap (λ (p : _). record { epoch = p.0; view = p.1 }) (exact_
 pub exact_signers : CmpEqualImpliesEq signer_cmp
 exact_signers = exact_pairs round_cmp nat_cmp exact_rounds exact_unsigned
 
-pub exact_named : CmpEqualImpliesEq named_cmp
-exact_named a b h = ap (λ (p : _). record { round = p.0; signer = p.1.0; kind = p.1.1 }) (exact_pairs round_cmp _ exact_rounds (exact_pairs nat_cmp (λ k l. nat_cmp (kind_rank k) (kind_rank l)) exact_unsigned kinds) (a.round, (a.signer, a.kind)) (b.round, (b.signer, b.kind)) h)
+pub exact_accused : CmpEqualImpliesEq accused_cmp
+exact_accused a b h = ap (λ (p : _). record { round = p.0; signer = p.1.0; kind = p.1.1 }) (exact_pairs round_cmp _ exact_rounds (exact_pairs nat_cmp (λ k l. nat_cmp (kind_rank k) (kind_rank l)) exact_unsigned kinds) (a.round, (a.signer, a.kind)) (b.round, (b.signer, b.kind)) h)
   where
     kinds : (k l : Kind) → nat_cmp (kind_rank k) (kind_rank l) ≡ Equal → k ≡ l
     kinds Conflicting_notarize Conflicting_notarize e = refl

@@ -39,14 +39,14 @@ pub use Rattle.simplex_detector.specs.EncodedEvidence.{IsEncoded}
 pub use Rattle.simplex_detector.specs.Evidence.{IsEquivocation, IsEvidence, evidence_of, with_first, with_second}
 pub use Rattle.simplex_detector.specs.FirstCertified.{RecordsFirsts, are_split, certified_subjects, changes_firsts, excludes_first, excludes_some, first_certified, first_with, firsts_of, nothing_certified}
 pub use Rattle.simplex_detector.specs.Judging.{certified_under, rules_under, signer_cmp, valid_under}
-pub use Rattle.simplex_detector.specs.Laws.{NamedInAnyOrder}
+pub use Rattle.simplex_detector.specs.Laws.{ReorderingAccusesSame}
 pub use Rattle.simplex_detector.specs.Line.{line_of, parted}
-pub use Rattle.simplex_detector.specs.Named.{Named, is_named, kind_rank, named_by, named_cmp, round_cmp}
+pub use Rattle.simplex_detector.specs.Accusation.{Accusation, is_accused, kind_rank, accused_by, accused_cmp, round_cmp}
 pub use Rattle.simplex_detector.specs.Recorded.{RecordedAreSlots, Slot, both, changes, evidence_from, if_differs, is_news, news_after, other_than, recorded_in, recorded_of, slot_of, slot_with, votes_in_slot, votes_recorded}
 pub use Rattle.simplex_detector.specs.Rounds.{HoldsRound, IsSized, ListsSigners, TakesVote, found_at, found_of_kind, if_contradicts, is_for, no_slot, round_count, slots}
 pub use Rattle.simplex_detector.specs.Rules.{AreLawful, HaveCommittees, Rules, is_valid, valid_votes, vote_on}
-pub use Rattle.simplex_detector.specs.SplitLaws.{EnoughAreNamed, IsAccountable, SignersAreAccountable, shared_signers}
-pub use Rattle.simplex_detector.specs.Splits.{AreSplits, certified_in, if_certified, is_certified, is_named_in, is_split, named_count, split_of}
+pub use Rattle.simplex_detector.specs.SplitLaws.{EnoughAreAccused, IsAccountable, SignersAreAccountable, shared_signers}
+pub use Rattle.simplex_detector.specs.Splits.{AreSplits, certified_in, if_certified, is_certified, is_accused_in, is_split, accused_count, split_of}
 pub use Rattle.simplex_detector.specs.Suspects.{AreSuspect, HasSuspects, JudgeAlike, Suspected, SuspectsSuffice, TellAll, among, claimed, is_suspect, is_suspect_round, judged_by, suspect_of}
 pub use Rattle.simplex_detector.specs.Values.{evidence_value, message_of}
 pub use Rattle.simplex_detector.specs.declared.certified_subjects.CertifiedSubjects.{CertifiedSubjects}

@@ -1,5 +1,5 @@
 -- Which votes are recorded, vote by vote, slot by slot and round by round, and the evidence in the slots.
-use Rattle.simplex_detector.proofs.Prelude.{Attestation, Bool, Conflicting_finalize, Conflicting_notarize, Contains, Evidence, Finalizes, Finalizing, HoldsRound, IsEquivalence, Kind, List, Named, None, Notarizing, Nullifies, Nullify_finalize, Nullifying, Option, RecordedAreSlots, Round, RoundVotes, SignedVote, Slot, Some, Sort, SubjectValue, TakesVote, [], and_from, and_left, and_parts, and_right, ap, append-nil, append_assoc, arith, both, changes, cond, cond-false, contradicts, eqb, evidence_from, evidence_of, excludes, false, false_from_ne_true, false≢true, filter, filter-append, find, find-append, first_sort, if_differs, if◌then◌else◌, is_at, is_for, is_news, is_of, length, length-append, map, map-append, news_after, no_slot, option_or, option_to_list, other_than, recorded_in, recorded_of, refl, round_of, same_Some, same_round, same_sort, slot_of, slot_with, slots, sort_of, subst, sym, true, vote_on, votes_in_slot, with_first, with_second, ℕ, ◌&&◌, ◌++◌, ◌+◌, ◌<◌, ◌∙◌, ◌∷◌, ◌≡◌, ◌≤◌}
+use Rattle.simplex_detector.proofs.Prelude.{Attestation, Bool, Conflicting_finalize, Conflicting_notarize, Contains, Evidence, Finalizes, Finalizing, HoldsRound, IsEquivalence, Kind, List, Accusation, None, Notarizing, Nullifies, Nullify_finalize, Nullifying, Option, RecordedAreSlots, Round, RoundVotes, SignedVote, Slot, Some, Sort, SubjectValue, TakesVote, [], and_from, and_left, and_parts, and_right, ap, append-nil, append_assoc, arith, both, changes, cond, cond-false, contradicts, eqb, evidence_from, evidence_of, excludes, false, false_from_ne_true, false≢true, filter, filter-append, find, find-append, first_sort, if_differs, if◌then◌else◌, is_at, is_for, is_news, is_of, length, length-append, map, map-append, news_after, no_slot, option_or, option_to_list, other_than, recorded_in, recorded_of, refl, round_of, same_Some, same_round, same_sort, slot_of, slot_with, slots, sort_of, subst, sym, true, vote_on, votes_in_slot, with_first, with_second, ℕ, ◌&&◌, ◌++◌, ◌+◌, ◌<◌, ◌∙◌, ◌∷◌, ◌≡◌, ◌≤◌}
 use Rattle.simplex_detector.proofs.EvidenceLemmas.{first_spot}
 use Rattle.simplex_detector.proofs.Lists.{Contains-cons, Contains-filter, Contains-first, Contains-none, find_from_Contains, find_push, found, none_found}
 use Rattle.simplex_detector.proofs.Places.{Spot, clash-excludes, excludes_itself, is_at-from, is_at-true, same_round-from, same_round-true, same_sort-refl, second_sort, spot}
@@ -49,7 +49,7 @@ both-Some kind (Some v) (Some w) e h = (ap (λ x. Some x.first) (same_Some _ e h
 
 module _ {D G : Type 0} (eq : D → D → Bool) where
   -- the test on the second vote, by its spot and its subject
-  second_test : (n : Named) (v w : SignedVote D G) → spot v ≡ first_spot n → contradicts eq n.kind v w ≡ (is_at (second_sort n.kind) n.round n.signer w && excludes eq v.subject w.subject)
+  second_test : (n : Accusation) (v w : SignedVote D G) → spot v ≡ first_spot n → contradicts eq n.kind v w ≡ (is_at (second_sort n.kind) n.round n.signer w && excludes eq v.subject w.subject)
   second_test n v w at =
       (λ i. is_of (at i).round (at i).signer w && clash-excludes eq n.kind v.subject w.subject i) ∙
       regroup (same_sort (sort_of v.subject) (first_sort n.kind)) (is_of n.round n.signer w) (same_sort (sort_of w.subject) (second_sort n.kind)) (excludes eq v.subject w.subject) (ap (λ (s : Spot). same_sort (sort_of v.subject) s.sort) (sym at) ∙ same_sort-refl (sort_of v.subject))
@@ -77,8 +77,8 @@ module _ {D G : Type 0} (eq : D → D → Bool) where
       any _ y a e = absurd cc
 
 module _ {D G : Type 0} (eq : D → D → Bool) (vs : List (SignedVote D G)) where
-  -- the evidence of whom is named follows from the slots
-  pub evidence_of-slots : (n : Named) → evidence_of eq vs n ≡ evidence_from (λ sort. slot_of eq vs sort n.round n.signer) n.kind
+  -- the evidence of whom is accused follows from the slots
+  pub evidence_of-slots : (n : Accusation) → evidence_of eq vs n ≡ evidence_from (λ sort. slot_of eq vs sort n.round n.signer) n.kind
   evidence_of-slots n = by (find (is_at (first_sort n.kind) n.round n.signer) vs) refl ∙ slots_of n.kind
     where
       -- the second vote, where there is a first

@@ -1,17 +1,17 @@
 -- The evidence in what is recorded, signer by signer and round by round, is the evidence of the votes.
-use Rattle.simplex_detector.proofs.Prelude.{Activity, All, All-contains, All-from_recursion, All-push, AllByRecursion, Bool, Conflicting_finalize, Conflicting_notarize, Contains, Contains-append_left, Contains-append_right, Contains-dedup_nat, Contains-permutation, Detector, Evidence, HoldsRound, IsEquivalence, IsEvidence, IsOrdered, IsPermutation, IsSorted, IsStrictlyIncreasing-dedup, IsTrue, Kind, Less, List, ListsSigners, Named, None, Nullify_finalize, Recalls, RecallsAt, RecallsNothing, RecallsRound, Round, RoundState, RoundVotes, Rules, SignedVote, Slot, Some, Sort, [], ap, append-nil, append_assoc, arith, btree_map_get_iff, cond-true, contradicts, dedup, eqb, eqb-true, evidence_from, evidence_of, false≢true, filter_map, filter_map-append, flat_map, flat_map_more, found_at, found_of_kind, get, get_or, if_contradicts, inl, inr, is_named, is_some, item_of, kind_rank, length, map, map-append, map-id, named_by, named_cmp, nat_cmp, nat_cmp_total, no_slot, option_map, option_to_list, ordering_then, recursion_from_All, refl, round_cmp, round_of, slot_of, slots, sorted_from_strictly_increasing, subst, sym, take, take_more, tied_itself, true, valid_votes, ℕ, ◌++◌, ◌+◌, ◌<◌, ◌∙◌, ◌∷◌, ◌≡◌, ◌⊎◌}
+use Rattle.simplex_detector.proofs.Prelude.{Activity, All, All-contains, All-from_recursion, All-push, AllByRecursion, Bool, Conflicting_finalize, Conflicting_notarize, Contains, Contains-append_left, Contains-append_right, Contains-dedup_nat, Contains-permutation, Detector, Evidence, HoldsRound, IsEquivalence, IsEvidence, IsOrdered, IsPermutation, IsSorted, IsStrictlyIncreasing-dedup, IsTrue, Kind, Less, List, ListsSigners, Accusation, None, Nullify_finalize, Recalls, RecallsAt, RecallsNothing, RecallsRound, Round, RoundState, RoundVotes, Rules, SignedVote, Slot, Some, Sort, [], ap, append-nil, append_assoc, arith, btree_map_get_iff, cond-true, contradicts, dedup, eqb, eqb-true, evidence_from, evidence_of, false≢true, filter_map, filter_map-append, flat_map, flat_map_more, found_at, found_of_kind, get, get_or, if_contradicts, inl, inr, is_accused, is_some, item_of, kind_rank, length, map, map-append, map-id, accused_by, accused_cmp, nat_cmp, nat_cmp_total, no_slot, option_map, option_to_list, ordering_then, recursion_from_All, refl, round_cmp, round_of, slot_of, slots, sorted_from_strictly_increasing, subst, sym, take, take_more, tied_itself, true, valid_votes, ℕ, ◌++◌, ◌+◌, ◌<◌, ◌∙◌, ◌∷◌, ◌≡◌, ◌⊎◌}
 use Rattle.std.specs.List.Sorted.{IsStrictlySortedBy}
-use Rattle.simplex_detector.proofs.EvidenceLemmas.{evidence-from_named, evidence_is, from_listing}
+use Rattle.simplex_detector.proofs.EvidenceLemmas.{evidence-from_accused, evidence_is, from_listing}
 use Rattle.simplex_detector.proofs.Lists.{found_mapped, Contains-flat_map, Contains-from_filter_map, Contains-from_flat_map, Contains-from_map, Contains-map, each, filter_map-joined, found, made_complete, made_ordered, made_sound, some_from_is_some, sorted_joined}
 use Rattle.simplex_detector.proofs.Places.{exact_rounds, round_cmp_total}
 use Rattle.simplex_detector.proofs.RecordedLemmas.{both-Some, evidence_of-slots}
 
--- es is the evidence of the votes in this round: in order, each that of whom it names, and nobody named there left out
+-- es is the evidence of the votes in this round: in order, each that of whom it accuses, and nobody accused there left out
 pub record IsEvidenceIn {D G : Type 0} (eq : D → D → Bool) (vs : List (SignedVote D G)) (round : Round) (es : List (Evidence D G)) : Type 0 where
-  pub ordered : IsStrictlySortedBy named_cmp (map named_by es)
+  pub ordered : IsStrictlySortedBy accused_cmp (map accused_by es)
   pub here : All (λ e. round_of e.first.subject ≡ round) es
-  pub sound : All (λ e. evidence_of eq vs (named_by e) ≡ Some e) es
-  pub complete : (n : Named) → n.round ≡ round → IsTrue (is_named eq vs n) → Contains (map named_by es) n
+  pub sound : All (λ e. evidence_of eq vs (accused_by e) ≡ Some e) es
+  pub complete : (n : Accusation) → n.round ≡ round → IsTrue (is_accused eq vs n) → Contains (map accused_by es) n
 
 -- ---- the rounds of a detector
 
@@ -24,36 +24,36 @@ module _ {S D C P G : Type 0} (rules : Rules S D C P G) (messages : List (Activi
   pub recalled : (round : Round) → RecallsNothing rules messages round ⊎ ((round_state : RoundState S D P G) × Contains detector.rounds.entries (round, round_state))
   recalled round = (elim (get round_cmp detector.rounds round) as (λ o. get round_cmp detector.rounds round ≡ o → RecallsAt rules messages round o → RecallsNothing rules messages round ⊎ ((round_state : RoundState S D P G) × Contains detector.rounds.entries (round, round_state))) [ None ↦ λ at r. inl r | Some round_state ↦ λ at r. inr (round_state, (btree_map_get_iff round_cmp_total exact_rounds detector.rounds ordered round round_state).0 at) ]) refl (holds round)
 
--- ---- who may be named, in order
+-- ---- who may be accused, in order
 
-abbrev names_at : Round → ℕ → List Named
+abbrev names_at : Round → ℕ → List Accusation
 names_at round signer = record { round = round; signer = signer; kind = Conflicting_notarize } ∷ record { round = round; signer = signer; kind = Conflicting_finalize } ∷ record { round = round; signer = signer; kind = Nullify_finalize } ∷ []
 
-abbrev pub names_in : Round → List ℕ → List Named
+abbrev pub names_in : Round → List ℕ → List Accusation
 names_in round signers = flat_map (names_at round) signers
 
 -- they are of their signer and round
-at_name : (round : Round) (signer : ℕ) (n : Named) → Contains (names_at round signer) n → (n.round ≡ round) × (n.signer ≡ signer)
-at_name round signer n h = All-contains (λ (m : Named). (m.round ≡ round) × (m.signer ≡ signer)) (names_at round signer) n (All-from_recursion (λ (m : Named). (m.round ≡ round) × (m.signer ≡ signer)) (names_at round signer) ((refl, refl), ((refl, refl), ((refl, refl), tt)))) h
+at_name : (round : Round) (signer : ℕ) (n : Accusation) → Contains (names_at round signer) n → (n.round ≡ round) × (n.signer ≡ signer)
+at_name round signer n h = All-contains (λ (m : Accusation). (m.round ≡ round) × (m.signer ≡ signer)) (names_at round signer) n (All-from_recursion (λ (m : Accusation). (m.round ≡ round) × (m.signer ≡ signer)) (names_at round signer) ((refl, refl), ((refl, refl), ((refl, refl), tt)))) h
 
-in_name : (round : Round) (signers : List ℕ) (n : Named) → Contains (names_in round signers) n → n.round ≡ round
+in_name : (round : Round) (signers : List ℕ) (n : Accusation) → Contains (names_in round signers) n → n.round ≡ round
 in_name round signers n h = let (signer, _, at) = Contains-from_flat_map (names_at round) signers n h in (at_name round signer n at).0
 
 -- and everyone is among those of its own signer and round
-own_name : (n : Named) → Contains (names_at n.round n.signer) n
+own_name : (n : Accusation) → Contains (names_at n.round n.signer) n
 own_name n = elim n.kind as (λ kind. Contains (names_at n.round n.signer) (record { round = n.round; signer = n.signer; kind = kind })) [ Conflicting_notarize ↦ (0, omega arith, refl) | Conflicting_finalize ↦ (1, omega arith, refl) | Nullify_finalize ↦ (2, omega arith, refl) ]
 
 -- of one signer they are in the order of kinds
-ordered_at : (round : Round) (signer : ℕ) → IsStrictlySortedBy named_cmp (names_at round signer)
+ordered_at : (round : Round) (signer : ℕ) → IsStrictlySortedBy accused_cmp (names_at round signer)
 unfolding IsStrictlySortedBy
 ordered_at round signer =
     let rise : (k l : Kind) → nat_cmp (kind_rank k) (kind_rank l) ≡ Less → ordering_then (round_cmp round round) (ordering_then (nat_cmp signer signer) (nat_cmp (kind_rank k) (kind_rank l))) ≡ Less = λ k l less i. ordering_then (tied_itself round_cmp_total round i) (ordering_then (tied_itself nat_cmp_total signer i) (less i)) in
     ((rise Conflicting_notarize Conflicting_finalize refl, (rise Conflicting_notarize Nullify_finalize refl, tt)), ((rise Conflicting_finalize Nullify_finalize refl, tt), (tt, tt)))
 
 -- of one round in the order of signers
-ordered_in : (round : Round) (signers : List ℕ) → IsStrictlySortedBy nat_cmp signers → IsStrictlySortedBy named_cmp (names_in round signers)
+ordered_in : (round : Round) (signers : List ℕ) → IsStrictlySortedBy nat_cmp signers → IsStrictlySortedBy accused_cmp (names_in round signers)
 ordered_in round signers sorted =
-    sorted_joined nat_cmp named_cmp (λ s. s) (names_at round)
+    sorted_joined nat_cmp accused_cmp (λ s. s) (names_at round)
     (λ s q n m less n_in m_in.
     let (n_here, n_is) = at_name round s n n_in in
     let (m_here, m_is) = at_name round q m m_in in
@@ -64,13 +64,13 @@ ordered_in round signers sorted =
 -- ---- what is found in the slots
 
 module _ {D G : Type 0} (eq : D → D → Bool) (vs : List (SignedVote D G)) where
-  -- the evidence of whom is named names that
-  pub names_own : (n : Named) (e : Evidence D G) → evidence_of eq vs n ≡ Some e → named_by e ≡ n
-  names_own n e is = (evidence_is eq vs n e is).named
+  -- the evidence of whom is accused accuses that
+  pub accuses_own : (n : Accusation) (e : Evidence D G) → evidence_of eq vs n ≡ Some e → accused_by e ≡ n
+  accuses_own n e is = (evidence_is eq vs n e is).named
 
   -- its votes contradict
-  contradicts-evidence : (n : Named) → if_contradicts eq (evidence_of eq vs n) ≡ evidence_of eq vs n
-  contradicts-evidence n = (elim (evidence_of eq vs n) as (λ o. evidence_of eq vs n ≡ o → if_contradicts eq o ≡ o) [ None ↦ λ is. refl | Some e ↦ λ is. cond-true (contradicts eq e.kind e.first e.second) (Some e) None (ap (λ (m : Named). contradicts eq m.kind e.first e.second) (names_own n e is) ∙ (found _ vs e.second (evidence_is eq vs n e is).second).1) ]) refl
+  contradicts-evidence : (n : Accusation) → if_contradicts eq (evidence_of eq vs n) ≡ evidence_of eq vs n
+  contradicts-evidence n = (elim (evidence_of eq vs n) as (λ o. evidence_of eq vs n ≡ o → if_contradicts eq o ≡ o) [ None ↦ λ is. refl | Some e ↦ λ is. cond-true (contradicts eq e.kind e.first e.second) (Some e) None (ap (λ (m : Accusation). contradicts eq m.kind e.first e.second) (accuses_own n e is) ∙ (found _ vs e.second (evidence_is eq vs n e is).second).1) ]) refl
 
   -- so from the slots of the votes the evidence is found, kind by kind
   found_at-evidence : (round : Round) (signer : ℕ) (slot : Sort → Slot D G) → ((sort : Sort) → slot sort ≡ slot_of eq vs sort round signer) → found_at eq slot ≡ filter_map (evidence_of eq vs) (names_at round signer)
@@ -80,7 +80,7 @@ module _ {D G : Type 0} (eq : D → D → Bool) (vs : List (SignedVote D G)) whe
     where
       of_kind : (kind : Kind) → found_of_kind eq slot kind ≡ evidence_of eq vs (record { round = round; signer = signer; kind = kind })
       of_kind kind =
-          let n : Named = record { round = round; signer = signer; kind = kind } in
+          let n : Accusation = record { round = round; signer = signer; kind = kind } in
           ap (if_contradicts eq) ((λ i. evidence_from (λ sort. is sort i) kind) ∙ sym (evidence_of-slots eq vs n)) ∙ contradicts-evidence n
 
   module _ {S P : Type 0} (size : ℕ) (round : Round) (recorded : RoundVotes S D P G) (holds : HoldsRound eq size vs round recorded) where
@@ -90,7 +90,7 @@ module _ {D G : Type 0} (eq : D → D → Bool) (vs : List (SignedVote D G)) whe
     found_in_round (s ∷ signers) = (λ i. found_at-evidence round s (slots recorded s) (holds.held s) i ++ found_in_round signers i) ∙ sym (filter_map-append (evidence_of eq vs) (names_at round s) (names_in round signers))
 
     -- who has evidence in the round is among the listed signers
-    pub listed_in_round : (signers : List ℕ) → ListsSigners recorded signers → (n : Named) → n.round ≡ round → is_some (evidence_of eq vs n) ≡ true → Contains (names_in round signers) n
+    pub listed_in_round : (signers : List ℕ) → ListsSigners recorded signers → (n : Accusation) → n.round ≡ round → is_some (evidence_of eq vs n) ≡ true → Contains (names_in round signers) n
     listed_in_round signers lists n here h =
         let (x, is) = some_from_is_some (evidence_of eq vs n) h in
         let from_slots = (λ i. evidence_from (λ sort. (holds.held n.signer sort ∙ ap (λ r. slot_of eq vs sort r n.signer) (sym here)) i) n.kind) ∙ sym (evidence_of-slots eq vs n) ∙ is in
@@ -107,10 +107,10 @@ module _ {D G : Type 0} (eq : D → D → Bool) (vs : List (SignedVote D G)) whe
     -- so what is found of the listed signers is the evidence of the round
     pub evidence_in_round : IsEquivalence eq → (signers : List ℕ) → ListsSigners recorded signers → IsEvidenceIn eq vs round (flat_map (λ signer. found_at eq (slots recorded signer)) signers)
     evidence_in_round l signers lists = subst (IsEvidenceIn eq vs round) (sym (found_in_round signers)) (record {
-      ordered = made_ordered named_by named_cmp (evidence_of eq vs) names_own (names_in round signers) (ordered_in round signers lists.ascending);
-      here = each _ _ (λ e e_in. let (n, n_in, is) = Contains-from_filter_map (evidence_of eq vs) (names_in round signers) e e_in in ap (λ (m : Named). m.round) (names_own n e is) ∙ in_name round signers n n_in);
-      sound = made_sound named_by named_cmp (evidence_of eq vs) names_own (names_in round signers);
-      complete = λ n here h. let e = evidence-from_named eq vs l n h in made_complete named_by named_cmp (evidence_of eq vs) names_own (names_in round signers) n (listed_in_round signers lists n here e) e;
+      ordered = made_ordered accused_by accused_cmp (evidence_of eq vs) accuses_own (names_in round signers) (ordered_in round signers lists.ascending);
+      here = each _ _ (λ e e_in. let (n, n_in, is) = Contains-from_filter_map (evidence_of eq vs) (names_in round signers) e e_in in ap (λ (m : Accusation). m.round) (accuses_own n e is) ∙ in_name round signers n n_in);
+      sound = made_sound accused_by accused_cmp (evidence_of eq vs) accuses_own (names_in round signers);
+      complete = λ n here h. let e = evidence-from_accused eq vs l n h in made_complete accused_by accused_cmp (evidence_of eq vs) accuses_own (names_in round signers) n (listed_in_round signers lists n here e) e;
     })
 
 -- ---- the walk over the rounds
@@ -151,17 +151,17 @@ walked_next {S} {D} {P} {G} eq entries rest later round round_state signers foun
 pub report_of_walk : {S D C P G : Type 0} (rules : Rules S D C P G) → IsEquivalence rules.eq → (detector : Detector S D P G) → IsOrdered round_cmp detector.rounds → (found : List (Evidence D G)) → Walked rules.eq detector.rounds.entries [] found → (messages : List (Activity S D C P G)) → Recalls rules messages detector → IsEvidence rules.eq (valid_votes rules messages) found
 report_of_walk {S} {D} {C} {P} {G} rules l detector ordered found walked messages holds =
     subst (IsEvidence rules.eq vs) (sym (walked.is ∙ found_steps walked.steps (recursion_from_All _ walked.steps (each _ walked.steps held)))) (from_listing rules.eq vs l _ (record {
-      ordered = made_ordered named_by named_cmp (evidence_of rules.eq vs) (names_own rules.eq vs) (flat_map names_of walked.steps) (sorted_joined round_cmp named_cmp (λ step. step.round) names_of
+      ordered = made_ordered accused_by accused_cmp (evidence_of rules.eq vs) (accuses_own rules.eq vs) (flat_map names_of walked.steps) (sorted_joined round_cmp accused_cmp (λ step. step.round) names_of
           (λ a b n m less n_in m_in. ap (λ o. ordering_then o (ordering_then (nat_cmp n.signer m.signer) (nat_cmp (kind_rank n.kind) (kind_rank m.kind)))) ((λ i. round_cmp (in_name a.round a.signers n n_in i) (in_name b.round b.signers m m_in i)) ∙ less))
           walked.steps (λ step step_in. ordered_in step.round step.signers (lists step step_in).ascending) (subst (IsStrictlySortedBy round_cmp) (rounds walked.steps) (subst (λ es. IsStrictlySortedBy round_cmp (map (λ e. e.0) es)) (sym over) ordered)));
-      sound = made_sound named_by named_cmp (evidence_of rules.eq vs) (names_own rules.eq vs) (flat_map names_of walked.steps);
-      complete = λ n h. made_complete named_by named_cmp (evidence_of rules.eq vs) (names_own rules.eq vs) (flat_map names_of walked.steps) n (complete n h) h;
+      sound = made_sound accused_by accused_cmp (evidence_of rules.eq vs) (accuses_own rules.eq vs) (flat_map names_of walked.steps);
+      complete = λ n h. made_complete accused_by accused_cmp (evidence_of rules.eq vs) (accuses_own rules.eq vs) (flat_map names_of walked.steps) n (complete n h) h;
     }))
   where
     vs : List (SignedVote D G)
     vs = valid_votes rules messages
 
-    names_of : Step S D P G → List Named
+    names_of : Step S D P G → List Accusation
     names_of step = names_in step.round step.signers
 
     over : map entry_of walked.steps ≡ detector.rounds.entries
@@ -184,7 +184,7 @@ report_of_walk {S} {D} {C} {P} {G} rules l detector ordered found walked message
     found_steps (step ∷ xs) h =
         (λ i. found_in_round rules.eq vs (rules.size step.round.epoch) step.round step.round_state.votes h.0 step.signers i ++ found_steps xs h.1 i) ∙ sym (filter_map-append (evidence_of rules.eq vs) (names_of step) (flat_map names_of xs))
 
-    complete : (n : Named) → is_some (evidence_of rules.eq vs n) ≡ true → Contains (flat_map names_of walked.steps) n
+    complete : (n : Accusation) → is_some (evidence_of rules.eq vs n) ≡ true → Contains (flat_map names_of walked.steps) n
     complete n h =
         elim (recalled rules messages detector ordered holds n.round) [
           | inl none ↦ absurd (false≢true (ap is_some (sym (elim n.kind as (λ kind. evidence_from (λ sort. no_slot {D = D} {G = G}) kind ≡ None) [ Conflicting_notarize ↦ refl | Conflicting_finalize ↦ refl | Nullify_finalize ↦ refl ]) ∙ (λ i. evidence_from (λ sort. none.votes n.signer sort i) n.kind) ∙ sym (evidence_of-slots rules.eq vs n)) ∙ h))

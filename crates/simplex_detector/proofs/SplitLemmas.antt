@@ -1,5 +1,5 @@
 -- Which rounds are split, by what is recorded of their certificates, and that the messages determine their splits.
-use Rattle.simplex_detector.proofs.Prelude.{Activity, All, AreLawful, AreSplits, Bool, CertifiedSubjects, Contains, Contains-append_left, Contains-push, Contains-push_cases, Finalizing, HaveCommittees, IsEquivalence, IsStrictlySortedBy, List, None, Notarizing, Nullifying, Option, RecordsFirsts, Round, Rules, Some, Sort, Split, SubjectValue, [], activity_round, and_from, and_left, and_parts, and_right, ap, append-nil, are_split, cases_Bool, certificate_in, certificates_contradict, certified_in, certified_subjects, changes_firsts, cond, cond_some, cons_option, excludes, excludes_first, excludes_some, false, false≢true, faults_of, filter_map, filter_map-append, first_certified, first_with, firsts_of, if◌then◌else◌, inl, inr, is_certified, is_none, is_some, is_split, list_any, messages_contradict, named_count, not, option_or, option_to_list, or_cases, or_left, or_parts, or_right, refl, round_cmp, round_of, same_round, same_sort, sort_of, split_of, subjects_contradict, subst, sym, true, valid_votes, ⊎_elim, ◌&&◌, ◌++◌, ◌+◌, ◌||◌, ◌∙◌, ◌∷◌, ◌≡◌, ◌≤◌, ◌⊎◌}
+use Rattle.simplex_detector.proofs.Prelude.{Activity, All, AreLawful, AreSplits, Bool, CertifiedSubjects, Contains, Contains-append_left, Contains-push, Contains-push_cases, Finalizing, HaveCommittees, IsEquivalence, IsStrictlySortedBy, List, None, Notarizing, Nullifying, Option, RecordsFirsts, Round, Rules, Some, Sort, Split, SubjectValue, [], activity_round, and_from, and_left, and_parts, and_right, ap, append-nil, are_split, cases_Bool, certificate_in, certificates_contradict, certified_in, certified_subjects, changes_firsts, cond, cond_some, cons_option, excludes, excludes_first, excludes_some, false, false≢true, faults_of, filter_map, filter_map-append, first_certified, first_with, firsts_of, if◌then◌else◌, inl, inr, is_certified, is_none, is_some, is_split, list_any, messages_contradict, accused_count, not, option_or, option_to_list, or_cases, or_left, or_parts, or_right, refl, round_cmp, round_of, same_round, same_sort, sort_of, split_of, subjects_contradict, subst, sym, true, valid_votes, ⊎_elim, ◌&&◌, ◌++◌, ◌+◌, ◌||◌, ◌∙◌, ◌∷◌, ◌≡◌, ◌≤◌, ◌⊎◌}
 use Rattle.simplex_detector.proofs.AccountLemmas.{accountable_for, certificate_parts, certified_parts, certifies_from, enough_for}
 use Rattle.simplex_detector.proofs.Lists.{Contains-from_filter_map, Contains-from_list_any, IsListing, any_from_Contains, find_from_Contains, find_push, found, made_complete, made_ordered, made_sound, same_bool}
 use Rattle.simplex_detector.proofs.Places.{excludes-flip, excludes_itself, excludes_one, same_round-from, same_round-true, same_sort-refl, same_sort-true}
@@ -188,7 +188,7 @@ module _ {S D C P G : Type 0} (rules : Rules S D C P G) (messages : List (Activi
   -- the split of a round is there where it is split, and of that round
   pub split_exists : (round : Round) → is_some (split_of rules messages round) ≡ is_split rules messages round
   split_exists round =
-      let s : Split = record { round = round; named = named_count rules.eq (valid_votes rules messages) round; least = faults_of (rules.size round.epoch) + 1 } in
+      let s : Split = record { round = round; named = accused_count rules.eq (valid_votes rules messages) round; least = faults_of (rules.size round.epoch) + 1 } in
       elim (is_split rules messages round) as (λ b. is_some (if b then Some s else None) ≡ b) [ true ↦ refl | false ↦ refl ]
 
   pub split_own : (round : Round) (s : Split) → split_of rules messages round ≡ Some s → s.round ≡ round
@@ -209,8 +209,8 @@ module _ {S D C P G : Type 0} (rules : Rules S D C P G) (messages : List (Activi
     complete = λ r h. made_complete (λ s. s.round) round_cmp (split_of rules messages) split_own rs r (all r h) (split_exists r ∙ h);
   }
 
-  -- in a split round more are named than may lie
-  pub enough_in_split : AreLawful rules → (round : Round) → is_split rules messages round ≡ true → faults_of (rules.size round.epoch) + 1 ≤ named_count rules.eq (valid_votes rules messages) round
+  -- in a split round more are accused than may lie
+  pub enough_in_split : AreLawful rules → (round : Round) → is_split rules messages round ≡ true → faults_of (rules.size round.epoch) + 1 ≤ accused_count rules.eq (valid_votes rules messages) round
   enough_in_split l round h =
       let o = split_opposites round h in
       let (m, m_in, m_is) = Contains-from_filter_map (certified_in rules) messages o.x o.x_in in
@@ -226,8 +226,8 @@ module _ {S D C P G : Type 0} (rules : Rules S D C P G) (messages : List (Activi
       subst (λ r. 1 ≤ rules.size r.epoch) o.x_here (l.someone o.x c certifies)
 
   -- so its split says
-  pub have_names : AreLawful rules → (ss : List Split) → AreSplits rules messages ss → All (λ s. s.least ≤ s.named) ss
-  have_names l ss are = λ k d lt.
+  pub have_accused : AreLawful rules → (ss : List Split) → AreSplits rules messages ss → All (λ s. s.least ≤ s.named) ss
+  have_accused l ss are = λ k d lt.
       let (is, made) = cond_some (is_split rules messages _) _ _ (are.sound k d lt) in
       subst (λ (x : Split). x.least ≤ x.named) made (enough_in_split l _ is)
 

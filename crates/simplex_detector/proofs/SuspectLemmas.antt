@@ -1,7 +1,7 @@
 -- Which signers and rounds are suspect, and that no other signature has a part in the evidence and the splits.
-use Rattle.simplex_detector.proofs.Prelude.{Activity, All-contains, All-nil, AreLawful, AreSplits, AreSuspect, Attestation, Bool, Claimed, Conflicting_finalize, Conflicting_notarize, Contains, Evidence, HasSuspects, IsEquivalence, IsEvidence, IsTrue, JudgeAlike, Kind, List, Named, None, Nullify_finalize, Option, Round, Rules, Schedule, SignedVote, Some, Split, SubjectValue, SuspectSigners, Suspected, Suspects, SuspectsSuffice, TellAll, [], among, and-false, and_parts, ap, are_split, arith, certificate_in, certified_by, certified_in, certified_subjects, certified_under, claimed, clash, committee_of, cond, cond-false, cons_option, contains, contradicts, distinct_count, evidence_of, false, false_from_ne_true, false≢true, faults_of, filter, find, first_sort, flat_map, if_certified, is_at, is_named, is_named_in, is_of, is_some, is_split, is_suspect, is_suspect_round, is_valid, judged_by, le-ltb, lt-ltb, map, named_by, named_count, nat_eq, nat_lt, refl, round_cmp, round_of, rules_of, rules_under, signer_cmp, size_by, split_of, subst, suspect_of, sym, true, valid_by, valid_under, valid_votes, votes_in, with_first, with_second, ℕ, ◌&&◌, ◌+◌, ◌||◌, ◌↔◌, ◌∙◌, ◌∷◌, ◌≡◌, ◌≤◌}
-use Rattle.simplex_detector.proofs.AccountLemmas.{certified_parts, counted_signer, distinct_count-same, kind_from_named_in, named_in}
-use Rattle.simplex_detector.proofs.EvidenceLemmas.{evidence_exists, first_spot, moved_evidence, named_by_more, named_from_votes, valid_from, valid_in, votes_from_named}
+use Rattle.simplex_detector.proofs.Prelude.{Activity, All-contains, All-nil, AreLawful, AreSplits, AreSuspect, Attestation, Bool, Claimed, Conflicting_finalize, Conflicting_notarize, Contains, Evidence, HasSuspects, IsEquivalence, IsEvidence, IsTrue, JudgeAlike, Kind, List, Accusation, None, Nullify_finalize, Option, Round, Rules, Schedule, SignedVote, Some, Split, SubjectValue, SuspectSigners, Suspected, Suspects, SuspectsSuffice, TellAll, [], among, and-false, and_parts, ap, are_split, arith, certificate_in, certified_by, certified_in, certified_subjects, certified_under, claimed, clash, committee_of, cond, cond-false, cons_option, contains, contradicts, distinct_count, evidence_of, false, false_from_ne_true, false≢true, faults_of, filter, find, first_sort, flat_map, if_certified, is_at, is_accused, is_accused_in, is_of, is_some, is_split, is_suspect, is_suspect_round, is_valid, judged_by, le-ltb, lt-ltb, map, accused_by, accused_count, nat_eq, nat_lt, refl, round_cmp, round_of, rules_of, rules_under, signer_cmp, size_by, split_of, subst, suspect_of, sym, true, valid_by, valid_under, valid_votes, votes_in, with_first, with_second, ℕ, ◌&&◌, ◌+◌, ◌||◌, ◌↔◌, ◌∙◌, ◌∷◌, ◌≡◌, ◌≤◌}
+use Rattle.simplex_detector.proofs.AccountLemmas.{certified_parts, counted_signer, distinct_count-same, kind_from_accused_in, accused_in}
+use Rattle.simplex_detector.proofs.EvidenceLemmas.{evidence_exists, first_spot, moved_evidence, accused_by_more, accused_from_votes, valid_from, valid_in, votes_from_accused}
 use Rattle.simplex_detector.proofs.Lists.{Contains-filter, Contains-first, Contains-from_filter, Contains-from_filter_map, Contains-from_list_any, Contains-from_map, Contains-map, Contains-none, any_from_Contains, found, same_bool}
 use Rattle.simplex_detector.proofs.Places.{is_at-true, is_of-true}
 use Rattle.simplex_detector.proofs.SplitLemmas.{enough_in_split, from_subjects, moved_splits, split_more, split_exists, split_opposites}
@@ -21,7 +21,7 @@ find_filtered p q weaker (x ∷ xs) =
 abbrev here : {D G : Type 0} → (Round → ℕ → Bool) → SignedVote D G → Bool
 here f v = f (round_of v.subject) v.signer
 
-module _ {D G : Type 0} (eq : D → D → Bool) (l : IsEquivalence eq) (vs : List (SignedVote D G)) (f : Round → ℕ → Bool) (covers : (n : Named) → is_named eq vs n ≡ true → f n.round n.signer ≡ true) where
+module _ {D G : Type 0} (eq : D → D → Bool) (l : IsEquivalence eq) (vs : List (SignedVote D G)) (f : Round → ℕ → Bool) (covers : (n : Accusation) → is_accused eq vs n ≡ true → f n.round n.signer ≡ true) where
   -- the votes of suspects
   abbrev ws : List (SignedVote D G)
   ws = filter (here f) vs
@@ -30,34 +30,34 @@ module _ {D G : Type 0} (eq : D → D → Bool) (l : IsEquivalence eq) (vs : Lis
   here_both : (kind : Kind) (v w : SignedVote D G) → contradicts eq kind v w ≡ true → here f w ≡ here f v
   here_both kind v w h = let at = is_of-true _ _ w (and_parts (is_of (round_of v.subject) v.signer w) (clash eq kind v.subject w.subject) h).0 in λ i. f (at.0 i) (at.1 i)
 
-  -- the same are named
-  same_names : (n : Named) → is_named eq ws n ≡ is_named eq vs n
-  same_names n = same_bool _ _ (named_by_more eq vs ws (λ v h. (Contains-from_filter (here f) vs v h).0) n) (λ h.
-      let (v, w, in_v, in_w, of_v, against) = votes_from_named eq vs n h in
+  -- the same are accused
+  same_accused : (n : Accusation) → is_accused eq ws n ≡ is_accused eq vs n
+  same_accused n = same_bool _ _ (accused_by_more eq vs ws (λ v h. (Contains-from_filter (here f) vs v h).0) n) (λ h.
+      let (v, w, in_v, in_w, of_v, against) = votes_from_accused eq vs n h in
       let at = is_of-true n.round n.signer v of_v in
       let v_here : here f v ≡ true = (λ i. f (at.0 i) (at.1 i)) ∙ covers n h in
-      named_from_votes eq ws n v w (Contains-filter (here f) vs v in_v v_here) (Contains-filter (here f) vs w in_w (here_both n.kind v w against ∙ v_here)) of_v against)
+      accused_from_votes eq ws n v w (Contains-filter (here f) vs v in_v v_here) (Contains-filter (here f) vs w in_w (here_both n.kind v w against ∙ v_here)) of_v against)
 
   -- with the same evidence
-  same_evidence : (n : Named) → evidence_of eq ws n ≡ evidence_of eq vs n
+  same_evidence : (n : Accusation) → evidence_of eq ws n ≡ evidence_of eq vs n
   same_evidence n =
       let at : SignedVote D G → Bool = is_at (first_sort n.kind) n.round n.signer in
       let none : (o : Option (Evidence D G)) → is_some o ≡ false → o ≡ None = elim [ None ↦ λ h. refl | Some e ↦ λ h. absurd (false≢true (sym h)) ] in
-      (elim (is_named eq vs n) as (λ b. is_named eq vs n ≡ b → evidence_of eq ws n ≡ evidence_of eq vs n) [
+      (elim (is_accused eq vs n) as (λ b. is_accused eq vs n ≡ b → evidence_of eq ws n ≡ evidence_of eq vs n) [
         | true ↦ λ h.
             let there : (v : SignedVote D G) → at v ≡ true → here f v ≡ true = λ v v_at. let s = is_at-true (first_spot n) v v_at in (λ i. f (s i).round (s i).signer) ∙ covers n h in
             ap (with_first eq ws n.kind) (find_filtered at (here f) there vs) ∙
             (elim (find at vs) as (λ o. find at vs ≡ o → with_first eq ws n.kind o ≡ with_first eq vs n.kind o) [ None ↦ λ e. refl | Some v ↦ λ e. ap (with_second n.kind v) (find_filtered (contradicts eq n.kind v) (here f) (λ w c. here_both n.kind v w c ∙ there v (found at vs v e).1) vs) ]) refl
-        | false ↦ λ h. none _ (evidence_exists eq ws l n ∙ same_names n ∙ h) ∙ sym (none _ (evidence_exists eq vs l n ∙ h))
+        | false ↦ λ h. none _ (evidence_exists eq ws l n ∙ same_accused n ∙ h) ∙ sym (none _ (evidence_exists eq vs l n ∙ h))
       ]) refl
 
--- as many are named in a round by votes that name the same
-same_count : {D G : Type 0} (eq : D → D → Bool) (vs ws : List (SignedVote D G)) → ((n : Named) → is_named eq ws n ≡ is_named eq vs n) → (round : Round) → named_count eq ws round ≡ named_count eq vs round
+-- as many are accused in a round by votes that accuse the same
+same_count : {D G : Type 0} (eq : D → D → Bool) (vs ws : List (SignedVote D G)) → ((n : Accusation) → is_accused eq ws n ≡ is_accused eq vs n) → (round : Round) → accused_count eq ws round ≡ accused_count eq vs round
 same_count eq vs ws names round =
-    let same : (q : ℕ) → is_named_in eq ws round q ≡ is_named_in eq vs round q = λ q i. names (record { round = round; signer = q; kind = Conflicting_notarize }) i || (names (record { round = round; signer = q; kind = Conflicting_finalize }) i || names (record { round = round; signer = q; kind = Nullify_finalize }) i) in
+    let same : (q : ℕ) → is_accused_in eq ws round q ≡ is_accused_in eq vs round q = λ q i. names (record { round = round; signer = q; kind = Conflicting_notarize }) i || (names (record { round = round; signer = q; kind = Conflicting_finalize }) i || names (record { round = round; signer = q; kind = Nullify_finalize }) i) in
     distinct_count-same _ _
-    (λ q h. counted_signer eq vs round q (sym (same q) ∙ (Contains-from_filter (is_named_in eq ws round) _ q h).1))
-    (λ q h. counted_signer eq ws round q (same q ∙ (Contains-from_filter (is_named_in eq vs round) _ q h).1))
+    (λ q h. counted_signer eq vs round q (sym (same q) ∙ (Contains-from_filter (is_accused_in eq ws round) _ q h).1))
+    (λ q h. counted_signer eq ws round q (same q ∙ (Contains-from_filter (is_accused_in eq vs round) _ q h).1))
 
 and_right_true : (a : Bool) → (a && true) ≡ a
 and_right_true a = elim a as (λ b. (b && true) ≡ b) [ true ↦ refl | false ↦ refl ]
@@ -89,8 +89,8 @@ module _ {S D C P G : Type 0} (rules : Rules S D C P G) (l : AreLawful rules) (m
   split_is_suspect : (round : Round) → is_split rules messages round ≡ true → s.rounds round ≡ true
   split_is_suspect round h =
       let some : (xs : List ℕ) → 1 ≤ distinct_count nat_eq xs → (x : ℕ) × Contains xs x = elim [ [] ↦ λ e. absurd (omega (arith, e)) | ◌∷◌ x xs ↦ λ e. (x, Contains-first x xs) ] in
-      let (q, q_in) = some (filter (is_named_in rules.eq (valid_votes rules messages) round) (map (λ v. v.signer) (valid_votes rules messages))) (omega (arith, enough_in_split rules messages l round h)) in
-      let (kind, named) = kind_from_named_in rules.eq (valid_votes rules messages) round q (Contains-from_filter (is_named_in rules.eq (valid_votes rules messages) round) _ q q_in).1 in
+      let (q, q_in) = some (filter (is_accused_in rules.eq (valid_votes rules messages) round) (map (λ v. v.signer) (valid_votes rules messages))) (omega (arith, enough_in_split rules messages l round h)) in
+      let (kind, named) = kind_from_accused_in rules.eq (valid_votes rules messages) round q (Contains-from_filter (is_accused_in rules.eq (valid_votes rules messages) round) _ q q_in).1 in
       (covers (record { round = round; signer = q; kind = kind }) named).1
 
   -- the same rounds are split
@@ -107,9 +107,9 @@ module _ {S D C P G : Type 0} (rules : Rules S D C P G) (l : AreLawful rules) (m
   suspects_tell_all =
       let vs = valid_votes rules messages in
       let us = valid_votes (among s rules) messages in
-      let shown = λ (n : Named) (h : is_named rules.eq vs n ≡ true). (covers n h).0 in
-      let names : (n : Named) → is_named rules.eq us n ≡ is_named rules.eq vs n = λ n. ap (λ ws. is_named rules.eq ws n) votes_among ∙ same_names rules.eq l.payloads vs s.signers shown n in
-      let evidence : (n : Named) → evidence_of rules.eq us n ≡ evidence_of rules.eq vs n = λ n. ap (λ ws. evidence_of rules.eq ws n) votes_among ∙ same_evidence rules.eq l.payloads vs s.signers shown n in
+      let shown = λ (n : Accusation) (h : is_accused rules.eq vs n ≡ true). (covers n h).0 in
+      let names : (n : Accusation) → is_accused rules.eq us n ≡ is_accused rules.eq vs n = λ n. ap (λ ws. is_accused rules.eq ws n) votes_among ∙ same_accused rules.eq l.payloads vs s.signers shown n in
+      let evidence : (n : Accusation) → evidence_of rules.eq us n ≡ evidence_of rules.eq vs n = λ n. ap (λ ws. evidence_of rules.eq ws n) votes_among ∙ same_evidence rules.eq l.payloads vs s.signers shown n in
       let split : (r : Round) → split_of (among s rules) messages r ≡ split_of rules messages r = λ r i. cond (same_splits r i) (Some (record { round = r; named = same_count rules.eq vs us names r i; least = faults_of (rules.size r.epoch) + 1 })) None in
       record {
         evidence = λ es. (moved_evidence rules.eq l.payloads vs us evidence es, moved_evidence rules.eq l.payloads us vs (λ n. sym (evidence n)) es);
@@ -119,18 +119,18 @@ module _ {S D C P G : Type 0} (rules : Rules S D C P G) (l : AreLawful rules) (m
 -- ---- claims
 
 module _ {S D C P G : Type 0} (rules : Rules S D C P G) (l : AreLawful rules) (messages : List (Activity S D C P G)) where
-  -- each signer who is named is claimed to be
-  pub named_is_claimed : (n : Named) → is_named rules.eq (valid_votes rules messages) n ≡ true → is_named rules.eq (valid_votes (claimed rules) messages) n ≡ true
-  named_is_claimed n h = named_by_more rules.eq (valid_votes (claimed rules) messages) (valid_votes rules messages) (λ v v_in.
+  -- each signer who is accused is claimed to be
+  pub accused_is_claimed : (n : Accusation) → is_accused rules.eq (valid_votes rules messages) n ≡ true → is_accused rules.eq (valid_votes (claimed rules) messages) n ≡ true
+  accused_is_claimed n h = accused_by_more rules.eq (valid_votes (claimed rules) messages) (valid_votes rules messages) (λ v v_in.
       let (m, m_in, own, valid) = valid_from rules messages v v_in in
       valid_in (claimed rules) messages v m m_in own (lt-ltb _ _ (l.members v.subject v.signer v.signature valid))) n h
 
   -- the signers of the evidence that the votes claim are suspect
   pub claims_are_suspect : (claims : List (Evidence D G)) (s : Suspected) → IsEvidence rules.eq (valid_votes (claimed rules) messages) claims → HasSuspects claims s → AreSuspect rules messages s
   claims_are_suspect claims s is has n h =
-      let (e, e_in, e_is) = Contains-from_map named_by claims n (is.complete n (named_is_claimed n h)) in
+      let (e, e_in, e_is) = Contains-from_map accused_by claims n (is.complete n (accused_is_claimed n h)) in
       let (signer, round) = has e e_in in
-      (ap (λ (m : Named). s.signers m.round m.signer) (sym e_is) ∙ signer, ap (λ (m : Named). s.rounds m.round) (sym e_is) ∙ round)
+      (ap (λ (m : Accusation). s.signers m.round m.signer) (sym e_is) ∙ signer, ap (λ (m : Accusation). s.rounds m.round) (sym e_is) ∙ round)
 
   -- where nobody is claimed to contradict there is no evidence and no split
   pub nothing_claimed : (splits : List Split) → IsEvidence rules.eq (valid_votes (claimed rules) messages) [] → AreSplits (claimed rules) messages splits → IsEvidence rules.eq (valid_votes rules messages) [] × AreSplits rules messages splits
@@ -142,7 +142,7 @@ module _ {S D C P G : Type 0} (rules : Rules S D C P G) (l : AreLawful rules) (m
       let (m, m_in, m_is) = Contains-from_filter_map (certified_in (claimed rules)) messages o.x o.x_in in
       let (c, has, certifies) = certified_parts (claimed rules) (certificate_in m) o.x m_is in
       false≢true certifies in (
-        record { ordered = is.ordered; sound = All-nil (λ e. evidence_of rules.eq (valid_votes rules messages) (named_by e) ≡ Some e); complete = λ n h. absurd (false≢true (suspect n h).0) },
+        record { ordered = is.ordered; sound = All-nil (λ e. evidence_of rules.eq (valid_votes rules messages) (accused_by e) ≡ Some e); complete = λ n h. absurd (false≢true (suspect n h).0) },
         record { ordered = are.ordered; sound = λ k d lt. absurd (no_split _ (sym (split_exists (claimed rules) messages _) ∙ ap is_some (are.sound k d lt))); complete = λ r h. absurd (false≢true (split_is_suspect rules l messages nobody suspect r h)) },
       )
 
@@ -183,28 +183,28 @@ module _ {S D C P G : Type 0} (rules : Rules S D C P G) (messages : List (Activi
   suspected = record { signers = is_suspect rules messages; rounds = is_suspect_round rules messages }
 
   -- a signer who is claimed to contradict is suspect, and so is the round
-  claimed_is_suspect : (n : Named) → is_named rules.eq (valid_votes (claimed rules) messages) n ≡ true → (is_suspect rules messages n.round n.signer ≡ true) × (is_suspect_round rules messages n.round ≡ true)
+  claimed_is_suspect : (n : Accusation) → is_accused rules.eq (valid_votes (claimed rules) messages) n ≡ true → (is_suspect rules messages n.round n.signer ≡ true) × (is_suspect_round rules messages n.round ≡ true)
   claimed_is_suspect n h =
       let vs = valid_votes (claimed rules) messages in
-      let suspect = named_in rules.eq vs n.round n.signer n.kind h in
-      let (v, w, v_in, w_in, of_v, against) = votes_from_named rules.eq vs n h in
+      let suspect = accused_in rules.eq vs n.round n.signer n.kind h in
+      let (v, w, v_in, w_in, of_v, against) = votes_from_accused rules.eq vs n h in
       (suspect, any_from_Contains (λ v. is_suspect rules messages n.round v.signer) vs v v_in (ap (is_suspect rules messages n.round) (is_of-true n.round n.signer v of_v).1 ∙ suspect))
 
   module _ (payloads : IsEquivalence rules.eq) (claims : List (Evidence D G)) (is : IsEvidence rules.eq (valid_votes (claimed rules) messages) claims) where
-    -- whom the claims name is suspect
+    -- whom the claims accuse is suspect
     claim_is_suspect : (e : Evidence D G) → Contains claims e → (is_suspect rules messages (round_of e.first.subject) e.first.signer ≡ true) × (is_suspect_round rules messages (round_of e.first.subject) ≡ true)
     claim_is_suspect e e_in =
         let vs = valid_votes (claimed rules) messages in
-        claimed_is_suspect (named_by e) (sym (evidence_exists rules.eq vs payloads (named_by e)) ∙ ap is_some (All-contains (λ e. evidence_of rules.eq vs (named_by e) ≡ Some e) claims e is.sound e_in))
+        claimed_is_suspect (accused_by e) (sym (evidence_exists rules.eq vs payloads (accused_by e)) ∙ ap is_some (All-contains (λ e. evidence_of rules.eq vs (accused_by e) ≡ Some e) claims e is.sound e_in))
 
     -- the signers of what is claimed are those that are suspect
     pub signers_are_suspect : (round : Round) (signer : ℕ) → Contains (map suspect_of claims) (round, signer) ↔ IsTrue (is_suspect rules messages round signer)
     signers_are_suspect round signer = (
       λ h. let (e, e_in, e_is) = Contains-from_map suspect_of claims (round, signer) h in subst (λ (s : Round × ℕ). is_suspect rules messages s.0 s.1 ≡ true) e_is (claim_is_suspect e e_in).0,
       λ h.
-          let (kind, named) = kind_from_named_in rules.eq (valid_votes (claimed rules) messages) round signer h in
-          let (e, e_in, e_is) = Contains-from_map named_by claims (record { round = round; signer = signer; kind = kind }) (is.complete (record { round = round; signer = signer; kind = kind }) named) in
-          subst (Contains (map suspect_of claims)) (ap (λ (n : Named). (n.round, n.signer)) e_is) (Contains-map suspect_of claims e e_in),
+          let (kind, named) = kind_from_accused_in rules.eq (valid_votes (claimed rules) messages) round signer h in
+          let (e, e_in, e_is) = Contains-from_map accused_by claims (record { round = round; signer = signer; kind = kind }) (is.complete (record { round = round; signer = signer; kind = kind }) named) in
+          subst (Contains (map suspect_of claims)) (ap (λ (n : Accusation). (n.round, n.signer)) e_is) (Contains-map suspect_of claims e e_in),
     )
 
     -- the rounds of what is claimed are those that are suspect
@@ -212,8 +212,8 @@ module _ {S D C P G : Type 0} (rules : Rules S D C P G) (messages : List (Activi
     rounds_are_suspect round = (
       λ h. let (e, e_in, e_is) = Contains-from_map (λ (e : Evidence D G). round_of e.first.subject) claims round h in subst (λ r. is_suspect_round rules messages r ≡ true) e_is (claim_is_suspect e e_in).1,
       λ h.
-          let (v, v_in, v_named) = Contains-from_list_any (λ v. is_suspect rules messages round v.signer) (valid_votes (claimed rules) messages) h in
-          let (e, e_in, e_is) = Contains-from_map suspect_of claims (round, v.signer) ((signers_are_suspect round v.signer).1 v_named) in
+          let (v, v_in, v_accused) = Contains-from_list_any (λ v. is_suspect rules messages round v.signer) (valid_votes (claimed rules) messages) h in
+          let (e, e_in, e_is) = Contains-from_map suspect_of claims (round, v.signer) ((signers_are_suspect round v.signer).1 v_accused) in
           subst (Contains (map (λ (e : Evidence D G). round_of e.first.subject) claims)) (ap (λ (s : Round × ℕ). s.0) e_is) (Contains-map (λ (e : Evidence D G). round_of e.first.subject) claims e e_in),
     )
 
@@ -229,7 +229,7 @@ same_among rules messages good certified alike = λ i. record {
 
 pub suspects_suffice : {S D C P G : Type 0} (rules : Rules S D C P G) → AreLawful rules → (messages : List (Activity S D C P G)) → SuspectsSuffice rules messages
 suspects_suffice {S} {D} {C} {P} {G} rules l messages =
-    let tell : (judges : Rules S D C P G) → AreLawful judges → TellAll judges messages (suspected judges messages) = λ judges lawful. suspects_tell_all judges lawful messages (suspected judges messages) (λ n h. claimed_is_suspect judges messages n (named_is_claimed judges lawful messages n h)) in
+    let tell : (judges : Rules S D C P G) → AreLawful judges → TellAll judges messages (suspected judges messages) = λ judges lawful. suspects_tell_all judges lawful messages (suspected judges messages) (λ n h. claimed_is_suspect judges messages n (accused_is_claimed judges lawful messages n h)) in
     record {
       evidence = λ good certified alike es is. ((tell (judged_by rules good certified) alike.lawful).evidence es).0 (subst (λ judged. IsEvidence rules.eq (valid_votes judged messages) es) (same_among rules messages good certified alike) (((tell rules l).evidence es).1 is));
       splits = λ good certified alike splits are. ((tell (judged_by rules good certified) alike.lawful).splits splits).0 (subst (λ judged. AreSplits judged messages splits) (same_among rules messages good certified alike) (((tell rules l).splits splits).1 are));

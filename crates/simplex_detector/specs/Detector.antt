@@ -12,7 +12,7 @@ use Rattle.simplex_detector.specs.Certificates.{certificate_in}
 use Rattle.simplex_detector.specs.Committees.{Schedule, committee_of}
 use Rattle.simplex_detector.specs.FirstCertified.{certified_subjects, nothing_certified, RecordsFirsts}
 use Rattle.simplex_detector.specs.Recorded.{slot_of}
-use Rattle.simplex_detector.specs.Named.{round_cmp}
+use Rattle.simplex_detector.specs.Accusation.{round_cmp}
 use Rattle.simplex_detector.specs.Rounds.{no_slot, HoldsRound}
 use Rattle.simplex_detector.specs.Rules.{Rules, is_valid, valid_votes}
 use Rattle.simplex_detector.specs.Splits.{if_certified}

@@ -4,7 +4,7 @@ use Rattle.std.specs.List.{find}
 use Rattle.std.specs.List.Sorted.{IsStrictlySortedBy}
 use Rattle.simplex_votes.specs.Votes.{SignedVote, is_at}
 use Rattle.simplex_evidence.specs.Contradiction.{Kind, Evidence, contradicts, first_sort}
-use Rattle.simplex_detector.specs.Named.{Named, is_named, named_by, named_cmp}
+use Rattle.simplex_detector.specs.Accusation.{Accusation, is_accused, accused_by, accused_cmp}
 
 -- the evidence of a vote and another, if there is one
 abbrev pub with_second : {D G : Type 0} → Kind → SignedVote D G → Option (SignedVote D G) → Option (Evidence D G)
@@ -16,15 +16,15 @@ abbrev pub with_first : {D G : Type 0} → (D → D → Bool) → List (SignedVo
 with_first eq vs kind None = None
 with_first eq vs kind (Some v) = with_second kind v (find (contradicts eq kind v) vs)
 
--- the evidence of whom is named: the earliest vote of the kind's first sort, and the earliest that contradicts it
-abbrev pub evidence_of : {D G : Type 0} → (D → D → Bool) → List (SignedVote D G) → Named → Option (Evidence D G)
+-- the evidence of whom is accused: the earliest vote of the kind's first sort, and the earliest that contradicts it
+abbrev pub evidence_of : {D G : Type 0} → (D → D → Bool) → List (SignedVote D G) → Accusation → Option (Evidence D G)
 evidence_of eq vs n = with_first eq vs n.kind (find (is_at (first_sort n.kind) n.round n.signer) vs)
 
--- es is the evidence of the votes: in order, each the evidence of whom it names, and nobody left out
+-- es is the evidence of the votes: in order, each the evidence of whom it accuses, and nobody left out
 pub record IsEvidence {D G : Type 0} (eq : D → D → Bool) (vs : List (SignedVote D G)) (es : List (Evidence D G)) : Type 0 where
-  pub ordered : IsStrictlySortedBy named_cmp (map named_by es)
-  pub sound : All (λ e. evidence_of eq vs (named_by e) ≡ Some e) es
-  pub complete : (n : Named) → IsTrue (is_named eq vs n) → Contains (map named_by es) n
+  pub ordered : IsStrictlySortedBy accused_cmp (map accused_by es)
+  pub sound : All (λ e. evidence_of eq vs (accused_by e) ≡ Some e) es
+  pub complete : (n : Accusation) → IsTrue (is_accused eq vs n) → Contains (map accused_by es) n
 
 -- both votes of an evidence are among the votes, and contradict with its kind
 pub record IsEquivocation {D G : Type 0} (eq : D → D → Bool) (vs : List (SignedVote D G)) (e : Evidence D G) : Type 0 where

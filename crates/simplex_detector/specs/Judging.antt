@@ -7,7 +7,7 @@ use Rattle.simplex_base.specs.Positions.{Round}
 use Rattle.simplex_scheme.specs.Subject.{SubjectValue, round_of}
 use Rattle.simplex_scheme.specs.declared.scheme.Attestation.{Attestation}
 use Rattle.simplex_detector.specs.Committees.{Schedule, rules_of}
-use Rattle.simplex_detector.specs.Named.{round_cmp}
+use Rattle.simplex_detector.specs.Accusation.{round_cmp}
 use Rattle.simplex_detector.specs.Rules.{Rules}
 use Rattle.simplex_detector.specs.declared.judging.Judging.{Judging}
 use Rattle.simplex_detector.specs.declared.judging.Judging.TheVariants.{Verified, Claimed, Suspects}

@@ -1,10 +1,10 @@
--- What holds of the evidence in votes, and of who is named by messages.
+-- What holds of the evidence in votes, and of who is accused by messages.
 use Rattle.std.specs.Prelude.{◌≡◌, ◌↔◌, Bool, List, ◌++◌, map, Contains, IsPermutation, IsTrue}
 use Rattle.simplex_votes.specs.Votes.{SignedVote}
 use Rattle.simplex_evidence.specs.Contradiction.{Evidence}
 use Rattle.simplex_evidence.specs.declared.types.activity.Activity.{Activity}
 use Rattle.simplex_detector.specs.Rules.{Rules, valid_votes}
-use Rattle.simplex_detector.specs.Named.{Named, is_named, named_by}
+use Rattle.simplex_detector.specs.Accusation.{Accusation, is_accused, accused_by}
 use Rattle.simplex_detector.specs.Evidence.{IsEvidence}
 use Rattle.simplex_detector.specs.Values.{evidence_value, message_of}
 use Rattle.simplex_detector.specs.declared.evidence.Evidence as declared
@@ -13,19 +13,19 @@ use Rattle.simplex_detector.specs.declared.evidence.Evidence as declared
 abbrev pub EvidenceIsUnique : {D G : Type 0} → (D → D → Bool) → List (SignedVote D G) → List (Evidence D G) → Type 0
 EvidenceIsUnique {D} {G} eq vs es = (fs : List (Evidence D G)) → IsEvidence eq vs fs → es ≡ fs
 
--- the evidence names exactly who is named
-abbrev pub NamesExactly : {D G : Type 0} → (D → D → Bool) → List (SignedVote D G) → List (Evidence D G) → Type 0
-NamesExactly eq vs es = (n : Named) → Contains (map named_by es) n ↔ IsTrue (is_named eq vs n)
+-- the evidence accuses exactly those whom the votes accuse
+abbrev pub AccusesExactly : {D G : Type 0} → (D → D → Bool) → List (SignedVote D G) → List (Evidence D G) → Type 0
+AccusesExactly eq vs es = (n : Accusation) → Contains (map accused_by es) n ↔ IsTrue (is_accused eq vs n)
 
--- the same messages in another order name the same
-abbrev pub NamedInAnyOrder : {S D C P G : Type 0} → Rules S D C P G → List (Activity S D C P G) → Type 0
-NamedInAnyOrder {S} {D} {C} {P} {G} rules ms =
-    (ks : List (Activity S D C P G)) → IsPermutation ms ks → (n : Named) → is_named rules.eq (valid_votes rules ms) n ≡ is_named rules.eq (valid_votes rules ks) n
+-- the same messages in another order accuse the same
+abbrev pub ReorderingAccusesSame : {S D C P G : Type 0} → Rules S D C P G → List (Activity S D C P G) → Type 0
+ReorderingAccusesSame {S} {D} {C} {P} {G} rules ms =
+    (ks : List (Activity S D C P G)) → IsPermutation ms ks → (n : Accusation) → is_accused rules.eq (valid_votes rules ms) n ≡ is_accused rules.eq (valid_votes rules ks) n
 
--- who is named stays named, with any messages behind
-abbrev pub NamesStay : {S D C P G : Type 0} → Rules S D C P G → List (Activity S D C P G) → Type 0
-NamesStay {S} {D} {C} {P} {G} rules ms =
-    (more : List (Activity S D C P G)) (n : Named) → IsTrue (is_named rules.eq (valid_votes rules ms) n) → IsTrue (is_named rules.eq (valid_votes rules (ms ++ more)) n)
+-- who is accused stays accused, with any messages behind
+abbrev pub AccusedStay : {S D C P G : Type 0} → Rules S D C P G → List (Activity S D C P G) → Type 0
+AccusedStay {S} {D} {C} {P} {G} rules ms =
+    (more : List (Activity S D C P G)) (n : Accusation) → IsTrue (is_accused rules.eq (valid_votes rules ms) n) → IsTrue (is_accused rules.eq (valid_votes rules (ms ++ more)) n)
 
 -- the evidence of messages, as messages of its own, has the same evidence in the same order
 abbrev pub IsEvidenceAgain : {S D C P G : Type 0} → Rules S D C P G → List (declared.Evidence S D P G) → Type 0

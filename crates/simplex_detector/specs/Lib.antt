@@ -1,6 +1,6 @@
 pub mod Rules
 pub mod Committees
-pub mod Named
+pub mod Accusation
 pub mod Evidence
 pub mod Recorded
 pub mod Values

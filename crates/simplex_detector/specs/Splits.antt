@@ -1,4 +1,4 @@
--- Rounds whose certificates contradict, and how many participants are named there.
+-- Rounds whose certificates contradict, and how many participants are accused there.
 use Rattle.std.specs.Prelude.{◌≡◌, ℕ, ◌+◌, Bool, ◌&&◌, ◌||◌, List, [], ◌∷◌, map, filter, nat_eq, Option, Some, None, All, Contains, IsTrue, if◌then◌else◌, codes, decimal}
 use Rattle.std.specs.List.{list_any}
 use Rattle.std.specs.Option.{is_some}
@@ -11,7 +11,7 @@ use Rattle.simplex_votes.specs.Votes.{SignedVote}
 use Rattle.simplex_evidence.specs.Contradiction.{Conflicting_notarize, Conflicting_finalize, Nullify_finalize}
 use Rattle.simplex_evidence.specs.Activity.{activity_round}
 use Rattle.simplex_evidence.specs.declared.types.activity.Activity.{Activity}
-use Rattle.simplex_detector.specs.Named.{is_named, round_cmp}
+use Rattle.simplex_detector.specs.Accusation.{is_accused, round_cmp}
 use Rattle.simplex_detector.specs.Rules.{Rules, valid_votes}
 use Rattle.simplex_detector.specs.Certificates.{certificate_in, messages_contradict}
 use Rattle.simplex_detector.specs.Line.{parted}
@@ -39,22 +39,22 @@ abbrev pub is_split : {S D C P G : Type 0} → Rules S D C P G → List (Activit
 is_split rules messages round =
     list_any (λ m. (same_round (activity_round m) round && is_certified rules m) && list_any (λ k. is_certified rules k && messages_contradict rules.eq m k) messages) messages
 
--- whether a signer is named in a round, for any kind of contradiction
-abbrev pub is_named_in : {D G : Type 0} → (D → D → Bool) → List (SignedVote D G) → Round → ℕ → Bool
-is_named_in eq vs round signer =
-    is_named eq vs (record { round = round; signer = signer; kind = Conflicting_notarize }) ||
-    (is_named eq vs (record { round = round; signer = signer; kind = Conflicting_finalize }) ||
-    is_named eq vs (record { round = round; signer = signer; kind = Nullify_finalize }))
+-- whether a signer is accused in a round, for any kind of contradiction
+abbrev pub is_accused_in : {D G : Type 0} → (D → D → Bool) → List (SignedVote D G) → Round → ℕ → Bool
+is_accused_in eq vs round signer =
+    is_accused eq vs (record { round = round; signer = signer; kind = Conflicting_notarize }) ||
+    (is_accused eq vs (record { round = round; signer = signer; kind = Conflicting_finalize }) ||
+    is_accused eq vs (record { round = round; signer = signer; kind = Nullify_finalize }))
 
--- how many distinct signers are named in a round
-abbrev pub named_count : {D G : Type 0} → (D → D → Bool) → List (SignedVote D G) → Round → ℕ
-named_count eq vs round = distinct_count nat_eq (filter (is_named_in eq vs round) (map (λ v. v.signer) vs))
+-- how many distinct signers are accused in a round
+abbrev pub accused_count : {D G : Type 0} → (D → D → Bool) → List (SignedVote D G) → Round → ℕ
+accused_count eq vs round = distinct_count nat_eq (filter (is_accused_in eq vs round) (map (λ v. v.signer) vs))
 
--- the split of a round, if it is split: how many are named in it, and one more than may lie in its committee
+-- the split of a round, if it is split: how many are accused in it, and one more than may lie in its committee
 abbrev pub split_of : {S D C P G : Type 0} → Rules S D C P G → List (Activity S D C P G) → Round → Option Split
 split_of rules messages round =
     if is_split rules messages round
-    then Some (record { round = round; named = named_count rules.eq (valid_votes rules messages) round; least = faults_of (rules.size round.epoch) + 1 })
+    then Some (record { round = round; named = accused_count rules.eq (valid_votes rules messages) round; least = faults_of (rules.size round.epoch) + 1 })
     else None
 
 -- the splits of the messages: in the order of rounds, each that of its round, and no split round left out
@@ -65,6 +65,6 @@ pub record AreSplits {S D C P G : Type 0} (rules : Rules S D C P G) (messages : 
 
 -- ---- the line of a split
 
--- epoch, view, the word `split`, how many are named, and how many must be
+-- epoch, view, the word `split`, how many are accused, and how many must be
 abbrev pub split_line : Split → List ℕ
 split_line s = parted (decimal s.round.epoch ∷ decimal s.round.view ∷ codes "split" ∷ decimal s.named ∷ decimal s.least ∷ [])

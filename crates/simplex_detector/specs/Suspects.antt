@@ -6,9 +6,9 @@ use Rattle.simplex_scheme.specs.Subject.{SubjectValue, round_of}
 use Rattle.simplex_evidence.specs.Contradiction.{Evidence}
 use Rattle.simplex_evidence.specs.declared.types.activity.Activity.{Activity}
 use Rattle.simplex_detector.specs.Evidence.{IsEvidence}
-use Rattle.simplex_detector.specs.Named.{Named, is_named}
+use Rattle.simplex_detector.specs.Accusation.{Accusation, is_accused}
 use Rattle.simplex_detector.specs.Rules.{Rules, AreLawful, valid_votes}
-use Rattle.simplex_detector.specs.Splits.{is_named_in, AreSplits}
+use Rattle.simplex_detector.specs.Splits.{is_accused_in, AreSplits}
 use Rattle.simplex_detector.specs.declared.split.Split.{Split}
 
 -- the same, but that every vote of a signer in the committee is taken as valid, and no certificate certifies
@@ -37,9 +37,9 @@ among suspected rules = record {
   size = rules.size;
 }
 
--- each signer who is named is suspect in its round, and the round is suspect
+-- each signer who is accused is suspect in its round, and the round is suspect
 abbrev pub AreSuspect : {S D C P G : Type 0} → Rules S D C P G → List (Activity S D C P G) → Suspected → Type 0
-AreSuspect rules messages suspected = (n : Named) → IsTrue (is_named rules.eq (valid_votes rules messages) n) → IsTrue (suspected.signers n.round n.signer) × IsTrue (suspected.rounds n.round)
+AreSuspect rules messages suspected = (n : Accusation) → IsTrue (is_accused rules.eq (valid_votes rules messages) n) → IsTrue (suspected.signers n.round n.signer) × IsTrue (suspected.rounds n.round)
 
 -- the round and the signer of an evidence
 abbrev pub suspect_of : {D G : Type 0} → Evidence D G → Round × ℕ
@@ -50,7 +50,7 @@ abbrev pub HasSuspects : {D G : Type 0} → List (Evidence D G) → Suspected �
 HasSuspects {D} {G} claims suspected =
     (e : Evidence D G) → Contains claims e → IsTrue (suspected.signers (round_of e.first.subject) e.first.signer) × IsTrue (suspected.rounds (round_of e.first.subject))
 
--- Where each signer who is named is suspect in its round, the suspects alone have the evidence and the splits of all messages.
+-- Where each signer who is accused is suspect in its round, the suspects alone have the evidence and the splits of all messages.
 pub record TellAll {S D C P G : Type 0} (rules : Rules S D C P G) (messages : List (Activity S D C P G)) (suspected : Suspected) : Type 0 where
   pub evidence : (es : List (Evidence D G)) → IsEvidence rules.eq (valid_votes (among suspected rules) messages) es ↔ IsEvidence rules.eq (valid_votes rules messages) es
   pub splits : (splits : List Split) → AreSplits (among suspected rules) messages splits ↔ AreSplits rules messages splits
@@ -58,7 +58,7 @@ pub record TellAll {S D C P G : Type 0} (rules : Rules S D C P G) (messages : Li
 -- whether a signer is suspect in a round: two votes contradict there that claim to be that signer's, and the signer is in the
 -- committee
 abbrev pub is_suspect : {S D C P G : Type 0} → Rules S D C P G → List (Activity S D C P G) → Round → ℕ → Bool
-is_suspect rules messages round signer = is_named_in rules.eq (valid_votes (claimed rules) messages) round signer
+is_suspect rules messages round signer = is_accused_in rules.eq (valid_votes (claimed rules) messages) round signer
 
 -- whether a round is suspect: some signer is suspect there
 abbrev pub is_suspect_round : {S D C P G : Type 0} → Rules S D C P G → List (Activity S D C P G) → Round → Bool

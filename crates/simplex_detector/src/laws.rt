@@ -16,14 +16,14 @@ ghost use Rattle.simplex_detector.specs.Judging.{signer_cmp, rules_under};
 ghost use Rattle.simplex_detector.specs.declared.judging.Judging.{Judging};
 ghost use Rattle.simplex_detector.specs.declared.judging.Judging.TheVariants.{Claimed, Suspects};
 ghost use Rattle.simplex_detector.specs.declared.judging.SuspectSigners.{SuspectSigners};
-ghost use Rattle.simplex_detector.specs.Named.{round_cmp};
+ghost use Rattle.simplex_detector.specs.Accusation.{round_cmp};
 ghost use Rattle.simplex_detector.specs.Evidence.{IsEvidence, IsEquivocation};
 ghost use Rattle.simplex_detector.specs.Recorded.{RecordedAreSlots, FewAreRecorded, votes_recorded};
-ghost use Rattle.simplex_detector.specs.Laws.{EvidenceIsUnique, NamesExactly, NamedInAnyOrder, NamesStay, IsEvidenceAgain};
+ghost use Rattle.simplex_detector.specs.Laws.{EvidenceIsUnique, AccusesExactly, ReorderingAccusesSame, AccusedStay, IsEvidenceAgain};
 ghost use Rattle.simplex_detector.specs.Rules.{Rules, AreLawful, HaveCommittees, valid_votes};
 ghost use Rattle.simplex_detector.specs.Splits.{AreSplits};
 ghost use Rattle.simplex_detector.specs.Suspects.{claimed, suspect_of, is_suspect, is_suspect_round, SuspectsSuffice};
-ghost use Rattle.simplex_detector.specs.SplitLaws.{EnoughAreNamed, SignersAreAccountable, SplitsAreUnique, SplitsHaveNames};
+ghost use Rattle.simplex_detector.specs.SplitLaws.{EnoughAreAccused, SignersAreAccountable, SplitsAreUnique, SplitsHaveAccused};
 ghost use Rattle.simplex_detector.specs.Values.{evidence_value};
 ghost use Rattle.simplex_detector.specs.declared.evidence.Evidence.{Evidence};
 ghost use Rattle.simplex_detector.specs.declared.split.Split.{Split};
@@ -44,22 +44,22 @@ pub fn committees_are_lawful<S: Listing<D>, D: Digest>()
         HaveCommittees (rules_under D.eq S.keys S.good S.certified S.listed judging schedule) }
 {}
 
-/// Who is named does not depend on the order of the messages, and stays named.
-pub fn names_stay<S: CertificateScheme, D: Digest>()
+/// Who is accused does not depend on the order of the messages, and stays accused.
+pub fn accused_stay<S: CertificateScheme, D: Digest>()
     ensures any_order { (rules : Rules S D S.Certificate S.PublicKey S.Signature)
         (messages : List (Activity S D S.Certificate S.PublicKey S.Signature)) →
-        NamedInAnyOrder rules messages }
+        ReorderingAccusesSame rules messages }
     ensures later { (rules : Rules S D S.Certificate S.PublicKey S.Signature)
         (messages : List (Activity S D S.Certificate S.PublicKey S.Signature)) →
-        NamesStay rules messages }
+        AccusedStay rules messages }
 {}
 
-/// The evidence of votes names exactly who is named, each by two of the votes that contradict, and could be no other.
+/// The evidence of votes accuses exactly those whom the votes accuse, each by two of the votes that contradict, and could be no other.
 /// Read again as messages it has the same evidence.
 pub fn evidence_is_determined<S: CertificateScheme, D: Digest>()
     ensures names { (vs : List (SignedVote D S.Signature))
         (es : List (contradiction.Evidence D S.Signature)) → IsEvidence D.eq vs es →
-        NamesExactly D.eq vs es }
+        AccusesExactly D.eq vs es }
     ensures sound { (vs : List (SignedVote D S.Signature))
         (es : List (contradiction.Evidence D S.Signature)) → IsEvidence D.eq vs es →
         All (IsEquivocation D.eq vs) es }
@@ -73,18 +73,18 @@ pub fn evidence_is_determined<S: CertificateScheme, D: Digest>()
         IsEvidenceAgain rules es }
 {}
 
-/// Two certified messages that contradict name more participants of their round's committee than may lie: every
+/// Two certified messages that contradict accuse more participants of their round's committee than may lie: every
 /// participant that signed both.
 pub fn certificates_are_accountable<S: CertificateScheme, D: Digest>()
     ensures enough { (rules : Rules S D S.Certificate S.PublicKey S.Signature)
         (messages : List (Activity S D S.Certificate S.PublicKey S.Signature)) →
-        AreLawful rules → EnoughAreNamed rules messages }
+        AreLawful rules → EnoughAreAccused rules messages }
     ensures signers { (rules : Rules S D S.Certificate S.PublicKey S.Signature)
         (messages : List (Activity S D S.Certificate S.PublicKey S.Signature)) →
         AreLawful rules → SignersAreAccountable rules messages }
 {}
 
-/// Messages have one list of splits, and each split names enough.
+/// Messages have one list of splits, and each split has enough accused.
 pub fn splits_are_determined<S: CertificateScheme, D: Digest>()
     ensures only { (rules : Rules S D S.Certificate S.PublicKey S.Signature)
         (messages : List (Activity S D S.Certificate S.PublicKey S.Signature))
@@ -93,7 +93,7 @@ pub fn splits_are_determined<S: CertificateScheme, D: Digest>()
     ensures names { (rules : Rules S D S.Certificate S.PublicKey S.Signature)
         (messages : List (Activity S D S.Certificate S.PublicKey S.Signature))
         (splits : List Split) →
-        AreLawful rules → AreSplits rules messages splits → SplitsHaveNames splits }
+        AreLawful rules → AreSplits rules messages splits → SplitsHaveAccused splits }
 {}
 
 /// Of any votes those that are recorded are, for each round, signer and sort, the earliest and, nullifies aside, the

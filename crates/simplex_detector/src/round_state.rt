@@ -250,7 +250,7 @@ impl<S: Listing<D>, D: Digest> RoundState<S, D> {
     }
 }
 
-/// How many participants some evidence names, each counted once. The evidence is in the order of signers, so that
+/// How many participants some evidence accuses, each counted once. The evidence is in the order of signers, so that
 /// one pass over it counts them.
 fn count_signers<S: SchemeTypes, D: Digest>(evidence: &[Evidence<S, D>]) -> u32
     ensures { IsNonDecreasing (map (λ e. (evidence_value e).first.signer) evidence.now) →

@@ -12,7 +12,7 @@ use std::alloc::{AllocError, Global};
 #[derive(Clone, Copy, Debug, PartialEq, Eq)]
 pub struct Split {
     pub round: Round,
-    /// How many participants are named in the round, each counted once, for any number of kinds.
+    /// How many participants are accused in the round, each counted once, for any number of kinds.
     pub named: u32,
     /// One more than may lie in the round's committee. At least as many signed both certificates: two quorums of n
     /// participants, f of whom may lie, share n - 2f or more, which is f + 1 or more.
@@ -31,7 +31,7 @@ impl EqByParts for Split {
 }
 
 impl Split {
-    /// The line that reports it, without its end: epoch, view, the word `split`, how many participants are named
+    /// The line that reports it, without its end: epoch, view, the word `split`, how many participants are accused
     /// and one more than may lie, parted by single blanks. Numbers are decimal.
     pub fn line(&self, alloc: Global) -> Result<String, AllocError>
         ensures { IfOk result (λ line. string_bytes line ≡ split_line self.now) }

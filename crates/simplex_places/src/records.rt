@@ -3,7 +3,7 @@
 ghost use Rattle.std.specs.Prelude.{◌≡◌, ◌&&◌, IfOk, Some, map, nat_eq, refl};
 ghost use Rattle.std.specs.BTreeMap.{get};
 ghost use Rattle.simplex_audit.specs.Guarantees.{IsAudit};
-ghost use Rattle.simplex_detector.specs.Named.{kind_rank};
+ghost use Rattle.simplex_detector.specs.Accusation.{kind_rank};
 ghost use Rattle.simplex_detector.specs.Values.{evidence_value};
 ghost use Rattle.simplex_places.specs.Records.{AreRecords, found_place, record_by};
 

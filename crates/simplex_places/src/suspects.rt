@@ -7,7 +7,7 @@ ghost use Rattle.simplex_evidence.specs.declared.types.activity.Activity as acti
 ghost use Rattle.simplex_detector.specs.Committees.{Schedule, committee_of, size_by};
 ghost use Rattle.simplex_detector.specs.Detector.{Recalls};
 ghost use Rattle.simplex_detector.specs.Judging.{signer_cmp};
-ghost use Rattle.simplex_detector.specs.Named.{round_cmp};
+ghost use Rattle.simplex_detector.specs.Accusation.{round_cmp};
 ghost use Rattle.simplex_detector.specs.Rules.{AreLawful};
 ghost use Rattle.simplex_detector.specs.Suspects.{is_suspect, is_suspect_round};
 ghost use Rattle.simplex_detector.specs.declared.judging.Judging.TheVariants.{Claimed};

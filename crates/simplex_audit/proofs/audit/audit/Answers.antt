@@ -2,7 +2,7 @@ use Rattle.std.proofs.Common.{map, arith}
 use Rattle.simplex_detector.specs.Committees.{Schedule, rules_of}
 use Rattle.simplex_detector.specs.Rules.{Rules}
 use Rattle.simplex_detector.specs.Values.{message_of}
-use Rattle.simplex_audit.proofs.NamesLemmas.{if_ok, if_both, report_evidence, report_splits, names_stay}
+use Rattle.simplex_audit.proofs.AccusedLemmas.{if_ok, if_both, report_evidence, report_splits, accused_stay}
 use Rattle.simplex_audit.proofs.StreamLemmas.{messages_once, are_joined}
 use Rattle.simplex_audit.proofs.audit.audit.Given as given
 use Rattle.simplex_audit.proofs.audit.audit.Goals as goal
@@ -30,11 +30,11 @@ returns-clause-only g c =
     c.audit_stream.result c.audit_stream.ensures.report
 
 pub returns-clause-any_order : goal.returns-clause-any_order
-returns-clause-any_order g c = λ messages. c.names_stay.ensures.any_order (rules g c.args.committees.now) messages
+returns-clause-any_order g c = λ messages. c.accused_stay.ensures.any_order (rules g c.args.committees.now) messages
 
 pub returns-clause-stays : goal.returns-clause-stays
 returns-clause-stays g c = λ more n messages rest are later left are'.
-    names_stay _ (rules g c.args.committees.now) c.audit_stream.ensures.readable c.args.stream.now more rest left messages later (c.names_stay.ensures.later (rules g c.args.committees.now) messages) are are' n
+    accused_stay _ (rules g c.args.committees.now) c.audit_stream.ensures.readable c.args.stream.now more rest left messages later (c.accused_stay.ensures.later (rules g c.args.committees.now) messages) are are' n
 
 pub returns-clause-enough : goal.returns-clause-enough
 returns-clause-enough g c = λ messages rest are. c.certificates_are_accountable.ensures.enough (rules g c.args.committees.now) messages c.audit_stream.ensures.lawful

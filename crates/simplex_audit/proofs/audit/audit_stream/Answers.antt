@@ -1,6 +1,6 @@
 use Rattle.std.proofs.Common.{arith}
 use Rattle.simplex_audit.proofs.AuditorLemmas.{read_at_once}
-use Rattle.simplex_audit.proofs.NamesLemmas.{if_ok}
+use Rattle.simplex_audit.proofs.AccusedLemmas.{if_ok}
 use Rattle.simplex_audit.proofs.audit.audit_stream.Goals as goal
 
 pub returns-clause-report : goal.returns-clause-report

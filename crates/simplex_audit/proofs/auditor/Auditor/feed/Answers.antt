@@ -1,6 +1,6 @@
 use Rattle.std.proofs.Common.{◌++◌}
 use Rattle.simplex_audit.proofs.AuditorLemmas.{stands_holds}
-use Rattle.simplex_audit.proofs.NamesLemmas.{if_ok}
+use Rattle.simplex_audit.proofs.AccusedLemmas.{if_ok}
 use Rattle.simplex_audit.proofs.auditor.Auditor.feed.Goals as goal
 
 pub returns-then-is_empty-clause-stands : goal.returns-then-is_empty-clause-stands

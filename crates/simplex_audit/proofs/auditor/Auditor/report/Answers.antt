@@ -3,7 +3,7 @@ use Rattle.simplex_detector.specs.Committees.{Schedule, rules_of}
 use Rattle.simplex_detector.specs.Rules.{Rules}
 use Rattle.simplex_detector.specs.declared.judging.Judging.TheVariants.{Verified}
 use Rattle.simplex_audit.proofs.AuditorLemmas.{stands_reported, stands_audited}
-use Rattle.simplex_audit.proofs.NamesLemmas.{if_both}
+use Rattle.simplex_audit.proofs.AccusedLemmas.{if_both}
 use Rattle.simplex_audit.proofs.StreamLemmas.{messages_once}
 use Rattle.simplex_audit.proofs.auditor.Auditor.report.Given as given
 use Rattle.simplex_audit.proofs.auditor.Auditor.report.Goals as goal
@@ -20,8 +20,8 @@ returns-clause-audit g c =
     let same = ap length c.as_slice-rest.ensures.value in
     if_both _ _ _ (λ report is each. stands_audited _ auditor report (λ committees m. omega arith)
     (λ committees. record {
-      any_order = c.names_stay.ensures.any_order (rules g committees);
-      later = c.names_stay.ensures.later (rules g committees);
+      any_order = c.accused_stay.ensures.any_order (rules g committees);
+      later = c.accused_stay.ensures.later (rules g committees);
       names = c.evidence_is_determined.ensures.names;
       sound = c.evidence_is_determined.ensures.sound;
       only = c.evidence_is_determined.ensures.only;
@@ -29,7 +29,7 @@ returns-clause-audit g c =
       enough = c.certificates_are_accountable.ensures.enough (rules g committees);
       signers = c.certificates_are_accountable.ensures.signers (rules g committees);
       only_splits = c.splits_are_determined.ensures.only (rules g committees);
-      split_names = c.splits_are_determined.ensures.names (rules g committees);
+      split_accused = c.splits_are_determined.ensures.names (rules g committees);
     })
     (stands_reported _ auditor (auditor.taken.fed - length c.as_slice-rest.result.now) report (omega arith) (is Verified)) each)
     c.make_report.result c.make_report.ensures.report c.make_report.ensures.encoded

@@ -1,4 +1,4 @@
--- Who is named, by votes that contradict.
+-- Who is accused, by votes that contradict.
 use Rattle.std.specs.Prelude.{ℕ, Bool, ◌&&◌, List}
 use Rattle.std.specs.List.{list_any}
 use Rattle.std.specs.Ordering.{ordering_then, nat_cmp}
@@ -9,18 +9,18 @@ use Rattle.simplex_votes.specs.Votes.{SignedVote, is_of}
 use Rattle.simplex_evidence.specs.Contradiction.{Kind, Conflicting_notarize, Conflicting_finalize, Nullify_finalize, contradicts, Evidence}
 
 -- a signer, in a round, with a kind of contradiction
-pub record Named : Type 0 where
+pub record Accusation : Type 0 where
   pub round : Round
   pub signer : ℕ
   pub kind : Kind
 
 -- whether some two of the votes contradict with this kind, both of this signer and round
-abbrev pub is_named : {D G : Type 0} → (D → D → Bool) → List (SignedVote D G) → Named → Bool
-is_named eq vs n = list_any (λ v. is_of n.round n.signer v && list_any (contradicts eq n.kind v) vs) vs
+abbrev pub is_accused : {D G : Type 0} → (D → D → Bool) → List (SignedVote D G) → Accusation → Bool
+is_accused eq vs n = list_any (λ v. is_of n.round n.signer v && list_any (contradicts eq n.kind v) vs) vs
 
--- whom an evidence names
-abbrev pub named_by : {D G : Type 0} → Evidence D G → Named
-named_by e = record { round = round_of e.first.subject; signer = e.first.signer; kind = e.kind }
+-- whom an evidence accuses
+abbrev pub accused_by : {D G : Type 0} → Evidence D G → Accusation
+accused_by e = record { round = round_of e.first.subject; signer = e.first.signer; kind = e.kind }
 
 -- rounds are ordered by epoch, and then by view
 abbrev pub round_cmp : Round → Round → Ordering
@@ -32,6 +32,6 @@ kind_rank Conflicting_notarize = 0
 kind_rank Conflicting_finalize = 1
 kind_rank Nullify_finalize = 2
 
--- who is named is ordered by round, signer and kind
-abbrev pub named_cmp : Named → Named → Ordering
-named_cmp a b = ordering_then (round_cmp a.round b.round) (ordering_then (nat_cmp a.signer b.signer) (nat_cmp (kind_rank a.kind) (kind_rank b.kind)))
+-- who is accused is ordered by round, signer and kind
+abbrev pub accused_cmp : Accusation → Accusation → Ordering
+accused_cmp a b = ordering_then (round_cmp a.round b.round) (ordering_then (nat_cmp a.signer b.signer) (nat_cmp (kind_rank a.kind) (kind_rank b.kind)))

@@ -6,11 +6,11 @@ use Rattle.simplex_votes.specs.Votes.{SignedVote}
 use Rattle.simplex_evidence.specs.Contradiction.{Evidence}
 use Rattle.simplex_evidence.specs.declared.types.activity.Activity.{Activity}
 use Rattle.simplex_detector.specs.Evidence.{IsEvidence, IsEquivocation}
-use Rattle.simplex_detector.specs.Laws.{EvidenceIsUnique, NamesExactly, NamedInAnyOrder, NamesStay, IsEvidenceAgain}
-use Rattle.simplex_detector.specs.Named.{Named, is_named}
+use Rattle.simplex_detector.specs.Laws.{EvidenceIsUnique, AccusesExactly, ReorderingAccusesSame, AccusedStay, IsEvidenceAgain}
+use Rattle.simplex_detector.specs.Accusation.{Accusation, is_accused}
 use Rattle.simplex_detector.specs.Rules.{Rules, AreLawful, valid_votes}
 use Rattle.simplex_detector.specs.Splits.{AreSplits}
-use Rattle.simplex_detector.specs.SplitLaws.{EnoughAreNamed, SignersAreAccountable, SplitsAreUnique, SplitsHaveNames}
+use Rattle.simplex_detector.specs.SplitLaws.{EnoughAreAccused, SignersAreAccountable, SplitsAreUnique, SplitsHaveAccused}
 use Rattle.simplex_detector.specs.Values.{evidence_value}
 use Rattle.simplex_detector.specs.declared.evidence.Evidence as recorded
 use Rattle.simplex_detector.specs.declared.split.Split.{Split}
@@ -44,24 +44,24 @@ report_splits basis law stream report is messages rest are =
     subst (λ ms. AreSplits basis.rules ms report.splits.items) (messages_once basis.format law stream is.rest rest is.messages messages is.are_messages are).0 is.splits_are
 
 -- who is accused stays accused in the stream with anything appended
-pub names_stay : {S D C P G : Type 0} (format : Format (Activity S D C P G)) (rules : Rules S D C P G) → IsLawful format → (stream more rest left : List ℕ) (messages later : List (Activity S D C P G)) → NamesStay rules messages → AreMessages format stream messages rest → AreMessages format (stream ++ more) later left →
-    (n : Named) → IsTrue (is_named rules.eq (valid_votes rules messages) n) → IsTrue (is_named rules.eq (valid_votes rules later) n)
-names_stay format rules law stream more rest left messages later stay are are' n h =
+pub accused_stay : {S D C P G : Type 0} (format : Format (Activity S D C P G)) (rules : Rules S D C P G) → IsLawful format → (stream more rest left : List ℕ) (messages later : List (Activity S D C P G)) → AccusedStay rules messages → AreMessages format stream messages rest → AreMessages format (stream ++ more) later left →
+    (n : Accusation) → IsTrue (is_accused rules.eq (valid_votes rules messages) n) → IsTrue (is_accused rules.eq (valid_votes rules later) n)
+accused_stay format rules law stream more rest left messages later stay are are' n h =
     let c = messages_continue format law stream more rest left messages later are are' in
-    subst (λ ms. IsTrue (is_named rules.eq (valid_votes rules ms) n)) (sym c.same) (stay c.further n h)
+    subst (λ ms. IsTrue (is_accused rules.eq (valid_votes rules ms) n)) (sym c.same) (stay c.further n h)
 
 -- what holds of any messages by these rules
 pub record Laws {S D C P G : Type 0} (rules : Rules S D C P G) : Type 0 where
-  pub any_order : (messages : List (Activity S D C P G)) → NamedInAnyOrder rules messages
-  pub later : (messages : List (Activity S D C P G)) → NamesStay rules messages
-  pub names : (vs : List (SignedVote D G)) (es : List (Evidence D G)) → IsEvidence rules.eq vs es → NamesExactly rules.eq vs es
+  pub any_order : (messages : List (Activity S D C P G)) → ReorderingAccusesSame rules messages
+  pub later : (messages : List (Activity S D C P G)) → AccusedStay rules messages
+  pub names : (vs : List (SignedVote D G)) (es : List (Evidence D G)) → IsEvidence rules.eq vs es → AccusesExactly rules.eq vs es
   pub sound : (vs : List (SignedVote D G)) (es : List (Evidence D G)) → IsEvidence rules.eq vs es → All (IsEquivocation rules.eq vs) es
   pub only : (vs : List (SignedVote D G)) (es : List (Evidence D G)) → IsEvidence rules.eq vs es → EvidenceIsUnique rules.eq vs es
   pub again : (messages : List (Activity S D C P G)) (es : List (recorded.Evidence S D P G)) → AreLawful rules → IsEvidence rules.eq (valid_votes rules messages) (map evidence_value es) → IsEvidenceAgain rules es
-  pub enough : (messages : List (Activity S D C P G)) → AreLawful rules → EnoughAreNamed rules messages
+  pub enough : (messages : List (Activity S D C P G)) → AreLawful rules → EnoughAreAccused rules messages
   pub signers : (messages : List (Activity S D C P G)) → AreLawful rules → SignersAreAccountable rules messages
   pub only_splits : (messages : List (Activity S D C P G)) (splits : List Split) → AreSplits rules messages splits → SplitsAreUnique rules messages splits
-  pub split_names : (messages : List (Activity S D C P G)) (splits : List Split) → AreLawful rules → AreSplits rules messages splits → SplitsHaveNames splits
+  pub split_accused : (messages : List (Activity S D C P G)) (splits : List Split) → AreLawful rules → AreSplits rules messages splits → SplitsHaveAccused splits
 
 -- the report of a stream, whose evidence can be encoded, is that of an audit
 pub audited : {S D C P G : Type 0} (basis : Basis S D C P G) → IsLawful basis.format → IsNeverEmpty basis.format → AreLawful basis.rules → Laws basis.rules →
@@ -76,12 +76,12 @@ audited basis law some lawful laws stream report is each =
       sound = λ messages rest are. laws.sound (valid_votes basis.rules messages) (evidence_in report) (of_evidence messages rest are);
       only = λ messages rest are. laws.only (valid_votes basis.rules messages) (evidence_in report) (of_evidence messages rest are);
       any_order = laws.any_order;
-      stays = λ more n messages rest are later left are'. names_stay basis.format basis.rules law stream more rest left messages later (laws.later messages) are are' n;
+      stays = λ more n messages rest are later left are'. accused_stay basis.format basis.rules law stream more rest left messages later (laws.later messages) are are' n;
       enough = λ messages rest are. laws.enough messages lawful;
       splits = record {
         are_splits = of_splits;
         only = λ messages rest are. laws.only_splits messages report.splits.items (of_splits messages rest are);
-        enough = laws.split_names is.messages report.splits.items lawful is.splits_are;
+        enough = laws.split_accused is.messages report.splits.items lawful is.splits_are;
       };
       accountable = λ messages rest are. laws.signers messages lawful;
       again = record {
