@@ -1,5 +1,5 @@
 -- Two certified messages that contradict accuse more participants than may lie.
-use Rattle.simplex_detector.proofs.Prelude.{Activity, All, All-append, All-contains, All-filter, All-from_recursion, All-map, AllByRecursion, AreLawful, Attestation, Bool, Conflicting_finalize, Conflicting_notarize, Contains, Contains-from_any, EnoughAreAccused, IsAccountable, IsTrue, Kind, List, None, Nullify_finalize, Option, Round, Rules, SignedVote, SignersAreAccountable, Some, SubjectValue, [], activity_round, and_from, and_parts, ap, arith, certificate_in, certificates_contradict, certified_in, clash, cond, cond_some, distinct_count, eqb-true, excludes, false, faults_of, filter, filter_passes, if_certified, is_member, is_accused, is_accused_in, is_of, length, length-append, length-filter_both, length-le_from_distinct_below, length-le_from_is_member, length-map, list_any, list_any-from_Contains, list_any_congr, map, accused_count, nat_eq, nat_eq_equiv, not, not-true, or_cases, or_left, or_parts, or_right, quorum_of, recursion_from_All, refl, round_of, same_Some, same_round, shared_signers, signers_of, subst, sym, true, unique_keys, valid_votes, vote_on, votes_in, ℕ, ⊎_elim, ◌++◌, ◌+◌, ◌<◌, ◌||◌, ◌∙◌, ◌∷◌, ◌≡◌, ◌≤◌}
+use Rattle.simplex_detector.proofs.Prelude.{Activity, All, All-append, All-contains, All-filter, All-from_recursion, All-map, AllByRecursion, AreLawful, Attestation, Bool, Conflicting_finalize, Conflicting_notarize, Contains, Contains-from_any, EnoughAreAccused, IsAccountable, IsTrue, Kind, List, None, Nullify_finalize, Option, Round, Rules, SignedVote, SignersAreAccountable, Some, SubjectValue, [], activity_round, and_from, and_parts, ap, arith, subject_and_certificate, certificates_contradict, certified_in, clash, cond, cond_some, distinct_count, eqb-true, excludes, false, faults_of, filter, filter_passes, if_certified, is_member, is_accused, is_accused_in, is_of, length, length-append, length-filter_both, length-le_from_distinct_below, length-le_from_is_member, length-map, list_any, list_any-from_Contains, list_any_congr, map, accused_count, nat_eq, nat_eq_equiv, not, not-true, or_cases, or_left, or_parts, or_right, quorum_of, recursion_from_All, refl, round_of, same_Some, same_round, shared_signers, signers_of, subst, sym, true, unique_keys, valid_votes, vote_on, votes_in, ℕ, ⊎_elim, ◌++◌, ◌+◌, ◌<◌, ◌||◌, ◌∙◌, ◌∷◌, ◌≡◌, ◌≤◌}
 use Rattle.std.specs.List.{IsDistinct}
 use Rattle.simplex_detector.proofs.EvidenceLemmas.{accused_from_votes, valid_in, votes_from_accused}
 use Rattle.simplex_detector.proofs.Lists.{Contains-filter, Contains-from_filter, Contains-from_map, Contains-map, each, some_from_is_some}
@@ -116,7 +116,7 @@ accused_from_excludes {D} {G} eq vs round q v w v_in w_in v_of w_of h =
 -- ---- what a message certifies
 
 -- the subject of its certificate is of its round, and its votes are those that the certificate lists
-pub certificate_parts : {S D C P G : Type 0} (listed : C → List (Attestation S P G)) (m : Activity S D C P G) (s : SubjectValue D × C) → certificate_in m ≡ Some s → (activity_round m ≡ round_of s.0) × (votes_in listed m ≡ map (vote_on s.0) (listed s.1))
+pub certificate_parts : {S D C P G : Type 0} (listed : C → List (Attestation S P G)) (m : Activity S D C P G) (s : SubjectValue D × C) → subject_and_certificate m ≡ Some s → (activity_round m ≡ round_of s.0) × (votes_in listed m ≡ map (vote_on s.0) (listed s.1))
 certificate_parts listed (activity.Notarization n) s h = let e = same_Some _ s h in (ap (λ x. round_of x.0) e, ap (λ x. map (vote_on x.0) (listed x.1)) e)
 certificate_parts listed (activity.Certification n) s h = let e = same_Some _ s h in (ap (λ x. round_of x.0) e, ap (λ x. map (vote_on x.0) (listed x.1)) e)
 certificate_parts listed (activity.Nullification n) s h = let e = same_Some _ s h in (ap (λ x. round_of x.0) e, ap (λ x. map (vote_on x.0) (listed x.1)) e)
@@ -132,12 +132,12 @@ pub record Certifies {S D C P G : Type 0} (rules : Rules S D C P G) (messages : 
   pub message : Activity S D C P G
   pub certificate : C
   pub is_in : Contains messages message
-  pub has : certificate_in message ≡ Some (x, certificate)
+  pub has : subject_and_certificate message ≡ Some (x, certificate)
   pub certifies : rules.certified x certificate ≡ true
 
 pub certifies_from : {S D C P G : Type 0} (rules : Rules S D C P G) (messages : List (Activity S D C P G)) (m : Activity S D C P G) (x : SubjectValue D) → Contains messages m → certified_in rules m ≡ Some x → Certifies rules messages x
 certifies_from rules messages m x m_in is =
-    let (c, has, certifies) = certified_parts rules (certificate_in m) x is in
+    let (c, has, certifies) = certified_parts rules (subject_and_certificate m) x is in
     record { message = m; certificate = c; is_in = m_in; has = has; certifies = certifies }
 
 -- ---- the law
@@ -201,6 +201,6 @@ module _ {S D C P G : Type 0} (rules : Rules S D C P G) (l : AreLawful rules) (m
   enough m k m_in k_in against m_certified k_certified =
       let (x, x_is) = some_from_is_some (certified_in rules m) m_certified in
       let (y, y_is) = some_from_is_some (certified_in rules k) k_certified in
-      let (c, m_has, m_certifies) = certified_parts rules (certificate_in m) x x_is in
-      let (d, k_has, k_certifies) = certified_parts rules (certificate_in k) y y_is in
+      let (c, m_has, m_certifies) = certified_parts rules (subject_and_certificate m) x x_is in
+      let (d, k_has, k_certifies) = certified_parts rules (subject_and_certificate k) y y_is in
       enough_for (activity_round m) c d (accountable m k x y c d m_in k_in m_has k_has m_certifies k_certifies against)

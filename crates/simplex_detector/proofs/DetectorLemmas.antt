@@ -1,5 +1,5 @@
 -- What is recorded, round by round, after one more message.
-use Rattle.simplex_detector.proofs.Prelude.{Activity, All, All-from_recursion, All-map, AllByRecursion, Attestation, BTreeMap, Bool, Detector, HoldsRound, IsEquivalence, IsSized, IsTrue, Kind, List, None, Option, Recalls, RecallsAt, RecallsNothing, RecallsRound, RecordsFirsts, Round, RoundState, RoundVotes, Rules, Schedule, SignedVote, Some, Sort, SubjectValue, TakesIn, TakesMessage, [], activity_round, and_left, and_parts, and_right, ap, append-nil, append_assoc, arith, certificate_in, certified_by, certified_subjects, clash, committee_of, cond, cond-false, contradicts, false, filter, filter-append, finalize_of, get, if_certified, is_at, is_key, is_news, is_of, is_valid, length, map, no_slot, notarize_of, nothing_certified, nullify_of, option_to_list, recorded_in, recursion_from_All, refl, round_cmp, round_count, round_of, rules_of, same_round, same_sort, size_by, slot_of, slots, sort_of, subst, sym, true, valid_by, valid_votes, vote_on, votes_in, ℕ, ◌++◌, ◌∙◌, ◌∷◌, ◌≡◌}
+use Rattle.simplex_detector.proofs.Prelude.{Activity, All, All-from_recursion, All-map, AllByRecursion, Attestation, BTreeMap, Bool, Detector, HoldsRound, IsEquivalence, IsSized, IsTrue, Kind, List, None, Option, Recalls, RecallsAt, RecallsNothing, RecallsRound, RecordsFirsts, Round, RoundState, RoundVotes, Rules, Schedule, SignedVote, Some, Sort, SubjectValue, TakesIn, TakesMessage, [], activity_round, and_left, and_parts, and_right, ap, append-nil, append_assoc, arith, subject_and_certificate, certified_by, certified_subjects, clash, committee_of, cond, cond-false, contradicts, false, filter, filter-append, get, if_certified, is_at, is_key, is_news, is_of, is_valid, length, map, no_slot, nothing_certified, option_to_list, recorded_in, recursion_from_All, refl, round_cmp, round_count, round_of, rules_of, same_round, same_sort, size_by, slot_of, slots, sort_of, subst, sym, true, valid_by, valid_votes, vote_on, votes_in, ℕ, ◌++◌, ◌∙◌, ◌∷◌, ◌≡◌, Notarizes, Nullifies, Finalizes}
 use Rattle.simplex_detector.proofs.AccountLemmas.{certificate_parts}
 use Rattle.simplex_detector.proofs.EvidenceLemmas.{valid_votes-push}
 use Rattle.simplex_detector.proofs.Places.{is_of-true, key_tells, other_round}
@@ -17,10 +17,10 @@ one_round eq kind v w h = (is_of-true (round_of v.subject) v.signer w (and_parts
 
 -- so are those of a message that is no evidence
 pub votes_of_round : {S D C P G : Type 0} (listed : C → List (Attestation S P G)) (m : Activity S D C P G) → ((c : _) → m ≡ activity.ConflictingNotarize c → ⊥) → ((c : _) → m ≡ activity.ConflictingFinalize c → ⊥) → ((c : _) → m ≡ activity.NullifyFinalize c → ⊥) → All (IsHere (activity_round m)) (votes_in listed m)
-votes_of_round listed (activity.Notarization n) a b d = All-map (IsHere n.proposal.round) (notarize_of n.proposal) (listed n.certificate) (λ k e lt. refl)
-votes_of_round listed (activity.Certification n) a b d = All-map (IsHere n.proposal.round) (notarize_of n.proposal) (listed n.certificate) (λ k e lt. refl)
-votes_of_round listed (activity.Nullification n) a b d = All-map (IsHere n.round) (nullify_of n.round) (listed n.certificate) (λ k e lt. refl)
-votes_of_round listed (activity.Finalization n) a b d = All-map (IsHere n.proposal.round) (finalize_of n.proposal) (listed n.certificate) (λ k e lt. refl)
+votes_of_round listed (activity.Notarization n) a b d = All-map (IsHere n.proposal.round) (vote_on (Notarizes n.proposal)) (listed n.certificate) (λ k e lt. refl)
+votes_of_round listed (activity.Certification n) a b d = All-map (IsHere n.proposal.round) (vote_on (Notarizes n.proposal)) (listed n.certificate) (λ k e lt. refl)
+votes_of_round listed (activity.Nullification n) a b d = All-map (IsHere n.round) (vote_on (Nullifies n.round)) (listed n.certificate) (λ k e lt. refl)
+votes_of_round listed (activity.Finalization n) a b d = All-map (IsHere n.proposal.round) (vote_on (Finalizes n.proposal)) (listed n.certificate) (λ k e lt. refl)
 votes_of_round listed (activity.ConflictingNotarize c) a b d = absurd (a c refl)
 votes_of_round listed (activity.ConflictingFinalize c) a b d = absurd (b c refl)
 votes_of_round listed (activity.NullifyFinalize c) a b d = absurd (d c refl)
@@ -150,7 +150,7 @@ module _ {S D C P G : Type 0} (eq : D → D → Bool) (keys : S → List P) (goo
         no_vote [] h = refl
         no_vote (v ∷ vs) h = (λ i. cond (valid_by good ((ap (λ r. committee_of schedule r.epoch) h.0 ∙ sym none) i) v.subject v.signer v.signature) (v ∷ filter (is_valid (judges schedule)) vs) (filter (is_valid (judges schedule)) vs)) ∙ no_vote vs h.1
 
-        no_subject : (o : Option (SubjectValue D × C)) → certificate_in m ≡ o → if_certified (judges schedule) o ≡ None
+        no_subject : (o : Option (SubjectValue D × C)) → subject_and_certificate m ≡ o → if_certified (judges schedule) o ≡ None
         no_subject None is = refl
         no_subject (Some s) is = λ i. cond (certified_by certified ((ap (λ r. committee_of schedule r.epoch) (sym (certificate_parts listed m s is).0) ∙ sym none) i) s.0 s.1) (Some s.0) None
 
@@ -158,7 +158,7 @@ module _ {S D C P G : Type 0} (eq : D → D → Bool) (keys : S → List P) (goo
         votes = sym (valid_votes-push (judges schedule) messages m ∙ ap (λ vs. valid_votes (judges schedule) messages ++ vs) (no_vote (votes_in listed m) (recursion_from_All _ (votes_in listed m) here)) ∙ append-nil (valid_votes (judges schedule) messages))
 
         subjects : certified_subjects (judges schedule) messages ≡ certified_subjects (judges schedule) (messages ++ m ∷ [])
-        subjects = sym (subjects_push (judges schedule) messages m ∙ ap (λ p. certified_subjects (judges schedule) messages ++ option_to_list p) (no_subject (certificate_in m) refl) ∙ append-nil (certified_subjects (judges schedule) messages))
+        subjects = sym (subjects_push (judges schedule) messages m ∙ ap (λ p. certified_subjects (judges schedule) messages ++ option_to_list p) (no_subject (subject_and_certificate m) refl) ∙ append-nil (certified_subjects (judges schedule) messages))
 
         by : (o : Option (RoundState S D P G)) → RecallsAt (judges schedule) messages q o → RecallsAt (judges schedule) (messages ++ m ∷ []) q o
         by None r = record { votes = subst (λ vs. (signer : ℕ) (sort : Sort) → no_slot ≡ slot_of eq vs sort q signer) votes r.votes; subjects = subst (λ xs. RecordsFirsts eq xs q nothing_certified) subjects r.subjects }

@@ -1,5 +1,5 @@
 -- Where votes are: the tests on rounds, signers, sorts and proposals, which subjects exclude each other, and the orders of a report.
-use Rattle.simplex_detector.proofs.Prelude.{Bool, CmpEqualImpliesEq, Conflicting_finalize, Conflicting_notarize, Equal, Finalizes, Finalizing, IsEquivalence, IsTotalOrder, Kind, Accusation, Notarizes, Notarizing, Nullifies, Nullify_finalize, Nullifying, Proposal, Round, SignedVote, Sort, SubjectValue, and_equiv, and_from, and_parts, ap, cases_Bool, clash, eq-eqb, eqb, eqb-true, exact_pairs, exact_unsigned, excludes, false, false_from_ne_true, false≢true, first_sort, inl, inr, is_at, is_eq, is_key, is_of, kind_rank, accused_cmp, nat_cmp, nat_cmp_total, nat_eq_equiv, not, on_equiv, on_total, refl, round_cmp, round_of, same_proposal, same_round, same_sort, signer_cmp, sort_of, subst, sym, then_total, tied_itself, true, ℕ, ⊎_elim, ◌&&◌, ◌∙◌, ◌≡◌, ◌⊎◌}
+use Rattle.simplex_detector.proofs.Prelude.{Bool, CmpEqualImpliesEq, Conflicting_finalize, Conflicting_notarize, Equal, Finalizes, Finalizing, IsEquivalence, IsTotalOrder, Kind, Accusation, Notarizes, Notarizing, Nullifies, Nullify_finalize, Nullifying, Proposal, Round, SignedVote, Sort, SubjectValue, and_equiv, and_from, and_parts, ap, cases_Bool, clash, eq-eqb, eqb, eqb-true, exact_pairs, exact_unsigned, excludes, false, false_from_ne_true, false≢true, first_sort, inl, inr, is_at, is_eq, is_key, is_of, kind_rank, accused_cmp, nat_cmp, nat_cmp_total, nat_eq_equiv, not, on_equiv, on_total, refl, round_cmp, round_of, same_proposal, same_round, same_sort, second_sort, signer_cmp, sort_of, subst, sym, then_total, tied_itself, true, ℕ, ⊎_elim, ◌∙◌, ◌≡◌, ◌⊎◌}
 
 -- ---- rounds, proposals and sorts
 
@@ -91,27 +91,15 @@ excludes_one eq l (Finalizes p) (Finalizes q) (Nullifies r) s h = inr refl
 excludes_one eq l (Nullifies p) (Nullifies q) (Finalizes r) s h = inr refl
 excludes_one eq l _ _ _ s h = absurd cc
 
--- the sort of the second of two votes that contradict with a kind
-abbrev pub second_sort : Kind → Sort
-second_sort Conflicting_notarize = Notarizing
-second_sort Conflicting_finalize = Finalizing
-second_sort Nullify_finalize = Finalizing
-
--- those of the kind's sorts, in this order, that exclude each other
-pub clash-excludes : {D : Type 0} (eq : D → D → Bool) (kind : Kind) (x y : SubjectValue D) → clash eq kind x y ≡ (same_sort (sort_of x) (first_sort kind) && (same_sort (sort_of y) (second_sort kind) && excludes eq x y))
-clash-excludes eq Conflicting_notarize (Notarizes p) (Notarizes q) = refl
-clash-excludes eq Conflicting_finalize (Finalizes p) (Finalizes q) = refl
-clash-excludes eq Nullify_finalize (Nullifies r) (Finalizes q) = refl
-clash-excludes eq _ _ _ = refl
-
+-- subjects that clash are of the sorts of the kind, and exclude each other
 pub clash_parts : {D : Type 0} (eq : D → D → Bool) (kind : Kind) (x y : SubjectValue D) → clash eq kind x y ≡ true → (sort_of x ≡ first_sort kind) × (sort_of y ≡ second_sort kind) × (excludes eq x y ≡ true)
 clash_parts eq kind x y h =
-    let p = and_parts (same_sort (sort_of x) (first_sort kind)) _ (sym (clash-excludes eq kind x y) ∙ h) in
+    let p = and_parts (same_sort (sort_of x) (first_sort kind)) _ h in
     let q = and_parts (same_sort (sort_of y) (second_sort kind)) (excludes eq x y) p.1 in
     (same_sort-true _ _ p.0, same_sort-true _ _ q.0, q.1)
 
 clash_from : {D : Type 0} (eq : D → D → Bool) (kind : Kind) (x y : SubjectValue D) → sort_of x ≡ first_sort kind → sort_of y ≡ second_sort kind → excludes eq x y ≡ true → clash eq kind x y ≡ true
-clash_from eq kind x y s t h = clash-excludes eq kind x y ∙ and_from _ _ (ap (same_sort (sort_of x)) (sym s) ∙ same_sort-refl (sort_of x)) (and_from _ _ (ap (same_sort (sort_of y)) (sym t) ∙ same_sort-refl (sort_of y)) h)
+clash_from eq kind x y s t h = and_from _ _ (ap (same_sort (sort_of x)) (sym s) ∙ same_sort-refl (sort_of x)) (and_from _ _ (ap (same_sort (sort_of y)) (sym t) ∙ same_sort-refl (sort_of y)) h)
 
 -- subjects that exclude each other clash with some kind, in one order
 pub kind_from_excludes : {D : Type 0} (eq : D → D → Bool) (x y : SubjectValue D) → excludes eq x y ≡ true → (kind : Kind) × ((clash eq kind x y ≡ true) ⊎ (clash eq kind y x ≡ true))
@@ -142,7 +130,7 @@ pub signer_cmp_total : IsTotalOrder signer_cmp
 signer_cmp_total = then_total (on_total (λ (s : Round × ℕ). s.0) round_cmp_total) (on_total (λ (s : Round × ℕ). s.1) nat_cmp_total)
 
 pub accused_cmp_total : IsTotalOrder accused_cmp
-accused_cmp_total = then_total (on_total (λ (n : Accusation). n.round) round_cmp_total) (then_total (on_total (λ (n : Accusation). n.signer) nat_cmp_total) (on_total (λ (n : Accusation). kind_rank n.kind) nat_cmp_total))
+accused_cmp_total = then_total (on_total (λ (n : Accusation). (n.round, n.signer)) signer_cmp_total) (on_total (λ (n : Accusation). kind_rank n.kind) nat_cmp_total)
 
 -- what an order ties is one
 pub exact_rounds : CmpEqualImpliesEq round_cmp
@@ -152,7 +140,7 @@ pub exact_signers : CmpEqualImpliesEq signer_cmp
 exact_signers = exact_pairs round_cmp nat_cmp exact_rounds exact_unsigned
 
 pub exact_accused : CmpEqualImpliesEq accused_cmp
-exact_accused a b h = ap (λ (p : _). record { round = p.0; signer = p.1.0; kind = p.1.1 }) (exact_pairs round_cmp _ exact_rounds (exact_pairs nat_cmp (λ k l. nat_cmp (kind_rank k) (kind_rank l)) exact_unsigned kinds) (a.round, (a.signer, a.kind)) (b.round, (b.signer, b.kind)) h)
+exact_accused a b h = ap (λ (p : _). record { round = p.0.0; signer = p.0.1; kind = p.1 }) (exact_pairs signer_cmp (λ k l. nat_cmp (kind_rank k) (kind_rank l)) exact_signers kinds ((a.round, a.signer), a.kind) ((b.round, b.signer), b.kind) h)
   where
     kinds : (k l : Kind) → nat_cmp (kind_rank k) (kind_rank l) ≡ Equal → k ≡ l
     kinds Conflicting_notarize Conflicting_notarize e = refl

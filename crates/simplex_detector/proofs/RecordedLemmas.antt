@@ -1,8 +1,8 @@
 -- Which votes are recorded, vote by vote, slot by slot and round by round, and the evidence in the slots.
-use Rattle.simplex_detector.proofs.Prelude.{Attestation, Bool, Conflicting_finalize, Conflicting_notarize, Contains, Evidence, Finalizes, Finalizing, HoldsRound, IsEquivalence, Kind, List, Accusation, None, Notarizing, Nullifies, Nullify_finalize, Nullifying, Option, RecordedAreSlots, Round, RoundVotes, SignedVote, Slot, Some, Sort, SubjectValue, TakesVote, [], and_from, and_left, and_parts, and_right, ap, append-nil, append_assoc, arith, both, changes, cond, cond-false, contradicts, eqb, evidence_from, evidence_of, excludes, false, false_from_ne_true, false≢true, filter, filter-append, find, find-append, first_sort, if_differs, if◌then◌else◌, is_at, is_for, is_news, is_of, length, length-append, map, map-append, news_after, no_slot, option_or, option_to_list, other_than, recorded_in, recorded_of, refl, round_of, same_Some, same_round, same_sort, slot_of, slot_with, slots, sort_of, subst, sym, true, vote_on, votes_in_slot, with_first, with_second, ℕ, ◌&&◌, ◌++◌, ◌+◌, ◌<◌, ◌∙◌, ◌∷◌, ◌≡◌, ◌≤◌}
+use Rattle.simplex_detector.proofs.Prelude.{Attestation, Bool, Conflicting_finalize, Conflicting_notarize, Contains, Evidence, Finalizes, Finalizing, HoldsRound, IsEquivalence, Kind, List, Accusation, None, Notarizing, Nullifies, Nullify_finalize, Nullifying, Option, RecordedAreSlots, Round, RoundVotes, SignedVote, Slot, Some, Sort, SubjectValue, TakesVote, [], and_from, and_left, and_parts, and_right, ap, append-nil, append_assoc, arith, both, changes, clash, cond, cond-false, contradicts, eqb, evidence_from, evidence_of, excludes, false, false_from_ne_true, false≢true, filter, filter-append, find, find-append, first_sort, if_differs, if◌then◌else◌, is_at, is_for, is_news, is_of, length, length-append, map, map-append, news_after, no_slot, option_or, option_to_list, other_than, recorded_in, recorded_of, refl, round_of, same_Some, same_round, same_sort, second_sort, slot_of, slot_with, slots, sort_of, subst, sym, true, vote_on, votes_in_slot, with_first, with_second, ℕ, ◌&&◌, ◌++◌, ◌+◌, ◌<◌, ◌∙◌, ◌∷◌, ◌≡◌, ◌≤◌}
 use Rattle.simplex_detector.proofs.EvidenceLemmas.{first_spot}
 use Rattle.simplex_detector.proofs.Lists.{Contains-cons, Contains-filter, Contains-first, Contains-none, find_from_Contains, find_push, found, none_found}
-use Rattle.simplex_detector.proofs.Places.{Spot, clash-excludes, excludes_itself, is_at-from, is_at-true, same_round-from, same_round-true, same_sort-refl, second_sort, spot}
+use Rattle.simplex_detector.proofs.Places.{Spot, excludes_itself, is_at-from, is_at-true, same_round-from, same_round-true, same_sort-refl, spot}
 
 module _ {D G : Type 0} (eq : D → D → Bool) (l : IsEquivalence eq) (vs : List (SignedVote D G)) (v : SignedVote D G) where
   -- the earliest other vote, after one more vote
@@ -51,7 +51,7 @@ module _ {D G : Type 0} (eq : D → D → Bool) where
   -- the test on the second vote, by its spot and its subject
   second_test : (n : Accusation) (v w : SignedVote D G) → spot v ≡ first_spot n → contradicts eq n.kind v w ≡ (is_at (second_sort n.kind) n.round n.signer w && excludes eq v.subject w.subject)
   second_test n v w at =
-      (λ i. is_of (at i).round (at i).signer w && clash-excludes eq n.kind v.subject w.subject i) ∙
+      (λ i. is_of (at i).round (at i).signer w && clash eq n.kind v.subject w.subject) ∙
       regroup (same_sort (sort_of v.subject) (first_sort n.kind)) (is_of n.round n.signer w) (same_sort (sort_of w.subject) (second_sort n.kind)) (excludes eq v.subject w.subject) (ap (λ (s : Spot). same_sort (sort_of v.subject) s.sort) (sym at) ∙ same_sort-refl (sort_of v.subject))
     where
       regroup : (f a s e : Bool) → f ≡ true → (a && (f && (s && e))) ≡ ((s && a) && e)

@@ -1,9 +1,9 @@
 -- The evidence in what is recorded, signer by signer and round by round, is the evidence of the votes.
-use Rattle.simplex_detector.proofs.Prelude.{Activity, All, All-contains, All-from_recursion, All-push, AllByRecursion, Bool, Conflicting_finalize, Conflicting_notarize, Contains, Contains-append_left, Contains-append_right, Contains-dedup_nat, Contains-permutation, Detector, Evidence, HoldsRound, IsEquivalence, IsEvidence, IsOrdered, IsPermutation, IsSorted, IsStrictlyIncreasing-dedup, IsTrue, Kind, Less, List, ListsSigners, Accusation, None, Nullify_finalize, Recalls, RecallsAt, RecallsNothing, RecallsRound, Round, RoundState, RoundVotes, Rules, SignedVote, Slot, Some, Sort, [], ap, append-nil, append_assoc, arith, btree_map_get_iff, cond-true, contradicts, dedup, eqb, eqb-true, evidence_from, evidence_of, false≢true, filter_map, filter_map-append, flat_map, flat_map_more, found_at, found_of_kind, get, get_or, if_contradicts, inl, inr, is_accused, is_some, item_of, kind_rank, length, map, map-append, map-id, accused_by, accused_cmp, nat_cmp, nat_cmp_total, no_slot, option_map, option_to_list, ordering_then, recursion_from_All, refl, round_cmp, round_of, slot_of, slots, sorted_from_strictly_increasing, subst, sym, take, take_more, tied_itself, true, valid_votes, ℕ, ◌++◌, ◌+◌, ◌<◌, ◌∙◌, ◌∷◌, ◌≡◌, ◌⊎◌}
+use Rattle.simplex_detector.proofs.Prelude.{Activity, All, All-contains, All-from_recursion, All-push, AllByRecursion, Bool, Conflicting_finalize, Conflicting_notarize, Contains, Contains-append_left, Contains-append_right, Contains-dedup_nat, Contains-permutation, Detector, Evidence, HoldsRound, IsEquivalence, IsEvidence, IsOrdered, IsPermutation, IsSorted, IsStrictlyIncreasing-dedup, IsTrue, Kind, Less, List, ListsSigners, Accusation, None, Nullify_finalize, Recalls, RecallsAt, RecallsNothing, RecallsRound, Round, RoundState, RoundVotes, Rules, SignedVote, Slot, Some, Sort, [], ap, append-nil, append_assoc, arith, btree_map_get_iff, cond-true, contradicts, dedup, eqb, eqb-true, evidence_from, evidence_of, false≢true, filter_map, filter_map-append, flat_map, flat_map_more, found_at, found_of_kind, get, get_or, if_contradicts, inl, inr, is_accused, is_some, item_of, kind_rank, length, map, map-append, map-id, accused_by, accused_cmp, nat_cmp, no_slot, option_map, option_to_list, ordering_then, recursion_from_All, refl, round_cmp, round_of, signer_cmp, slot_of, slots, sorted_from_strictly_increasing, subst, sym, take, take_more, tied_itself, true, valid_votes, ℕ, ◌++◌, ◌+◌, ◌<◌, ◌∙◌, ◌∷◌, ◌≡◌, ◌⊎◌}
 use Rattle.std.specs.List.Sorted.{IsStrictlySortedBy}
 use Rattle.simplex_detector.proofs.EvidenceLemmas.{evidence-from_accused, evidence_is, from_listing}
 use Rattle.simplex_detector.proofs.Lists.{found_mapped, Contains-flat_map, Contains-from_filter_map, Contains-from_flat_map, Contains-from_map, Contains-map, each, filter_map-joined, found, made_complete, made_ordered, made_sound, some_from_is_some, sorted_joined}
-use Rattle.simplex_detector.proofs.Places.{exact_rounds, round_cmp_total}
+use Rattle.simplex_detector.proofs.Places.{exact_rounds, round_cmp_total, signer_cmp_total}
 use Rattle.simplex_detector.proofs.RecordedLemmas.{both-Some, evidence_of-slots}
 
 -- es is the evidence of the votes in this round: in order, each that of whom it accuses, and nobody accused there left out
@@ -47,7 +47,7 @@ own_name n = elim n.kind as (λ kind. Contains (names_at n.round n.signer) (reco
 ordered_at : (round : Round) (signer : ℕ) → IsStrictlySortedBy accused_cmp (names_at round signer)
 unfolding IsStrictlySortedBy
 ordered_at round signer =
-    let rise : (k l : Kind) → nat_cmp (kind_rank k) (kind_rank l) ≡ Less → ordering_then (round_cmp round round) (ordering_then (nat_cmp signer signer) (nat_cmp (kind_rank k) (kind_rank l))) ≡ Less = λ k l less i. ordering_then (tied_itself round_cmp_total round i) (ordering_then (tied_itself nat_cmp_total signer i) (less i)) in
+    let rise : (k l : Kind) → nat_cmp (kind_rank k) (kind_rank l) ≡ Less → ordering_then (signer_cmp (round, signer) (round, signer)) (nat_cmp (kind_rank k) (kind_rank l)) ≡ Less = λ k l less i. ordering_then (tied_itself signer_cmp_total (round, signer) i) (less i) in
     ((rise Conflicting_notarize Conflicting_finalize refl, (rise Conflicting_notarize Nullify_finalize refl, tt)), ((rise Conflicting_finalize Nullify_finalize refl, tt), (tt, tt)))
 
 -- of one round in the order of signers
@@ -57,8 +57,8 @@ ordered_in round signers sorted =
     (λ s q n m less n_in m_in.
     let (n_here, n_is) = at_name round s n n_in in
     let (m_here, m_is) = at_name round q m m_in in
-    (λ i. ordering_then (round_cmp (n_here i) (m_here i)) (ordering_then (nat_cmp (n_is i) (m_is i)) (nat_cmp (kind_rank n.kind) (kind_rank m.kind)))) ∙
-    (λ i. ordering_then (tied_itself round_cmp_total round i) (ordering_then (less i) (nat_cmp (kind_rank n.kind) (kind_rank m.kind)))))
+    (λ i. ordering_then (signer_cmp (n_here i, n_is i) (m_here i, m_is i)) (nat_cmp (kind_rank n.kind) (kind_rank m.kind))) ∙
+    (λ i. ordering_then (ordering_then (tied_itself round_cmp_total round i) (less i)) (nat_cmp (kind_rank n.kind) (kind_rank m.kind))))
     signers (λ s s_in. ordered_at round s) (subst (IsStrictlySortedBy nat_cmp) (sym (map-id signers)) sorted)
 
 -- ---- what is found in the slots
@@ -152,7 +152,7 @@ pub report_of_walk : {S D C P G : Type 0} (rules : Rules S D C P G) → IsEquiva
 report_of_walk {S} {D} {C} {P} {G} rules l detector ordered found walked messages holds =
     subst (IsEvidence rules.eq vs) (sym (walked.is ∙ found_steps walked.steps (recursion_from_All _ walked.steps (each _ walked.steps held)))) (from_listing rules.eq vs l _ (record {
       ordered = made_ordered accused_by accused_cmp (evidence_of rules.eq vs) (accuses_own rules.eq vs) (flat_map names_of walked.steps) (sorted_joined round_cmp accused_cmp (λ step. step.round) names_of
-          (λ a b n m less n_in m_in. ap (λ o. ordering_then o (ordering_then (nat_cmp n.signer m.signer) (nat_cmp (kind_rank n.kind) (kind_rank m.kind)))) ((λ i. round_cmp (in_name a.round a.signers n n_in i) (in_name b.round b.signers m m_in i)) ∙ less))
+          (λ a b n m less n_in m_in. ap (λ o. ordering_then (ordering_then o (nat_cmp n.signer m.signer)) (nat_cmp (kind_rank n.kind) (kind_rank m.kind))) ((λ i. round_cmp (in_name a.round a.signers n n_in i) (in_name b.round b.signers m m_in i)) ∙ less))
           walked.steps (λ step step_in. ordered_in step.round step.signers (lists step step_in).ascending) (subst (IsStrictlySortedBy round_cmp) (rounds walked.steps) (subst (λ es. IsStrictlySortedBy round_cmp (map (λ e. e.0) es)) (sym over) ordered)));
       sound = made_sound accused_by accused_cmp (evidence_of rules.eq vs) (accuses_own rules.eq vs) (flat_map names_of walked.steps);
       complete = λ n h. made_complete accused_by accused_cmp (evidence_of rules.eq vs) (accuses_own rules.eq vs) (flat_map names_of walked.steps) n (complete n h) h;

@@ -1,5 +1,5 @@
 -- Of messages no more votes are recorded than their encodings have bytes.
-use Rattle.simplex_detector.proofs.Prelude.{Activity, Attestation, Bool, Format, List, Rules, SignedVote, [], activity_encoding, arith, cond, count_by-le-length, false, finalize_of, flat_map, groups_some, is_news, is_valid, length, length-append, length-filter, length-map, map, news_after, notarize_of, nullify_of, suc, true, valid_votes, votes_in, votes_recorded, ℕ, ◌++◌, ◌+◌, ◌∷◌, ◌≤◌}
+use Rattle.simplex_detector.proofs.Prelude.{Activity, Attestation, Bool, Format, List, Rules, SignedVote, [], activity_encoding, arith, cond, count_by-le-length, false, flat_map, groups_some, is_news, is_valid, length, length-append, length-filter, length-map, map, news_after, suc, true, valid_votes, votes_in, votes_recorded, ℕ, ◌++◌, ◌+◌, ◌∷◌, ◌≤◌, Notarizes, Nullifies, Finalizes, vote_on}
 use Rattle.simplex_evidence.specs.declared.types.activity.Activity.TheVariants as activity
 
 news_among : {D G : Type 0} (eq : D → D → Bool) (before vs : List (SignedVote D G)) → length (news_after eq before vs) ≤ length vs
@@ -23,12 +23,12 @@ two_behind front mid rest some = omega (arith, length-append (front ++ mid) rest
 module _ {S D C P G : Type 0} (eq : D → D → Bool) (payload : Format D) (certificate : C → List ℕ) (signature : Format G) (listed : C → List (Attestation S P G)) (room : (c : C) → length (listed c) ≤ length (certificate c)) where
   message_has_room : (m : Activity S D C P G) → length (votes_in listed m) ≤ length (activity_encoding eq payload certificate signature m)
   message_has_room (activity.Notarize v) = omega arith
-  message_has_room (activity.Notarization n) = votes_behind (notarize_of n.proposal) (listed n.certificate) _ _ (room n.certificate)
-  message_has_room (activity.Certification n) = votes_behind (notarize_of n.proposal) (listed n.certificate) _ _ (room n.certificate)
+  message_has_room (activity.Notarization n) = votes_behind (vote_on (Notarizes n.proposal)) (listed n.certificate) _ _ (room n.certificate)
+  message_has_room (activity.Certification n) = votes_behind (vote_on (Notarizes n.proposal)) (listed n.certificate) _ _ (room n.certificate)
   message_has_room (activity.Nullify v) = omega arith
-  message_has_room (activity.Nullification n) = votes_behind (nullify_of n.round) (listed n.certificate) _ _ (room n.certificate)
+  message_has_room (activity.Nullification n) = votes_behind (vote_on (Nullifies n.round)) (listed n.certificate) _ _ (room n.certificate)
   message_has_room (activity.Finalize v) = omega arith
-  message_has_room (activity.Finalization n) = votes_behind (finalize_of n.proposal) (listed n.certificate) _ _ (room n.certificate)
+  message_has_room (activity.Finalization n) = votes_behind (vote_on (Finalizes n.proposal)) (listed n.certificate) _ _ (room n.certificate)
   message_has_room (activity.ConflictingNotarize c) = two_behind _ _ _ (front_some _ _ (front_some _ _ (groups_some 9 c.first.proposal.round.epoch)))
   message_has_room (activity.ConflictingFinalize c) = two_behind _ _ _ (front_some _ _ (front_some _ _ (groups_some 9 c.first.proposal.round.epoch)))
   message_has_room (activity.NullifyFinalize c) = two_behind _ _ _ (front_some _ _ (groups_some 9 c.first.round.epoch))

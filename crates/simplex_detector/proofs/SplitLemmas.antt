@@ -1,5 +1,5 @@
 -- Which rounds are split, by what is recorded of their certificates, and that the messages determine their splits.
-use Rattle.simplex_detector.proofs.Prelude.{Activity, All, AreLawful, AreSplits, Bool, CertifiedSubjects, Contains, Contains-append_left, Contains-push, Contains-push_cases, Finalizing, HaveCommittees, IsEquivalence, IsStrictlySortedBy, List, None, Notarizing, Nullifying, Option, RecordsFirsts, Round, Rules, Some, Sort, Split, SubjectValue, [], activity_round, and_from, and_left, and_parts, and_right, ap, append-nil, are_split, cases_Bool, certificate_in, certificates_contradict, certified_in, certified_subjects, changes_firsts, cond, cond_some, cons_option, excludes, excludes_first, excludes_some, false, false≢true, faults_of, filter_map, filter_map-append, first_certified, first_with, firsts_of, if◌then◌else◌, inl, inr, is_certified, is_none, is_some, is_split, list_any, messages_contradict, accused_count, not, option_or, option_to_list, or_cases, or_left, or_parts, or_right, refl, round_cmp, round_of, same_round, same_sort, sort_of, split_of, subjects_contradict, subst, sym, true, valid_votes, ⊎_elim, ◌&&◌, ◌++◌, ◌+◌, ◌||◌, ◌∙◌, ◌∷◌, ◌≡◌, ◌≤◌, ◌⊎◌}
+use Rattle.simplex_detector.proofs.Prelude.{Activity, All, AreLawful, AreSplits, Bool, CertifiedSubjects, Contains, Contains-append_left, Contains-push, Contains-push_cases, Finalizing, HaveCommittees, IsEquivalence, IsStrictlySortedBy, List, None, Notarizing, Nullifying, Option, RecordsFirsts, Round, Rules, Some, Sort, Split, SubjectValue, [], activity_round, and_from, and_left, and_parts, and_right, ap, append-nil, are_split, cases_Bool, subject_and_certificate, certificates_contradict, certified_in, certified_subjects, changes_firsts, cond, cond_some, cons_option, excludes, excludes_first, excludes_some, false, false≢true, faults_of, filter_map, filter_map-append, first_certified, first_with, firsts_of, if◌then◌else◌, inl, inr, is_certified, is_none, is_some, is_split, list_any, messages_contradict, accused_count, not, option_or, option_to_list, or_cases, or_left, or_parts, or_right, refl, round_cmp, round_of, same_round, same_sort, sort_of, split_of, subjects_contradict, subst, sym, true, valid_votes, ⊎_elim, ◌&&◌, ◌++◌, ◌+◌, ◌||◌, ◌∙◌, ◌∷◌, ◌≡◌, ◌≤◌, ◌⊎◌}
 use Rattle.simplex_detector.proofs.AccountLemmas.{accountable_for, certificate_parts, certified_parts, certifies_from, enough_for}
 use Rattle.simplex_detector.proofs.Lists.{Contains-from_filter_map, Contains-from_list_any, IsListing, any_from_Contains, find_from_Contains, find_push, found, made_complete, made_ordered, made_sound, same_bool}
 use Rattle.simplex_detector.proofs.Places.{excludes-flip, excludes_itself, excludes_one, same_round-from, same_round-true, same_sort-refl, same_sort-true}
@@ -142,13 +142,13 @@ list_any-filter_map p f (x ∷ xs) = elim (f x) as (λ o. list_any p (cons_optio
 module _ {S D C P G : Type 0} (rules : Rules S D C P G) where
   -- a message that certifies a subject is of its round
   pub certified_round : (m : Activity S D C P G) (x : SubjectValue D) → certified_in rules m ≡ Some x → activity_round m ≡ round_of x
-  certified_round m x is = let (c, has, certifies) = certified_parts rules (certificate_in m) x is in (certificate_parts rules.listed m (x, c) has).0
+  certified_round m x is = let (c, has, certifies) = certified_parts rules (subject_and_certificate m) x is in (certificate_parts rules.listed m (x, c) has).0
 
   -- messages that certify subjects contradict where these do
   contradict-subjects : (m k : Activity S D C P G) (x y : SubjectValue D) → certified_in rules m ≡ Some x → certified_in rules k ≡ Some y → messages_contradict rules.eq m k ≡ subjects_contradict rules.eq x y
   contradict-subjects m k x y m_is k_is =
-      let (c, m_has, _) = certified_parts rules (certificate_in m) x m_is in
-      let (d, k_has, _) = certified_parts rules (certificate_in k) y k_is in
+      let (c, m_has, _) = certified_parts rules (subject_and_certificate m) x m_is in
+      let (d, k_has, _) = certified_parts rules (subject_and_certificate k) y k_is in
       λ i. certificates_contradict rules.eq (m_has i) (k_has i)
 
   -- what messages split follows from what they certify
@@ -222,7 +222,7 @@ module _ {S D C P G : Type 0} (rules : Rules S D C P G) (messages : List (Activi
   someone_in_split l round h =
       let o = split_opposites round h in
       let (m, m_in, m_is) = Contains-from_filter_map (certified_in rules) messages o.x o.x_in in
-      let (c, has, certifies) = certified_parts rules (certificate_in m) o.x m_is in
+      let (c, has, certifies) = certified_parts rules (subject_and_certificate m) o.x m_is in
       subst (λ r. 1 ≤ rules.size r.epoch) o.x_here (l.someone o.x c certifies)
 
   -- so its split says

@@ -1,5 +1,5 @@
 -- Which signers and rounds are suspect, and that no other signature has a part in the evidence and the splits.
-use Rattle.simplex_detector.proofs.Prelude.{Activity, All-contains, All-nil, AreLawful, AreSplits, AreSuspect, Attestation, Bool, Claimed, Conflicting_finalize, Conflicting_notarize, Contains, Evidence, HasSuspects, IsEquivalence, IsEvidence, IsTrue, JudgeAlike, Kind, List, Accusation, None, Nullify_finalize, Option, Round, Rules, Schedule, SignedVote, Some, Split, SubjectValue, SuspectSigners, Suspected, Suspects, SuspectsSuffice, TellAll, [], among, and-false, and_parts, ap, are_split, arith, certificate_in, certified_by, certified_in, certified_subjects, certified_under, claimed, clash, committee_of, cond, cond-false, cons_option, contains, contradicts, distinct_count, evidence_of, false, false_from_ne_true, false≢true, faults_of, filter, find, first_sort, flat_map, if_certified, is_at, is_accused, is_accused_in, is_of, is_some, is_split, is_suspect, is_suspect_round, is_valid, judged_by, le-ltb, lt-ltb, map, accused_by, accused_count, nat_eq, nat_lt, refl, round_cmp, round_of, rules_of, rules_under, signer_cmp, size_by, split_of, subst, suspect_of, sym, true, valid_by, valid_under, valid_votes, votes_in, with_first, with_second, ℕ, ◌&&◌, ◌+◌, ◌||◌, ◌↔◌, ◌∙◌, ◌∷◌, ◌≡◌, ◌≤◌}
+use Rattle.simplex_detector.proofs.Prelude.{Activity, All-contains, All-nil, AreLawful, AreSplits, AreSuspect, Attestation, Bool, Claimed, Conflicting_finalize, Conflicting_notarize, Contains, Evidence, HasSuspects, IsEquivalence, IsEvidence, IsTrue, JudgeAlike, Kind, List, Accusation, None, Nullify_finalize, Option, Round, Rules, Schedule, SignedVote, Some, Split, SubjectValue, SuspectSigners, Suspected, Suspects, SuspectsSuffice, TellAll, [], among, and-false, and_parts, ap, are_split, arith, subject_and_certificate, certified_by, certified_in, certified_subjects, certified_under, claimed, clash, committee_of, cond, cond-false, cons_option, contains, contradicts, distinct_count, evidence_of, false, false_from_ne_true, false≢true, faults_of, filter, find, first_sort, flat_map, if_certified, is_at, is_accused, is_accused_in, is_of, is_some, is_split, is_suspect, is_suspect_round, is_valid, judged_by, le-ltb, lt-ltb, map, accused_by, accused_count, nat_eq, nat_lt, refl, round_cmp, round_of, rules_of, rules_under, signer_cmp, size_by, split_of, subst, suspect_of, sym, true, valid_by, valid_under, valid_votes, votes_in, with_first, with_second, ℕ, ◌&&◌, ◌+◌, ◌||◌, ◌↔◌, ◌∙◌, ◌∷◌, ◌≡◌, ◌≤◌}
 use Rattle.simplex_detector.proofs.AccountLemmas.{certified_parts, counted_signer, distinct_count-same, kind_from_accused_in, accused_in}
 use Rattle.simplex_detector.proofs.EvidenceLemmas.{evidence_exists, first_spot, moved_evidence, accused_by_more, accused_from_votes, valid_from, valid_in, votes_from_accused}
 use Rattle.simplex_detector.proofs.Lists.{Contains-filter, Contains-first, Contains-from_filter, Contains-from_filter_map, Contains-from_list_any, Contains-from_map, Contains-map, Contains-none, any_from_Contains, found, same_bool}
@@ -77,7 +77,7 @@ module _ {S D C P G : Type 0} (rules : Rules S D C P G) (l : AreLawful rules) (m
   -- what is certified among suspects are the subjects of suspect rounds
   certified_among : (ms : List (Activity S D C P G)) → certified_subjects (among s rules) ms ≡ filter (λ x. s.rounds (round_of x)) (certified_subjects rules ms)
   certified_among [] = refl
-  certified_among (m ∷ ms) = elim (certificate_in m) as (λ o. cons_option (if_certified (among s rules) o) (certified_subjects (among s rules) ms) ≡ filter (λ x. s.rounds (round_of x)) (cons_option (if_certified rules o) (certified_subjects rules ms))) [
+  certified_among (m ∷ ms) = elim (subject_and_certificate m) as (λ o. cons_option (if_certified (among s rules) o) (certified_subjects (among s rules) ms) ≡ filter (λ x. s.rounds (round_of x)) (cons_option (if_certified rules o) (certified_subjects rules ms))) [
     | None ↦ certified_among ms
     | Some c ↦ elim (rules.certified c.0 c.1) as (λ b. cons_option (cond (s.rounds (round_of c.0) && b) (Some c.0) None) (certified_subjects (among s rules) ms) ≡ filter (λ x. s.rounds (round_of x)) (cons_option (cond b (Some c.0) None) (certified_subjects rules ms))) [
       | true ↦ elim (s.rounds (round_of c.0)) as (λ a. cons_option (cond (a && true) (Some c.0) None) (certified_subjects (among s rules) ms) ≡ cond a (c.0 ∷ filter (λ x. s.rounds (round_of x)) (certified_subjects rules ms)) (filter (λ x. s.rounds (round_of x)) (certified_subjects rules ms))) [ true ↦ ap (λ xs. c.0 ∷ xs) (certified_among ms) | false ↦ certified_among ms ]
@@ -140,7 +140,7 @@ module _ {S D C P G : Type 0} (rules : Rules S D C P G) (l : AreLawful rules) (m
       let no_split : (round : Round) → is_split (claimed rules) messages round ≡ true → ⊥ = λ round h.
       let o = split_opposites (claimed rules) messages round h in
       let (m, m_in, m_is) = Contains-from_filter_map (certified_in (claimed rules)) messages o.x o.x_in in
-      let (c, has, certifies) = certified_parts (claimed rules) (certificate_in m) o.x m_is in
+      let (c, has, certifies) = certified_parts (claimed rules) (subject_and_certificate m) o.x m_is in
       false≢true certifies in (
         record { ordered = is.ordered; sound = All-nil (λ e. evidence_of rules.eq (valid_votes rules messages) (accused_by e) ≡ Some e); complete = λ n h. absurd (false≢true (suspect n h).0) },
         record { ordered = are.ordered; sound = λ k d lt. absurd (no_split _ (sym (split_exists (claimed rules) messages _) ∙ ap is_some (are.sound k d lt))); complete = λ r h. absurd (false≢true (split_is_suspect rules l messages nobody suspect r h)) },

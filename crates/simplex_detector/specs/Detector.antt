@@ -6,9 +6,8 @@ use Rattle.simplex_base.specs.Positions.{Round}
 use Rattle.simplex_scheme.specs.Subject.{SubjectValue}
 use Rattle.simplex_scheme.specs.declared.scheme.Attestation.{Attestation}
 use Rattle.simplex_votes.specs.Votes.{SignedVote, Sort}
-use Rattle.simplex_evidence.specs.Activity.{activity_round, votes_in}
+use Rattle.simplex_evidence.specs.Activity.{activity_round, votes_in, subject_and_certificate}
 use Rattle.simplex_evidence.specs.declared.types.activity.Activity.{Activity}
-use Rattle.simplex_detector.specs.Certificates.{certificate_in}
 use Rattle.simplex_detector.specs.Committees.{Schedule, committee_of}
 use Rattle.simplex_detector.specs.FirstCertified.{certified_subjects, nothing_certified, RecordsFirsts}
 use Rattle.simplex_detector.specs.Recorded.{slot_of}
@@ -54,4 +53,4 @@ pub record TakesIn {S D C P G : Type 0} (rules : Schedule S → Rules S D C P G)
 
 -- a message is taken in: its votes, and its certificate if it has one
 abbrev pub TakesMessage : {S D C P G : Type 0} → (Schedule S → Rules S D C P G) → S → (C → List (Attestation S P G)) → Activity S D C P G → RoundState S D P G → RoundState S D P G → Type 0
-TakesMessage rules committee listed message old new = TakesIn rules committee (activity_round message) (votes_in listed message) (certificate_in message) old new
+TakesMessage rules committee listed message old new = TakesIn rules committee (activity_round message) (votes_in listed message) (subject_and_certificate message) old new

@@ -7,7 +7,8 @@ use Rattle.simplex_base.specs.Positions.{Round, same_round}
 use Rattle.simplex_scheme.specs.Subject.{SubjectValue, Notarizes, Nullifies, Finalizes, round_of}
 use Rattle.simplex_votes.specs.Votes.{Sort, Notarizing, Nullifying, Finalizing, sort_of, same_sort}
 use Rattle.simplex_evidence.specs.declared.types.activity.Activity.{Activity}
-use Rattle.simplex_detector.specs.Certificates.{subjects_contradict, excludes}
+use Rattle.simplex_evidence.specs.Contradiction.{excludes}
+use Rattle.simplex_detector.specs.Certificates.{subjects_contradict}
 use Rattle.simplex_detector.specs.Rules.{Rules}
 use Rattle.simplex_detector.specs.Splits.{certified_in}
 use Rattle.simplex_detector.specs.declared.certified_subjects.CertifiedSubjects.{CertifiedSubjects}

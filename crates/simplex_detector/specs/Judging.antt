@@ -1,20 +1,14 @@
 -- How strictly votes and certificates are judged.
 use Rattle.std.specs.Prelude.{ℕ, Bool, true, false, ◌&&◌, List, length, nat_lt}
 use Rattle.std.specs.BTreeSet.{contains}
-use Rattle.std.specs.Ordering.{ordering_then, nat_cmp}
-use Rattle.std.specs.declared.cmp.Ordering.{Ordering}
 use Rattle.simplex_base.specs.Positions.{Round}
 use Rattle.simplex_scheme.specs.Subject.{SubjectValue, round_of}
 use Rattle.simplex_scheme.specs.declared.scheme.Attestation.{Attestation}
 use Rattle.simplex_detector.specs.Committees.{Schedule, rules_of}
-use Rattle.simplex_detector.specs.Accusation.{round_cmp}
+use Rattle.simplex_detector.specs.Accusation.{round_cmp, signer_cmp}
 use Rattle.simplex_detector.specs.Rules.{Rules}
 use Rattle.simplex_detector.specs.declared.judging.Judging.{Judging}
 use Rattle.simplex_detector.specs.declared.judging.Judging.TheVariants.{Verified, Claimed, Suspects}
-
--- signers of rounds are ordered by round, and then by signer
-abbrev pub signer_cmp : Round × ℕ → Round × ℕ → Ordering
-signer_cmp a b = ordering_then (round_cmp a.0 b.0) (nat_cmp a.1 b.1)
 
 -- whether a signer's votes in a round are verified
 abbrev pub is_verified : Judging → Round → ℕ → Bool

@@ -5,8 +5,7 @@ use Rattle.std.specs.List.{find}
 use Rattle.simplex_base.specs.Positions.{Round, same_round}
 use Rattle.simplex_scheme.specs.Subject.{SubjectValue, round_of}
 use Rattle.simplex_votes.specs.Votes.{SignedVote, Sort, Notarizing, Nullifying, Finalizing, sort_of, is_at, is_of}
-use Rattle.simplex_evidence.specs.Contradiction.{Kind, Conflicting_notarize, Conflicting_finalize, Nullify_finalize, Evidence}
-use Rattle.simplex_detector.specs.Certificates.{excludes}
+use Rattle.simplex_evidence.specs.Contradiction.{Kind, Conflicting_notarize, Conflicting_finalize, Nullify_finalize, Evidence, excludes}
 use Rattle.simplex_detector.specs.Evidence.{with_second}
 
 -- of one round, signer and sort: the earliest vote, and the earliest with another proposal

@@ -9,10 +9,6 @@ use Rattle.simplex_votes.specs.Votes.{SignedVote}
 use Rattle.simplex_evidence.specs.Activity.{votes_in}
 use Rattle.simplex_evidence.specs.declared.types.activity.Activity.{Activity}
 
--- the vote on a subject that an attestation of it is
-abbrev pub vote_on : {S D P G : Type 0} → SubjectValue D → Attestation S P G → SignedVote D G
-vote_on x a = record { subject = x; signer = a.signer; signature = a.signature }
-
 -- What messages are judged by. S, P and G are the types of the scheme, its keys and its signatures, C that of its
 -- certificates, and D that of payloads.
 pub record Rules (S D C P G : Type 0) : Type 0 where

@@ -5,10 +5,10 @@ use Rattle.std.specs.Set.{is_member}
 use Rattle.simplex_base.specs.Positions.{Round}
 use Rattle.simplex_scheme.specs.Committee.{faults_of, signers_of}
 use Rattle.simplex_scheme.specs.Subject.{SubjectValue}
-use Rattle.simplex_evidence.specs.Activity.{activity_round}
+use Rattle.simplex_evidence.specs.Activity.{activity_round, subject_and_certificate}
 use Rattle.simplex_evidence.specs.declared.types.activity.Activity.{Activity}
 use Rattle.simplex_detector.specs.Rules.{Rules, valid_votes}
-use Rattle.simplex_detector.specs.Certificates.{certificate_in, messages_contradict}
+use Rattle.simplex_detector.specs.Certificates.{messages_contradict}
 use Rattle.simplex_detector.specs.Splits.{is_certified, is_accused_in, accused_count, AreSplits}
 use Rattle.simplex_detector.specs.declared.split.Split.{Split}
 
@@ -35,7 +35,7 @@ pub record IsAccountable {S D C P G : Type 0} (rules : Rules S D C P G) (message
 abbrev pub SignersAreAccountable : {S D C P G : Type 0} → Rules S D C P G → List (Activity S D C P G) → Type 0
 SignersAreAccountable {S} {D} {C} {P} {G} rules messages =
     (m k : Activity S D C P G) (x y : SubjectValue D) (c d : C) → Contains messages m → Contains messages k →
-    certificate_in m ≡ Some (x, c) → certificate_in k ≡ Some (y, d) → IsTrue (rules.certified x c) → IsTrue (rules.certified y d) →
+    subject_and_certificate m ≡ Some (x, c) → subject_and_certificate k ≡ Some (y, d) → IsTrue (rules.certified x c) → IsTrue (rules.certified y d) →
     IsTrue (messages_contradict rules.eq m k) → IsAccountable rules messages (activity_round m) c d
 
 -- each split has at least as many accused as it must have

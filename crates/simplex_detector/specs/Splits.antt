@@ -9,11 +9,11 @@ use Rattle.simplex_scheme.specs.Committee.{faults_of}
 use Rattle.simplex_scheme.specs.Subject.{SubjectValue}
 use Rattle.simplex_votes.specs.Votes.{SignedVote}
 use Rattle.simplex_evidence.specs.Contradiction.{Conflicting_notarize, Conflicting_finalize, Nullify_finalize}
-use Rattle.simplex_evidence.specs.Activity.{activity_round}
+use Rattle.simplex_evidence.specs.Activity.{activity_round, subject_and_certificate}
 use Rattle.simplex_evidence.specs.declared.types.activity.Activity.{Activity}
 use Rattle.simplex_detector.specs.Accusation.{is_accused, round_cmp}
 use Rattle.simplex_detector.specs.Rules.{Rules, valid_votes}
-use Rattle.simplex_detector.specs.Certificates.{certificate_in, messages_contradict}
+use Rattle.simplex_detector.specs.Certificates.{messages_contradict}
 use Rattle.simplex_detector.specs.Line.{parted}
 use Rattle.simplex_detector.specs.declared.split.Split.{Split}
 
@@ -26,7 +26,7 @@ if_certified rules (Some s) = if rules.certified s.0 s.1 then Some s.0 else None
 
 -- what a message certifies, if it has a certificate and that certifies its subject
 abbrev pub certified_in : {S D C P G : Type 0} → Rules S D C P G → Activity S D C P G → Option (SubjectValue D)
-certified_in rules message = if_certified rules (certificate_in message)
+certified_in rules message = if_certified rules (subject_and_certificate message)
 
 -- whether a message has a certificate that certifies its subject
 abbrev pub is_certified : {S D C P G : Type 0} → Rules S D C P G → Activity S D C P G → Bool

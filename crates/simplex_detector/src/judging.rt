@@ -4,8 +4,8 @@ ghost use Rattle.std.specs.Prelude.{◌≡◌, ℕ, true, All, Contains, IfOk, I
 ghost use Rattle.std.specs.BTreeSet.{contains, IsFromIterResult};
 ghost use Rattle.simplex_base.specs.Positions as positions;
 ghost use Rattle.simplex_scheme.specs.Subject.{subject_value, round_of};
-ghost use Rattle.simplex_detector.specs.Judging.{signer_cmp, is_verified, are_verified, valid_under, certified_under};
-ghost use Rattle.simplex_detector.specs.Accusation.{round_cmp};
+ghost use Rattle.simplex_detector.specs.Judging.{is_verified, are_verified, valid_under, certified_under};
+ghost use Rattle.simplex_detector.specs.Accusation.{round_cmp, signer_cmp};
 ghost use Rattle.simplex_detector.specs.Suspects.{suspect_of};
 ghost use Rattle.simplex_detector.specs.Values.{evidence_value};
 

@@ -4,12 +4,11 @@ ghost use Rattle.std.specs.Prelude.{◌≡◌, ◌↔◌, ◌-◌, ◌^◌, min,
 ghost use Rattle.std.specs.List.{flat_map};
 ghost use Rattle.std.specs.Option.{option_to_list};
 ghost use Rattle.simplex_scheme.specs.Subject.{subject_value, round_of};
-ghost use Rattle.simplex_votes.specs.Votes.{SignedVote, Sort, sort_of};
+ghost use Rattle.simplex_votes.specs.Votes.{SignedVote, Sort, sort_of, vote_on};
 ghost use Rattle.simplex_evidence.specs.Contradiction.{Conflicting_notarize, Conflicting_finalize, Nullify_finalize};
 ghost use Rattle.simplex_detector.specs.Judging.{valid_under};
 ghost use Rattle.simplex_detector.specs.Recorded.{changes};
 ghost use Rattle.simplex_detector.specs.Rounds.{round_count, slots, no_slot, IsSized, TakesVote, HoldsRound, found_of_kind, found_at, ListsSigners};
-ghost use Rattle.simplex_detector.specs.Rules.{vote_on};
 ghost use Rattle.simplex_detector.specs.Values.{evidence_value};
 
 use crate::boxed_map::BoxedMap;

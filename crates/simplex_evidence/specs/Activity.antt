@@ -1,13 +1,13 @@
 -- The union of all messages: how they are encoded, the votes that one holds, and what makes one valid.
 use Rattle.std.proofs.Common.{◌≡◌, ℕ, Bool, true, false, List, [], ◌∷◌, ◌++◌, refl, Ok}
-use Rattle.std.specs.Prelude.{codes, ◌&&◌, ⊤}
+use Rattle.std.specs.Prelude.{codes, ◌&&◌, map, Option, Some, None, ⊤}
 use Rattle.simplex_base.specs.Reading.{Refusal, invalid, Reading}
 use Rattle.simplex_base.specs.Format.{Format, IsLawful}
 use Rattle.simplex_base.specs.Union.{union_at, branch_at, no_branch, branch_takes, no_branch_takes, union_lawful}
 use Rattle.simplex_base.specs.Positions.{Round}
 use Rattle.simplex_scheme.specs.declared.scheme.Attestation.{Attestation}
 use Rattle.simplex_scheme.specs.Subject.{SubjectValue, Notarizes, Nullifies, Finalizes}
-use Rattle.simplex_votes.specs.Votes.{SignedVote, notarize_vote, nullify_vote, finalize_vote, notarization_votes, nullification_votes, finalization_votes}
+use Rattle.simplex_votes.specs.Votes.{SignedVote, vote_on, notarize_vote, nullify_vote, finalize_vote}
 use Rattle.simplex_votes.specs.Encodings.{notarize_format, notarize_lawful, nullify_format, nullify_lawful, finalize_format, finalize_lawful, notarization_format, IsNotarization, notarization_encoding, notarization_lawful, nullification_format, IsNullification, nullification_encoding, nullification_lawful, finalization_format, IsFinalization, finalization_encoding, finalization_lawful}
 use Rattle.simplex_evidence.specs.Conflict.{Conflict, conflicting_notarize_format, conflicting_notarize_lawful, conflicting_finalize_format, conflicting_finalize_lawful, nullify_finalize_format, nullify_finalize_lawful}
 use Rattle.simplex_votes.specs.declared.types.notarize.Notarize.{Notarize}
@@ -58,18 +58,32 @@ module _ {S D C P G : Type 0}
 
 -- ---- the votes that a message holds
 
+-- the certificate of a message, if it has one, with the subject that it is for
+abbrev pub subject_and_certificate : {S D C P G : Type 0} → Activity S D C P G → Option (SubjectValue D × C)
+subject_and_certificate (activity.Notarization n) = Some (Notarizes n.proposal, n.certificate)
+subject_and_certificate (activity.Certification n) = Some (Notarizes n.proposal, n.certificate)
+subject_and_certificate (activity.Nullification n) = Some (Nullifies n.round, n.certificate)
+subject_and_certificate (activity.Finalization n) = Some (Finalizes n.proposal, n.certificate)
+subject_and_certificate _ = None
+
+-- the votes of a message that are not in a certificate: the vote that it is, or both votes of an evidence
+abbrev pub own_votes : {S D C P G : Type 0} → Activity S D C P G → List (SignedVote D G)
+own_votes (activity.Notarize v) = notarize_vote v ∷ []
+own_votes (activity.Nullify v) = nullify_vote v ∷ []
+own_votes (activity.Finalize v) = finalize_vote v ∷ []
+own_votes (activity.ConflictingNotarize c) = notarize_vote c.first ∷ notarize_vote c.second ∷ []
+own_votes (activity.ConflictingFinalize c) = finalize_vote c.first ∷ finalize_vote c.second ∷ []
+own_votes (activity.NullifyFinalize c) = nullify_vote c.first ∷ finalize_vote c.second ∷ []
+own_votes _ = []
+
+-- the votes of a certificate, if there is one: the attestations that it lists, each on its subject
+abbrev pub listed_votes : {S D C P G : Type 0} → (C → List (Attestation S P G)) → Option (SubjectValue D × C) → List (SignedVote D G)
+listed_votes listed None = []
+listed_votes listed (Some s) = map (vote_on s.0) (listed s.1)
+
 -- the votes that a message holds, in its order: `listed` gives the attestations that a certificate lists
 abbrev pub votes_in : {S D C P G : Type 0} → (C → List (Attestation S P G)) → Activity S D C P G → List (SignedVote D G)
-votes_in listed (activity.Notarize v) = notarize_vote v ∷ []
-votes_in listed (activity.Notarization n) = notarization_votes listed n
-votes_in listed (activity.Certification n) = notarization_votes listed n
-votes_in listed (activity.Nullify v) = nullify_vote v ∷ []
-votes_in listed (activity.Nullification n) = nullification_votes listed n
-votes_in listed (activity.Finalize v) = finalize_vote v ∷ []
-votes_in listed (activity.Finalization n) = finalization_votes listed n
-votes_in listed (activity.ConflictingNotarize c) = notarize_vote c.first ∷ notarize_vote c.second ∷ []
-votes_in listed (activity.ConflictingFinalize c) = finalize_vote c.first ∷ finalize_vote c.second ∷ []
-votes_in listed (activity.NullifyFinalize c) = nullify_vote c.first ∷ finalize_vote c.second ∷ []
+votes_in listed message = own_votes message ++ listed_votes listed (subject_and_certificate message)
 
 -- ---- what makes a message valid
 

@@ -5,7 +5,7 @@ use Rattle.simplex_scheme.specs.declared.scheme.Attestation.{Attestation}
 use Rattle.simplex_evidence.specs.Activity.{activity_round}
 use Rattle.simplex_evidence.specs.declared.types.activity.Activity.{Activity}
 use Rattle.simplex_evidence.specs.declared.types.activity.Activity.TheVariants as activity
-use Rattle.simplex_detector.specs.Rules.{vote_on}
+use Rattle.simplex_votes.specs.Votes.{vote_on}
 use Rattle.simplex_inspect.specs.Json.{listed_texts, verdict_json, signature_json, proposal_json, nullify_json, head_json}
 use Rattle.simplex_inspect.specs.Shown.{Shown, signature_verdict, certificate_verdict}
 

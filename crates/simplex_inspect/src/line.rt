@@ -5,7 +5,7 @@ ghost use Rattle.std.specs.Option.{option_copied};
 ghost use Rattle.simplex_scheme.specs.Committee.{quorum_of};
 ghost use Rattle.simplex_scheme.specs.Subject.{Notarizes, Nullifies, Finalizes, subject_value};
 ghost use Rattle.simplex_detector.specs.Committees.{valid_by, certified_by, size_by};
-ghost use Rattle.simplex_detector.specs.Rules.{vote_on};
+ghost use Rattle.simplex_votes.specs.Votes.{vote_on};
 ghost use Rattle.simplex_inspect.specs.Json.{each_behind, listed_texts};
 ghost use Rattle.simplex_inspect.specs.Line.{subject_json, attestation_json, vote_json, certificate_json, statements_json, kind_word};
 ghost use Rattle.simplex_inspect.specs.Shown.{signature_verdict, certificate_verdict};

@@ -11,11 +11,10 @@ use Rattle.simplex_scheme.specs.Attestation.{attestation_format}
 use Rattle.simplex_scheme.specs.Subject.{SubjectValue, Notarizes, Nullifies, Finalizes, message_of}
 use Rattle.simplex_scheme.specs.declared.scheme.Attestation.{Attestation}
 use Rattle.simplex_plain.specs.Listed.{listed_encoding}
-use Rattle.simplex_votes.specs.Votes.{SignedVote}
+use Rattle.simplex_votes.specs.Votes.{SignedVote, vote_on}
 use Rattle.simplex_evidence.specs.Activity.{activity_body, activity_encoding, activity_tag, votes_in}
 use Rattle.simplex_evidence.specs.declared.types.activity.Activity.{Activity}
 use Rattle.simplex_evidence.specs.declared.types.activity.Activity.TheVariants as activity
-use Rattle.simplex_detector.specs.Rules.{vote_on}
 use Rattle.simplex_detector.specs.Suspects.{Suspected}
 use Rattle.simplex_places.specs.Bytes.{IsVoteAt}
 use Rattle.simplex_places.specs.Places.{behind, certificate_places, message_places, pair_places, placed_at, places_along, places_from, signed_at, vote_places}

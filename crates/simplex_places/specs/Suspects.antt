@@ -4,8 +4,7 @@ use Rattle.std.specs.BTreeSet.{contains}
 use Rattle.simplex_base.specs.Positions.{Round}
 use Rattle.simplex_evidence.specs.declared.types.activity.Activity.{Activity}
 use Rattle.simplex_detector.specs.Detector.{Recalls}
-use Rattle.simplex_detector.specs.Judging.{signer_cmp}
-use Rattle.simplex_detector.specs.Accusation.{round_cmp}
+use Rattle.simplex_detector.specs.Accusation.{round_cmp, signer_cmp}
 use Rattle.simplex_detector.specs.Rules.{Rules}
 use Rattle.simplex_detector.specs.Suspects.{Suspected, is_suspect, is_suspect_round}
 use Rattle.simplex_detector.specs.declared.detector.Detector.{Detector}

@@ -5,7 +5,7 @@ ghost use Rattle.std.specs.BTreeMap.{get};
 ghost use Rattle.simplex_base.specs.Readable.{format_under};
 ghost use Rattle.simplex_scheme.specs.Subject.{subject_value};
 ghost use Rattle.simplex_evidence.specs.Activity.{votes_in};
-ghost use Rattle.simplex_detector.specs.Rules.{vote_on};
+ghost use Rattle.simplex_votes.specs.Votes.{vote_on};
 ghost use Rattle.simplex_detector.specs.Values.{evidence_value};
 ghost use Rattle.simplex_places.specs.FirstPlaces.{AreFound, AreSought, Notes, or_found, place_if};
 

@@ -2,8 +2,7 @@
 
 ghost use Rattle.std.specs.Prelude.{◌≡◌, refl};
 ghost use Rattle.simplex_scheme.specs.Subject.{SubjectValue, Notarizes, Nullifies, Finalizes, subject_value};
-ghost use Rattle.simplex_votes.specs.Votes.{SignedVote, notarize_vote, nullify_vote, finalize_vote};
-ghost use Rattle.simplex_detector.specs.Rules.{vote_on};
+ghost use Rattle.simplex_votes.specs.Votes.{SignedVote, notarize_vote, nullify_vote, finalize_vote, vote_on};
 ghost use Rattle.simplex_detector.specs.Values.{evidence_value};
 ghost use Rattle.simplex_places.specs.Votes.{said_in, same_signed_vote, vote_key};
 ghost use Rattle.simplex_places.specs.KeyLaws.{keys_alike};

@@ -1,5 +1,5 @@
 -- Votes as plain values, and their places: round, signer and sort.
-use Rattle.std.specs.Prelude.{ℕ, Bool, true, false, List, map, ◌==◌, ◌&&◌}
+use Rattle.std.specs.Prelude.{ℕ, Bool, true, false, ◌==◌, ◌&&◌}
 use Rattle.simplex_base.specs.Positions.{Round, same_round}
 use Rattle.simplex_scheme.specs.declared.proposal.Proposal.{Proposal}
 use Rattle.simplex_scheme.specs.Subject.{SubjectValue, Notarizes, Nullifies, Finalizes, round_of}
@@ -7,9 +7,6 @@ use Rattle.simplex_scheme.specs.declared.scheme.Attestation.{Attestation}
 use Rattle.simplex_votes.specs.declared.types.notarize.Notarize.{Notarize}
 use Rattle.simplex_votes.specs.declared.types.nullify.Nullify.{Nullify}
 use Rattle.simplex_votes.specs.declared.types.finalize.Finalize.{Finalize}
-use Rattle.simplex_votes.specs.declared.types.notarization.Notarization.{Notarization}
-use Rattle.simplex_votes.specs.declared.types.nullification.Nullification.{Nullification}
-use Rattle.simplex_votes.specs.declared.types.finalization.Finalization.{Finalization}
 
 -- what a participant says, signed. D is the type of payloads, G that of signatures
 pub record SignedVote (D G : Type 0) : Type 0 where
@@ -17,37 +14,19 @@ pub record SignedVote (D G : Type 0) : Type 0 where
   pub signer : ℕ
   pub signature : G
 
--- an attestation to a proposal, as a notarize
-abbrev pub notarize_of : {S D P G : Type 0} → Proposal D → Attestation S P G → SignedVote D G
-notarize_of p a = record { subject = Notarizes p; signer = a.signer; signature = a.signature }
-
--- an attestation to a round, as a nullify
-abbrev pub nullify_of : {S D P G : Type 0} → Round → Attestation S P G → SignedVote D G
-nullify_of r a = record { subject = Nullifies r; signer = a.signer; signature = a.signature }
-
--- an attestation to a proposal, as a finalize
-abbrev pub finalize_of : {S D P G : Type 0} → Proposal D → Attestation S P G → SignedVote D G
-finalize_of p a = record { subject = Finalizes p; signer = a.signer; signature = a.signature }
+-- the vote on a subject that an attestation of it is
+abbrev pub vote_on : {S D P G : Type 0} → SubjectValue D → Attestation S P G → SignedVote D G
+vote_on x a = record { subject = x; signer = a.signer; signature = a.signature }
 
 -- a notarize, a nullify and a finalize, as votes
 abbrev pub notarize_vote : {S D P G : Type 0} → Notarize S D P G → SignedVote D G
-notarize_vote v = notarize_of v.proposal v.attestation
+notarize_vote v = vote_on (Notarizes v.proposal) v.attestation
 
 abbrev pub nullify_vote : {S D P G : Type 0} → Nullify S P G → SignedVote D G
-nullify_vote v = nullify_of v.round v.attestation
+nullify_vote v = vote_on (Nullifies v.round) v.attestation
 
 abbrev pub finalize_vote : {S D P G : Type 0} → Finalize S D P G → SignedVote D G
-finalize_vote v = finalize_of v.proposal v.attestation
-
--- the votes of a certificate message: the attestations that its certificate lists, each for its proposal or round
-abbrev pub notarization_votes : {S D C P G : Type 0} → (C → List (Attestation S P G)) → Notarization S D C P G → List (SignedVote D G)
-notarization_votes listed n = map (notarize_of n.proposal) (listed n.certificate)
-
-abbrev pub nullification_votes : {S D C P G : Type 0} → (C → List (Attestation S P G)) → Nullification S C P G → List (SignedVote D G)
-nullification_votes listed n = map (nullify_of n.round) (listed n.certificate)
-
-abbrev pub finalization_votes : {S D C P G : Type 0} → (C → List (Attestation S P G)) → Finalization S D C P G → List (SignedVote D G)
-finalization_votes listed n = map (finalize_of n.proposal) (listed n.certificate)
+finalize_vote v = vote_on (Finalizes v.proposal) v.attestation
 
 -- the three sorts of votes
 pub data Sort : Type 0 where

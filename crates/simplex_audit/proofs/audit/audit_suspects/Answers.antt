@@ -4,8 +4,7 @@ use Rattle.std.specs.BTreeSet.{contains}
 use Rattle.std.proofs.lemmas.Bool.{eqb-true}
 use Rattle.std.proofs.lemmas.Simd.{map-map}
 use Rattle.simplex_scheme.specs.Subject.{round_of}
-use Rattle.simplex_detector.specs.Judging.{signer_cmp}
-use Rattle.simplex_detector.specs.Accusation.{round_cmp}
+use Rattle.simplex_detector.specs.Accusation.{round_cmp, signer_cmp}
 use Rattle.simplex_detector.specs.Suspects.{suspect_of}
 use Rattle.simplex_detector.specs.Values.{evidence_value}
 use Rattle.simplex_audit.specs.Report.{evidence_in}

@@ -1,6 +1,6 @@
 use Rattle.std.proofs.Common.{map, take}
 use Rattle.simplex_scheme.specs.Subject.{subject_value}
-use Rattle.simplex_detector.specs.Rules.{vote_on}
+use Rattle.simplex_votes.specs.Votes.{vote_on}
 use Rattle.simplex_places.specs.FirstPlaces.{Notes}
 use Rattle.simplex_places.proofs.first_places.note_all.Given as goal
 
