@@ -48,7 +48,7 @@ blames rules messages round c d es names accountable = record {
   distinct = accountable.distinct;
   enough = omega (arith, accountable.many, accountable.more_than_faults);
   blamed = λ k q lt.
-      let (kind, named) = kind_of_accused rules.eq (valid_votes rules messages) round _ (accountable.named k q lt) in
+      let (kind, named) = kind_of_accused rules.eq (valid_votes rules messages) round _ (accountable.accused k q lt) in
       (kind, (names (record { round = round; signer = _; kind = kind })).1 named);
 }
 

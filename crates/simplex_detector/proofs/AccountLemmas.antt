@@ -176,7 +176,7 @@ module _ {S D C P G : Type 0} (rules : Rules S D C P G) (l : AreLawful rules) (m
         distinct = IsDistinct-filter (is_member nat_eq ys) xs one.distinct;
         many = omega (arith, one.enough, two.enough, shared_count (rules.size round.epoch) xs ys one.distinct two.distinct one.below two.below);
         more_than_faults = omega (arith, some);
-        named = each _ (shared xs ys) (λ q q_in.
+        accused = each _ (shared xs ys) (λ q q_in.
             let (q_in_xs, in_ys) = Contains-from_filter (is_member nat_eq ys) xs q q_in in
             let (v, v_in, v_on, v_of) = signer_votes x s q q_in_xs in
             let (w, w_in, w_on, w_of) = signer_votes y t q (Contains-from_member ys q in_ys) in
@@ -187,7 +187,7 @@ module _ {S D C P G : Type 0} (rules : Rules S D C P G) (l : AreLawful rules) (m
   pub enough_for : (round : Round) (c d : C) → IsAccountable rules messages round c d → faults_of (rules.size round.epoch) + 1 ≤ accused_count rules.eq (valid_votes rules messages) round
   enough_for round c d a =
       let counted = distinct_count-at_least (shared_signers rules c d) (filter (is_accused_in rules.eq (valid_votes rules messages) round) (map (λ v. v.signer) (valid_votes rules messages))) a.distinct
-      (λ q q_in. counted_signer rules.eq (valid_votes rules messages) round q (All-contains (λ q. IsTrue (is_accused_in rules.eq (valid_votes rules messages) round q)) _ q a.named q_in)) in
+      (λ q q_in. counted_signer rules.eq (valid_votes rules messages) round q (All-contains (λ q. IsTrue (is_accused_in rules.eq (valid_votes rules messages) round q)) _ q a.accused q_in)) in
       omega (arith, a.many, a.more_than_faults, counted)
 
   pub accountable : SignersAreAccountable rules messages

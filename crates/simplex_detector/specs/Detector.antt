@@ -1,5 +1,5 @@
 -- The state of every round so far.
-use Rattle.std.specs.Prelude.{◌≡◌, ℕ, List, ◌++◌, filter, Option, Some, None}
+use Rattle.std.specs.Prelude.{◌≡◌, ℕ, ◌-◌, ◌^◌, List, [], ◌++◌, filter, min, Option, Some, None}
 use Rattle.std.specs.BTreeMap.{get}
 use Rattle.std.specs.Option.{option_to_list}
 use Rattle.simplex_base.specs.Positions.{Round}
@@ -7,50 +7,89 @@ use Rattle.simplex_scheme.specs.Subject.{SubjectValue}
 use Rattle.simplex_scheme.specs.declared.scheme.Attestation.{Attestation}
 use Rattle.simplex_votes.specs.Votes.{SignedVote, Sort}
 use Rattle.simplex_evidence.specs.Activity.{activity_round, votes_in, subject_and_certificate}
+use Rattle.simplex_evidence.specs.Contradiction.{Evidence}
 use Rattle.simplex_evidence.specs.declared.types.activity.Activity.{Activity}
 use Rattle.simplex_detector.specs.Committees.{Schedule, committee_of}
+use Rattle.simplex_detector.specs.Evidence.{IsEvidence}
 use Rattle.simplex_detector.specs.FirstCertified.{certified_subjects, nothing_certified, RecordsFirsts}
-use Rattle.simplex_detector.specs.Recorded.{slot_of}
+use Rattle.simplex_detector.specs.Recorded.{slot_of, votes_recorded}
 use Rattle.simplex_detector.specs.Accusation.{round_cmp}
 use Rattle.simplex_detector.specs.Rounds.{no_slot, HoldsRound}
-use Rattle.simplex_detector.specs.Rules.{Rules, is_valid, valid_votes}
-use Rattle.simplex_detector.specs.Splits.{if_certified}
+use Rattle.simplex_detector.specs.Rules.{Rules, HaveCommittees, is_valid, valid_votes}
+use Rattle.simplex_detector.specs.Splits.{if_certified, split_of, AreSplits}
+use Rattle.simplex_detector.specs.declared.judging.Judging.{Judging}
+use Rattle.simplex_detector.specs.declared.split.Split.{Split}
 use Rattle.simplex_detector.specs.declared.round_state.RoundState.{RoundState}
 use Rattle.simplex_detector.specs.declared.detector.Detector.{Detector}
 
--- the state of a round holds the recorded ones of the messages' valid votes, and what they certify
-pub record RecallsRound {S D C P G : Type 0} (rules : Rules S D C P G) (messages : List (Activity S D C P G)) (round : Round) (round_state : RoundState S D P G) : Type 0 where
-  pub votes : HoldsRound rules.eq (rules.size round.epoch) (valid_votes rules messages) round round_state.votes
-  pub subjects : RecordsFirsts rules.eq (certified_subjects rules messages) round round_state.certified
+module _ {S D C P G : Type 0} (rules : Rules S D C P G) (messages : List (Activity S D C P G)) where
+  -- the state of a round holds the recorded ones of the messages' valid votes, and what they certify
+  pub record RecallsRound (round : Round) (round_state : RoundState S D P G) : Type 0 where
+    pub votes : HoldsRound rules.eq (rules.size round.epoch) (valid_votes rules messages) round round_state.votes
+    pub subjects : RecordsFirsts rules.eq (certified_subjects rules messages) round round_state.certified
 
--- nothing is to be recorded of a round
-pub record RecallsNothing {S D C P G : Type 0} (rules : Rules S D C P G) (messages : List (Activity S D C P G)) (round : Round) : Type 0 where
-  pub votes : (signer : ℕ) (sort : Sort) → no_slot ≡ slot_of rules.eq (valid_votes rules messages) sort round signer
-  pub subjects : RecordsFirsts rules.eq (certified_subjects rules messages) round nothing_certified
+  -- nothing is to be recorded of a round
+  pub record RecallsNothing (round : Round) : Type 0 where
+    pub votes : (signer : ℕ) (sort : Sort) → no_slot ≡ slot_of rules.eq (valid_votes rules messages) sort round signer
+    pub subjects : RecordsFirsts rules.eq (certified_subjects rules messages) round nothing_certified
 
--- the state of a round, if it has one
-abbrev pub RecallsAt : {S D C P G : Type 0} → Rules S D C P G → List (Activity S D C P G) → Round → Option (RoundState S D P G) → Type 0
-RecallsAt rules messages round None = RecallsNothing rules messages round
-RecallsAt rules messages round (Some round_state) = RecallsRound rules messages round round_state
+  -- the state of a round, if it has one
+  abbrev pub RecallsAt : Round → Option (RoundState S D P G) → Type 0
+  RecallsAt round None = RecallsNothing round
+  RecallsAt round (Some round_state) = RecallsRound round round_state
 
--- the state is that of the messages, round by round
-abbrev pub Recalls : {S D C P G : Type 0} → Rules S D C P G → List (Activity S D C P G) → Detector S D P G → Type 0
-Recalls rules messages detector = (round : Round) → RecallsAt rules messages round (get round_cmp detector.rounds round)
+  -- the state is that of the messages, round by round
+  abbrev pub Recalls : Detector S D P G → Type 0
+  Recalls detector = (round : Round) → RecallsAt round (get round_cmp detector.rounds round)
+
+-- ---- what each call does, for every way to judge and every schedule
+
+module _ {S D C P G : Type 0} (rules : Judging → Schedule S → Rules S D C P G) where
+  -- no message was seen
+  abbrev pub RecallsNone : Detector S D P G → Type 0
+  RecallsNone detector = (judging : Judging) (schedule : Schedule S) → Recalls (rules judging schedule) [] detector
+
+  -- the evidence in the valid votes of the messages that the state is of
+  abbrev pub GivesEvidence : Detector S D P G → List (Evidence D G) → Type 0
+  GivesEvidence detector es = (judging : Judging) (schedule : Schedule S) (messages : List (Activity S D C P G)) →
+      Recalls (rules judging schedule) messages detector →
+      IsEvidence (rules judging schedule).eq (valid_votes (rules judging schedule) messages) es
+
+  -- the number of the recorded votes of those messages, up to 2^64 - 1
+  abbrev pub CountsVotes : Detector S D P G → ℕ → Type 0
+  CountsVotes detector count = (judging : Judging) (schedule : Schedule S) (messages : List (Activity S D C P G)) →
+      Recalls (rules judging schedule) messages detector →
+      count ≡ min (votes_recorded (rules judging schedule).eq (valid_votes (rules judging schedule) messages)) (2 ^ 64 - 1)
+
+  -- the splits of those messages, under a schedule
+  abbrev pub GivesSplits : Schedule S → Detector S D P G → List Split → Type 0
+  GivesSplits schedule detector splits = (judging : Judging) (messages : List (Activity S D C P G)) →
+      HaveCommittees (rules judging schedule) → Recalls (rules judging schedule) messages detector →
+      AreSplits (rules judging schedule) messages splits
+
+  -- the split of a round in those messages, if it is split
+  abbrev pub GivesSplit : Schedule S → Round → RoundState S D P G → Option Split → Type 0
+  GivesSplit schedule round round_state split = (judging : Judging) (messages : List (Activity S D C P G)) →
+      HaveCommittees (rules judging schedule) → RecallsRound (rules judging schedule) messages round round_state →
+      split ≡ split_of (rules judging schedule) messages round
 
 -- the state of some messages becomes that of them and of more
 abbrev pub RecallsMore : {S D C P G : Type 0} → Rules S D C P G → List (Activity S D C P G) → Detector S D P G → Detector S D P G → Type 0
 RecallsMore {S} {D} {C} {P} {G} rules more old new = (messages : List (Activity S D C P G)) → Recalls rules messages old → Recalls rules (messages ++ more) new
 
--- Some votes of a round and a certificate, if there is one, are taken in. The committee of the round's epoch judges them,
--- for any messages before it and any other committees.
-pub record TakesIn {S D C P G : Type 0} (rules : Schedule S → Rules S D C P G) (committee : S) (round : Round) (votes : List (SignedVote D G)) (certificate : Option (SubjectValue D × C)) (old new : RoundState S D P G) : Type 0 where
-  pub cast : (schedule : Schedule S) → committee_of schedule round.epoch ≡ Some committee → (vs : List (SignedVote D G)) →
-      HoldsRound (rules schedule).eq ((rules schedule).size round.epoch) vs round old.votes →
-      HoldsRound (rules schedule).eq ((rules schedule).size round.epoch) (vs ++ filter (is_valid (rules schedule)) votes) round new.votes
-  pub certified : (schedule : Schedule S) → committee_of schedule round.epoch ≡ Some committee → (xs : List (SubjectValue D)) →
-      RecordsFirsts (rules schedule).eq xs round old.certified →
-      RecordsFirsts (rules schedule).eq (xs ++ option_to_list (if_certified (rules schedule) certificate)) round new.certified
+-- ---- one message more
 
--- a message is taken in: its votes, and its certificate if it has one
-abbrev pub TakesMessage : {S D C P G : Type 0} → (Schedule S → Rules S D C P G) → S → (C → List (Attestation S P G)) → Activity S D C P G → RoundState S D P G → RoundState S D P G → Type 0
-TakesMessage rules committee listed message old new = TakesIn rules committee (activity_round message) (votes_in listed message) (subject_and_certificate message) old new
+module _ {S D C P G : Type 0} (rules : Schedule S → Rules S D C P G) (committee : S) where
+  -- Some votes of a round and a certificate, if there is one, are taken in. The committee of the round's epoch judges them,
+  -- for any messages before it and any other committees.
+  pub record TakesIn (round : Round) (votes : List (SignedVote D G)) (certificate : Option (SubjectValue D × C)) (old new : RoundState S D P G) : Type 0 where
+    pub cast : (schedule : Schedule S) → committee_of schedule round.epoch ≡ Some committee → (vs : List (SignedVote D G)) →
+        HoldsRound (rules schedule).eq ((rules schedule).size round.epoch) vs round old.votes →
+        HoldsRound (rules schedule).eq ((rules schedule).size round.epoch) (vs ++ filter (is_valid (rules schedule)) votes) round new.votes
+    pub certified : (schedule : Schedule S) → committee_of schedule round.epoch ≡ Some committee → (xs : List (SubjectValue D)) →
+        RecordsFirsts (rules schedule).eq xs round old.certified →
+        RecordsFirsts (rules schedule).eq (xs ++ option_to_list (if_certified (rules schedule) certificate)) round new.certified
+
+  -- a message is taken in: its votes, and its certificate if it has one
+  abbrev pub TakesMessage : (C → List (Attestation S P G)) → Activity S D C P G → RoundState S D P G → RoundState S D P G → Type 0
+  TakesMessage listed message old new = TakesIn (activity_round message) (votes_in listed message) (subject_and_certificate message) old new

@@ -9,24 +9,26 @@ use Rattle.simplex_detector.specs.Evidence.{IsEvidence}
 use Rattle.simplex_detector.specs.Values.{evidence_value, message_of}
 use Rattle.simplex_detector.specs.declared.evidence.Evidence as declared
 
--- no other list is the evidence of the votes
-abbrev pub EvidenceIsUnique : {D G : Type 0} → (D → D → Bool) → List (SignedVote D G) → List (Evidence D G) → Type 0
-EvidenceIsUnique {D} {G} eq vs es = (fs : List (Evidence D G)) → IsEvidence eq vs fs → es ≡ fs
+module _ {D G : Type 0} (eq : D → D → Bool) (vs : List (SignedVote D G)) (es : List (Evidence D G)) where
+  -- no other list is the evidence of the votes
+  abbrev pub EvidenceIsUnique : Type 0
+  EvidenceIsUnique = (fs : List (Evidence D G)) → IsEvidence eq vs fs → es ≡ fs
 
--- the evidence accuses exactly those whom the votes accuse
-abbrev pub AccusesExactly : {D G : Type 0} → (D → D → Bool) → List (SignedVote D G) → List (Evidence D G) → Type 0
-AccusesExactly eq vs es = (n : Accusation) → Contains (map accused_by es) n ↔ IsTrue (is_accused eq vs n)
+  -- the evidence accuses exactly those whom the votes accuse
+  abbrev pub AccusesExactly : Type 0
+  AccusesExactly = (n : Accusation) → Contains (map accused_by es) n ↔ IsTrue (is_accused eq vs n)
 
--- the same messages in another order accuse the same
-abbrev pub ReorderingAccusesSame : {S D C P G : Type 0} → Rules S D C P G → List (Activity S D C P G) → Type 0
-ReorderingAccusesSame {S} {D} {C} {P} {G} rules ms =
-    (ks : List (Activity S D C P G)) → IsPermutation ms ks → (n : Accusation) → is_accused rules.eq (valid_votes rules ms) n ≡ is_accused rules.eq (valid_votes rules ks) n
+module _ {S D C P G : Type 0} (rules : Rules S D C P G) where
+  -- the same messages in another order accuse the same
+  abbrev pub ReorderingAccusesSame : List (Activity S D C P G) → Type 0
+  ReorderingAccusesSame ms =
+      (ks : List (Activity S D C P G)) → IsPermutation ms ks → (n : Accusation) → is_accused rules.eq (valid_votes rules ms) n ≡ is_accused rules.eq (valid_votes rules ks) n
 
--- who is accused stays accused, with any messages behind
-abbrev pub AccusedStay : {S D C P G : Type 0} → Rules S D C P G → List (Activity S D C P G) → Type 0
-AccusedStay {S} {D} {C} {P} {G} rules ms =
-    (more : List (Activity S D C P G)) (n : Accusation) → IsTrue (is_accused rules.eq (valid_votes rules ms) n) → IsTrue (is_accused rules.eq (valid_votes rules (ms ++ more)) n)
+  -- who is accused stays accused, with any messages behind
+  abbrev pub AccusedStay : List (Activity S D C P G) → Type 0
+  AccusedStay ms =
+      (more : List (Activity S D C P G)) (n : Accusation) → IsTrue (is_accused rules.eq (valid_votes rules ms) n) → IsTrue (is_accused rules.eq (valid_votes rules (ms ++ more)) n)
 
--- the evidence of messages, as messages of its own, has the same evidence in the same order
-abbrev pub IsEvidenceAgain : {S D C P G : Type 0} → Rules S D C P G → List (declared.Evidence S D P G) → Type 0
-IsEvidenceAgain {S} {D} {C} {P} {G} rules es = IsEvidence rules.eq (valid_votes rules (map message_of es)) (map evidence_value es)
+  -- the evidence of messages, as messages of its own, has the same evidence in the same order
+  abbrev pub IsEvidenceAgain : List (declared.Evidence S D P G) → Type 0
+  IsEvidenceAgain es = IsEvidence rules.eq (valid_votes rules (map message_of es)) (map evidence_value es)

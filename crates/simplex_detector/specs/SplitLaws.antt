@@ -12,36 +12,38 @@ use Rattle.simplex_detector.specs.Certificates.{messages_contradict}
 use Rattle.simplex_detector.specs.Splits.{is_certified, is_accused_in, accused_count, AreSplits}
 use Rattle.simplex_detector.specs.declared.split.Split.{Split}
 
--- two of the messages that contradict and are both certified accuse, in their round, more participants of its
--- committee than may lie
-abbrev pub EnoughAreAccused : {S D C P G : Type 0} → Rules S D C P G → List (Activity S D C P G) → Type 0
-EnoughAreAccused {S} {D} {C} {P} {G} rules messages =
-    (m k : Activity S D C P G) → Contains messages m → Contains messages k →
-    IsTrue (messages_contradict rules.eq m k) → IsTrue (is_certified rules m) → IsTrue (is_certified rules k) →
-    faults_of (rules.size (activity_round m).epoch) + 1 ≤ accused_count rules.eq (valid_votes rules messages) (activity_round m)
-
 -- who signed both of two certificates
 abbrev pub shared_signers : {S D C P G : Type 0} → Rules S D C P G → C → C → List ℕ
 shared_signers rules c d = filter (is_member nat_eq (signers_of (rules.listed d))) (signers_of (rules.listed c))
-
--- Two of the messages that contradict and are both certified share, each once, at least all signers but twice as many
--- as may lie, which is more than may lie, and each of them is accused in their round.
-pub record IsAccountable {S D C P G : Type 0} (rules : Rules S D C P G) (messages : List (Activity S D C P G)) (round : Round) (c d : C) : Type 0 where
-  pub distinct : IsDistinct nat_eq (shared_signers rules c d)
-  pub many : rules.size round.epoch - 2 * faults_of (rules.size round.epoch) ≤ length (shared_signers rules c d)
-  pub more_than_faults : faults_of (rules.size round.epoch) + 1 ≤ rules.size round.epoch - 2 * faults_of (rules.size round.epoch)
-  pub named : All (λ q. IsTrue (is_accused_in rules.eq (valid_votes rules messages) round q)) (shared_signers rules c d)
-
-abbrev pub SignersAreAccountable : {S D C P G : Type 0} → Rules S D C P G → List (Activity S D C P G) → Type 0
-SignersAreAccountable {S} {D} {C} {P} {G} rules messages =
-    (m k : Activity S D C P G) (x y : SubjectValue D) (c d : C) → Contains messages m → Contains messages k →
-    subject_and_certificate m ≡ Some (x, c) → subject_and_certificate k ≡ Some (y, d) → IsTrue (rules.certified x c) → IsTrue (rules.certified y d) →
-    IsTrue (messages_contradict rules.eq m k) → IsAccountable rules messages (activity_round m) c d
 
 -- each split has at least as many accused as it must have
 abbrev pub SplitsHaveAccused : List Split → Type 0
 SplitsHaveAccused splits = All (λ s. s.least ≤ s.named) splits
 
--- no other list is the splits of the messages
-abbrev pub SplitsAreUnique : {S D C P G : Type 0} → Rules S D C P G → List (Activity S D C P G) → List Split → Type 0
-SplitsAreUnique rules messages splits = (others : List Split) → AreSplits rules messages others → splits ≡ others
+module _ {S D C P G : Type 0} (rules : Rules S D C P G) (messages : List (Activity S D C P G)) where
+  -- two of the messages that contradict and are both certified accuse, in their round, more participants of its
+  -- committee than may lie
+  abbrev pub EnoughAreAccused : Type 0
+  EnoughAreAccused =
+      (m k : Activity S D C P G) → Contains messages m → Contains messages k →
+      IsTrue (messages_contradict rules.eq m k) → IsTrue (is_certified rules m) → IsTrue (is_certified rules k) →
+      faults_of (rules.size (activity_round m).epoch) + 1 ≤ accused_count rules.eq (valid_votes rules messages) (activity_round m)
+
+  -- Two of the messages that contradict and are both certified share, each once, at least all signers but twice as many
+  -- as may lie, which is more than may lie, and each of them is accused in their round.
+  pub record IsAccountable (round : Round) (c d : C) : Type 0 where
+    pub distinct : IsDistinct nat_eq (shared_signers rules c d)
+    pub many : rules.size round.epoch - 2 * faults_of (rules.size round.epoch) ≤ length (shared_signers rules c d)
+    pub more_than_faults : faults_of (rules.size round.epoch) + 1 ≤ rules.size round.epoch - 2 * faults_of (rules.size round.epoch)
+    pub accused : All (λ q. IsTrue (is_accused_in rules.eq (valid_votes rules messages) round q)) (shared_signers rules c d)
+
+  abbrev pub SignersAreAccountable : Type 0
+  SignersAreAccountable =
+      (m k : Activity S D C P G) (x y : SubjectValue D) (c d : C) → Contains messages m → Contains messages k →
+      subject_and_certificate m ≡ Some (x, c) → subject_and_certificate k ≡ Some (y, d) →
+      IsTrue (rules.certified x c) → IsTrue (rules.certified y d) →
+      IsTrue (messages_contradict rules.eq m k) → IsAccountable (activity_round m) c d
+
+  -- no other list is the splits of the messages
+  abbrev pub SplitsAreUnique : List Split → Type 0
+  SplitsAreUnique splits = (others : List Split) → AreSplits rules messages others → splits ≡ others

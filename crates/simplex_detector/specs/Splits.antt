@@ -19,49 +19,54 @@ use Rattle.simplex_detector.specs.declared.split.Split.{Split}
 
 -- ---- what messages certify
 
--- the subject of a certificate, if the certificate certifies it
-abbrev pub if_certified : {S D C P G : Type 0} → Rules S D C P G → Option (SubjectValue D × C) → Option (SubjectValue D)
-if_certified rules None = None
-if_certified rules (Some s) = if rules.certified s.0 s.1 then Some s.0 else None
+module _ {S D C P G : Type 0} (rules : Rules S D C P G) where
+  -- the subject of a certificate, if the certificate certifies it
+  abbrev pub if_certified : Option (SubjectValue D × C) → Option (SubjectValue D)
+  if_certified None = None
+  if_certified (Some s) = if rules.certified s.0 s.1 then Some s.0 else None
 
--- what a message certifies, if it has a certificate and that certifies its subject
-abbrev pub certified_in : {S D C P G : Type 0} → Rules S D C P G → Activity S D C P G → Option (SubjectValue D)
-certified_in rules message = if_certified rules (subject_and_certificate message)
+  -- what a message certifies, if it has a certificate and that certifies its subject
+  abbrev pub certified_in : Activity S D C P G → Option (SubjectValue D)
+  certified_in message = if_certified (subject_and_certificate message)
 
--- whether a message has a certificate that certifies its subject
-abbrev pub is_certified : {S D C P G : Type 0} → Rules S D C P G → Activity S D C P G → Bool
-is_certified rules message = is_some (certified_in rules message)
+  -- whether a message has a certificate that certifies its subject
+  abbrev pub is_certified : Activity S D C P G → Bool
+  is_certified message = is_some (certified_in message)
+
+-- ---- who is accused in a round
+
+module _ {D G : Type 0} (eq : D → D → Bool) (vs : List (SignedVote D G)) (round : Round) where
+  -- whether a signer is accused in a round, for any kind of contradiction
+  abbrev pub is_accused_in : ℕ → Bool
+  is_accused_in signer =
+      is_accused eq vs (record { round = round; signer = signer; kind = Conflicting_notarize }) ||
+      (is_accused eq vs (record { round = round; signer = signer; kind = Conflicting_finalize }) ||
+      is_accused eq vs (record { round = round; signer = signer; kind = Nullify_finalize }))
+
+  -- how many distinct signers are accused in a round
+  abbrev pub accused_count : ℕ
+  accused_count = distinct_count nat_eq (filter is_accused_in (map (λ v. v.signer) vs))
 
 -- ---- splits
 
--- whether a round is split: two of the messages, of that round, contradict, and both are certified
-abbrev pub is_split : {S D C P G : Type 0} → Rules S D C P G → List (Activity S D C P G) → Round → Bool
-is_split rules messages round =
-    list_any (λ m. (same_round (activity_round m) round && is_certified rules m) && list_any (λ k. is_certified rules k && messages_contradict rules.eq m k) messages) messages
+module _ {S D C P G : Type 0} (rules : Rules S D C P G) (messages : List (Activity S D C P G)) where
+  -- whether a round is split: two of the messages, of that round, contradict, and both are certified
+  abbrev pub is_split : Round → Bool
+  is_split round =
+      list_any (λ m. (same_round (activity_round m) round && is_certified rules m) && list_any (λ k. is_certified rules k && messages_contradict rules.eq m k) messages) messages
 
--- whether a signer is accused in a round, for any kind of contradiction
-abbrev pub is_accused_in : {D G : Type 0} → (D → D → Bool) → List (SignedVote D G) → Round → ℕ → Bool
-is_accused_in eq vs round signer =
-    is_accused eq vs (record { round = round; signer = signer; kind = Conflicting_notarize }) ||
-    (is_accused eq vs (record { round = round; signer = signer; kind = Conflicting_finalize }) ||
-    is_accused eq vs (record { round = round; signer = signer; kind = Nullify_finalize }))
+  -- the split of a round, if it is split: how many are accused in it, and one more than may lie in its committee
+  abbrev pub split_of : Round → Option Split
+  split_of round =
+      if is_split round
+      then Some (record { round = round; named = accused_count rules.eq (valid_votes rules messages) round; least = faults_of (rules.size round.epoch) + 1 })
+      else None
 
--- how many distinct signers are accused in a round
-abbrev pub accused_count : {D G : Type 0} → (D → D → Bool) → List (SignedVote D G) → Round → ℕ
-accused_count eq vs round = distinct_count nat_eq (filter (is_accused_in eq vs round) (map (λ v. v.signer) vs))
-
--- the split of a round, if it is split: how many are accused in it, and one more than may lie in its committee
-abbrev pub split_of : {S D C P G : Type 0} → Rules S D C P G → List (Activity S D C P G) → Round → Option Split
-split_of rules messages round =
-    if is_split rules messages round
-    then Some (record { round = round; named = accused_count rules.eq (valid_votes rules messages) round; least = faults_of (rules.size round.epoch) + 1 })
-    else None
-
--- the splits of the messages: in the order of rounds, each that of its round, and no split round left out
-pub record AreSplits {S D C P G : Type 0} (rules : Rules S D C P G) (messages : List (Activity S D C P G)) (splits : List Split) : Type 0 where
-  pub ordered : IsStrictlySortedBy round_cmp (map (λ s. s.round) splits)
-  pub sound : All (λ s. split_of rules messages s.round ≡ Some s) splits
-  pub complete : (round : Round) → IsTrue (is_split rules messages round) → Contains (map (λ s. s.round) splits) round
+  -- the splits of the messages: in the order of rounds, each that of its round, and no split round left out
+  pub record AreSplits (splits : List Split) : Type 0 where
+    pub ordered : IsStrictlySortedBy round_cmp (map (λ s. s.round) splits)
+    pub sound : All (λ s. split_of s.round ≡ Some s) splits
+    pub complete : (round : Round) → IsTrue (is_split round) → Contains (map (λ s. s.round) splits) round
 
 -- ---- the line of a split
 

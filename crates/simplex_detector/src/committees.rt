@@ -1,6 +1,6 @@
 //! Which committee judges the messages of an epoch.
 
-ghost use Rattle.std.specs.Prelude.{◌≡◌, ◌≢◌, ◌<◌, ◌≤◌, ◌↔◌, ℕ, [], Some, Ok, Err, length, IfOk, IfErr, IsTrue, All, max, take};
+ghost use Rattle.std.specs.Prelude.{◌≡◌, ◌≢◌, ◌<◌, ◌≤◌, ◌↔◌, ℕ, [], Some, Ok, Err, length, IfOk, IsTrue, All, max};
 ghost use Rattle.std.specs.Option.{option_copied};
 ghost use Rattle.simplex_detector.specs.Committees.{Schedule, Every, Listed, committee_of, bound_of, greatest, AreRising};
 

@@ -1,19 +1,11 @@
 //! The state of every round so far.
 
-ghost use Rattle.std.specs.Prelude.{◌≡◌, ◌-◌, ◌^◌, List, [], ◌∷◌, ◌++◌, ℕ, All, map, min, IfOk, OnOk};
+ghost use Rattle.std.specs.Prelude.{◌≡◌, [], ◌∷◌, ◌++◌, All, map, IfOk, OnOk};
 ghost use Rattle.std.specs.Option.{option_to_list};
 ghost use Rattle.simplex_base.specs.Readable.{format_of};
 ghost use Rattle.simplex_scheme.specs.Subject.{round_of};
 ghost use Rattle.simplex_evidence.specs.Activity.{activity_round, votes_in};
-ghost use Rattle.simplex_evidence.specs.declared.types.activity.Activity.{Activity};
-ghost use Rattle.simplex_detector.specs.Committees.{Schedule};
-ghost use Rattle.simplex_detector.specs.Judging.{rules_under};
-ghost use Rattle.simplex_detector.specs.declared.judging.Judging as judgings;
-ghost use Rattle.simplex_detector.specs.Evidence.{IsEvidence};
-ghost use Rattle.simplex_detector.specs.Recorded.{votes_recorded};
-ghost use Rattle.simplex_detector.specs.Rules.{HaveCommittees, valid_votes};
-ghost use Rattle.simplex_detector.specs.Detector.{Recalls, RecallsMore};
-ghost use Rattle.simplex_detector.specs.Splits.{AreSplits};
+ghost use Rattle.simplex_detector.specs.Detector.{RecallsNone, RecallsMore, GivesEvidence, GivesSplits, CountsVotes};
 ghost use Rattle.simplex_detector.specs.EncodedEvidence.{IsEncoded};
 ghost use Rattle.simplex_detector.specs.Values.{evidence_value};
 
@@ -21,6 +13,7 @@ use crate::committees::Committees;
 use crate::evidence::{Evidence, are_encoded};
 use crate::judging::Judging;
 use crate::round_state::RoundState;
+use crate::rules::Judges;
 use crate::split::Split;
 use simplex_base::codec::Read;
 use simplex_base::positions::{Round, Roundable};
@@ -38,9 +31,7 @@ pub struct Detector<S: SchemeTypes, D: Digest> {
 impl<S: Listing<D>, D: Digest> Detector<S, D> {
     /// No message was seen yet.
     pub fn new(alloc: Global) -> Self
-        ensures { (judging : judgings.Judging) (schedule : Schedule S) →
-            Recalls (rules_under D.eq S.keys S.good S.certified S.listed judging schedule)
-            [] result }
+        ensures { RecallsNone ⟦<S as Judges<D>>⟧.rules_under result }
     {
         Detector {
             rounds: BTreeMap::new(alloc),
@@ -56,7 +47,7 @@ impl<S: Listing<D>, D: Digest> Detector<S, D> {
         message: Activity<S, D>,
     ) -> Result<(), AllocError>
         ensures { OnOk result (RecallsMore
-            (rules_under D.eq S.keys S.good S.certified S.listed judging.now committees.now)
+            (⟦<S as Judges<D>>⟧.rules_under judging.now committees.now)
             (message ∷ []) self.old self.new) }
     {
         self.record(alloc, committees, judging, &message)
@@ -71,7 +62,7 @@ impl<S: Listing<D>, D: Digest> Detector<S, D> {
         message: &Activity<S, D>,
     ) -> Result<(), AllocError>
         ensures { OnOk result (RecallsMore
-            (rules_under D.eq S.keys S.good S.certified S.listed judging.now committees.now)
+            (⟦<S as Judges<D>>⟧.rules_under judging.now committees.now)
             (message.now ∷ []) self.old self.new) }
     {
         let round = message_round(message);
@@ -91,13 +82,8 @@ impl<S: Listing<D>, D: Digest> Detector<S, D> {
 
     /// The evidence in the votes so far: one for each round, signer and kind, in that order.
     pub fn evidence(&self, alloc: Global) -> Result<Vec<Evidence<S, D>>, AllocError>
-        ensures evidence { IfOk result (λ found.
-            (judging : judgings.Judging) (schedule : Schedule S)
-            (messages : List (Activity S D S.Certificate S.PublicKey S.Signature)) →
-            Recalls (rules_under D.eq S.keys S.good S.certified S.listed judging schedule)
-            messages self.now → IsEvidence D.eq (valid_votes
-            (rules_under D.eq S.keys S.good S.certified S.listed judging schedule)
-            messages) (map evidence_value found.items)) }
+        ensures evidence { IfOk result (λ found. GivesEvidence ⟦<S as Judges<D>>⟧.rules_under
+            self.now (map evidence_value found.items)) }
         // Each can be encoded as a message.
         ensures encoded { IfOk result (λ found.
             All (IsEncoded D.eq (format_of ⟦<D as Read>⟧) (format_of ⟦<S::Signature as Read>⟧))
@@ -110,13 +96,8 @@ impl<S: Listing<D>, D: Digest> Detector<S, D> {
 
     /// The evidence in the state of each round.
     fn walk(&self, alloc: Global) -> Result<Vec<Evidence<S, D>>, AllocError>
-        ensures { IfOk result (λ found.
-            (judging : judgings.Judging) (schedule : Schedule S)
-            (messages : List (Activity S D S.Certificate S.PublicKey S.Signature)) →
-            Recalls (rules_under D.eq S.keys S.good S.certified S.listed judging schedule)
-            messages self.now → IsEvidence D.eq (valid_votes
-            (rules_under D.eq S.keys S.good S.certified S.listed judging schedule)
-            messages) (map evidence_value found.items)) }
+        ensures { IfOk result (λ found. GivesEvidence ⟦<S as Judges<D>>⟧.rules_under
+            self.now (map evidence_value found.items)) }
     {
         let mut found = Vec::new(alloc);
         'rounds: for (_, round_state) in &self.rounds {
@@ -131,15 +112,8 @@ impl<S: Listing<D>, D: Digest> Detector<S, D> {
         alloc: Global,
         committees: &Committees<S>,
     ) -> Result<Vec<Split>, AllocError>
-        ensures { IfOk result (λ splits.
-            (judging : judgings.Judging)
-            (messages : List (Activity S D S.Certificate S.PublicKey S.Signature)) →
-            HaveCommittees
-            (rules_under D.eq S.keys S.good S.certified S.listed judging committees.now) →
-            Recalls (rules_under D.eq S.keys S.good S.certified S.listed judging committees.now)
-            messages self.now →
-            AreSplits (rules_under D.eq S.keys S.good S.certified S.listed judging committees.now)
-            messages splits.items) }
+        ensures { IfOk result (λ splits. GivesSplits ⟦<S as Judges<D>>⟧.rules_under
+            committees.now self.now splits.items) }
     {
         let mut splits = Vec::new(alloc);
         'rounds: for (round, round_state) in &self.rounds {
@@ -151,12 +125,7 @@ impl<S: Listing<D>, D: Digest> Detector<S, D> {
     /// How many votes are recorded, of the valid ones of the messages so far: of each signer in a round the earliest of each
     /// sort, and of notarizes and finalizes also the earliest with another proposal. The number stops at 2^64 - 1.
     pub fn votes(&self) -> usize
-        ensures { (judging : judgings.Judging) (schedule : Schedule S)
-            (messages : List (Activity S D S.Certificate S.PublicKey S.Signature)) →
-            Recalls (rules_under D.eq S.keys S.good S.certified S.listed judging schedule)
-            messages self.now → result ≡ min (votes_recorded D.eq (valid_votes
-            (rules_under D.eq S.keys S.good S.certified S.listed judging schedule) messages))
-            (2 ^ 64 - 1) }
+        ensures { CountsVotes ⟦<S as Judges<D>>⟧.rules_under self.now result }
     {
         let mut count: usize = 0;
         'rounds: for (_, round_state) in &self.rounds {

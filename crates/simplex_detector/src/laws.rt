@@ -1,8 +1,7 @@
 //! What holds of any messages, and of what is reported of them. The functions have no code: a call gives its caller, in
 //! another crate, what the clauses state.
 
-ghost use Rattle.std.specs.Prelude.{◌≡◌, ◌≤◌, ◌↔◌, ℕ, List, [], Some, All, Contains, length, map, IsTrue};
-ghost use Rattle.std.specs.BTreeSet.{contains};
+ghost use Rattle.std.specs.Prelude.{◌≡◌, ◌≤◌, ◌↔◌, ℕ, List, Some, All, Contains, length, map, IsTrue};
 ghost use Rattle.std.specs.List.{flat_map};
 ghost use Rattle.simplex_base.specs.Positions.{Round};
 ghost use Rattle.simplex_base.specs.Readable.{format_of};
@@ -11,23 +10,20 @@ ghost use Rattle.simplex_votes.specs.Votes.{SignedVote};
 ghost use Rattle.simplex_evidence.specs.Activity.{activity_encoding};
 ghost use Rattle.simplex_evidence.specs.Contradiction as contradiction;
 ghost use Rattle.simplex_evidence.specs.declared.types.activity.Activity.{Activity};
-ghost use Rattle.simplex_detector.specs.Committees.{Schedule, committee_of, rules_of};
-ghost use Rattle.simplex_detector.specs.Judging.{rules_under};
+ghost use Rattle.simplex_detector.specs.Committees.{Schedule, committee_of};
 ghost use Rattle.simplex_detector.specs.declared.judging.Judging.{Judging};
-ghost use Rattle.simplex_detector.specs.declared.judging.Judging.TheVariants.{Claimed, Suspects};
-ghost use Rattle.simplex_detector.specs.declared.judging.SuspectSigners.{SuspectSigners};
-ghost use Rattle.simplex_detector.specs.Accusation.{round_cmp, signer_cmp};
 ghost use Rattle.simplex_detector.specs.Evidence.{IsEvidence, IsEquivocation};
 ghost use Rattle.simplex_detector.specs.Recorded.{RecordedAreSlots, FewAreRecorded, votes_recorded};
 ghost use Rattle.simplex_detector.specs.Laws.{EvidenceIsUnique, AccusesExactly, ReorderingAccusesSame, AccusedStay, IsEvidenceAgain};
 ghost use Rattle.simplex_detector.specs.Rules.{Rules, AreLawful, HaveCommittees, valid_votes};
 ghost use Rattle.simplex_detector.specs.Splits.{AreSplits};
-ghost use Rattle.simplex_detector.specs.Suspects.{claimed, suspect_of, is_suspect, is_suspect_round, SuspectsSuffice};
+ghost use Rattle.simplex_detector.specs.Suspects.{claimed, suspect_of, is_suspect, is_suspect_round, NobodyIsSuspect, SuspectsTellAll, SuspectsSuffice};
 ghost use Rattle.simplex_detector.specs.SplitLaws.{EnoughAreAccused, SignersAreAccountable, SplitsAreUnique, SplitsHaveAccused};
 ghost use Rattle.simplex_detector.specs.Values.{evidence_value};
 ghost use Rattle.simplex_detector.specs.declared.evidence.Evidence.{Evidence};
 ghost use Rattle.simplex_detector.specs.declared.split.Split.{Split};
 
+use crate::rules::Judges;
 use simplex_base::codec::Read;
 use simplex_scheme::scheme::{CertificateScheme, Digest, Listing};
 
@@ -37,11 +33,11 @@ pub fn committees_are_lawful<S: Listing<D>, D: Digest>()
     ensures lawful { (schedule : Schedule S) →
         ((epoch : ℕ) (committee : S) → committee_of schedule epoch ≡ Some committee →
         1 ≤ length (S.keys committee)) →
-        AreLawful (rules_of D.eq S.keys S.good S.certified S.listed schedule) }
+        AreLawful (⟦<S as Judges<D>>⟧.rules schedule) }
     ensures committees { (judging : Judging) (schedule : Schedule S) →
         ((epoch : ℕ) (committee : S) → committee_of schedule epoch ≡ Some committee →
         1 ≤ length (S.keys committee)) →
-        HaveCommittees (rules_under D.eq S.keys S.good S.certified S.listed judging schedule) }
+        HaveCommittees (⟦<S as Judges<D>>⟧.rules_under judging schedule) }
 {}
 
 /// Who is accused does not depend on the order of the messages, and stays accused.
@@ -54,8 +50,8 @@ pub fn accused_stay<S: CertificateScheme, D: Digest>()
         AccusedStay rules messages }
 {}
 
-/// The evidence of votes accuses exactly those whom the votes accuse, each by two of the votes that contradict, and could be no other.
-/// Read again as messages it has the same evidence.
+/// The evidence of votes accuses exactly those whom the votes accuse, each by two of the votes that contradict, and could
+/// be no other. Read again as messages it has the same evidence.
 pub fn evidence_is_determined<S: CertificateScheme, D: Digest>()
     ensures names { (vs : List (SignedVote D S.Signature))
         (es : List (contradiction.Evidence D S.Signature)) → IsEvidence D.eq vs es →
@@ -110,7 +106,7 @@ pub fn recorded_votes_have_room<S: Listing<D>, D: Digest>()
         length (S.listed certificate) ≤ length (S.Certificate.encoding certificate)) →
         (schedule : Schedule S) (messages : List
         (Activity S D S.Certificate S.PublicKey S.Signature)) →
-        votes_recorded D.eq (valid_votes (rules_of D.eq S.keys S.good S.certified S.listed schedule)
+        votes_recorded D.eq (valid_votes (⟦<S as Judges<D>>⟧.rules schedule)
         messages) ≤
         length (flat_map (activity_encoding D.eq (format_of ⟦<D as Read>⟧) S.Certificate.encoding
         (format_of ⟦<S::Signature as Read>⟧)) messages) }
@@ -120,34 +116,11 @@ pub fn recorded_votes_have_room<S: Listing<D>, D: Digest>()
 /// contradict there. The votes of suspects and the certificates of their rounds have the evidence and the splits of all
 /// messages. Where nobody is suspect there are none.
 pub fn suspects_tell_all<S: Listing<D>, D: Digest>()
-    ensures nobody { (schedule : Schedule S)
-        (messages : List (Activity S D S.Certificate S.PublicKey S.Signature))
-        (splits : List Split) →
-        AreLawful (rules_of D.eq S.keys S.good S.certified S.listed schedule) →
-        IsEvidence D.eq (valid_votes
-        (rules_under D.eq S.keys S.good S.certified S.listed Claimed schedule) messages) [] →
-        AreSplits (rules_under D.eq S.keys S.good S.certified S.listed Claimed schedule)
-        messages splits → IsEvidence D.eq (valid_votes
-        (rules_of D.eq S.keys S.good S.certified S.listed schedule) messages) [] ×
-        AreSplits (rules_of D.eq S.keys S.good S.certified S.listed schedule) messages splits }
-    ensures suspects { (schedule : Schedule S)
-        (messages : List (Activity S D S.Certificate S.PublicKey S.Signature))
-        (claims : List (contradiction.Evidence D S.Signature)) (suspects : SuspectSigners) →
-        AreLawful (rules_of D.eq S.keys S.good S.certified S.listed schedule) →
-        IsEvidence D.eq (valid_votes
-        (rules_under D.eq S.keys S.good S.certified S.listed Claimed schedule) messages) claims →
-        All (λ round. IsTrue (contains round_cmp suspects.rounds round))
-        (map (λ e. round_of e.first.subject) claims) →
-        All (λ suspect. IsTrue (contains signer_cmp suspects.signers suspect))
-        (map suspect_of claims) →
-        (es : List (contradiction.Evidence D S.Signature)) (splits : List Split) →
-        IsEvidence D.eq (valid_votes (rules_under D.eq S.keys S.good S.certified S.listed
-        (Suspects suspects) schedule) messages) es →
-        AreSplits (rules_under D.eq S.keys S.good S.certified S.listed
-        (Suspects suspects) schedule) messages splits →
-        IsEvidence D.eq (valid_votes
-        (rules_of D.eq S.keys S.good S.certified S.listed schedule) messages) es ×
-        AreSplits (rules_of D.eq S.keys S.good S.certified S.listed schedule) messages splits }
+    ensures nobody { (schedule : Schedule S) → NobodyIsSuspect (⟦<S as Judges<D>>⟧.rules schedule)
+        (λ judging. ⟦<S as Judges<D>>⟧.rules_under judging schedule) }
+    ensures suspects { (schedule : Schedule S) → SuspectsTellAll
+        (⟦<S as Judges<D>>⟧.rules schedule)
+        (λ judging. ⟦<S as Judges<D>>⟧.rules_under judging schedule) }
 {}
 
 /// The evidence and the splits of messages depend on no signature but those of suspects in their rounds and of the

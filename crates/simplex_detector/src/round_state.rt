@@ -1,19 +1,14 @@
 //! The state of one round: its votes and its certified subjects.
 
-ghost use Rattle.std.specs.Prelude.{◌≡◌, ◌↔◌, ◌+◌, ◌-◌, ◌^◌, List, [], ◌∷◌, None, Some, ℕ, length, map, min, nat_eq, IfOk, OnOk, IsTrue, if◌then◌else◌};
+ghost use Rattle.std.specs.Prelude.{◌≡◌, ◌↔◌, ◌+◌, ◌-◌, ◌^◌, [], ◌∷◌, None, Some, ℕ, map, min, nat_eq, IfOk, OnOk, IsTrue, if◌then◌else◌};
 ghost use Rattle.std.specs.Option.{option_eq};
 ghost use Rattle.std.specs.List.Sorted.{IsNonDecreasing};
 ghost use Rattle.std.specs.Set.{distinct_count};
 ghost use Rattle.simplex_scheme.specs.Subject.{subject_value, round_of};
 ghost use Rattle.simplex_votes.specs.Votes.{Sort, notarize_vote, nullify_vote, finalize_vote, vote_on};
-ghost use Rattle.simplex_evidence.specs.declared.types.activity.Activity.{Activity};
-ghost use Rattle.simplex_detector.specs.Rules.{HaveCommittees};
-ghost use Rattle.simplex_detector.specs.Judging.{rules_under};
-ghost use Rattle.simplex_detector.specs.declared.judging.Judging as judgings;
 ghost use Rattle.simplex_detector.specs.Rounds.{round_count, IsSized, slots, no_slot};
-ghost use Rattle.simplex_detector.specs.FirstCertified.{nothing_certified, firsts_of};
-ghost use Rattle.simplex_detector.specs.Detector.{TakesIn, TakesMessage, RecallsRound};
-ghost use Rattle.simplex_detector.specs.Splits.{split_of};
+ghost use Rattle.simplex_detector.specs.FirstCertified.{nothing_certified};
+ghost use Rattle.simplex_detector.specs.Detector.{TakesIn, TakesMessage, GivesSplit};
 ghost use Rattle.simplex_detector.specs.Values.{evidence_value};
 
 use crate::certified_subjects::CertifiedSubjects;
@@ -21,6 +16,7 @@ use crate::committees::Committees;
 use crate::evidence::Evidence;
 use crate::judging::Judging;
 use crate::round_votes::RoundVotes;
+use crate::rules::Judges;
 use crate::split::Split;
 use simplex_base::positions::{Participant, Round};
 use simplex_evidence::types::Activity;
@@ -74,7 +70,7 @@ impl<S: Listing<D>, D: Digest> RoundState<S, D> {
         message: &Activity<S, D>,
     ) -> Result<(), AllocError>
         ensures { OnOk result (TakesMessage
-            (rules_under D.eq S.keys S.good S.certified S.listed judging.now) committee.now
+            (⟦<S as Judges<D>>⟧.rules_under judging.now) committee.now
             S.listed message.now self.old self.new) }
     {
         match message {
@@ -123,7 +119,7 @@ impl<S: Listing<D>, D: Digest> RoundState<S, D> {
         vote: &Notarize<S, D>,
     ) -> Result<(), AllocError>
         ensures { OnOk result (TakesIn
-            (rules_under D.eq S.keys S.good S.certified S.listed judging.now) committee.now
+            (⟦<S as Judges<D>>⟧.rules_under judging.now) committee.now
             vote.now.proposal.round (notarize_vote vote.now ∷ []) None self.old self.new) }
     {
         let proposal = &vote.proposal;
@@ -143,7 +139,7 @@ impl<S: Listing<D>, D: Digest> RoundState<S, D> {
         vote: &Nullify<S>,
     ) -> Result<(), AllocError>
         ensures { OnOk result (TakesIn
-            (rules_under D.eq S.keys S.good S.certified S.listed judging.now) committee.now
+            (⟦<S as Judges<D>>⟧.rules_under judging.now) committee.now
             vote.now.round (nullify_vote vote.now ∷ []) None self.old self.new) }
     {
         let round = vote.round;
@@ -163,7 +159,7 @@ impl<S: Listing<D>, D: Digest> RoundState<S, D> {
         vote: &Finalize<S, D>,
     ) -> Result<(), AllocError>
         ensures { OnOk result (TakesIn
-            (rules_under D.eq S.keys S.good S.certified S.listed judging.now) committee.now
+            (⟦<S as Judges<D>>⟧.rules_under judging.now) committee.now
             vote.now.proposal.round (finalize_vote vote.now ∷ []) None self.old self.new) }
     {
         let proposal = &vote.proposal;
@@ -184,7 +180,7 @@ impl<S: Listing<D>, D: Digest> RoundState<S, D> {
         attestation: &Attestation<S>,
     ) -> Result<(), AllocError>
         ensures { OnOk result (TakesIn
-            (rules_under D.eq S.keys S.good S.certified S.listed judging.now) committee.now
+            (⟦<S as Judges<D>>⟧.rules_under judging.now) committee.now
             (round_of (subject_value subject.now))
             (vote_on (subject_value subject.now) attestation.now ∷ []) None self.old self.new) }
     {
@@ -202,7 +198,7 @@ impl<S: Listing<D>, D: Digest> RoundState<S, D> {
         certificate: &S::Certificate,
     ) -> Result<(), AllocError>
         ensures { OnOk result (TakesIn
-            (rules_under D.eq S.keys S.good S.certified S.listed judging.now) committee.now
+            (⟦<S as Judges<D>>⟧.rules_under judging.now) committee.now
             (round_of (subject_value subject.now))
             (map (vote_on (subject_value subject.now)) (S.listed certificate.now))
             (Some (subject_value subject.now, certificate.now)) self.old self.new) }
@@ -222,16 +218,8 @@ impl<S: Listing<D>, D: Digest> RoundState<S, D> {
         committees: &Committees<S>,
         round: Round,
     ) -> Result<Option<Split>, AllocError>
-        ensures { IfOk result (λ split.
-            (judging : judgings.Judging)
-            (messages : List (Activity S D S.Certificate S.PublicKey S.Signature)) →
-            HaveCommittees
-            (rules_under D.eq S.keys S.good S.certified S.listed judging committees.now) →
-            RecallsRound (rules_under D.eq S.keys S.good S.certified S.listed judging
-            committees.now)
-            messages round self.now → split ≡ split_of
-            (rules_under D.eq S.keys S.good S.certified S.listed judging committees.now)
-            messages round) }
+        ensures { IfOk result (λ split. GivesSplit ⟦<S as Judges<D>>⟧.rules_under
+            committees.now round self.now split) }
     {
         if !self.certified.is_split() {
             return Ok(None);

@@ -1,0 +1,25 @@
+//! What messages are judged by, for contracts alone.
+
+ghost use Rattle.simplex_detector.specs.Committees.{Schedule, rules_of};
+ghost use Rattle.simplex_detector.specs.Judging.{rules_under};
+ghost use Rattle.simplex_detector.specs.Rules.{Rules};
+ghost use Rattle.simplex_detector.specs.declared.judging.Judging.{Judging};
+
+use simplex_scheme::scheme::{Digest, Listing};
+
+/// A scheme whose committees judge votes and certificates. Every scheme that lists attestations is one; there is
+/// nothing to implement or to call.
+pub trait Judges<D: Digest>: Listing<D> {
+    /// Each vote and each certificate is judged by the committee of its round's epoch.
+    ghost rules: { Schedule Self → Rules Self D Self.Certificate Self.PublicKey Self.Signature };
+
+    /// The same, where votes and certificates are judged so strictly.
+    ghost rules_under: { Judging → Schedule Self →
+        Rules Self D Self.Certificate Self.PublicKey Self.Signature };
+}
+
+impl<S: Listing<D>, D: Digest> Judges<D> for S {
+    ghost rules = { rules_of D.eq S.keys S.good S.certified S.listed };
+
+    ghost rules_under = { rules_under D.eq S.keys S.good S.certified S.listed };
+}
