@@ -1,11 +1,11 @@
 //! A scheme that counts what it verifies.
 
-ghost use Rattle.std.specs.Prelude.{◌≡◌, ◌+◌, ◌*◌, ◌<◌, ◌≤◌, ◌^◌, ◌&&◌, ◌∷◌, [], None, Some, Ok, Err, IsOk, IfOk, MatchOption, All, length, nat_eq, nat_lt, true, refl};
+ghost use Rattle.std.specs.Prelude.{◌≡◌, ◌+◌, ◌*◌, ◌<◌, ◌≤◌, ◌^◌, ◌&&◌, ◌∷◌, [], None, Some, Ok, IsOk, IfOk, MatchOption, All, length, nat_eq, nat_lt, true, refl};
 ghost use Rattle.std.specs.List.{IsDistinct};
 ghost use Rattle.std.specs.Str.{bytes_eq};
 ghost use Rattle.std.proofs.Common.{lit≤};
 ghost use Rattle.simplex_scheme.specs.Subject.{SubjectValue, subject_value};
-ghost use Rattle.simplex_scheme.specs.Committee.{IsInOrder, is_quorum, quorum_of, signers_of};
+ghost use Rattle.simplex_scheme.specs.Committee.{IsInOrder, is_quorum, quorum_of, signers_of, RefusesFew};
 ghost use Rattle.simplex_plain.specs.CommitteeLaws.{quorum_meaning, fixed_within};
 ghost use Rattle.simplex_plain.specs.Marked.{marked_good, marked_members};
 ghost use Rattle.simplex_audit_tests.specs.Counted.{nobody};
@@ -179,9 +179,7 @@ impl<D: Digest> Scheme<D> for Counted {
     ) -> Result<Listed<Counted>, AssemblyError>
         requires distinct { IsDistinct nat_eq (signers_of attestations.items) }
         requires members { All (λ a. a.signer < length self.now) attestations.items }
-        ensures below { length attestations.items < quorum_of (length self.now) →
-            result ≡ Err (AssemblyError.InsufficientAttestations (quorum_of (length self.now))
-            (length attestations.items)) }
+        ensures below { RefusesFew (length self.now) (length attestations.items) result }
         // No memory is taken.
         ensures ample { quorum_of (length self.now) ≤ length attestations.items → IsOk result }
         ensures made { IfOk result (λ certificate. IsInOrder attestations.items certificate) }

@@ -4,7 +4,7 @@
 ghost use Rattle.std.specs.Prelude.{◌≡◌, ℕ, Bool, true, length, nat_eq, All, Ok, Err, IsOk, IfOk, ◌<◌, ◌≤◌};
 ghost use Rattle.std.specs.List.{IsDistinct, list_all};
 ghost use Rattle.simplex_scheme.specs.Subject.{SubjectValue, subject_value};
-ghost use Rattle.simplex_scheme.specs.Committee.{IsInOrder, is_quorum, quorum_of, signers_of};
+ghost use Rattle.simplex_scheme.specs.Committee.{IsInOrder, is_quorum, quorum_of, signers_of, RefusesFew};
 
 use crate::listed::Listed;
 use simplex_scheme::faults::quorum;
@@ -78,9 +78,7 @@ pub fn assembled<S: CertificateScheme>(
 ) -> Result<Listed<S>, AssemblyError>
     requires distinct { IsDistinct nat_eq (signers_of attestations.items) }
     requires members { All (λ a. a.signer < length (S.keys scheme.now)) attestations.items }
-    ensures below { length attestations.items < quorum_of (length (S.keys scheme.now)) →
-        result ≡ Err (AssemblyError.InsufficientAttestations
-        (quorum_of (length (S.keys scheme.now))) (length attestations.items)) }
+    ensures below { RefusesFew (length (S.keys scheme.now)) (length attestations.items) result }
     ensures ample { quorum_of (length (S.keys scheme.now)) ≤ length attestations.items →
         IsOk result }
     ensures made { IfOk result (λ certificate. IsInOrder attestations.items certificate) }

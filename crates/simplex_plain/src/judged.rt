@@ -7,13 +7,12 @@
 //! signature valid, and `lists_given`: an assembled certificate lists what was given. By `AttestationVerifier` and the
 //! calls of [`certificates`](crate::certificates) it has to write only what makes one signature valid.
 
-ghost use Rattle.std.specs.Prelude.{◌≡◌, ◌≢◌, ◌↔◌, ◌&&◌, ◌==◌, ◌++◌, ◌<◌, ◌≤◌, ◌^◌, ◌+◌, ◌*◌, ℕ, List, None, Some, Ok, Err, IsOk, IfOk, IfSome, IsTrue, MatchOption, All, length, nat_eq, nat_lt, true};
+ghost use Rattle.std.specs.Prelude.{◌≡◌, ◌&&◌, ◌==◌, ◌<◌, ◌≤◌, ◌^◌, ◌+◌, ◌*◌, None, Some, Ok, IsOk, IfOk, MatchOption, All, length, nat_eq, true};
 ghost use Rattle.std.specs.List.{IsDistinct, list_any};
-ghost use Rattle.std.specs.Str.{bytes_eq};
 ghost use Rattle.std.proofs.Common.{lit≤};
 ghost use Rattle.simplex_base.specs.Readable.{format_of};
-ghost use Rattle.simplex_scheme.specs.Subject.{SubjectValue, subject_value, message_of};
-ghost use Rattle.simplex_scheme.specs.Committee.{IsInOrder, is_quorum, quorum_of, signers_of};
+ghost use Rattle.simplex_scheme.specs.Subject.{SubjectValue, subject_value};
+ghost use Rattle.simplex_scheme.specs.Committee.{IsInOrder, is_quorum, quorum_of, signers_of, RefusesFew};
 ghost use Rattle.simplex_plain.specs.CommitteeLaws.{quorum_meaning, fixed_within};
 ghost use Rattle.simplex_plain.specs.Judged.{nobody, vote_of, is_on, judged_good, judged_members};
 
@@ -245,9 +244,7 @@ impl<D: Digest> Scheme<D> for Judged {
     ) -> Result<Listed<Judged>, AssemblyError>
         requires distinct { IsDistinct nat_eq (signers_of attestations.items) }
         requires members { All (λ a. a.signer < length self.now.keys) attestations.items }
-        ensures below { length attestations.items < quorum_of (length self.now.keys) →
-            result ≡ Err (AssemblyError.InsufficientAttestations (quorum_of (length self.now.keys))
-            (length attestations.items)) }
+        ensures below { RefusesFew (length self.now.keys) (length attestations.items) result }
         // No memory is taken.
         ensures ample { quorum_of (length self.now.keys) ≤ length attestations.items → IsOk result }
         ensures made { IfOk result (λ certificate. IsInOrder attestations.items certificate) }

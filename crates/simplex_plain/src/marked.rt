@@ -1,11 +1,11 @@
 //! A scheme for tests: the signature of every participant on every message is the byte `aa`.
 
-ghost use Rattle.std.specs.Prelude.{◌≡◌, ◌↔◌, ◌+◌, ◌*◌, ◌<◌, ◌≤◌, ◌^◌, [], ◌∷◌, Option, Some, None, Ok, Err, IsOk, IsTrue, IfOk, MatchOption, All, length, nat_eq, nat_lt, ◌&&◌, true};
+ghost use Rattle.std.specs.Prelude.{◌≡◌, ◌↔◌, ◌+◌, ◌*◌, ◌<◌, ◌≤◌, ◌^◌, [], ◌∷◌, Option, Some, None, Ok, IsOk, IsTrue, IfOk, MatchOption, All, length, nat_eq, nat_lt, ◌&&◌, true};
 ghost use Rattle.std.specs.Option.{ForSome};
 ghost use Rattle.std.specs.Str.{bytes_eq};
 ghost use Rattle.std.proofs.Common.{lit<, lit≤};
 ghost use Rattle.simplex_scheme.specs.Subject.{SubjectValue, subject_value};
-ghost use Rattle.simplex_scheme.specs.Committee.{IsInOrder, IsQuorum, is_quorum, quorum_of, signers_of};
+ghost use Rattle.simplex_scheme.specs.Committee.{IsInOrder, IsQuorum, is_quorum, quorum_of, signers_of, RefusesFew};
 ghost use Rattle.simplex_plain.specs.CommitteeLaws.{quorum_meaning, fixed_within};
 ghost use Rattle.std.specs.List.{IsDistinct};
 ghost use Rattle.simplex_plain.specs.Marked.{numbered, marked_good, marked_members};
@@ -239,9 +239,7 @@ impl<D: Digest> Scheme<D> for Marked {
     ) -> Result<Listed<Marked>, AssemblyError>
         requires distinct { IsDistinct nat_eq (signers_of attestations.items) }
         requires members { All (λ a. a.signer < length self.now.keys) attestations.items }
-        ensures below { length attestations.items < quorum_of (length self.now.keys) →
-            result ≡ Err (AssemblyError.InsufficientAttestations (quorum_of (length self.now.keys))
-            (length attestations.items)) }
+        ensures below { RefusesFew (length self.now.keys) (length attestations.items) result }
         // No memory is taken.
         ensures ample { quorum_of (length self.now.keys) ≤ length attestations.items → IsOk result }
         ensures made { IfOk result (λ certificate. IsInOrder attestations.items certificate) }

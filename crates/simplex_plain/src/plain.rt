@@ -1,13 +1,13 @@
 //! A scheme without secrets: the signature of a participant is the SHA-256 of a namespace, its key and the
 //! message. It lets streams be made and judged by anyone, and binds nobody.
 
-ghost use Rattle.std.specs.Prelude.{◌≡◌, ◌≢◌, ◌↔◌, ◌+◌, ◌*◌, ℕ, List, Option, Some, None, Ok, Err, IsOk, IsTrue, IfOk, MatchOption, All, length, nat_eq, slice_get, option_copied, option_map, option_and_then, ◌++◌, ◌<◌, ◌≤◌, ◌^◌, true};
+ghost use Rattle.std.specs.Prelude.{◌≡◌, ◌≢◌, ◌↔◌, ◌+◌, ◌*◌, ℕ, List, Option, Some, None, Ok, IsOk, IsTrue, IfOk, MatchOption, All, length, nat_eq, slice_get, option_copied, option_map, option_and_then, ◌++◌, ◌<◌, ◌≤◌, ◌^◌, true};
 ghost use Rattle.std.proofs.Common.{lit<, lit≤};
 ghost use Rattle.simplex_base.specs.Readable.{format_of};
 ghost use Rattle.simplex_base.specs.Varint.{number_64};
 ghost use Rattle.simplex_scheme.specs.Namespace.{names_of};
 ghost use Rattle.simplex_scheme.specs.Subject.{SubjectValue, subject_value};
-ghost use Rattle.simplex_scheme.specs.Committee.{IsInOrder, IsQuorum, is_quorum, quorum_of, signers_of};
+ghost use Rattle.simplex_scheme.specs.Committee.{IsInOrder, IsQuorum, is_quorum, quorum_of, signers_of, RefusesFew};
 ghost use Rattle.simplex_plain.specs.CommitteeLaws.{quorum_meaning, fixed_within};
 ghost use Rattle.std.specs.List.{IsDistinct};
 ghost use Rattle.simplex_plain.specs.Plain.{hashed, plain_good, good_members};
@@ -364,9 +364,7 @@ impl<D: Digest> Scheme<D> for Plain {
     ) -> Result<Listed<Plain>, AssemblyError>
         requires distinct { IsDistinct nat_eq (signers_of attestations.items) }
         requires members { All (λ a. a.signer < length self.now.keys) attestations.items }
-        ensures below { length attestations.items < quorum_of (length self.now.keys) →
-            result ≡ Err (AssemblyError.InsufficientAttestations (quorum_of (length self.now.keys))
-            (length attestations.items)) }
+        ensures below { RefusesFew (length self.now.keys) (length attestations.items) result }
         // No memory is taken.
         ensures ample { quorum_of (length self.now.keys) ≤ length attestations.items → IsOk result }
         ensures made { IfOk result (λ certificate. IsInOrder attestations.items certificate) }

@@ -1,10 +1,12 @@
 -- Committees: how many may lie, how many are a quorum, and what a quorum signs.
-use Rattle.std.specs.Prelude.{◌≡◌, ℕ, ◌-◌, ◌/◌, ◌≤◌, ◌&&◌, Bool, true, List, length, map, All, nat_eq, nat_le, IsPermutation}
+use Rattle.std.specs.Prelude.{◌≡◌, ℕ, ◌-◌, ◌/◌, ◌<◌, ◌≤◌, ◌&&◌, Bool, true, List, length, map, All, nat_eq, nat_le, IsPermutation, Result, Err, IfErr}
 use Rattle.std.specs.List.{IsDistinct, list_all}
 use Rattle.std.specs.List.Sorted.{IsStrictlySortedBy}
 use Rattle.std.specs.Ordering.{nat_cmp}
 use Rattle.std.specs.Set.{distinct_count}
 use Rattle.simplex_scheme.specs.declared.scheme.Attestation.{Attestation}
+use Rattle.simplex_scheme.specs.declared.scheme.AssemblyError.{AssemblyError}
+use Rattle.simplex_scheme.specs.declared.scheme.AssemblyError.TheVariants.{InsufficientAttestations, OutOfMemory}
 
 -- how many of n participants may lie: the greatest f with 3f + 1 ≤ n
 abbrev pub faults_of : ℕ → ℕ
@@ -34,3 +36,13 @@ is_quorum n good attestations =
 pub record IsInOrder {S P G : Type 0} (given listed : List (Attestation S P G)) : Type 0 where
   pub same : IsPermutation given listed
   pub ascending : IsStrictlySortedBy nat_cmp (signers_of listed)
+
+-- ---- making a certificate of attestations of n participants
+
+-- fewer than a quorum are refused, with the quorum and how many they are
+abbrev pub RefusesFew : {X : Type 0} → ℕ → ℕ → Result X AssemblyError → Type 0
+RefusesFew n given result = given < quorum_of n → result ≡ Err (InsufficientAttestations (quorum_of n) given)
+
+-- from a quorum on there is one, unless memory is refused
+abbrev pub AssemblesQuorum : {X : Type 0} → ℕ → ℕ → Result X AssemblyError → Type 0
+AssemblesQuorum n given result = quorum_of n ≤ given → IfErr result (λ error. error ≡ OutOfMemory)

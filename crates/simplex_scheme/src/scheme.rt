@@ -1,10 +1,10 @@
 //! The schemes that sign and verify.
 
-ghost use Rattle.std.specs.Prelude.{◌≡◌, ⊤, ◌+◌, ℕ, Bool, true, false, List, Option, Some, None, Ok, Err, IfOk, IfErr, IfSome, MatchOption, All, length, nat_eq, ◌&&◌, ◌<◌, ◌≤◌, ◌^◌, refl};
+ghost use Rattle.std.specs.Prelude.{◌≡◌, ⊤, ◌+◌, ℕ, Bool, true, false, List, Option, Some, None, Ok, Err, IfOk, IfSome, MatchOption, All, length, nat_eq, ◌&&◌, ◌<◌, ◌≤◌, ◌^◌, refl};
 ghost use Rattle.std.specs.List.{IsDistinct, list_all};
 ghost use Rattle.simplex_base.specs.Readable.{format_of};
 ghost use Rattle.simplex_scheme.specs.Subject.{SubjectValue, subject_value};
-ghost use Rattle.simplex_scheme.specs.Committee.{IsQuorum, IsInOrder, quorum_of, signers_of};
+ghost use Rattle.simplex_scheme.specs.Committee.{IsQuorum, IsInOrder, signers_of, RefusesFew, AssemblesQuorum};
 
 pub use crate::faults::{max_faults, quorum};
 pub use crate::hash::{Hasher, Sha256, Sha256Digest};
@@ -218,11 +218,10 @@ pub trait Scheme<D: Digest>: CertificateVerifier<D> {
         Self: Sized,
         requires distinct { IsDistinct nat_eq (signers_of attestations.items) }
         requires members { All (λ a. a.signer < length (Self.keys self.now)) attestations.items }
-        ensures below { length attestations.items < quorum_of (length (Self.keys self.now)) →
-            result ≡ Err (AssemblyError.InsufficientAttestations
-            (quorum_of (length (Self.keys self.now))) (length attestations.items)) }
-        ensures enough { quorum_of (length (Self.keys self.now)) ≤ length attestations.items →
-            IfErr result (λ error. error ≡ AssemblyError.OutOfMemory) }
+        ensures below { RefusesFew (length (Self.keys self.now)) (length attestations.items)
+            result }
+        ensures enough { AssemblesQuorum (length (Self.keys self.now)) (length attestations.items)
+            result }
         ensures made { IfOk result (λ certificate. made_of attestations.items certificate) }
         ensures certified { IfOk result (λ certificate. (subject : SubjectValue D) →
             All (λ a. good self.now subject a.signer a.signature ≡ true) attestations.items →

@@ -4,11 +4,11 @@
 //!
 //! The verdict has to be the caller's own, written once it has verified the signature, and never one that came with a message.
 
-ghost use Rattle.std.specs.Prelude.{◌≡◌, ◌+◌, ◌*◌, ◌<◌, ◌≤◌, ◌^◌, ℕ, None, Some, Ok, Err, IsOk, IfOk, IfErr, MatchOption, All, length, nat_eq, nat_lt, ◌&&◌, true};
+ghost use Rattle.std.specs.Prelude.{◌≡◌, ◌+◌, ◌*◌, ◌<◌, ◌≤◌, None, Some, Ok, IsOk, IfOk, MatchOption, All, length, nat_eq, nat_lt, ◌&&◌, true};
 ghost use Rattle.std.specs.List.{IsDistinct};
 ghost use Rattle.std.proofs.Common.{lit≤};
 ghost use Rattle.simplex_scheme.specs.Subject.{SubjectValue, subject_value};
-ghost use Rattle.simplex_scheme.specs.Committee.{IsInOrder, is_quorum, quorum_of, signers_of};
+ghost use Rattle.simplex_scheme.specs.Committee.{IsInOrder, is_quorum, quorum_of, signers_of, RefusesFew, AssemblesQuorum};
 ghost use Rattle.simplex_plain.specs.CommitteeLaws.{quorum_meaning, fixed_within};
 ghost use Rattle.simplex_plain.specs.Marked.{numbered};
 ghost use Rattle.simplex_vouched.specs.Vouched.{nobody, is_vouched, vouched_valid, vouched_members};
@@ -37,7 +37,7 @@ pub struct Vouched<R, const N: usize> {
 }
 
 impl<R, const N: usize> Model for Vouched<R, N> {
-    ghost use Rattle.std.specs.Prelude.{◌<◌, ◌≤◌, ◌^◌, length};
+    ghost use Rattle.std.specs.Prelude.{◌<◌, ◌≤◌, length};
     ghost use Rattle.simplex_vouched.specs.Vouched.{VouchedScheme};
 
     ghost Value = { VouchedScheme };
@@ -182,11 +182,8 @@ impl<D: Digest, R: Role<N>, const N: usize> Scheme<D> for Vouched<R, N> {
     ) -> Result<Listed<Vouched<R, N>>, AssemblyError>
         requires distinct { IsDistinct nat_eq (signers_of attestations.items) }
         requires members { All (λ a. a.signer < length self.now.keys) attestations.items }
-        ensures below { length attestations.items < quorum_of (length self.now.keys) →
-            result ≡ Err (AssemblyError.InsufficientAttestations
-            (quorum_of (length self.now.keys)) (length attestations.items)) }
-        ensures enough { quorum_of (length self.now.keys) ≤ length attestations.items →
-            IfErr result (λ error. error ≡ AssemblyError.OutOfMemory) }
+        ensures below { RefusesFew (length self.now.keys) (length attestations.items) result }
+        ensures enough { AssemblesQuorum (length self.now.keys) (length attestations.items) result }
         // No memory is taken.
         ensures ample { quorum_of (length self.now.keys) ≤ length attestations.items → IsOk result }
         ensures made { IfOk result (λ certificate. IsInOrder attestations.items certificate) }

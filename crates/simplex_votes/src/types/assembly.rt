@@ -1,8 +1,8 @@
 //! What certificates are made of.
 
-ghost use Rattle.std.specs.Prelude.{◌≡◌, ◌↔◌, ◌<◌, ◌≤◌, true, Err, IsTrue, IfOk, IfErr, All, length, map, nat_eq, refl};
+ghost use Rattle.std.specs.Prelude.{◌≡◌, ◌↔◌, ◌<◌, true, Err, IsTrue, IfOk, All, length, map, nat_eq, refl};
 ghost use Rattle.std.specs.List.{IsDistinct, list_any};
-ghost use Rattle.simplex_scheme.specs.Committee.{quorum_of, signers_of};
+ghost use Rattle.simplex_scheme.specs.Committee.{signers_of, RefusesFew, AssemblesQuorum};
 ghost use Rattle.simplex_scheme.specs.Subject.{SubjectValue};
 ghost use Rattle.simplex_votes.specs.Assembly.{CanAssemble};
 
@@ -177,11 +177,8 @@ pub fn assemble<S: Scheme<D>, D: Digest, V: Attested<S>>(
     requires distinct { IsDistinct nat_eq (signers_of (map V.attestation_of votes.now)) }
     requires members { All (λ a.
         a.signer < length (S.keys scheme.now)) (map V.attestation_of votes.now) }
-    ensures below { length votes.now < quorum_of (length (S.keys scheme.now)) →
-        result ≡ Err (AssemblyError.InsufficientAttestations
-        (quorum_of (length (S.keys scheme.now))) (length votes.now)) }
-    ensures enough { quorum_of (length (S.keys scheme.now)) ≤ length votes.now →
-        IfErr result (λ error. error ≡ AssemblyError.OutOfMemory) }
+    ensures below { RefusesFew (length (S.keys scheme.now)) (length votes.now) result }
+    ensures enough { AssemblesQuorum (length (S.keys scheme.now)) (length votes.now) result }
     ensures made { IfOk result (λ certificate.
         S.made_of (map V.attestation_of votes.now) certificate) }
     ensures certified { IfOk result (λ certificate. (subject : SubjectValue D) →

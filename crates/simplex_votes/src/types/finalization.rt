@@ -1,8 +1,8 @@
 //! Certificates that a proposal is finalized.
 
-ghost use Rattle.std.specs.Prelude.{◌≡◌, ◌↔◌, ◌+◌, ◌<◌, ◌≤◌, ◌^◌, true, Err, IsTrue, IfOk, IfErr, All, length, map, ◌&&◌, refl};
+ghost use Rattle.std.specs.Prelude.{◌≡◌, ◌↔◌, ◌+◌, ◌<◌, ◌≤◌, ◌^◌, true, Err, IsTrue, IfOk, All, length, map, ◌&&◌, refl};
 ghost use Rattle.simplex_base.specs.Readable.{format_of, format_under};
-ghost use Rattle.simplex_scheme.specs.Committee.{quorum_of};
+ghost use Rattle.simplex_scheme.specs.Committee.{RefusesFew, AssemblesQuorum};
 ghost use Rattle.simplex_scheme.specs.Subject.{Finalizes};
 
 use crate::types::assembly::{assemble, stand_together};
@@ -98,11 +98,8 @@ impl<S: Scheme<D>, D: Digest> Finalization<S, D> {
         votes: &[Finalize<S, D>],
     ) -> Result<Self, AssemblyError>
         requires { CanFinalize (length (S.keys scheme.now)) votes.now }
-        ensures below { length votes.now < quorum_of (length (S.keys scheme.now)) →
-            result ≡ Err (AssemblyError.InsufficientAttestations
-            (quorum_of (length (S.keys scheme.now))) (length votes.now)) }
-        ensures enough { quorum_of (length (S.keys scheme.now)) ≤ length votes.now →
-            IfErr result (λ error. error ≡ AssemblyError.OutOfMemory) }
+        ensures below { RefusesFew (length (S.keys scheme.now)) (length votes.now) result }
+        ensures enough { AssemblesQuorum (length (S.keys scheme.now)) (length votes.now) result }
         ensures proposal { IfOk result (λ finalization.
             All (λ vote. vote.proposal ≡ finalization.proposal) votes.now) }
         ensures made { IfOk result (λ finalization.
@@ -129,11 +126,8 @@ impl<S: Scheme<D>, D: Digest> Finalization<S, D> {
         votes: Vec<Finalize<S, D>>,
     ) -> Result<Self, AssemblyError>
         requires { CanFinalize (length (S.keys scheme.now)) votes.items }
-        ensures below { length votes.items < quorum_of (length (S.keys scheme.now)) →
-            result ≡ Err (AssemblyError.InsufficientAttestations
-            (quorum_of (length (S.keys scheme.now))) (length votes.items)) }
-        ensures enough { quorum_of (length (S.keys scheme.now)) ≤ length votes.items →
-            IfErr result (λ error. error ≡ AssemblyError.OutOfMemory) }
+        ensures below { RefusesFew (length (S.keys scheme.now)) (length votes.items) result }
+        ensures enough { AssemblesQuorum (length (S.keys scheme.now)) (length votes.items) result }
         ensures proposal { IfOk result (λ finalization.
             All (λ vote. vote.proposal ≡ finalization.proposal) votes.items) }
         ensures made { IfOk result (λ finalization.

@@ -1,8 +1,8 @@
 //! Certificates that a round is nullified.
 
-ghost use Rattle.std.specs.Prelude.{◌≡◌, ◌↔◌, ◌+◌, ◌<◌, ◌≤◌, ◌^◌, true, Err, IsTrue, IfOk, IfErr, All, length, map, ◌&&◌, refl};
+ghost use Rattle.std.specs.Prelude.{◌≡◌, ◌↔◌, ◌+◌, ◌<◌, ◌≤◌, ◌^◌, true, Err, IsTrue, IfOk, All, length, map, ◌&&◌, refl};
 ghost use Rattle.simplex_base.specs.Readable.{format_under};
-ghost use Rattle.simplex_scheme.specs.Committee.{quorum_of};
+ghost use Rattle.simplex_scheme.specs.Committee.{RefusesFew, AssemblesQuorum};
 ghost use Rattle.simplex_scheme.specs.Subject.{Nullifies};
 
 use crate::types::assembly::{assemble, stand_together};
@@ -93,11 +93,8 @@ impl<S: CertificateScheme> Nullification<S> {
     where
         S: Scheme<D>,
         requires { CanNullify (length (S.keys scheme.now)) votes.now }
-        ensures below { length votes.now < quorum_of (length (S.keys scheme.now)) →
-            result ≡ Err (AssemblyError.InsufficientAttestations
-            (quorum_of (length (S.keys scheme.now))) (length votes.now)) }
-        ensures enough { quorum_of (length (S.keys scheme.now)) ≤ length votes.now →
-            IfErr result (λ error. error ≡ AssemblyError.OutOfMemory) }
+        ensures below { RefusesFew (length (S.keys scheme.now)) (length votes.now) result }
+        ensures enough { AssemblesQuorum (length (S.keys scheme.now)) (length votes.now) result }
         ensures round { IfOk result (λ nullification.
             All (λ vote. vote.round ≡ nullification.round) votes.now) }
         ensures made { IfOk result (λ nullification.
@@ -126,11 +123,8 @@ impl<S: CertificateScheme> Nullification<S> {
     where
         S: Scheme<D>,
         requires { CanNullify (length (S.keys scheme.now)) votes.items }
-        ensures below { length votes.items < quorum_of (length (S.keys scheme.now)) →
-            result ≡ Err (AssemblyError.InsufficientAttestations
-            (quorum_of (length (S.keys scheme.now))) (length votes.items)) }
-        ensures enough { quorum_of (length (S.keys scheme.now)) ≤ length votes.items →
-            IfErr result (λ error. error ≡ AssemblyError.OutOfMemory) }
+        ensures below { RefusesFew (length (S.keys scheme.now)) (length votes.items) result }
+        ensures enough { AssemblesQuorum (length (S.keys scheme.now)) (length votes.items) result }
         ensures round { IfOk result (λ nullification.
             All (λ vote. vote.round ≡ nullification.round) votes.items) }
         ensures made { IfOk result (λ nullification.
