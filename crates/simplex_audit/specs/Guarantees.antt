@@ -13,53 +13,60 @@ use Rattle.simplex_audit.specs.Messages.{AreMessages}
 use Rattle.simplex_audit.specs.Report.{IsReport, evidence_in, as_messages}
 use Rattle.simplex_audit.specs.declared.audit.Report.{Report}
 
--- something holds of the messages of the stream
-abbrev pub OfMessages : {S D C P G : Type 0} → Basis S D C P G → List ℕ → (List (Activity S D C P G) → Type 0) → Type 0
-OfMessages {S} {D} {C} {P} {G} basis stream Holds =
-    (messages : List (Activity S D C P G)) (rest : List ℕ) → AreMessages basis.format stream messages rest → Holds messages
+-- ---- of a stream
 
--- the stream has one list of messages, and one undecoded tail
-abbrev pub HasOneReading : {S D C P G : Type 0} → Basis S D C P G → List ℕ → Type 0
-HasOneReading {S} {D} {C} {P} {G} basis stream =
-    (messages others : List (Activity S D C P G)) (rest left : List ℕ) →
-    AreMessages basis.format stream messages rest → AreMessages basis.format stream others left → (messages ≡ others) × (rest ≡ left)
+module _ {S D C P G : Type 0} (basis : Basis S D C P G) (stream : List ℕ) where
+  -- something holds of the messages of the stream
+  abbrev pub OfMessages : (List (Activity S D C P G) → Type 0) → Type 0
+  OfMessages Holds =
+      (messages : List (Activity S D C P G)) (rest : List ℕ) → AreMessages basis.format stream messages rest → Holds messages
 
--- the evidence accuses exactly the signers, rounds and kinds with two valid votes that contradict
-abbrev pub AccusesExactlyThem : {S D C P G : Type 0} → Basis S D C P G → List ℕ → Report S D P G → Type 0
-AccusesExactlyThem basis stream report = OfMessages basis stream (λ messages. AccusesExactly basis.rules.eq (valid_votes basis.rules messages) (evidence_in report))
+  -- the stream has one list of messages, and one undecoded tail
+  abbrev pub HasOneReading : Type 0
+  HasOneReading =
+      (messages others : List (Activity S D C P G)) (rest left : List ℕ) →
+      AreMessages basis.format stream messages rest → AreMessages basis.format stream others left → (messages ≡ others) × (rest ≡ left)
 
--- each evidence is two of the valid votes, which contradict
-abbrev pub ShowsTwoVotes : {S D C P G : Type 0} → Basis S D C P G → List ℕ → Report S D P G → Type 0
-ShowsTwoVotes basis stream report = OfMessages basis stream (λ messages. All (IsEquivocation basis.rules.eq (valid_votes basis.rules messages)) (evidence_in report))
+module _ {S D C P G : Type 0} (basis : Basis S D C P G) where
+  -- who is accused by messages does not depend on their order
+  abbrev pub AccusedInAnyOrder : Type 0
+  AccusedInAnyOrder = (messages : List (Activity S D C P G)) → ReorderingAccusesSame basis.rules messages
 
--- no other list is the evidence of the valid votes
-abbrev pub HasNoOtherEvidence : {S D C P G : Type 0} → Basis S D C P G → List ℕ → Report S D P G → Type 0
-HasNoOtherEvidence basis stream report = OfMessages basis stream (λ messages. EvidenceIsUnique basis.rules.eq (valid_votes basis.rules messages) (evidence_in report))
+  -- who is accused by the stream's messages stays accused, with any bytes behind
+  abbrev pub AccusedStayWithMore : List ℕ → Type 0
+  AccusedStayWithMore stream = (more : List ℕ) (n : Accusation) → OfMessages basis stream (λ messages. OfMessages basis (stream ++ more) (λ later.
+      IsTrue (is_accused basis.rules.eq (valid_votes basis.rules messages) n) → IsTrue (is_accused basis.rules.eq (valid_votes basis.rules later) n)))
 
--- who is accused by messages does not depend on their order
-abbrev pub AccusedInAnyOrder : {S D C P G : Type 0} → Basis S D C P G → Type 0
-AccusedInAnyOrder {S} {D} {C} {P} {G} basis = (messages : List (Activity S D C P G)) → ReorderingAccusesSame basis.rules messages
+  -- two certified messages of a round that contradict accuse at least f + 1 signers there, of whom f may lie in the
+  -- committee of the round's epoch
+  abbrev pub ConflictsAccuseEnough : List ℕ → Type 0
+  ConflictsAccuseEnough stream = OfMessages basis stream (EnoughAreAccused basis.rules)
 
--- who is accused by the stream's messages stays accused, with any bytes behind
-abbrev pub AccusedStayWithMore : {S D C P G : Type 0} → Basis S D C P G → List ℕ → Type 0
-AccusedStayWithMore basis stream = (more : List ℕ) (n : Accusation) → OfMessages basis stream (λ messages. OfMessages basis (stream ++ more) (λ later.
-    IsTrue (is_accused basis.rules.eq (valid_votes basis.rules messages) n) → IsTrue (is_accused basis.rules.eq (valid_votes basis.rules later) n)))
+  -- who signed in the certificates of both is accused there
+  abbrev pub SignersOfBothAreAccused : List ℕ → Type 0
+  SignersOfBothAreAccused stream = OfMessages basis stream (SignersAreAccountable basis.rules)
 
--- two certified messages of a round that contradict accuse at least f + 1 signers there, of whom f may lie in the
--- committee of the round's epoch
-abbrev pub ConflictsAccuseEnough : {S D C P G : Type 0} → Basis S D C P G → List ℕ → Type 0
-ConflictsAccuseEnough basis stream = OfMessages basis stream (EnoughAreAccused basis.rules)
+-- ---- of a report
 
--- who signed in the certificates of both is accused there
-abbrev pub SignersOfBothAreAccused : {S D C P G : Type 0} → Basis S D C P G → List ℕ → Type 0
-SignersOfBothAreAccused basis stream = OfMessages basis stream (SignersAreAccountable basis.rules)
+module _ {S D C P G : Type 0} (basis : Basis S D C P G) (stream : List ℕ) (report : Report S D P G) where
+  -- the evidence accuses exactly the signers, rounds and kinds with two valid votes that contradict
+  abbrev pub AccusesExactlyThem : Type 0
+  AccusesExactlyThem = OfMessages basis stream (λ messages. AccusesExactly basis.rules.eq (valid_votes basis.rules messages) (evidence_in report))
 
--- the splits are the rounds with two certified messages that contradict, in order, each once with the number of signers
--- accused there and that f + 1, and no other list is
-pub record ShowsSplits {S D C P G : Type 0} (basis : Basis S D C P G) (stream : List ℕ) (report : Report S D P G) : Type 0 where
-  pub are_splits : OfMessages basis stream (λ messages. AreSplits basis.rules messages report.splits.items)
-  pub only : OfMessages basis stream (λ messages. SplitsAreUnique basis.rules messages report.splits.items)
-  pub enough : SplitsHaveAccused report.splits.items
+  -- each evidence is two of the valid votes, which contradict
+  abbrev pub ShowsTwoVotes : Type 0
+  ShowsTwoVotes = OfMessages basis stream (λ messages. All (IsEquivocation basis.rules.eq (valid_votes basis.rules messages)) (evidence_in report))
+
+  -- no other list is the evidence of the valid votes
+  abbrev pub HasNoOtherEvidence : Type 0
+  HasNoOtherEvidence = OfMessages basis stream (λ messages. EvidenceIsUnique basis.rules.eq (valid_votes basis.rules messages) (evidence_in report))
+
+  -- the splits are the rounds with two certified messages that contradict, in order, each once with the number of signers
+  -- accused there and that f + 1, and no other list is
+  pub record ShowsSplits : Type 0 where
+    pub are_splits : OfMessages basis stream (λ messages. AreSplits basis.rules messages report.splits.items)
+    pub only : OfMessages basis stream (λ messages. SplitsAreUnique basis.rules messages report.splits.items)
+    pub enough : SplitsHaveAccused report.splits.items
 
 -- the evidence, written as messages one after the other, is a stream of these messages, and the evidence of that stream is
 -- the same in the same order
