@@ -20,7 +20,7 @@ use simplex_detector::detector::Detector;
 pub use simplex_detector::evidence::Evidence;
 use simplex_detector::judging::{Judging, suspects_of};
 use simplex_detector::laws::{
-    certificates_are_accountable, evidence_is_determined, accused_stay, splits_are_determined,
+    accused_stay, certificates_are_accountable, evidence_is_determined, splits_are_determined,
     suspects_suffice, suspects_tell_all,
 };
 pub use simplex_detector::split::Split;

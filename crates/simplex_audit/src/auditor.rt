@@ -17,7 +17,7 @@ use simplex_detector::committees::Committees;
 use simplex_detector::detector::Detector;
 use simplex_detector::judging::Judging;
 use simplex_detector::laws::{
-    certificates_are_accountable, evidence_is_determined, few_votes_are_recorded, accused_stay,
+    accused_stay, certificates_are_accountable, evidence_is_determined, few_votes_are_recorded,
     recorded_votes_have_room, splits_are_determined,
 };
 use simplex_scheme::scheme::{Digest, Listing, SchemeTypes};

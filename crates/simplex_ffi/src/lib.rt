@@ -1,4 +1,11 @@
-//! Audits over slices and numbers, as a caller that is not Rattle has them.
+//! Audits over slices and numbers, as a caller that is not Rattle has them. Each call puts what it returns into a buffer of the
+//! caller's, and says how many bytes or items that are; a buffer that is short is as before.
+//!
+//! Audits: [`answer`] puts a report into a buffer, [`records`] its evidence as records, [`suspects`] the attestations that have
+//! to be verified first, and [`store`] what a ledger stores. Committees: [`keys`] and [`plain`] have those of the plain scheme,
+//! [`sizes`] and [`vouched`] those whose signatures the caller verified. Numbers alone: [`leaders`] and [`numbers`].
+//!
+//! `simplex_c` exports these, each under its contract.
 #![tactic(auto)]
 
 pub mod answer;
