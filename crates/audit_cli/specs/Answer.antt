@@ -18,12 +18,12 @@ use Rattle.audit_cli.specs.declared.status.Failure.{Failure}
 use Rattle.audit_cli.specs.declared.status.Failure.TheVariants.{Usage, Read, Write, OutOfMemory}
 
 -- what a certificate is: the attestations that it lists
-abbrev pub Certificate : Type 0
-Certificate = List (Attestation PlainScheme (List ℕ) (List ℕ))
+abbrev pub PlainCertificate : Type 0
+PlainCertificate = List (Attestation PlainScheme (List ℕ) (List ℕ))
 
 -- what an audit goes by under committees: how messages are read, and what they are judged by
 abbrev pub Bases : Type 1
-Bases = Schedule PlainScheme → Basis PlainScheme (List ℕ) Certificate (List ℕ) (List ℕ)
+Bases = Schedule PlainScheme → Basis PlainScheme (List ℕ) PlainCertificate (List ℕ) (List ℕ)
 
 -- what became of a reader: its bytes before and after, where they are known, and whether a read failed
 pub record ReaderUse : Type 0 where

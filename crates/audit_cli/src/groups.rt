@@ -1,6 +1,6 @@
 //! Groups of arguments, each an epoch and the keys of its committee.
 
-ghost use Rattle.std.specs.Prelude.{◌≡◌, ◌≢◌, ◌↔◌, ◌≤◌, ◌<◌, ◌^◌, ◌++◌, ◌⊎◌, ◌∷◌, ℕ, List, Ok, Err, All, IfOk, IfErr, map, length, take, drop, string_bytes, IsTrue, codes, decimal};
+ghost use Rattle.std.specs.Prelude.{◌≡◌, ◌≢◌, ◌↔◌, ◌≤◌, ◌<◌, ◌^◌, ◌⊎◌, ℕ, List, Ok, Err, All, IfOk, IfErr, map, length, take, drop, string_bytes, IsTrue};
 ghost use Rattle.simplex_detector.specs.Committees.{AreRising};
 ghost use Rattle.simplex_plain.specs.Plain.{PlainScheme};
 ghost use Rattle.audit_cli.specs.Arguments.{AreGroups, BeginsGroup, StandsBeforeGroup, epoch_text};

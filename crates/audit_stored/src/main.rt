@@ -4,7 +4,7 @@
 //! certificates of these rounds.
 #![tactic(auto)]
 
-ghost use Rattle.std.specs.Prelude.{ℕ, List, IfOk, string_bytes};
+ghost use Rattle.std.specs.Prelude.{IfOk, string_bytes};
 ghost use Rattle.simplex_audit.specs.Run.{IsAccount};
 
 use audit_cli::arguments::parse;

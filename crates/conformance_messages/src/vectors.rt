@@ -2,7 +2,7 @@
 
 ghost use Rattle.std.specs.Prelude.{◌≡◌, ◌≤◌, IfOk};
 ghost use Rattle.std.specs.List.{flat_map};
-ghost use Rattle.conformance_messages.specs.Words.{IsDecimal, IsCommitteeOf, decoded};
+ghost use Rattle.conformance_messages.specs.Words.{IsDecimal, IsMarkedCommittee, decoded};
 
 use simplex_base::positions::{Epoch, Participant, TermLength, View, ViewDelta};
 use simplex_plain::marked::Marked;
@@ -100,7 +100,7 @@ pub(crate) fn committee_size(word: &str) -> Result<u32, Unanswered>
 /// The marked committee of this many participants, which signs nothing. `NoVector` comes where the word is no number from 1
 /// to 2^32 - 1 in decimal digits.
 pub fn committee(alloc: Global, word: &str) -> Result<Marked, Unanswered>
-    ensures { IfOk result (λ scheme. IsCommitteeOf word.now scheme) }
+    ensures { IfOk result (λ scheme. IsMarkedCommittee word.now scheme) }
 {
     Ok(Marked::new(alloc, committee_size(word)?, None)?)
 }

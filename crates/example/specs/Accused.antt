@@ -30,8 +30,8 @@ pub record IsPlainCommittee (namespace : List ℕ) (keys : List (List ℕ)) (com
   pub verifies : committee.me ≡ None
 
 -- the round and the signer of both votes of an evidence
-abbrev pub place_of : {S D P G : Type 0} → Evidence S D P G → Round × ℕ
-place_of evidence = (round_of (evidence_value evidence).first.subject, (evidence_value evidence).first.signer)
+abbrev pub round_and_signer : {S D P G : Type 0} → Evidence S D P G → Round × ℕ
+round_and_signer evidence = (round_of (evidence_value evidence).first.subject, (evidence_value evidence).first.signer)
 
 -- Accused are the rounds and the signers of the evidence of the stream's report, in its order, where the committee of the
 -- keys judges every epoch. The basis of committees says how messages are read and judged under them.
@@ -40,4 +40,4 @@ pub record AreAccused {C : Type 0} (basis : Schedule PlainScheme → Basis Plain
   pub report : Report PlainScheme (List ℕ) (List ℕ) (List ℕ)
   pub committee_is : IsPlainCommittee namespace keys committee
   pub report_is : IsReport (basis (Every committee)) stream report
-  pub accused_are : accused ≡ map place_of report.evidence.items
+  pub accused_are : accused ≡ map round_and_signer report.evidence.items

@@ -2,7 +2,7 @@
 #![tactic(auto)]
 
 ghost use Rattle.std.specs.Prelude.{◌≡◌, ◌↔◌, Ok, None, IfOk, IfSome, map};
-ghost use Rattle.example.specs.Accused.{AreAccused, AreCommitteeKeys, IsPlainCommittee, place_of};
+ghost use Rattle.example.specs.Accused.{AreAccused, AreCommitteeKeys, IsPlainCommittee, round_and_signer};
 
 use simplex_audit::audit::{Committees, Evidence, audit};
 use simplex_audit::basis::Audited;
@@ -56,7 +56,7 @@ fn places(
     alloc: Global,
     evidence: &[Evidence<Plain, Sha256Digest>],
 ) -> Result<Vec<(Round, Participant)>, AllocError>
-    ensures { IfOk result (λ places. places.items ≡ map place_of evidence.now) }
+    ensures { IfOk result (λ places. places.items ≡ map round_and_signer evidence.now) }
 {
     let mut places = Vec::new(alloc);
     for one in evidence {

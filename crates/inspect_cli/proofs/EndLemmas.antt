@@ -12,7 +12,7 @@ use Rattle.audit_cli.specs.Status.{failure_of}
 use Rattle.audit_cli.specs.declared.status.Failure.{Failure}
 use Rattle.audit_cli.specs.declared.status.Failure.TheVariants as failures
 use Rattle.inspect_cli.specs.Arguments.{AreGiven, AreNotGiven}
-use Rattle.inspect_cli.specs.Answer.{LinesUnder, IsBegun, Ends}
+use Rattle.inspect_cli.specs.Answer.{LinesUnder, IsBegun, InspectEnds}
 
 -- words that name no committees, and are some
 pub not_given : (words : List (List ℕ)) → words ≢ [] → AreNoArguments words → AreNotGiven words
@@ -26,16 +26,16 @@ given_stands words committees given none = none committees given
 -- the arguments gave nothing
 pub ends_without : (lines : LinesUnder) (words : List (List ℕ)) (reader : ReaderUse) (writer : WriterUse) (failure : Failure)
     → (failure ≡ failures.Usage → AreNotGiven words) → (failure ≡ failures.Usage) ⊎ (failure ≡ failures.OutOfMemory)
-    → Keeps writer.before writer.after → Ends lines words reader writer (Err failure)
+    → Keeps writer.before writer.after → InspectEnds lines words reader writer (Err failure)
 ends_without lines words reader writer failure none (inl e) keeps =
-    subst (λ (f : Failure). Ends lines words reader writer (Err f)) (sym e) (none e, keeps)
+    subst (λ (f : Failure). InspectEnds lines words reader writer (Err f)) (sym e) (none e, keeps)
 ends_without lines words reader writer failure none (inr e) keeps =
-    subst (λ (f : Failure). Ends lines words reader writer (Err f)) (sym e) (inl keeps)
+    subst (λ (f : Failure). InspectEnds lines words reader writer (Err f)) (sym e) (inl keeps)
 
 -- the run gave up
 pub ends_given_up : (lines : LinesUnder) (words : List (List ℕ)) (reader : ReaderUse) (writer : WriterUse) (error : RunError)
     → (error ≡ errors.Read → IsTrue reader.failed) → (error ≡ errors.TooLong → GaveTooMuch reader) → (error ≡ errors.Write → IsTrue writer.failed)
-    → IsBegun lines words reader writer → Ends lines words reader writer (Err (failure_of error))
+    → IsBegun lines words reader writer → InspectEnds lines words reader writer (Err (failure_of error))
 ends_given_up lines words reader writer errors.Read failed long wrote begun = (inl (failed refl), begun)
 ends_given_up lines words reader writer errors.TooLong failed long wrote begun = (inr (long refl), begun)
 ends_given_up lines words reader writer errors.OutOfMemory failed long wrote begun = inr begun
@@ -43,7 +43,7 @@ ends_given_up lines words reader writer errors.Write failed long wrote begun = (
 
 -- words that are refused end in the usage or in an allocation failure
 pub ends_refused : (lines : LinesUnder) (words : List (List ℕ)) (reader : ReaderUse) (writer : WriterUse) (ending : Ending)
-    → AreNotGiven words → Ends lines words reader writer ending
+    → AreNotGiven words → InspectEnds lines words reader writer ending
     → (ending ≡ Err failures.Usage) ⊎ (ending ≡ Err failures.OutOfMemory)
 ends_refused lines words reader writer (Ok fault) none ends = absurd (none ends.committees ends.given)
 ends_refused lines words reader writer (Err failures.Usage) none ends = inl refl

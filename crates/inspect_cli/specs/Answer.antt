@@ -6,14 +6,14 @@ use Rattle.simplex_evidence.specs.declared.types.activity.Activity.{Activity}
 use Rattle.simplex_detector.specs.Committees.{Schedule}
 use Rattle.simplex_audit.specs.declared.audit.Fault.{Fault}
 use Rattle.simplex_inspect.specs.Inspected.{Lines, AppendsText, AppendsPart, IsInput}
-use Rattle.audit_cli.specs.Answer.{Certificate, ReaderUse, WriterUse, GaveTooMuch, Ending}
+use Rattle.audit_cli.specs.Answer.{PlainCertificate, ReaderUse, WriterUse, GaveTooMuch, Ending}
 use Rattle.audit_cli.specs.declared.status.Failure.TheVariants.{Usage, Read, Write, OutOfMemory}
 use Rattle.inspect_cli.specs.Arguments.{AreGiven, AreNotGiven}
-use Rattle.inspect_cli.specs.Status.{complaint_of, complaint_at}
+use Rattle.inspect_cli.specs.Status.{inspect_complaint_of, inspect_complaint_at}
 
 -- how messages are read under committees or without any, and the line of each
 abbrev pub LinesUnder : Type 1
-LinesUnder = Option (Schedule PlainScheme) → Lines (Activity PlainScheme (List ℕ) Certificate (List ℕ) (List ℕ))
+LinesUnder = Option (Schedule PlainScheme) → Lines (Activity PlainScheme (List ℕ) PlainCertificate (List ℕ) (List ℕ))
 
 -- A whole input was read, and exactly its text was written and flushed, by the committees that the arguments name, or
 -- without any.
@@ -35,15 +35,15 @@ pub record IsBegun (lines : LinesUnder) (words : List (List ℕ)) (reader : Read
   pub written : AppendsPart (lines committees) input writer.before writer.after
 
 -- what is said of an ending
-abbrev pub said_of : Ending → List ℕ
-said_of (Ok None) = []
-said_of (Ok (Some fault)) = complaint_at fault.place
-said_of (Err failure) = complaint_of failure
+abbrev pub inspect_said_of : Ending → List ℕ
+inspect_said_of (Ok None) = []
+inspect_said_of (Ok (Some fault)) = inspect_complaint_at fault.place
+inspect_said_of (Err failure) = inspect_complaint_of failure
 
 -- what an ending says of the arguments, of the reader and of the writer
-abbrev pub Ends : LinesUnder → List (List ℕ) → ReaderUse → WriterUse → Ending → Type 0
-Ends lines words reader writer (Ok fault) = IsShown lines words reader writer fault
-Ends lines words reader writer (Err Usage) = AreNotGiven words × Keeps writer.before writer.after
-Ends lines words reader writer (Err Read) = (IsTrue reader.failed ⊎ GaveTooMuch reader) × IsBegun lines words reader writer
-Ends lines words reader writer (Err OutOfMemory) = Keeps writer.before writer.after ⊎ IsBegun lines words reader writer
-Ends lines words reader writer (Err Write) = IsTrue writer.failed × IsBegun lines words reader writer
+abbrev pub InspectEnds : LinesUnder → List (List ℕ) → ReaderUse → WriterUse → Ending → Type 0
+InspectEnds lines words reader writer (Ok fault) = IsShown lines words reader writer fault
+InspectEnds lines words reader writer (Err Usage) = AreNotGiven words × Keeps writer.before writer.after
+InspectEnds lines words reader writer (Err Read) = (IsTrue reader.failed ⊎ GaveTooMuch reader) × IsBegun lines words reader writer
+InspectEnds lines words reader writer (Err OutOfMemory) = Keeps writer.before writer.after ⊎ IsBegun lines words reader writer
+InspectEnds lines words reader writer (Err Write) = IsTrue writer.failed × IsBegun lines words reader writer

@@ -4,12 +4,12 @@ use Rattle.audit_cli.specs.declared.status.Failure.{Failure}
 use Rattle.audit_cli.specs.declared.status.Failure.TheVariants.{Usage, Read, Write, OutOfMemory}
 
 -- what is said of a failure
-abbrev pub complaint_of : Failure → List ℕ
-complaint_of Usage = codes "usage: inspect [NAMESPACE KEY...]\n"
-complaint_of Read = codes "inspect: read failed\n"
-complaint_of Write = codes "inspect: write failed\n"
-complaint_of OutOfMemory = codes "inspect: out of memory\n"
+abbrev pub inspect_complaint_of : Failure → List ℕ
+inspect_complaint_of Usage = codes "usage: inspect [NAMESPACE KEY...]\n"
+inspect_complaint_of Read = codes "inspect: read failed\n"
+inspect_complaint_of Write = codes "inspect: write failed\n"
+inspect_complaint_of OutOfMemory = codes "inspect: out of memory\n"
 
 -- what is said of a fault at a byte of the stream
-abbrev pub complaint_at : ℕ → List ℕ
-complaint_at place = codes "inspect: fault at byte " ++ (decimal place ++ codes "\n")
+abbrev pub inspect_complaint_at : ℕ → List ℕ
+inspect_complaint_at place = codes "inspect: fault at byte " ++ (decimal place ++ codes "\n")

@@ -5,11 +5,11 @@ ghost use Rattle.simplex_audit.specs.Run.{AppendsBeginning};
 ghost use Rattle.simplex_audit.specs.Watched.{has_failed};
 ghost use Rattle.audit_cli.specs.Answer.{Ending, reader_use, writer_use, status_of};
 ghost use Rattle.inspect_cli.specs.Arguments.{AreNotGiven};
-ghost use Rattle.inspect_cli.specs.Answer.{Ends, said_of};
-ghost use Rattle.inspect_cli.specs.Status.{complaint_of};
+ghost use Rattle.inspect_cli.specs.Answer.{InspectEnds, inspect_said_of};
+ghost use Rattle.inspect_cli.specs.Status.{inspect_complaint_of};
 
 use crate::arguments::parse_any;
-use crate::complaints::{complaint, complaint_at};
+use crate::complaints::{inspect_complaint_at, inspect_complaint_of};
 use audit_cli::command::say;
 use audit_cli::status::{Failure, Status};
 use simplex_audit::audit::{Fault, Watched};
@@ -30,7 +30,8 @@ fn show_input<R: Read, W: Write>(
 ) -> Result<Option<Fault>, Failure>
     requires input_well { has_failed input.old ≡ false }
     requires output_well { has_failed output.old ≡ false }
-    ensures ends { Ends ⟦<Plain as Inspected<Sha256Digest>>⟧.lines (map string_bytes arguments.now)
+    ensures ends { InspectEnds ⟦<Plain as Inspected<Sha256Digest>>⟧.lines
+        (map string_bytes arguments.now)
         (reader_use R.remaining input.old input.new)
         (writer_use W.contents output.old output.new) result }
     ensures read_failed { IsTrue (has_failed input.new) → result ≡ Err Failure.Read }
@@ -47,16 +48,16 @@ fn show_input<R: Read, W: Write>(
 pub(crate) fn conclude<E: Write>(errors: &mut E, ended: Result<Option<Fault>, Failure>) -> Status
     ensures status { result ≡ status_of ended }
     ensures said { AppendsBeginning (E.contents errors.old) (E.contents errors.new)
-        (said_of ended) }
+        (inspect_said_of ended) }
 {
     match ended {
         Ok(None) => Status::Whole,
         Ok(Some(fault)) => {
-            say(errors, complaint_at(fault.place).as_bytes());
+            say(errors, inspect_complaint_at(fault.place).as_bytes());
             Status::Fault
         }
         Err(failure) => {
-            say(errors, complaint(failure).as_bytes());
+            say(errors, inspect_complaint_of(failure).as_bytes());
             failure.status()
         }
     }
@@ -76,17 +77,17 @@ pub fn command<R: Read, W: Write, E: Write>(
     requires input_well { has_failed input.old ≡ false }
     requires output_well { has_failed output.old ≡ false }
     ensures ends { (ending : Ending) × (result ≡ status_of ending)
-        × AppendsBeginning (E.contents errors.old) (E.contents errors.new) (said_of ending)
-        × Ends ⟦<Plain as Inspected<Sha256Digest>>⟧.lines (map string_bytes arguments.now)
+        × AppendsBeginning (E.contents errors.old) (E.contents errors.new) (inspect_said_of ending)
+        × InspectEnds ⟦<Plain as Inspected<Sha256Digest>>⟧.lines (map string_bytes arguments.now)
         (reader_use R.remaining input.old input.new)
         (writer_use W.contents output.old output.new) ending }
     // Where a device failed the status says so, and nothing else is said.
     ensures read_failed { IsTrue (has_failed input.new) → (result ≡ Status.Failed)
         × AppendsBeginning (E.contents errors.old) (E.contents errors.new)
-        (complaint_of Failure.Read) }
+        (inspect_complaint_of Failure.Read) }
     ensures write_failed { IsTrue (has_failed output.new) → (result ≡ Status.Failed)
         × AppendsBeginning (E.contents errors.old) (E.contents errors.new)
-        (complaint_of Failure.Write) }
+        (inspect_complaint_of Failure.Write) }
     ensures refused { AreNotGiven (map string_bytes arguments.now) → (result ≡ Status.Usage) ⊎
         (result ≡ Status.Failed) }
     ensures untouched { AreNotGiven (map string_bytes arguments.now) → (input.new ≡ input.old) ×

@@ -1,15 +1,15 @@
 //! What the program says as it ends.
 
 ghost use Rattle.std.specs.Prelude.{◌≡◌};
-ghost use Rattle.inspect_cli.specs.Status.{complaint_of, complaint_at};
+ghost use Rattle.inspect_cli.specs.Status.{inspect_complaint_at, inspect_complaint_of};
 
 use arrayvec::ArrayString;
 use audit_cli::status::Failure;
 use itoa::Buffer;
 
 /// What is said on standard error of a failure, with its line's end.
-pub fn complaint(failure: Failure) -> &'static str
-    ensures { result.now ≡ complaint_of failure }
+pub fn inspect_complaint_of(failure: Failure) -> &'static str
+    ensures { result.now ≡ inspect_complaint_of failure }
 {
     match failure {
         Failure::Usage => "usage: inspect [NAMESPACE KEY...]\n",
@@ -21,8 +21,8 @@ pub fn complaint(failure: Failure) -> &'static str
 
 /// What is said on standard error of a fault at a byte, with its line's end. It takes no memory, and the longest, of 44 bytes,
 /// has room.
-pub fn complaint_at(place: usize) -> ArrayString<64>
-    ensures { result.bytes ≡ complaint_at place }
+pub fn inspect_complaint_at(place: usize) -> ArrayString<64>
+    ensures { result.bytes ≡ inspect_complaint_at place }
 {
     let mut number = Buffer::new();
     let mut text = ArrayString::new();

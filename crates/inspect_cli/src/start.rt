@@ -7,8 +7,8 @@ ghost use Rattle.audit_cli.specs.Arguments.{words_of};
 ghost use Rattle.audit_cli.specs.Answer.{Ending, reader_use, writer_use, status_of};
 ghost use Rattle.audit_cli.specs.Status.{number_of};
 ghost use Rattle.inspect_cli.specs.Arguments.{AreNotGiven};
-ghost use Rattle.inspect_cli.specs.Answer.{Ends, said_of};
-ghost use Rattle.inspect_cli.specs.Status.{complaint_of};
+ghost use Rattle.inspect_cli.specs.Answer.{InspectEnds, inspect_said_of};
+ghost use Rattle.inspect_cli.specs.Status.{inspect_complaint_of};
 ghost use Rattle.simplex_audit.specs.Run.{AppendsBeginning};
 ghost use Rattle.simplex_audit.specs.Watched.{has_failed};
 
@@ -39,27 +39,27 @@ pub fn start<R: Read, W: Write, E: Write>(
     requires input_well { has_failed input.old ≡ false }
     requires output_well { has_failed output.old ≡ false }
     ensures ends { IfOk given (λ given. (ending : Ending) × (result ≡ number_of (status_of ending))
-        × AppendsBeginning (E.contents errors.old) (E.contents errors.new) (said_of ending)
-        × Ends ⟦<Plain as Inspected<Sha256Digest>>⟧.lines (words_of (into_iter_items given))
+        × AppendsBeginning (E.contents errors.old) (E.contents errors.new) (inspect_said_of ending)
+        × InspectEnds ⟦<Plain as Inspected<Sha256Digest>>⟧.lines (words_of (into_iter_items given))
         (reader_use R.remaining input.old input.new)
         (writer_use W.contents output.old output.new) ending) }
     // Where a device failed the number says so, and nothing else is said.
     ensures read_failed { IsTrue (has_failed input.new) → (result ≡ 3)
         × AppendsBeginning (E.contents errors.old) (E.contents errors.new)
-        (complaint_of Failure.Read) }
+        (inspect_complaint_of Failure.Read) }
     ensures write_failed { IsTrue (has_failed output.new) → (result ≡ 3)
         × AppendsBeginning (E.contents errors.old) (E.contents errors.new)
-        (complaint_of Failure.Write) }
+        (inspect_complaint_of Failure.Write) }
     ensures refused { IfOk given (λ given. AreNotGiven (words_of (into_iter_items given)) →
         (result ≡ 2) ⊎ (result ≡ 3)) }
     ensures untouched { IfOk given (λ given. AreNotGiven (words_of (into_iter_items given)) →
         (input.new ≡ input.old) × (output.new ≡ output.old)) }
     ensures memory { IfErr given (λ error. error_kind error ≡ ErrorKind.OutOfMemory → (result ≡ 3)
         × AppendsBeginning (E.contents errors.old) (E.contents errors.new)
-        (complaint_of Failure.OutOfMemory)) }
+        (inspect_complaint_of Failure.OutOfMemory)) }
     ensures usage { IfErr given (λ error. error_kind error ≢ ErrorKind.OutOfMemory → (result ≡ 2)
         × AppendsBeginning (E.contents errors.old) (E.contents errors.new)
-        (complaint_of Failure.Usage)) }
+        (inspect_complaint_of Failure.Usage)) }
     ensures unused { OnErr given ((input.new ≡ input.old) × (output.new ≡ output.old)) }
 {
     let given = match given {

@@ -3,7 +3,7 @@ use Rattle.std.proofs.Common.{ℕ, List, ◌++◌, map, subst, sym, Result, Ok, 
 use Rattle.std.specs.Prelude.{All, IsTrue}
 use Rattle.simplex_base.specs.Format.{Format, IsLawful}
 use Rattle.simplex_votes.specs.Votes.{SignedVote}
-use Rattle.simplex_evidence.specs.Contradiction.{Evidence}
+use Rattle.simplex_evidence.specs.Contradiction.{Equivocation}
 use Rattle.simplex_evidence.specs.declared.types.activity.Activity.{Activity}
 use Rattle.simplex_detector.specs.Evidence.{IsEvidence, IsEquivocation}
 use Rattle.simplex_detector.specs.Laws.{EvidenceIsUnique, AccusesExactly, ReorderingAccusesSame, AccusedStay, IsEvidenceAgain}
@@ -54,9 +54,9 @@ accused_stay format rules law stream more rest left messages later stay are are'
 pub record Laws {S D C P G : Type 0} (rules : Rules S D C P G) : Type 0 where
   pub any_order : (messages : List (Activity S D C P G)) → ReorderingAccusesSame rules messages
   pub later : (messages : List (Activity S D C P G)) → AccusedStay rules messages
-  pub names : (vs : List (SignedVote D G)) (es : List (Evidence D G)) → IsEvidence rules.eq vs es → AccusesExactly rules.eq vs es
-  pub sound : (vs : List (SignedVote D G)) (es : List (Evidence D G)) → IsEvidence rules.eq vs es → All (IsEquivocation rules.eq vs) es
-  pub only : (vs : List (SignedVote D G)) (es : List (Evidence D G)) → IsEvidence rules.eq vs es → EvidenceIsUnique rules.eq vs es
+  pub names : (vs : List (SignedVote D G)) (es : List (Equivocation D G)) → IsEvidence rules.eq vs es → AccusesExactly rules.eq vs es
+  pub sound : (vs : List (SignedVote D G)) (es : List (Equivocation D G)) → IsEvidence rules.eq vs es → All (IsEquivocation rules.eq vs) es
+  pub only : (vs : List (SignedVote D G)) (es : List (Equivocation D G)) → IsEvidence rules.eq vs es → EvidenceIsUnique rules.eq vs es
   pub again : (messages : List (Activity S D C P G)) (es : List (recorded.Evidence S D P G)) → AreLawful rules → IsEvidence rules.eq (valid_votes rules messages) (map evidence_value es) → IsEvidenceAgain rules es
   pub enough : (messages : List (Activity S D C P G)) → AreLawful rules → EnoughAreAccused rules messages
   pub signers : (messages : List (Activity S D C P G)) → AreLawful rules → SignersAreAccountable rules messages

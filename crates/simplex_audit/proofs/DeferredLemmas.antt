@@ -1,7 +1,7 @@
 -- Reports of one stream by rules that judge it alike.
 use Rattle.std.proofs.Common.{◌≡◌, ℕ, List, [], ◌∷◌, length, map, refl, sym, ap, subst, arith}
 use Rattle.simplex_base.specs.Format.{Format, IsLawful}
-use Rattle.simplex_evidence.specs.Contradiction.{Evidence}
+use Rattle.simplex_evidence.specs.Contradiction.{Equivocation}
 use Rattle.simplex_evidence.specs.declared.types.activity.Activity.{Activity}
 use Rattle.simplex_detector.specs.Evidence.{IsEvidence}
 use Rattle.simplex_detector.specs.Rules.{Rules, valid_votes}
@@ -44,7 +44,7 @@ module _ {S D C P G : Type 0} (bound : ℕ) (format : Format (Activity S D C P G
 
   -- the report of suspects is that of the stream
   pub suspects_reported : IsLawful format → (rules claims others : Rules S D C P G) (stream : List ℕ) (claim report : Report S D P G) → IsReport (by claims) stream claim →
-      ((messages : List (Activity S D C P G)) (es : List (Evidence D G)) (splits : List Split) → IsEvidence claims.eq (valid_votes claims messages) (evidence_in claim) → IsEvidence others.eq (valid_votes others messages) es → AreSplits others messages splits → IsEvidence rules.eq (valid_votes rules messages) es × AreSplits rules messages splits) →
+      ((messages : List (Activity S D C P G)) (es : List (Equivocation D G)) (splits : List Split) → IsEvidence claims.eq (valid_votes claims messages) (evidence_in claim) → IsEvidence others.eq (valid_votes others messages) es → AreSplits others messages splits → IsEvidence rules.eq (valid_votes rules messages) es × AreSplits rules messages splits) →
       IsReport (by others) stream report → IsReport (by rules) stream report
   suspects_reported law rules claims others stream claim report first alike is =
       let both = alike is.messages (evidence_in report) report.splits.items (report_evidence (by claims) law stream claim first is.messages is.rest is.are_messages) is.evidence_is is.splits_are in

@@ -1,23 +1,23 @@
 -- What an audit of a stream returns.
 use Rattle.std.specs.Prelude.{◌≡◌, ℕ, List, map, length}
 use Rattle.std.specs.List.{flat_map}
-use Rattle.simplex_evidence.specs.Contradiction.{Evidence}
+use Rattle.simplex_evidence.specs.Contradiction.{Equivocation}
 use Rattle.simplex_evidence.specs.declared.types.activity.Activity.{Activity}
 use Rattle.simplex_detector.specs.Evidence.{IsEvidence}
 use Rattle.simplex_detector.specs.Rules.{valid_votes}
 use Rattle.simplex_detector.specs.Splits.{AreSplits}
-use Rattle.simplex_detector.specs.Values.{evidence_value, message_of}
+use Rattle.simplex_detector.specs.Values.{activity_of, evidence_value}
 use Rattle.simplex_audit.specs.Basis.{Basis}
 use Rattle.simplex_audit.specs.Messages.{AreMessages, IsFault}
 use Rattle.simplex_audit.specs.declared.audit.Report.{Report}
 
 -- the evidence of a report, each as two votes and their kind
-abbrev pub evidence_in : {S D P G : Type 0} → Report S D P G → List (Evidence D G)
+abbrev pub evidence_in : {S D P G : Type 0} → Report S D P G → List (Equivocation D G)
 evidence_in report = map evidence_value report.evidence.items
 
 -- the same as messages
 abbrev pub as_messages : {S D C P G : Type 0} → Report S D P G → List (Activity S D C P G)
-as_messages report = map message_of report.evidence.items
+as_messages report = map activity_of report.evidence.items
 
 -- The stream's messages were read up to its end or first fault, the evidence is that of their valid votes, and the splits
 -- are those of the messages.

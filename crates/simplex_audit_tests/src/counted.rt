@@ -6,7 +6,7 @@ ghost use Rattle.std.specs.Str.{bytes_eq};
 ghost use Rattle.std.proofs.Common.{lit≤};
 ghost use Rattle.simplex_scheme.specs.Subject.{SubjectValue, subject_value};
 ghost use Rattle.simplex_scheme.specs.Committee.{IsInOrder, is_quorum, quorum_of, signers_of, RefusesFew};
-ghost use Rattle.simplex_plain.specs.CommitteeLaws.{quorum_meaning, fixed_within};
+ghost use Rattle.simplex_plain.specs.CommitteeLaws.{quorum_meaning, listed_size};
 ghost use Rattle.simplex_plain.specs.Marked.{marked_good, marked_members};
 ghost use Rattle.simplex_audit_tests.specs.Counted.{nobody};
 
@@ -114,7 +114,7 @@ impl CertificateScheme for Counted {
     ghost certificates_limited = { lit≤ tt };
 
     ghost certificates_within = { λ participants certificate few fits.
-        fixed_within 1 (λ signature. signature) (λ bytes. bytes) participants certificate fits };
+        listed_size 1 (λ signature. signature) (λ bytes. bytes) participants certificate fits };
 }
 
 impl<D: Digest> AttestationVerifier<D> for Counted {

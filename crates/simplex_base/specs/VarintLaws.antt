@@ -45,8 +45,8 @@ low_group b high p q = omega arith
 pub low_bits : (b high : ℕ) → 128 ≤ b → b < 256 → ((b - 128) + 128 * high) % 128 + 128 ≡ b
 low_bits b high p q = omega arith
 
-pub joined : (n : ℕ) → (n % 128 + 128 - 128) + 128 * (n / 128) ≡ n
-joined n = omega arith
+pub joined_number : (n : ℕ) → (n % 128 + 128 - 128) + 128 * (n / 128) ≡ n
+joined_number n = omega arith
 
 pub groups_again : (k top n : ℕ) (rest : List ℕ) → top ≤ 128 → 0 < n → n < top * 128 ^ k → groups_at (groups k n ++ rest) k top ≡ Ok (n, rest)
 unfolding groups groups_at
@@ -61,7 +61,7 @@ groups_again (suc k) top n rest t p q =
           let q' : n < 128 * (top * 128 ^ k) = let q'' : n < top * (128 * 128 ^ k) = rw e at q in omega arith in
           let below : n / 128 < top * 128 ^ k = omega arith in
           let one : suc k - 1 ≡ k = omega arith in
-          rw (le-ltb n 128 le) (rw (eqb-suc-zero k, le-ltb (n % 128 + 128) 128 d, one, groups_again k top (n / 128) rest t up below, joined n) refl)
+          rw (le-ltb n 128 le) (rw (eqb-suc-zero k, le-ltb (n % 128 + 128) 128 d, one, groups_again k top (n / 128) rest t up below, joined_number n) refl)
     ]
 
 pub record Grouped (bytes : List ℕ) (k top n : ℕ) (rest : List ℕ) : Type 0 where
@@ -167,7 +167,7 @@ number_again k top t t' n rest q =
           let q' : n < 128 * (top * 128 ^ k) = let q'' : n < top * (128 * 128 ^ k) = rw e at q in omega arith in
           let below : n / 128 < top * 128 ^ k = omega arith in
           let one : suc k - 1 ≡ k = omega arith in
-          rw (le-ltb n 128 le) (rw (le-ltb (n % 128 + 128) 128 d, one, groups_again k top (n / 128) rest t up below, joined n) refl)
+          rw (le-ltb n 128 le) (rw (le-ltb (n % 128 + 128) 128 d, one, groups_again k top (n / 128) rest t up below, joined_number n) refl)
     ]
 
 -- The whole number.

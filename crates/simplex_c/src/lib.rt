@@ -9,14 +9,14 @@ ghost use Rattle.simplex_lead.specs.Windows.{FitsWindow, IsAdmitted, IsOutbound}
 ghost use Rattle.simplex_plain.specs.Plain.{PlainScheme};
 ghost use Rattle.simplex_detector.specs.Committees.{Schedule};
 ghost use Rattle.simplex_vouched.specs.Vouched.{VouchedScheme};
-ghost use Rattle.simplex_ffi.specs.Answer.{AreGiven, AreRecorded, AreStored, IsAudited};
+ghost use Rattle.simplex_ffi.specs.Answer.{AreRecorded, AreStored, AreSuspectsGiven, IsAudited};
 ghost use Rattle.simplex_ffi.specs.Keys.{AreKeys, AreOfKeys};
 ghost use Rattle.simplex_ffi.specs.Leaders.{LeadsRound};
 ghost use Rattle.simplex_ffi.specs.Sizes.{AreSizes};
 
 use simplex_audit::basis::Audited;
 use simplex_base::codec::Fixed;
-use simplex_ffi::answer::Summary;
+use simplex_ffi::answer::ReportSummary;
 use simplex_ffi::plain::{answer_plain, store_plain};
 use simplex_ffi::records::{records_plain, records_vouched};
 use simplex_ffi::suspects::suspects_vouched;
@@ -47,7 +47,7 @@ pub extern "C" fn simplex_audit_vouched_48(
     sizes: &[u32],
     stream: &[u8],
     text: &mut [u8],
-    summary: &mut Summary,
+    summary: &mut ReportSummary,
 ) -> u32
     ensures audited { result ≢ 2 → result ≢ 3 → (committees : Schedule VouchedScheme) ×
         AreSizes epochs.now sizes.now committees ×
@@ -71,7 +71,7 @@ pub extern "C" fn simplex_records_vouched_48(
     sizes: &[u32],
     stream: &[u8],
     records: &mut [Record],
-    summary: &mut Summary,
+    summary: &mut ReportSummary,
 ) -> u32
     ensures recorded { result ≢ 2 → result ≢ 3 → (committees : Schedule VouchedScheme) ×
         AreSizes epochs.now sizes.now committees ×
@@ -124,7 +124,7 @@ pub extern "C" fn simplex_suspects_vouched_48(
 ) -> u32
     ensures given { result ≢ 2 → result ≢ 3 → (committees : Schedule VouchedScheme) ×
         AreSizes epochs.now sizes.now committees ×
-        AreGiven (⟦<Vouched<Role48, 49> as Audited<Sha256Digest>>⟧.basis committees)
+        AreSuspectsGiven (⟦<Vouched<Role48, 49> as Audited<Sha256Digest>>⟧.basis committees)
         ⟦<Vouched<Role48, 49> as Located<Sha256Digest>>⟧.places
         stream.now records.old records.new needed.new result }
     ensures refused { result ≡ 2 → (committees : Schedule VouchedScheme) →
@@ -144,7 +144,7 @@ pub extern "C" fn simplex_audit_vouched_64(
     sizes: &[u32],
     stream: &[u8],
     text: &mut [u8],
-    summary: &mut Summary,
+    summary: &mut ReportSummary,
 ) -> u32
     ensures audited { result ≢ 2 → result ≢ 3 → (committees : Schedule VouchedScheme) ×
         AreSizes epochs.now sizes.now committees ×
@@ -168,7 +168,7 @@ pub extern "C" fn simplex_records_vouched_64(
     sizes: &[u32],
     stream: &[u8],
     records: &mut [Record],
-    summary: &mut Summary,
+    summary: &mut ReportSummary,
 ) -> u32
     ensures recorded { result ≢ 2 → result ≢ 3 → (committees : Schedule VouchedScheme) ×
         AreSizes epochs.now sizes.now committees ×
@@ -221,7 +221,7 @@ pub extern "C" fn simplex_suspects_vouched_64(
 ) -> u32
     ensures given { result ≢ 2 → result ≢ 3 → (committees : Schedule VouchedScheme) ×
         AreSizes epochs.now sizes.now committees ×
-        AreGiven (⟦<Vouched<Role64, 65> as Audited<Sha256Digest>>⟧.basis committees)
+        AreSuspectsGiven (⟦<Vouched<Role64, 65> as Audited<Sha256Digest>>⟧.basis committees)
         ⟦<Vouched<Role64, 65> as Located<Sha256Digest>>⟧.places
         stream.now records.old records.new needed.new result }
     ensures refused { result ≡ 2 → (committees : Schedule VouchedScheme) →
@@ -241,7 +241,7 @@ pub extern "C" fn simplex_audit_vouched_96(
     sizes: &[u32],
     stream: &[u8],
     text: &mut [u8],
-    summary: &mut Summary,
+    summary: &mut ReportSummary,
 ) -> u32
     ensures audited { result ≢ 2 → result ≢ 3 → (committees : Schedule VouchedScheme) ×
         AreSizes epochs.now sizes.now committees ×
@@ -265,7 +265,7 @@ pub extern "C" fn simplex_records_vouched_96(
     sizes: &[u32],
     stream: &[u8],
     records: &mut [Record],
-    summary: &mut Summary,
+    summary: &mut ReportSummary,
 ) -> u32
     ensures recorded { result ≢ 2 → result ≢ 3 → (committees : Schedule VouchedScheme) ×
         AreSizes epochs.now sizes.now committees ×
@@ -318,7 +318,7 @@ pub extern "C" fn simplex_suspects_vouched_96(
 ) -> u32
     ensures given { result ≢ 2 → result ≢ 3 → (committees : Schedule VouchedScheme) ×
         AreSizes epochs.now sizes.now committees ×
-        AreGiven (⟦<Vouched<Role96, 97> as Audited<Sha256Digest>>⟧.basis committees)
+        AreSuspectsGiven (⟦<Vouched<Role96, 97> as Audited<Sha256Digest>>⟧.basis committees)
         ⟦<Vouched<Role96, 97> as Located<Sha256Digest>>⟧.places
         stream.now records.old records.new needed.new result }
     ensures refused { result ≡ 2 → (committees : Schedule VouchedScheme) →
@@ -338,7 +338,7 @@ pub extern "C" fn simplex_audit_plain(
     keys: &[u8],
     stream: &[u8],
     text: &mut [u8],
-    summary: &mut Summary,
+    summary: &mut ReportSummary,
 ) -> u32
     ensures audited { result ≢ 2 → result ≢ 3 → (committees : Schedule PlainScheme) ×
         AreOfKeys name.now keys.now committees ×
@@ -360,7 +360,7 @@ pub extern "C" fn simplex_records_plain(
     keys: &[u8],
     stream: &[u8],
     records: &mut [Record],
-    summary: &mut Summary,
+    summary: &mut ReportSummary,
 ) -> u32
     ensures recorded { result ≢ 2 → result ≢ 3 → (committees : Schedule PlainScheme) ×
         AreOfKeys name.now keys.now committees ×

@@ -9,7 +9,7 @@ use Rattle.simplex_base.specs.Format.{Format}
 use Rattle.simplex_base.specs.Positions.{Round}
 use Rattle.simplex_votes.specs.Encodings.{IsFinalization}
 use Rattle.simplex_votes.specs.Votes.{SignedVote}
-use Rattle.simplex_evidence.specs.Contradiction.{Kind, Evidence, Conflicting_notarize, Conflicting_finalize, Nullify_finalize}
+use Rattle.simplex_evidence.specs.Contradiction.{EquivocationKind, Equivocation, Conflicting_notarize, Conflicting_finalize, Nullify_finalize}
 use Rattle.simplex_detector.specs.Committees.{bound_of}
 use Rattle.simplex_detector.specs.Evidence.{IsEvidence}
 use Rattle.simplex_detector.specs.Laws.{AccusesExactly}
@@ -26,7 +26,7 @@ use Rattle.simplex_clients.specs.Following.{Following, latest_after, BlamesEnoug
 
 -- who is accused in a round is accused there for some kind of contradiction
 kind_of_accused : {D G : Type 0} (eq : D → D → Bool) (vs : List (SignedVote D G)) (round : Round) (q : ℕ) → is_accused_in eq vs round q ≡ true →
-    (kind : Kind) × IsTrue (is_accused eq vs (record { round = round; signer = q; kind = kind }))
+    (kind : EquivocationKind) × IsTrue (is_accused eq vs (record { round = round; signer = q; kind = kind }))
 kind_of_accused eq vs round q h =
     elim (cases_Bool (is_accused eq vs (record { round = round; signer = q; kind = Conflicting_notarize }))) [
       | inl a ↦ (Conflicting_notarize, a)
@@ -41,7 +41,7 @@ kind_of_accused eq vs round q h =
     third a b c first second h = sym (ap (λ x. x || (b || c)) first ∙ ap (λ x. x || c) second) ∙ h
 
 -- evidence that names exactly who is accused blames every signer of both of two certificates
-pub blames : {S D C P G : Type 0} (rules : Rules S D C P G) (messages : List (Activity S D C P G)) (round : Round) (c d : C) (es : List (Evidence D G)) →
+pub blames : {S D C P G : Type 0} (rules : Rules S D C P G) (messages : List (Activity S D C P G)) (round : Round) (c d : C) (es : List (Equivocation D G)) →
     AccusesExactly rules.eq (valid_votes rules messages) es → IsAccountable rules messages round c d → BlamesEnough (rules.size round.epoch) round es
 blames rules messages round c d es names accountable = record {
   signers = shared_signers rules c d;
@@ -53,7 +53,7 @@ blames rules messages round c d es names accountable = record {
 }
 
 -- the evidence of the votes of some messages is that of the same messages
-pub evidence_of_same : {S D C P G : Type 0} (rules : Rules S D C P G) (given wanted : List (Activity S D C P G)) (es : List (Evidence D G)) → given ≡ wanted →
+pub evidence_of_same : {S D C P G : Type 0} (rules : Rules S D C P G) (given wanted : List (Activity S D C P G)) (es : List (Equivocation D G)) → given ≡ wanted →
     IsEvidence rules.eq (valid_votes rules given) es → IsEvidence rules.eq (valid_votes rules wanted) es
 evidence_of_same {S} {D} {C} {P} {G} rules given wanted es same is = subst (λ (ms : List (Activity S D C P G)). IsEvidence rules.eq (valid_votes rules ms) es) same is
 

@@ -15,7 +15,7 @@ use Rattle.simplex_detector.specs.Evidence.{IsEvidence, IsEquivocation}
 use Rattle.simplex_detector.specs.Laws.{EvidenceIsUnique, AccusesExactly}
 use Rattle.simplex_detector.specs.Accusation.{Accusation, is_accused}
 use Rattle.simplex_detector.specs.Rules.{Rules, valid_votes, is_valid}
-use Rattle.simplex_detector.specs.Values.{evidence_value, message_of}
+use Rattle.simplex_detector.specs.Values.{activity_of, evidence_value}
 use Rattle.simplex_detector.specs.declared.evidence.Evidence.{Evidence}
 use Rattle.simplex_detector.specs.declared.evidence.Evidence.TheVariants as variants
 use Rattle.simplex_audit.specs.Basis.{Basis}
@@ -61,23 +61,23 @@ within_both {S} {D} {C} {P} {G} rules ms ls ks within v h =
     ]
 
 -- the votes of evidence are among those that it is the evidence of
-both_votes : {D G : Type 0} (eq : D → D → Bool) (vs : List (SignedVote D G)) (e : contradiction.Evidence D G) → IsEquivocation eq vs e → All (Contains vs) (e.first ∷ e.second ∷ [])
+both_votes : {D G : Type 0} (eq : D → D → Bool) (vs : List (SignedVote D G)) (e : contradiction.Equivocation D G) → IsEquivocation eq vs e → All (Contains vs) (e.first ∷ e.second ∷ [])
 both_votes eq vs e h = both_of_two (Contains vs) e.first e.second h.first_cast h.second_cast
 
-votes_of_one : {S D C P G : Type 0} (rules : Rules S D C P G) (vs : List (SignedVote D G)) (e : Evidence S D P G) → IsEquivocation rules.eq vs (evidence_value e) → All (Contains vs) (votes_in rules.listed (message_of e))
+votes_of_one : {S D C P G : Type 0} (rules : Rules S D C P G) (vs : List (SignedVote D G)) (e : Evidence S D P G) → IsEquivocation rules.eq vs (evidence_value e) → All (Contains vs) (votes_in rules.listed (activity_of e))
 votes_of_one rules vs (variants.ConflictingNotarize c) h = both_votes rules.eq vs (evidence_value (variants.ConflictingNotarize c)) h
 votes_of_one rules vs (variants.ConflictingFinalize c) h = both_votes rules.eq vs (evidence_value (variants.ConflictingFinalize c)) h
 votes_of_one rules vs (variants.NullifyFinalize c) h = both_votes rules.eq vs (evidence_value (variants.NullifyFinalize c)) h
 
-votes_of_all : {S D C P G : Type 0} (rules : Rules S D C P G) (vs : List (SignedVote D G)) (es : List (Evidence S D P G)) → All (IsEquivocation rules.eq vs) (map evidence_value es) → All (Contains vs) (flat_map (votes_in rules.listed) (map message_of es))
+votes_of_all : {S D C P G : Type 0} (rules : Rules S D C P G) (vs : List (SignedVote D G)) (es : List (Evidence S D P G)) → All (IsEquivocation rules.eq vs) (map evidence_value es) → All (Contains vs) (flat_map (votes_in rules.listed) (map activity_of es))
 votes_of_all rules vs [] h = All-nil (Contains vs)
 votes_of_all rules vs (e ∷ es) h =
-    All-append (Contains vs) (votes_in rules.listed (message_of e)) (flat_map (votes_in rules.listed) (map message_of es))
+    All-append (Contains vs) (votes_in rules.listed (activity_of e)) (flat_map (votes_in rules.listed) (map activity_of es))
     (votes_of_one rules vs e (All-head (IsEquivocation rules.eq vs) (evidence_value e) (map evidence_value es) h))
     (votes_of_all rules vs es (All-tail (IsEquivocation rules.eq vs) (evidence_value e) (map evidence_value es) h))
 
-stored_within : {S D C P G : Type 0} (rules : Rules S D C P G) (vs : List (SignedVote D G)) (es : List (Evidence S D P G)) → All (IsEquivocation rules.eq vs) (map evidence_value es) → Within (valid_votes rules (map message_of es)) vs
-stored_within rules vs es h v = All-contains (Contains vs) (valid_votes rules (map message_of es)) v (All-filter (is_valid rules) (Contains vs) (flat_map (votes_in rules.listed) (map message_of es)) (votes_of_all rules vs es h))
+stored_within : {S D C P G : Type 0} (rules : Rules S D C P G) (vs : List (SignedVote D G)) (es : List (Evidence S D P G)) → All (IsEquivocation rules.eq vs) (map evidence_value es) → Within (valid_votes rules (map activity_of es)) vs
+stored_within rules vs es h v = All-contains (Contains vs) (valid_votes rules (map activity_of es)) v (All-filter (is_valid rules) (Contains vs) (flat_map (votes_in rules.listed) (map activity_of es)) (votes_of_all rules vs es h))
 
 -- the messages of a piece behind messages that are joined
 joined : {M : Type 0} (format : Format M) (bytes piece rest : List ℕ) (messages further : List M) → AreMessages format bytes messages [] → AreMessages format piece further rest → AreMessages format (bytes ++ piece) (messages ++ further) rest
@@ -90,39 +90,39 @@ joined format bytes piece rest messages further are are' = record {
 
 -- what holds of the evidence of any votes
 pub record Laws (D G : Type 0) (eq : D → D → Bool) : Type 0 where
-  pub names : (vs : List (SignedVote D G)) (es : List (contradiction.Evidence D G)) → IsEvidence eq vs es → AccusesExactly eq vs es
-  pub sound : (vs : List (SignedVote D G)) (es : List (contradiction.Evidence D G)) → IsEvidence eq vs es → All (IsEquivocation eq vs) es
-  pub only : (vs : List (SignedVote D G)) (es : List (contradiction.Evidence D G)) → IsEvidence eq vs es → EvidenceIsUnique eq vs es
+  pub names : (vs : List (SignedVote D G)) (es : List (contradiction.Equivocation D G)) → IsEvidence eq vs es → AccusesExactly eq vs es
+  pub sound : (vs : List (SignedVote D G)) (es : List (contradiction.Equivocation D G)) → IsEvidence eq vs es → All (IsEquivocation eq vs) es
+  pub only : (vs : List (SignedVote D G)) (es : List (contradiction.Equivocation D G)) → IsEvidence eq vs es → EvidenceIsUnique eq vs es
 
 -- evidence that is encoded as messages, which have it again, is stored
 pub stored : {S D C P G : Type 0} (basis : Basis S D C P G) → Laws D G basis.rules.eq → ((other : List ℕ) → HasOneReading basis other) →
-    (stream bytes : List ℕ) (es given : List (Evidence S D P G)) → IsEvidenceOf basis stream es → given ≡ es → bytes ≡ flat_map (λ e. basis.format.encoding (message_of e)) given →
-    AreMessages basis.format (flat_map basis.format.encoding (map message_of es)) (map message_of es) [] →
-    IsEvidence basis.rules.eq (valid_votes basis.rules (map message_of es)) (map evidence_value es) → IsStored basis stream bytes
+    (stream bytes : List ℕ) (es given : List (Evidence S D P G)) → IsEvidenceOf basis stream es → given ≡ es → bytes ≡ flat_map (λ e. basis.format.encoding (activity_of e)) given →
+    AreMessages basis.format (flat_map basis.format.encoding (map activity_of es)) (map activity_of es) [] →
+    IsEvidence basis.rules.eq (valid_votes basis.rules (map activity_of es)) (map evidence_value es) → IsStored basis stream bytes
 stored {S} {D} {C} {P} {G} basis laws single stream bytes es given is same joined_is are evidence =
-    let encoded : bytes ≡ flat_map basis.format.encoding (map message_of es) = joined_is ∙ (ap (flat_map (λ e. basis.format.encoding (message_of e))) same ∙ sym (flat_map-map basis.format.encoding (message_of {C = C}) es)) in
-    let here : AreMessages basis.format bytes (map message_of es) [] = subst (λ (b : List ℕ). AreMessages basis.format b (map message_of es) []) (sym encoded) are in
-    let names = laws.names (valid_votes basis.rules (map message_of es)) (map evidence_value es) evidence in
+    let encoded : bytes ≡ flat_map basis.format.encoding (map activity_of es) = joined_is ∙ (ap (flat_map (λ e. basis.format.encoding (activity_of e))) same ∙ sym (flat_map-map basis.format.encoding (activity_of {C = C}) es)) in
+    let here : AreMessages basis.format bytes (map activity_of es) [] = subst (λ (b : List ℕ). AreMessages basis.format b (map activity_of es) []) (sym encoded) are in
+    let names = laws.names (valid_votes basis.rules (map activity_of es)) (map evidence_value es) evidence in
     record {
       evidence = es;
       evidence_is = is;
       encoded = encoded;
-      again = record { messages = map message_of es; rest = []; are_messages = here; evidence_is = evidence; names = names };
-      only = λ held h. laws.only (valid_votes basis.rules (map message_of es)) (map evidence_value es) evidence (map evidence_value held)
-          (subst (λ (ms : List (Activity S D C P G)). IsEvidence basis.rules.eq (valid_votes basis.rules ms) (map evidence_value held)) (single bytes h.messages (map message_of es) h.rest [] h.are_messages here).0 h.evidence_is);
-      reads = λ piece rest further of. joined basis.format bytes piece rest (map message_of es) further here of;
+      again = record { messages = map activity_of es; rest = []; are_messages = here; evidence_is = evidence; names = names };
+      only = λ held h. laws.only (valid_votes basis.rules (map activity_of es)) (map evidence_value es) evidence (map evidence_value held)
+          (subst (λ (ms : List (Activity S D C P G)). IsEvidence basis.rules.eq (valid_votes basis.rules ms) (map evidence_value held)) (single bytes h.messages (map activity_of es) h.rest [] h.are_messages here).0 h.evidence_is);
+      reads = λ piece rest further of. joined basis.format bytes piece rest (map activity_of es) further here of;
       then = λ piece rest further held of h.
-          let both_are : IsEvidence basis.rules.eq (valid_votes basis.rules (map message_of es ++ further)) (map evidence_value held) =
+          let both_are : IsEvidence basis.rules.eq (valid_votes basis.rules (map activity_of es ++ further)) (map evidence_value held) =
           subst (λ (ms : List (Activity S D C P G)). IsEvidence basis.rules.eq (valid_votes basis.rules ms) (map evidence_value held))
-          (single (bytes ++ piece) h.messages (map message_of es ++ further) h.rest rest h.are_messages (joined basis.format bytes piece rest (map message_of es) further here of)).0 h.evidence_is in
-          let both = laws.names (valid_votes basis.rules (map message_of es ++ further)) (map evidence_value held) both_are in
+          (single (bytes ++ piece) h.messages (map activity_of es ++ further) h.rest rest h.are_messages (joined basis.format bytes piece rest (map activity_of es) further here of)).0 h.evidence_is in
+          let both = laws.names (valid_votes basis.rules (map activity_of es ++ further)) (map evidence_value held) both_are in
           let inside = stored_within basis.rules (valid_votes basis.rules is.messages) es (laws.sound (valid_votes basis.rules is.messages) (map evidence_value es) is.evidence_is) in
           record {
             evidence_is = both_are;
             names = both;
-            stay = λ n named. (both n).1 (accused_within basis.rules.eq _ _ n (within_left basis.rules (map message_of es) further) ((names n).0 named));
-            more = λ n named. (both n).1 (accused_within basis.rules.eq _ _ n (within_right basis.rules (map message_of es) further) named);
-            only = λ n named. accused_within basis.rules.eq _ _ n (within_both basis.rules (map message_of es) is.messages further inside) ((both n).0 named);
+            stay = λ n named. (both n).1 (accused_within basis.rules.eq _ _ n (within_left basis.rules (map activity_of es) further) ((names n).0 named));
+            more = λ n named. (both n).1 (accused_within basis.rules.eq _ _ n (within_right basis.rules (map activity_of es) further) named);
+            only = λ n named. accused_within basis.rules.eq _ _ n (within_both basis.rules (map activity_of es) is.messages further inside) ((both n).0 named);
           };
     }
 

@@ -7,7 +7,7 @@ use Rattle.simplex_scheme.specs.Committee.{faults_of}
 use Rattle.simplex_scheme.specs.Subject.{SubjectValue, Finalizes}
 use Rattle.simplex_votes.specs.Encodings.{IsFinalization}
 use Rattle.simplex_votes.specs.declared.types.finalization.Finalization.{Finalization}
-use Rattle.simplex_evidence.specs.Contradiction.{Kind, Evidence}
+use Rattle.simplex_evidence.specs.Contradiction.{EquivocationKind, Equivocation}
 use Rattle.simplex_evidence.specs.declared.types.activity.Activity.TheVariants as activity
 use Rattle.simplex_detector.specs.Certificates.{subjects_contradict}
 use Rattle.simplex_detector.specs.Committees.{Schedule, bound_of, certified_by, committee_of}
@@ -42,11 +42,11 @@ pub record IsFollowed {S D C P G : Type 0} (payload : Format D) (fits : ℕ → 
   pub final : certified_by certified (committee_of committees f.proposal.round.epoch) (Finalizes f.proposal) f.certificate ≡ true
 
 -- evidence names a signer in a round
-abbrev pub IsBlamed : {D G : Type 0} → Round → List (Evidence D G) → ℕ → Type 0
-IsBlamed round es signer = (kind : Kind) × Contains (map accused_by es) (record { round = round; signer = signer; kind = kind })
+abbrev pub IsBlamed : {D G : Type 0} → Round → List (Equivocation D G) → ℕ → Type 0
+IsBlamed round es signer = (kind : EquivocationKind) × Contains (map accused_by es) (record { round = round; signer = signer; kind = kind })
 
 -- in a round whose committee has n participants, evidence names more of them than may lie
-pub record BlamesEnough {D G : Type 0} (n : ℕ) (round : Round) (es : List (Evidence D G)) : Type 0 where
+pub record BlamesEnough {D G : Type 0} (n : ℕ) (round : Round) (es : List (Equivocation D G)) : Type 0 where
   pub signers : List ℕ
   pub distinct : IsDistinct nat_eq signers
   pub enough : faults_of n + 1 ≤ length signers
@@ -54,7 +54,7 @@ pub record BlamesEnough {D G : Type 0} (n : ℕ) (round : Round) (es : List (Evi
 
 -- the evidence of the valid votes that the certificates of two finalizations list: one for each signer, in order, and nobody
 -- left out
-abbrev pub IsEvidenceOfBoth : {S D C P G : Type 0} → Rules S D C P G → Finalization S D C P G → Finalization S D C P G → List (Evidence D G) → Type 0
+abbrev pub IsEvidenceOfBoth : {S D C P G : Type 0} → Rules S D C P G → Finalization S D C P G → Finalization S D C P G → List (Equivocation D G) → Type 0
 IsEvidenceOfBoth rules f g es = IsEvidence rules.eq (valid_votes rules (activity.Finalization f ∷ activity.Finalization g ∷ [])) es
 
 -- What becomes of a finalization, by the latest one. One that does not certify its proposal is refused. One that contradicts

@@ -7,7 +7,7 @@ use Rattle.simplex_detector.specs.Evidence.{IsEvidence}
 use Rattle.simplex_detector.specs.Laws.{AccusesExactly}
 use Rattle.simplex_detector.specs.Accusation.{Accusation, is_accused, accused_by}
 use Rattle.simplex_detector.specs.Rules.{valid_votes}
-use Rattle.simplex_detector.specs.Values.{evidence_value, message_of}
+use Rattle.simplex_detector.specs.Values.{activity_of, evidence_value}
 use Rattle.simplex_detector.specs.declared.evidence.Evidence.{Evidence}
 use Rattle.simplex_audit.specs.Auditor.{Stands, fed_of}
 use Rattle.simplex_audit.specs.Basis.{Basis}
@@ -38,8 +38,8 @@ Accuses es n = Contains (map accused_by (map evidence_value es)) n
 -- What is held after stored evidence and then further messages: it is the evidence of the votes of both. So who is accused by the stored evidence, or by the further messages alone, is accused, and nobody whom the messages before and the further ones do not
 -- name.
 pub record HoldsBoth {S D C P G : Type 0} (basis : Basis S D C P G) (before : List (Activity S D C P G)) (stored : List (Evidence S D P G)) (further : List (Activity S D C P G)) (held : List (Evidence S D P G)) : Type 0 where
-  pub evidence_is : IsEvidence basis.rules.eq (valid_votes basis.rules (map message_of stored ++ further)) (map evidence_value held)
-  pub names : AccusesExactly basis.rules.eq (valid_votes basis.rules (map message_of stored ++ further)) (map evidence_value held)
+  pub evidence_is : IsEvidence basis.rules.eq (valid_votes basis.rules (map activity_of stored ++ further)) (map evidence_value held)
+  pub names : AccusesExactly basis.rules.eq (valid_votes basis.rules (map activity_of stored ++ further)) (map evidence_value held)
   pub stay : (n : Accusation) → Accuses stored n → Accuses held n
   pub more : (n : Accusation) → IsTrue (is_accused basis.rules.eq (valid_votes basis.rules further) n) → Accuses held n
   pub only : (n : Accusation) → Accuses held n → IsTrue (is_accused basis.rules.eq (valid_votes basis.rules (before ++ further)) n)
@@ -49,10 +49,10 @@ pub record HoldsBoth {S D C P G : Type 0} (basis : Basis S D C P G) (before : Li
 pub record IsStored {S D C P G : Type 0} (basis : Basis S D C P G) (stream bytes : List ℕ) : Type 0 where
   pub evidence : List (Evidence S D P G)
   pub evidence_is : IsEvidenceOf basis stream evidence
-  pub encoded : bytes ≡ flat_map basis.format.encoding (map message_of evidence)
+  pub encoded : bytes ≡ flat_map basis.format.encoding (map activity_of evidence)
   pub again : IsEvidenceOf basis bytes evidence
   pub only : (held : List (Evidence S D P G)) → IsEvidenceOf basis bytes held → map evidence_value evidence ≡ map evidence_value held
   pub reads : (piece rest : List ℕ) (further : List (Activity S D C P G)) → AreMessages basis.format piece further rest →
-      AreMessages basis.format (bytes ++ piece) (map message_of evidence ++ further) rest
+      AreMessages basis.format (bytes ++ piece) (map activity_of evidence ++ further) rest
   pub then : (piece rest : List ℕ) (further : List (Activity S D C P G)) (held : List (Evidence S D P G)) →
       AreMessages basis.format piece further rest → IsEvidenceOf basis (bytes ++ piece) held → HoldsBoth basis evidence_is.messages evidence further held

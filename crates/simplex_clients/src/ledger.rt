@@ -3,7 +3,7 @@
 ghost use Rattle.std.specs.Prelude.{◌≡◌, ◌+◌, ◌<◌, ◌^◌, ◌++◌, ℕ, List, [], IfOk, OnOk, length};
 ghost use Rattle.std.specs.List.{flat_map};
 ghost use Rattle.simplex_detector.specs.Committees.{Schedule};
-ghost use Rattle.simplex_detector.specs.Values.{message_of};
+ghost use Rattle.simplex_detector.specs.Values.{activity_of};
 ghost use Rattle.simplex_clients.specs.Holding.{IsEvidenceOf, IsStored, WasFed, bytes_fed};
 
 use simplex_audit::audit::{Auditor, Committees, Evidence, audit_deferred};
@@ -136,7 +136,7 @@ fn write_all<S: Listing<D>, D: Digest>(
 ) -> Result<Vec<u8>, AllocError>
     ensures { IfOk result (λ bytes.
         bytes.items ≡ flat_map (λ e.
-        ⟦<Activity<S, D> as Read>⟧.encoding (message_of e)) evidence.now) }
+        ⟦<Activity<S, D> as Read>⟧.encoding (activity_of e)) evidence.now) }
 {
     let mut bytes = Vec::new(alloc);
     for item in evidence {
@@ -151,7 +151,7 @@ fn write<S: Listing<D>, D: Digest>(
     buf: &mut Vec<u8>,
 ) -> Result<(), AllocError>
     ensures { OnOk result (buf.new.items ≡ buf.old.items ++
-        ⟦<Activity<S, D> as Read>⟧.encoding (message_of evidence.now)) }
+        ⟦<Activity<S, D> as Read>⟧.encoding (activity_of evidence.now)) }
 {
     match evidence {
         Evidence::ConflictingNotarize(conflict) => write_tagged(7, conflict, buf),

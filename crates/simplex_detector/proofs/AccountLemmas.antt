@@ -1,5 +1,5 @@
 -- Two certified messages that contradict accuse more participants than may lie.
-use Rattle.simplex_detector.proofs.Prelude.{Activity, All, All-append, All-contains, All-filter, All-from_recursion, All-map, AllByRecursion, AreLawful, Attestation, Bool, Conflicting_finalize, Conflicting_notarize, Contains, Contains-from_any, EnoughAreAccused, IsAccountable, IsTrue, Kind, List, None, Nullify_finalize, Option, Round, Rules, SignedVote, SignersAreAccountable, Some, SubjectValue, [], activity_round, and_from, and_parts, ap, arith, subject_and_certificate, certificates_contradict, certified_in, clash, cond, cond_some, distinct_count, eqb-true, excludes, false, faults_of, filter, filter_passes, if_certified, is_member, is_accused, is_accused_in, is_of, length, length-append, length-filter_both, length-le_from_distinct_below, length-le_from_is_member, length-map, list_any, list_any-from_Contains, list_any_congr, map, accused_count, nat_eq, nat_eq_equiv, not, not-true, or_cases, or_left, or_parts, or_right, quorum_of, recursion_from_All, refl, round_of, same_Some, same_round, shared_signers, signers_of, subst, sym, true, unique_keys, valid_votes, vote_on, votes_in, ℕ, ⊎_elim, ◌++◌, ◌+◌, ◌<◌, ◌||◌, ◌∙◌, ◌∷◌, ◌≡◌, ◌≤◌}
+use Rattle.simplex_detector.proofs.Prelude.{Activity, All, All-append, All-contains, All-filter, All-from_recursion, All-map, AllByRecursion, AreLawful, Attestation, Bool, Conflicting_finalize, Conflicting_notarize, Contains, Contains-from_any, EnoughAreAccused, IsAccountable, IsTrue, EquivocationKind, List, None, Nullify_finalize, Option, Round, Rules, SignedVote, SignersAreAccountable, Some, SubjectValue, [], activity_round, and_from, and_parts, ap, arith, subject_and_certificate, certificates_contradict, certified_in, clash, cond, cond_some, distinct_count, eqb-true, excludes, false, faults_of, filter, filter_passes, if_certified, is_member, is_accused, is_accused_in, is_of, length, length-append, length-filter_both, length-le_from_distinct_below, length-le_from_is_member, length-map, list_any, list_any-from_Contains, list_any_congr, map, accused_count, nat_eq, nat_eq_equiv, not, not-true, or_cases, or_left, or_parts, or_right, quorum_of, recursion_from_All, refl, round_of, same_Some, same_round, shared_signers, signers_of, subst, sym, true, unique_keys, valid_votes, vote_on, votes_in, ℕ, ⊎_elim, ◌++◌, ◌+◌, ◌<◌, ◌||◌, ◌∙◌, ◌∷◌, ◌≡◌, ◌≤◌}
 use Rattle.std.specs.List.{IsDistinct}
 use Rattle.simplex_detector.proofs.EvidenceLemmas.{accused_from_votes, valid_in, votes_from_accused}
 use Rattle.simplex_detector.proofs.Lists.{Contains-filter, Contains-from_filter, Contains-from_map, Contains-map, each, some_from_is_some}
@@ -82,14 +82,14 @@ distinct_count-below n xs below = length-le_from_distinct_below (unique_keys nat
 
 module _ {D G : Type 0} (eq : D → D → Bool) (vs : List (SignedVote D G)) (round : Round) (signer : ℕ) where
   -- accused for some kind
-  pub accused_in : (kind : Kind) → is_accused eq vs (record { round = round; signer = signer; kind = kind }) ≡ true → is_accused_in eq vs round signer ≡ true
+  pub accused_in : (kind : EquivocationKind) → is_accused eq vs (record { round = round; signer = signer; kind = kind }) ≡ true → is_accused_in eq vs round signer ≡ true
   accused_in Conflicting_notarize h = or_left _ _ h
   accused_in Conflicting_finalize h = or_right _ _ (or_left _ _ h)
   accused_in Nullify_finalize h = or_right _ _ (or_right _ _ h)
 
-  pub kind_from_accused_in : is_accused_in eq vs round signer ≡ true → (kind : Kind) × (is_accused eq vs (record { round = round; signer = signer; kind = kind }) ≡ true)
+  pub kind_from_accused_in : is_accused_in eq vs round signer ≡ true → (kind : EquivocationKind) × (is_accused eq vs (record { round = round; signer = signer; kind = kind }) ≡ true)
   kind_from_accused_in h =
-      let named = λ (kind : Kind). is_accused eq vs (record { round = round; signer = signer; kind = kind }) in
+      let named = λ (kind : EquivocationKind). is_accused eq vs (record { round = round; signer = signer; kind = kind }) in
       ⊎_elim
       (λ e. (Conflicting_notarize, e))
       (λ e. ⊎_elim (λ f. (Conflicting_finalize, f)) (λ f. (Nullify_finalize, f)) (or_cases (named Conflicting_finalize) (named Nullify_finalize) e))

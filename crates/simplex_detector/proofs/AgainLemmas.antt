@@ -1,5 +1,5 @@
 -- The votes of a report's evidence have that report.
-use Rattle.simplex_detector.proofs.Prelude.{with_first, with_second, Activity, All-contains, All-from_recursion, Bool, Conflicting_finalize, Conflicting_notarize, Contains, Evidence, Finalizing, IsEquivalence, IsEvidence, Kind, List, Accusation, None, Notarizing, Nullify_finalize, Option, Rules, SignedVote, Some, [], and_parts, ap, arith, cond, cond-true, contradicts, evidence_of, evidence_value, excludes, false, false≢true, filter, find, first_sort, flat_map, flat_map-map, inl, inr, is_at, is_accused, is_some, is_valid, map, message_of, accused_by, refl, round_of, same_Some, subst, sym, true, valid_votes, votes_in, ◌&&◌, ◌∙◌, ◌∷◌, ◌≡◌, ◌⊎◌}
+use Rattle.simplex_detector.proofs.Prelude.{with_first, with_second, Activity, All-contains, All-from_recursion, Bool, Conflicting_finalize, Conflicting_notarize, Contains, Equivocation, Finalizing, IsEquivalence, IsEvidence, EquivocationKind, List, Accusation, None, Notarizing, Nullify_finalize, Option, Rules, SignedVote, Some, [], and_parts, ap, arith, cond, cond-true, contradicts, evidence_of, evidence_value, excludes, false, false≢true, filter, find, first_sort, flat_map, flat_map-map, inl, inr, is_at, is_accused, is_some, is_valid, map, activity_of, accused_by, refl, round_of, same_Some, subst, sym, true, valid_votes, votes_in, ◌&&◌, ◌∙◌, ◌∷◌, ◌≡◌, ◌⊎◌}
 use Rattle.simplex_detector.proofs.EvidenceLemmas.{EvidenceIs, evidence_exists, evidence_is, first_spot, moved_evidence, accused_from_votes}
 use Rattle.simplex_detector.proofs.Lists.{Contains-cons, Contains-first, Contains-flat_map, Contains-from_filter, Contains-from_flat_map, Contains-from_map, found}
 use Rattle.simplex_detector.proofs.Places.{Spot, excludes_itself, is_at-from, is_at-true, is_of-from, spot}
@@ -8,11 +8,11 @@ use Rattle.simplex_detector.specs.declared.evidence.Evidence as declared
 use Rattle.simplex_detector.specs.declared.evidence.Evidence.TheVariants as variants
 
 -- the two votes of an evidence
-abbrev pair : {D G : Type 0} → Evidence D G → List (SignedVote D G)
+abbrev pair : {D G : Type 0} → Equivocation D G → List (SignedVote D G)
 pair e = e.first ∷ e.second ∷ []
 
 -- what is found among pairs is the first vote of a pair, or the second where the first does not pass
-find_pairs : {D G : Type 0} (p : SignedVote D G → Bool) (Goal : SignedVote D G → Type 0) (es : List (Evidence D G)) → ((e : Evidence D G) → Contains es e → (p e.first ≡ true → Goal e.first) × (p e.first ≡ false → p e.second ≡ true → Goal e.second)) → (x : SignedVote D G) → find p (flat_map pair es) ≡ Some x → Goal x
+find_pairs : {D G : Type 0} (p : SignedVote D G → Bool) (Goal : SignedVote D G → Type 0) (es : List (Equivocation D G)) → ((e : Equivocation D G) → Contains es e → (p e.first ≡ true → Goal e.first) × (p e.first ≡ false → p e.second ≡ true → Goal e.second)) → (x : SignedVote D G) → find p (flat_map pair es) ≡ Some x → Goal x
 find_pairs p Goal [] all x h = absurd cc
 find_pairs {D} {G} p Goal (e ∷ es) all x h = by (p e.first) (p e.second) refl refl h (find_pairs p Goal es (λ f f_in. all f (Contains-cons e es f f_in)) x)
   where
@@ -25,22 +25,22 @@ find_pairs {D} {G} p Goal (e ∷ es) all x h = by (p e.first) (p e.second) refl 
 abbrev at : {D G : Type 0} → Spot → SignedVote D G → Bool
 at s = is_at s.sort s.round s.signer
 
-module _ {D G : Type 0} (eq : D → D → Bool) (l : IsEquivalence eq) (vs : List (SignedVote D G)) (es : List (Evidence D G)) (report : IsEvidence eq vs es) where
-  own : (e : Evidence D G) → Contains es e → EvidenceIs eq vs (accused_by e) e
+module _ {D G : Type 0} (eq : D → D → Bool) (l : IsEquivalence eq) (vs : List (SignedVote D G)) (es : List (Equivocation D G)) (report : IsEvidence eq vs es) where
+  own : (e : Equivocation D G) → Contains es e → EvidenceIs eq vs (accused_by e) e
   own e e_in = evidence_is eq vs (accused_by e) e (All-contains (λ x. evidence_of eq vs (accused_by x) ≡ Some x) es e report.sound e_in)
 
   -- the first vote of an evidence is the earliest at its spot
-  first_earliest : (e : Evidence D G) → Contains es e → find (at (spot e.first)) vs ≡ Some e.first
+  first_earliest : (e : Equivocation D G) → Contains es e → find (at (spot e.first)) vs ≡ Some e.first
   first_earliest e e_in = let is = own e e_in in subst (λ (s : Spot). find (at s) vs ≡ Some e.first) (sym (is_at-true (first_spot (accused_by e)) e.first (found _ vs e.first is.first).1)) is.first
 
   -- so is the second, or it is at the first one's spot and the earliest there that excludes that
-  second_there : (e : Evidence D G) → Contains es e → (find (at (spot e.second)) vs ≡ Some e.second) ⊎ ((spot e.second ≡ spot e.first) × (find (λ w. at (spot e.first) w && excludes eq e.first.subject w.subject) vs ≡ Some e.second))
+  second_there : (e : Equivocation D G) → Contains es e → (find (at (spot e.second)) vs ≡ Some e.second) ⊎ ((spot e.second ≡ spot e.first) × (find (λ w. at (spot e.first) w && excludes eq e.first.subject w.subject) vs ≡ Some e.second))
   second_there e e_in = by e.kind (is_at-true (first_spot (accused_by e)) e.first (found _ vs e.first (own e e_in).first).1) (own e e_in).second
     where
       other : (s : Spot) → spot e.first ≡ s → find (λ w. at s w && excludes eq e.first.subject w.subject) vs ≡ Some e.second → (find (at (spot e.second)) vs ≡ Some e.second) ⊎ ((spot e.second ≡ spot e.first) × (find (λ w. at (spot e.first) w && excludes eq e.first.subject w.subject) vs ≡ Some e.second))
       other s here f = inr (is_at-true s e.second (and_parts (at s e.second) (excludes eq e.first.subject e.second.subject) (found _ vs e.second f).1).0 ∙ sym here, subst (λ (t : Spot). find (λ w. at t w && excludes eq e.first.subject w.subject) vs ≡ Some e.second) (sym here) f)
 
-      by : (kind : Kind) → spot e.first ≡ first_spot (record { round = round_of e.first.subject; signer = e.first.signer; kind = kind }) → find (contradicts eq kind e.first) vs ≡ Some e.second → (find (at (spot e.second)) vs ≡ Some e.second) ⊎ ((spot e.second ≡ spot e.first) × (find (λ w. at (spot e.first) w && excludes eq e.first.subject w.subject) vs ≡ Some e.second))
+      by : (kind : EquivocationKind) → spot e.first ≡ first_spot (record { round = round_of e.first.subject; signer = e.first.signer; kind = kind }) → find (contradicts eq kind e.first) vs ≡ Some e.second → (find (at (spot e.second)) vs ≡ Some e.second) ⊎ ((spot e.second ≡ spot e.first) × (find (λ w. at (spot e.first) w && excludes eq e.first.subject w.subject) vs ≡ Some e.second))
       by Conflicting_notarize here is = other _ here (sym (λ i. find (λ w. second_agrees eq Conflicting_notarize _ _ e.first here w i) vs) ∙ is)
       by Conflicting_finalize here is = other _ here (sym (λ i. find (λ w. second_agrees eq Conflicting_finalize _ _ e.first here w i) vs) ∙ is)
       by Nullify_finalize here is =
@@ -97,12 +97,12 @@ module _ {D G : Type 0} (eq : D → D → Bool) (l : IsEquivalence eq) (vs : Lis
       same None (Some x) f g = absurd (false≢true (g refl))
       same (Some x) p f g = sym (f x refl)
 
-      second : (kind : Kind) (a x : SignedVote D G) → find (is_at (first_sort kind) n.round n.signer) vs ≡ Some a → find (second_by eq kind n.round n.signer a) (flat_map pair es) ≡ Some x → find (second_by eq kind n.round n.signer a) vs ≡ Some x
+      second : (kind : EquivocationKind) (a x : SignedVote D G) → find (is_at (first_sort kind) n.round n.signer) vs ≡ Some a → find (second_by eq kind n.round n.signer a) (flat_map pair es) ≡ Some x → find (second_by eq kind n.round n.signer a) vs ≡ Some x
       second Conflicting_notarize a x is_a = other_again (record { sort = Notarizing; round = n.round; signer = n.signer }) a x is_a
       second Conflicting_finalize a x is_a = other_again (record { sort = Finalizing; round = n.round; signer = n.signer }) a x is_a
       second Nullify_finalize a x is_a = earliest_again (record { sort = Finalizing; round = n.round; signer = n.signer }) x
 
-      also : (e : Evidence D G) → evidence_of eq (flat_map pair es) n ≡ Some e → evidence_of eq vs n ≡ Some e
+      also : (e : Equivocation D G) → evidence_of eq (flat_map pair es) n ≡ Some e → evidence_of eq vs n ≡ Some e
       also e h =
           let is = evidence_is eq (flat_map pair es) n e h in
           let first = earliest_again (first_spot n) e.first is.first in
@@ -111,7 +111,7 @@ module _ {D G : Type 0} (eq : D → D → Bool) (l : IsEquivalence eq) (vs : Lis
           (λ i. Some (record { kind = (sym is.named i).kind; first = e.first; second = e.second }))
 
 -- the messages that are the evidence of some messages have that evidence
-pub evidence_again : {S D C P G : Type 0} (rules : Rules S D C P G) → IsEquivalence rules.eq → (ms : List (Activity S D C P G)) (es : List (declared.Evidence S D P G)) → IsEvidence rules.eq (valid_votes rules ms) (map evidence_value es) → IsEvidence rules.eq (valid_votes rules (map message_of es)) (map evidence_value es)
+pub evidence_again : {S D C P G : Type 0} (rules : Rules S D C P G) → IsEquivalence rules.eq → (ms : List (Activity S D C P G)) (es : List (declared.Evidence S D P G)) → IsEvidence rules.eq (valid_votes rules ms) (map evidence_value es) → IsEvidence rules.eq (valid_votes rules (map activity_of es)) (map evidence_value es)
 evidence_again {S} {D} {C} {P} {G} rules l ms es report =
     subst (λ ws. IsEvidence rules.eq ws (map evidence_value es)) (sym recorded) (moved_evidence rules.eq l (flat_map pair (map evidence_value es)) vs (λ n. sym (same_again rules.eq l vs (map evidence_value es) report n)) (map evidence_value es) report)
   where
@@ -119,7 +119,7 @@ evidence_again {S} {D} {C} {P} {G} rules l ms es report =
     vs = valid_votes rules ms
 
     -- the votes of the messages that are evidence
-    two : (e : declared.Evidence S D P G) → votes_in rules.listed (message_of {C = C} e) ≡ pair (evidence_value e)
+    two : (e : declared.Evidence S D P G) → votes_in rules.listed (activity_of {C = C} e) ≡ pair (evidence_value e)
     two (variants.ConflictingNotarize c) = refl
     two (variants.ConflictingFinalize c) = refl
     two (variants.NullifyFinalize c) = refl
@@ -135,7 +135,7 @@ evidence_again {S} {D} {C} {P} {G} rules l ms es report =
     filter_all [] h = refl
     filter_all (v ∷ xs) h = cond-true (is_valid rules v) (v ∷ filter (is_valid rules) xs) (filter (is_valid rules) xs) (h v (Contains-first v xs)) ∙ ap (λ ys. v ∷ ys) (filter_all xs (λ w w_in. h w (Contains-cons v xs w w_in)))
 
-    recorded : valid_votes rules (map message_of es) ≡ flat_map pair (map evidence_value es)
+    recorded : valid_votes rules (map activity_of es) ≡ flat_map pair (map evidence_value es)
     recorded =
-        ap (filter (is_valid rules)) (flat_map-map (votes_in rules.listed) message_of es ∙ (λ i. flat_map (λ e. two e i) es) ∙ sym (flat_map-map pair evidence_value es)) ∙
+        ap (filter (is_valid rules)) (flat_map-map (votes_in rules.listed) activity_of es ∙ (λ i. flat_map (λ e. two e i) es) ∙ sym (flat_map-map pair evidence_value es)) ∙
         filter_all (flat_map pair (map evidence_value es)) valid

@@ -1,5 +1,5 @@
 -- How many votes are recorded, how many are accused in a round, and the split that this gives.
-use Rattle.simplex_detector.proofs.Prelude.{Activity, All, All-contains, AllByRecursion, AreSplits, Bool, CertifiedSubjects, Contains, Detector, Equal, Evidence, Greater, HaveCommittees, IsEquivalence, IsNonDecreasing, IsOrdered, Less, Less-from_sorted, List, Accusation, None, Option, Recalls, RecallsRound, RecordsFirsts, Round, RoundState, Rules, SignedVote, Some, [], ap, append_assoc, arith, cases_lt, certified_subjects, cond, cond-false, cond-true, cons_option, distinct_count, drop, drop_more, eqb-false, evidence_of, false, false_from_ne_true, false≢true, faults_of, filter, filter_map, get_or, get_or-map, if◌then◌else◌, inl, inr, is_gt, is_member, is_accused, is_accused_in, is_some, is_split, kind_rank, le_from_not_gt, length, length-filter_both, length-map, map, min, accused_by, accused_cmp, accused_count, nat_cmp, nat_eq, not, not-true, option_eq, option_to_list, ordering_then, recorded_of, recursion_from_All, refl, round_cmp, round_count, round_of, split_of, subst, suc, sym, tied_itself, true, unique_keys, valid_votes, votes_recorded, ℕ, ⊎_elim, ◌++◌, ◌+◌, ◌-◌, ◌<◌, ◌^◌, ◌||◌, ◌∙◌, ◌∷◌, ◌≡◌, ◌≤◌}
+use Rattle.simplex_detector.proofs.Prelude.{Activity, All, All-contains, AllByRecursion, AreSplits, Bool, CertifiedSubjects, Contains, Detector, Equal, Equivocation, Greater, HaveCommittees, IsEquivalence, IsNonDecreasing, IsOrdered, Less, Less-from_sorted, List, Accusation, None, Option, Recalls, RecallsRound, RecordsFirsts, Round, RoundState, Rules, SignedVote, Some, [], ap, append_assoc, arith, cases_lt, certified_subjects, cond, cond-false, cond-true, cons_option, distinct_count, drop, drop_more, eqb-false, evidence_of, false, false_from_ne_true, false≢true, faults_of, filter, filter_map, get_or, get_or-map, if◌then◌else◌, inl, inr, is_gt, is_member, is_accused, is_accused_in, is_some, is_split, kind_rank, le_from_not_gt, length, length-filter_both, length-map, map, min, accused_by, accused_cmp, accused_count, nat_cmp, nat_eq, not, not-true, option_eq, option_to_list, ordering_then, recorded_of, recursion_from_All, refl, round_cmp, round_count, round_of, split_of, subst, suc, sym, tied_itself, true, unique_keys, valid_votes, votes_recorded, ℕ, ⊎_elim, ◌++◌, ◌+◌, ◌-◌, ◌<◌, ◌^◌, ◌||◌, ◌∙◌, ◌∷◌, ◌≡◌, ◌≤◌}
 use Rattle.std.specs.List.Sorted.{IsStrictlySortedBy}
 use Rattle.simplex_detector.proofs.AccountLemmas.{Contains-from_member, counted_signer, distinct_count-below, distinct_count-same, kind_from_accused_in, accused_in}
 use Rattle.simplex_detector.proofs.CommitteeLemmas.{most}
@@ -81,7 +81,7 @@ splits_next f found more all x xs o more_is o_is so_far =
 -- ---- how many are accused in a round
 
 -- by its evidence
-counted_in : {D G : Type 0} (eq : D → D → Bool) (vs : List (SignedVote D G)) (round : Round) (es : List (Evidence D G)) → IsEvidenceIn eq vs round es → accused_count eq vs round ≡ distinct_count nat_eq (map (λ e. e.first.signer) es)
+counted_in : {D G : Type 0} (eq : D → D → Bool) (vs : List (SignedVote D G)) (round : Round) (es : List (Equivocation D G)) → IsEvidenceIn eq vs round es → accused_count eq vs round ≡ distinct_count nat_eq (map (λ e. e.first.signer) es)
 counted_in {D} {G} eq vs round es is =
     distinct_count-same _ _
     (λ q h.
@@ -89,7 +89,7 @@ counted_in {D} {G} eq vs round es is =
     let (f, f_in, f_is) = Contains-from_map accused_by es (record { round = round; signer = q; kind = kind }) (is.complete _ refl e) in
     subst (Contains (map (λ e. e.first.signer) es)) (ap (λ (m : Accusation). m.signer) f_is) (Contains-map (λ e. e.first.signer) es f f_in))
     (λ q h.
-    let (f, f_in, f_is) = Contains-from_map (λ (e : Evidence D G). e.first.signer) es q h in
+    let (f, f_in, f_is) = Contains-from_map (λ (e : Equivocation D G). e.first.signer) es q h in
     let found = All-contains (λ e. evidence_of eq vs (accused_by e) ≡ Some e) es f is.sound f_in in
     let at = All-contains (λ e. round_of e.first.subject ≡ round) es f is.here f_in in
     counted_signer eq vs round q (accused_in eq vs round q f.kind (sym (λ i. is_accused eq vs (record { round = at i; signer = f_is i; kind = f.kind })) ∙ accused-from_evidence eq vs (accused_by f) (ap is_some found))))
@@ -107,7 +107,7 @@ count_within rules l messages round =
     subst (λ s. s < rules.size round.epoch) at.1 (subst (λ r. v.signer < rules.size r.epoch) at.0 (l.members v.subject v.signer v.signature valid)))
 
 -- the signers of the evidence of a round are in order
-signers_in_order : {D G : Type 0} (round : Round) (es : List (Evidence D G)) → IsStrictlySortedBy accused_cmp (map accused_by es) → All (λ e. round_of e.first.subject ≡ round) es → IsNonDecreasing (map (λ e. e.first.signer) es)
+signers_in_order : {D G : Type 0} (round : Round) (es : List (Equivocation D G)) → IsStrictlySortedBy accused_cmp (map accused_by es) → All (λ e. round_of e.first.subject ≡ round) es → IsNonDecreasing (map (λ e. e.first.signer) es)
 signers_in_order round [] ordered here i j d le lt = absurd (omega (arith, lt))
 signers_in_order {D} {G} round (e ∷ es) ordered here i j d le lt =
     let all = e ∷ es in
@@ -133,7 +133,7 @@ signers_in_order {D} {G} round (e ∷ es) ordered here i j d le lt =
 -- ---- the split of a round
 
 -- one that is has that of its evidence and its committee
-pub split_found : {S D C P G : Type 0} (rules : Rules S D C P G) → HaveCommittees rules → (messages : List (Activity S D C P G)) (round : Round) (recorded : CertifiedSubjects D) → RecordsFirsts rules.eq (certified_subjects rules messages) round recorded → recorded.split ≡ true → (es : List (Evidence D G)) → IsEvidenceIn rules.eq (valid_votes rules messages) round es → (n : ℕ) → rules.size round.epoch ≡ n → n < 2 ^ 32 → (named least : ℕ) → (IsNonDecreasing (map (λ e. e.first.signer) es) → named ≡ min (distinct_count nat_eq (map (λ e. e.first.signer) es)) (2 ^ 32 - 1)) → least ≡ faults_of n + 1 → Some (record { round = round; named = named; least = least }) ≡ split_of rules messages round
+pub split_found : {S D C P G : Type 0} (rules : Rules S D C P G) → HaveCommittees rules → (messages : List (Activity S D C P G)) (round : Round) (recorded : CertifiedSubjects D) → RecordsFirsts rules.eq (certified_subjects rules messages) round recorded → recorded.split ≡ true → (es : List (Equivocation D G)) → IsEvidenceIn rules.eq (valid_votes rules messages) round es → (n : ℕ) → rules.size round.epoch ≡ n → n < 2 ^ 32 → (named least : ℕ) → (IsNonDecreasing (map (λ e. e.first.signer) es) → named ≡ min (distinct_count nat_eq (map (λ e. e.first.signer) es)) (2 ^ 32 - 1)) → least ≡ faults_of n + 1 → Some (record { round = round; named = named; least = least }) ≡ split_of rules messages round
 split_found rules l messages round recorded records split es is n size small named least counted least_is =
     let count = counted_in rules.eq (valid_votes rules messages) round es is in
     let within = count_within rules l messages round in
@@ -145,16 +145,16 @@ split_found rules l messages round recorded records split es is n size small nam
 -- ---- how many distinct numbers a list in order has
 
 -- how many numbers differ from the one before, which for the first is `last`
-abbrev pub changes : Option ℕ → List ℕ → ℕ
-changes last [] = 0
-changes last (x ∷ xs) = if option_eq nat_eq last (Some x) then changes (Some x) xs else changes (Some x) xs + 1
+abbrev pub number_changes : Option ℕ → List ℕ → ℕ
+number_changes last [] = 0
+number_changes last (x ∷ xs) = if option_eq nat_eq last (Some x) then number_changes (Some x) xs else number_changes (Some x) xs + 1
 
 -- what is counted behind a first number
-pub counted_behind : (y : ℕ) (xs : List ℕ) → IsNonDecreasing (y ∷ xs) → changes (Some y) xs + 1 ≡ distinct_count nat_eq (y ∷ xs)
+pub counted_behind : (y : ℕ) (xs : List ℕ) → IsNonDecreasing (y ∷ xs) → number_changes (Some y) xs + 1 ≡ distinct_count nat_eq (y ∷ xs)
 counted_behind y [] s = refl
 counted_behind y (x ∷ xs) s = by (nat_eq y x) refl (counted_behind x xs (λ i j d le lt. s (suc i) (suc j) d (omega (arith, le)) (omega (arith, lt))))
   where
-    by : (b : Bool) → nat_eq y x ≡ b → changes (Some x) xs + 1 ≡ distinct_count nat_eq (x ∷ xs) → cond b (changes (Some x) xs) (changes (Some x) xs + 1) + 1 ≡ length (cond (b || is_member nat_eq xs y) (unique_keys nat_eq (x ∷ xs)) (y ∷ unique_keys nat_eq (x ∷ xs)))
+    by : (b : Bool) → nat_eq y x ≡ b → number_changes (Some x) xs + 1 ≡ distinct_count nat_eq (x ∷ xs) → cond b (number_changes (Some x) xs) (number_changes (Some x) xs + 1) + 1 ≡ length (cond (b || is_member nat_eq xs y) (unique_keys nat_eq (x ∷ xs)) (y ∷ unique_keys nat_eq (x ∷ xs)))
     by true e rest = rest
     by false e rest =
         let none = false_from_ne_true (is_member nat_eq xs y) (λ m. absurd (omega (arith, eqb-false y x e, s 0 1 x (omega arith) (omega arith), All-contains (λ z. x ≤ z) xs y (λ k d lt. s 1 (suc (suc k)) d (omega arith) (omega (arith, lt))) (Contains-from_member xs y m)))) in
@@ -162,9 +162,9 @@ counted_behind y (x ∷ xs) s = by (nat_eq y x) refl (counted_behind x xs (λ i 
         omega (arith, rest, more)
 
 -- one item more, of which a number is counted, with a count that stops at a greatest
-pub counted_item : {X : Type 0} (number : X → ℕ) (xs : List X) (i : ℕ) (x : X) → i < length xs → x ≡ get_or xs i x → (count next most : ℕ) (last : Option ℕ) (n : ℕ) → n ≡ number x → next ≡ cond (option_eq nat_eq last (Some n)) count (min (count + 1) most) → min (next + changes (Some n) (map number (drop (i + 1) xs))) most ≡ min (count + changes last (map number (drop i xs))) most
+pub counted_item : {X : Type 0} (number : X → ℕ) (xs : List X) (i : ℕ) (x : X) → i < length xs → x ≡ get_or xs i x → (count next most : ℕ) (last : Option ℕ) (n : ℕ) → n ≡ number x → next ≡ cond (option_eq nat_eq last (Some n)) count (min (count + 1) most) → min (next + number_changes (Some n) (map number (drop (i + 1) xs))) most ≡ min (count + number_changes last (map number (drop i xs))) most
 counted_item number xs i x lt is count next most last n n_is next_is =
-    let more = changes (Some n) (map number (drop (i + 1) xs)) in
+    let more = number_changes (Some n) (map number (drop (i + 1) xs)) in
     ap (λ k. min (k + more) most) next_is ∙
     elim (option_eq nat_eq last (Some n)) as (λ b. min (cond b count (min (count + 1) most) + more) most ≡ min (count + cond b more (more + 1)) most) [ true ↦ refl | false ↦ omega arith ] ∙
-    (λ j. min (count + changes last (n_is j ∷ map number (drop (i + 1) xs))) most) ∙ sym (ap (λ ys. min (count + changes last (map number ys)) most) (drop_more xs i x lt ∙ (λ j. sym is j ∷ drop (i + 1) xs)))
+    (λ j. min (count + number_changes last (n_is j ∷ map number (drop (i + 1) xs))) most) ∙ sym (ap (λ ys. min (count + number_changes last (map number ys)) most) (drop_more xs i x lt ∙ (λ j. sym is j ∷ drop (i + 1) xs)))

@@ -1,5 +1,5 @@
 -- What is recorded, round by round, after one more message.
-use Rattle.simplex_detector.proofs.Prelude.{Activity, All, All-from_recursion, All-map, AllByRecursion, Attestation, BTreeMap, Bool, Detector, HoldsRound, IsEquivalence, IsSized, IsTrue, Kind, List, None, Option, Recalls, RecallsAt, RecallsNothing, RecallsRound, RecordsFirsts, Round, RoundState, RoundVotes, Rules, Schedule, SignedVote, Some, Sort, SubjectValue, TakesIn, TakesMessage, [], activity_round, and_left, and_parts, and_right, ap, append-nil, append_assoc, arith, subject_and_certificate, certified_by, certified_subjects, clash, committee_of, cond, cond-false, contradicts, false, filter, filter-append, get, if_certified, is_at, is_key, is_news, is_of, is_valid, length, map, no_slot, nothing_certified, option_to_list, recorded_in, recursion_from_All, refl, round_cmp, round_count, round_of, rules_of, same_round, same_sort, size_by, slot_of, slots, sort_of, subst, sym, true, valid_by, valid_votes, vote_on, votes_in, ℕ, ◌++◌, ◌∙◌, ◌∷◌, ◌≡◌, Notarizes, Nullifies, Finalizes}
+use Rattle.simplex_detector.proofs.Prelude.{Activity, All, All-from_recursion, All-map, AllByRecursion, Attestation, BTreeMap, Bool, Detector, HoldsRound, IsEquivalence, IsSized, IsTrue, EquivocationKind, List, None, Option, Recalls, RecallsAt, RecallsNothing, RecallsRound, RecordsFirsts, Round, RoundState, RoundVotes, Rules, Schedule, SignedVote, Some, Sort, SubjectValue, TakesIn, TakesMessage, [], activity_round, and_left, and_parts, and_right, ap, append-nil, append_assoc, arith, subject_and_certificate, certified_by, certified_subjects, clash, committee_of, cond, cond-false, contradicts, false, filter, filter-append, get, if_certified, is_at, is_key, is_news, is_of, is_valid, length, map, no_slot, nothing_certified, option_to_list, recorded_in, recursion_from_All, refl, round_cmp, round_count, round_of, rules_of, same_round, same_sort, size_by, slot_of, slots, sort_of, subst, sym, true, valid_by, valid_votes, vote_on, votes_in, ℕ, ◌++◌, ◌∙◌, ◌∷◌, ◌≡◌, Notarizes, Nullifies, Finalizes}
 use Rattle.simplex_detector.proofs.AccountLemmas.{certificate_parts}
 use Rattle.simplex_detector.proofs.EvidenceLemmas.{valid_votes-push}
 use Rattle.simplex_detector.proofs.Places.{is_of-true, key_tells, other_round}
@@ -12,7 +12,7 @@ abbrev pub IsHere : {D G : Type 0} → Round → SignedVote D G → Type 0
 IsHere round v = round_of v.subject ≡ round
 
 -- two votes that contradict are of one round
-pub one_round : {D G : Type 0} (eq : D → D → Bool) (kind : Kind) (v w : SignedVote D G) → IsTrue (contradicts eq kind v w) → round_of w.subject ≡ round_of v.subject
+pub one_round : {D G : Type 0} (eq : D → D → Bool) (kind : EquivocationKind) (v w : SignedVote D G) → IsTrue (contradicts eq kind v w) → round_of w.subject ≡ round_of v.subject
 one_round eq kind v w h = (is_of-true (round_of v.subject) v.signer w (and_parts (is_of (round_of v.subject) v.signer w) (clash eq kind v.subject w.subject) h).0).0
 
 -- so are those of a message that is no evidence

@@ -1,5 +1,5 @@
 -- Who is accused, the evidence of everyone who is accused, and that the votes determine a report.
-use Rattle.simplex_detector.proofs.Prelude.{Activity, All, All-contains, Bool, Contains, Contains-permutation, Evidence, IsEquivalence, IsEquivocation, IsEvidence, IsPermutation, IsPermutation-sym, List, Accusation, ReorderingAccusesSame, None, Rules, SignedVote, Some, [], and_from, and_parts, ap, append-nil, clash, contradicts, evidence_of, filter, filter-append, find, first_sort, flat_map, flat_map-append, is_at, is_accused, is_of, is_some, is_valid, list_any, accused_by, accused_cmp, refl, round_of, same_Some, same_sort, sort_of, subst, sym, true, valid_votes, votes_in, with_first, with_second, ⊎_elim, ◌&&◌, ◌++◌, ◌∙◌, ◌∷◌, ◌≡◌}
+use Rattle.simplex_detector.proofs.Prelude.{Activity, All, All-contains, Bool, Contains, Contains-permutation, Equivocation, IsEquivalence, IsEquivocation, IsEvidence, IsPermutation, IsPermutation-sym, List, Accusation, ReorderingAccusesSame, None, Rules, SignedVote, Some, [], and_from, and_parts, ap, append-nil, clash, contradicts, evidence_of, filter, filter-append, find, first_sort, flat_map, flat_map-append, is_at, is_accused, is_of, is_some, is_valid, list_any, accused_by, accused_cmp, refl, round_of, same_Some, same_sort, sort_of, subst, sym, true, valid_votes, votes_in, with_first, with_second, ⊎_elim, ◌&&◌, ◌++◌, ◌∙◌, ◌∷◌, ◌≡◌}
 use Rattle.simplex_detector.proofs.Lists.{Contains-filter, Contains-flat_map, Contains-from_filter, Contains-from_flat_map, Contains-from_list_any, IsListing, any_from_Contains, each, find_from_Contains, found, same_bool, some_from_is_some}
 use Rattle.simplex_detector.proofs.Places.{Spot, clash_parts, clash_with_one, is_at-from, is_at-true, is_of-from, is_of-true}
 
@@ -55,13 +55,13 @@ accused_in_any_order {S} {D} {C} {P} {G} rules ms ks moved n =
     same_bool _ _ (accused_by_more rules.eq _ _ (also ms ks moved) n) (accused_by_more rules.eq _ _ (also ks ms (IsPermutation-sym ms ks moved)) n)
 
 -- its first vote is the earliest at its spot, and its second the earliest that contradicts that
-pub record EvidenceIs {D G : Type 0} (eq : D → D → Bool) (vs : List (SignedVote D G)) (n : Accusation) (e : Evidence D G) : Type 0 where
+pub record EvidenceIs {D G : Type 0} (eq : D → D → Bool) (vs : List (SignedVote D G)) (n : Accusation) (e : Equivocation D G) : Type 0 where
   pub named : accused_by e ≡ n
   pub first : find (is_at (first_sort n.kind) n.round n.signer) vs ≡ Some e.first
   pub second : find (contradicts eq n.kind e.first) vs ≡ Some e.second
 
 module _ {D G : Type 0} (eq : D → D → Bool) (vs : List (SignedVote D G)) where
-  pub evidence_is : (n : Accusation) (e : Evidence D G) → evidence_of eq vs n ≡ Some e → EvidenceIs eq vs n e
+  pub evidence_is : (n : Accusation) (e : Equivocation D G) → evidence_of eq vs n ≡ Some e → EvidenceIs eq vs n e
   evidence_is n e h =
       (elim (find (is_at (first_sort n.kind) n.round n.signer) vs) as (λ o. find (is_at (first_sort n.kind) n.round n.signer) vs ≡ o → with_first eq vs n.kind o ≡ Some e → EvidenceIs eq vs n e) [
         | None ↦ λ first is. absurd cc
@@ -100,14 +100,14 @@ module _ {D G : Type 0} (eq : D → D → Bool) (vs : List (SignedVote D G)) whe
   evidence_exists l n = same_bool _ _ (accused-from_evidence n) (evidence-from_accused l n)
 
   -- the evidence of votes lists the evidence of everyone who is accused
-  pub as_listing : (es : List (Evidence D G)) → IsEvidence eq vs es → IsListing accused_by accused_cmp (evidence_of eq vs) es
+  pub as_listing : (es : List (Equivocation D G)) → IsEvidence eq vs es → IsListing accused_by accused_cmp (evidence_of eq vs) es
   as_listing es is = record { ordered = is.ordered; sound = is.sound; complete = λ n h. is.complete n (accused-from_evidence n h) }
 
-  pub from_listing : IsEquivalence eq → (es : List (Evidence D G)) → IsListing accused_by accused_cmp (evidence_of eq vs) es → IsEvidence eq vs es
+  pub from_listing : IsEquivalence eq → (es : List (Equivocation D G)) → IsListing accused_by accused_cmp (evidence_of eq vs) es → IsEvidence eq vs es
   from_listing l es is = record { ordered = is.ordered; sound = is.sound; complete = λ n h. is.complete n (evidence-from_accused l n h) }
 
   -- each evidence of a report is two of the votes that contradict
-  pub all_equivocations : (es : List (Evidence D G)) → IsEvidence eq vs es → All (IsEquivocation eq vs) es
+  pub all_equivocations : (es : List (Equivocation D G)) → IsEvidence eq vs es → All (IsEquivocation eq vs) es
   all_equivocations es is = each (IsEquivocation eq vs) es (λ e e_in.
       let own = evidence_is (accused_by e) e (All-contains (λ e. evidence_of eq vs (accused_by e) ≡ Some e) es e is.sound e_in) in
       let (first_in, _) = found _ vs e.first own.first in
@@ -115,5 +115,5 @@ module _ {D G : Type 0} (eq : D → D → Bool) (vs : List (SignedVote D G)) whe
       record { first_cast = first_in; second_cast = second_in; contradict = against })
 
 -- votes of which everyone has the same evidence have the same report
-pub moved_evidence : {D G : Type 0} (eq : D → D → Bool) → IsEquivalence eq → (vs ws : List (SignedVote D G)) → ((n : Accusation) → evidence_of eq ws n ≡ evidence_of eq vs n) → (es : List (Evidence D G)) → IsEvidence eq ws es → IsEvidence eq vs es
+pub moved_evidence : {D G : Type 0} (eq : D → D → Bool) → IsEquivalence eq → (vs ws : List (SignedVote D G)) → ((n : Accusation) → evidence_of eq ws n ≡ evidence_of eq vs n) → (es : List (Equivocation D G)) → IsEvidence eq ws es → IsEvidence eq vs es
 moved_evidence eq l vs ws same es is = from_listing eq vs l es (subst (λ f. IsListing accused_by accused_cmp f es) (λ i n. same n i) (as_listing eq ws es is))

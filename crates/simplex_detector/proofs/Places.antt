@@ -1,5 +1,5 @@
 -- Where votes are: the tests on rounds, signers, sorts and proposals, which subjects exclude each other, and the orders of a report.
-use Rattle.simplex_detector.proofs.Prelude.{Bool, CmpEqualImpliesEq, Conflicting_finalize, Conflicting_notarize, Equal, Finalizes, Finalizing, IsEquivalence, IsTotalOrder, Kind, Accusation, Notarizes, Notarizing, Nullifies, Nullify_finalize, Nullifying, Proposal, Round, SignedVote, Sort, SubjectValue, and_equiv, and_from, and_parts, ap, cases_Bool, clash, eq-eqb, eqb, eqb-true, exact_pairs, exact_unsigned, excludes, false, false_from_ne_true, false≢true, first_sort, inl, inr, is_at, is_eq, is_key, is_of, kind_rank, accused_cmp, nat_cmp, nat_cmp_total, nat_eq_equiv, not, on_equiv, on_total, refl, round_cmp, round_of, same_proposal, same_round, same_sort, second_sort, signer_cmp, sort_of, subst, sym, then_total, tied_itself, true, ℕ, ⊎_elim, ◌∙◌, ◌≡◌, ◌⊎◌}
+use Rattle.simplex_detector.proofs.Prelude.{Bool, CmpEqualImpliesEq, Conflicting_finalize, Conflicting_notarize, Equal, Finalizes, Finalizing, IsEquivalence, IsTotalOrder, EquivocationKind, Accusation, Notarizes, Notarizing, Nullifies, Nullify_finalize, Nullifying, Proposal, Round, SignedVote, Sort, SubjectValue, and_equiv, and_from, and_parts, ap, cases_Bool, clash, eq-eqb, eqb, eqb-true, exact_pairs, exact_unsigned, excludes, false, false_from_ne_true, false≢true, first_sort, inl, inr, is_at, is_eq, is_key, is_of, kind_rank, accused_cmp, nat_cmp, nat_cmp_total, nat_eq_equiv, not, on_equiv, on_total, refl, round_cmp, round_of, same_proposal, same_round, same_sort, second_sort, signer_cmp, sort_of, subst, sym, then_total, tied_itself, true, ℕ, ⊎_elim, ◌∙◌, ◌≡◌, ◌⊎◌}
 
 -- ---- rounds, proposals and sorts
 
@@ -92,17 +92,17 @@ excludes_one eq l (Nullifies p) (Nullifies q) (Finalizes r) s h = inr refl
 excludes_one eq l _ _ _ s h = absurd cc
 
 -- subjects that clash are of the sorts of the kind, and exclude each other
-pub clash_parts : {D : Type 0} (eq : D → D → Bool) (kind : Kind) (x y : SubjectValue D) → clash eq kind x y ≡ true → (sort_of x ≡ first_sort kind) × (sort_of y ≡ second_sort kind) × (excludes eq x y ≡ true)
+pub clash_parts : {D : Type 0} (eq : D → D → Bool) (kind : EquivocationKind) (x y : SubjectValue D) → clash eq kind x y ≡ true → (sort_of x ≡ first_sort kind) × (sort_of y ≡ second_sort kind) × (excludes eq x y ≡ true)
 clash_parts eq kind x y h =
     let p = and_parts (same_sort (sort_of x) (first_sort kind)) _ h in
     let q = and_parts (same_sort (sort_of y) (second_sort kind)) (excludes eq x y) p.1 in
     (same_sort-true _ _ p.0, same_sort-true _ _ q.0, q.1)
 
-clash_from : {D : Type 0} (eq : D → D → Bool) (kind : Kind) (x y : SubjectValue D) → sort_of x ≡ first_sort kind → sort_of y ≡ second_sort kind → excludes eq x y ≡ true → clash eq kind x y ≡ true
+clash_from : {D : Type 0} (eq : D → D → Bool) (kind : EquivocationKind) (x y : SubjectValue D) → sort_of x ≡ first_sort kind → sort_of y ≡ second_sort kind → excludes eq x y ≡ true → clash eq kind x y ≡ true
 clash_from eq kind x y s t h = and_from _ _ (ap (same_sort (sort_of x)) (sym s) ∙ same_sort-refl (sort_of x)) (and_from _ _ (ap (same_sort (sort_of y)) (sym t) ∙ same_sort-refl (sort_of y)) h)
 
 -- subjects that exclude each other clash with some kind, in one order
-pub kind_from_excludes : {D : Type 0} (eq : D → D → Bool) (x y : SubjectValue D) → excludes eq x y ≡ true → (kind : Kind) × ((clash eq kind x y ≡ true) ⊎ (clash eq kind y x ≡ true))
+pub kind_from_excludes : {D : Type 0} (eq : D → D → Bool) (x y : SubjectValue D) → excludes eq x y ≡ true → (kind : EquivocationKind) × ((clash eq kind x y ≡ true) ⊎ (clash eq kind y x ≡ true))
 kind_from_excludes eq (Notarizes p) (Notarizes q) h = (Conflicting_notarize, inl h)
 kind_from_excludes eq (Finalizes p) (Finalizes q) h = (Conflicting_finalize, inl h)
 kind_from_excludes eq (Nullifies r) (Finalizes q) h = (Nullify_finalize, inl refl)
@@ -110,12 +110,12 @@ kind_from_excludes eq (Finalizes p) (Nullifies r) h = (Nullify_finalize, inr ref
 kind_from_excludes eq _ _ h = absurd (false≢true h)
 
 -- a subject of the first sort clashes with one of any two that clash
-pub clash_with_one : {D : Type 0} (eq : D → D → Bool) → IsEquivalence eq → (kind : Kind) (x y z : SubjectValue D) → sort_of x ≡ first_sort kind → clash eq kind y z ≡ true → (clash eq kind x y ≡ true) ⊎ (clash eq kind x z ≡ true)
+pub clash_with_one : {D : Type 0} (eq : D → D → Bool) → IsEquivalence eq → (kind : EquivocationKind) (x y z : SubjectValue D) → sort_of x ≡ first_sort kind → clash eq kind y z ≡ true → (clash eq kind x y ≡ true) ⊎ (clash eq kind x z ≡ true)
 clash_with_one {D} eq l kind x y z s h =
     let (first, second, against) = clash_parts eq kind y z h in
     ⊎_elim (λ e. inl (clash_from eq kind x y s (also_second kind x y s first e) e)) (λ e. inr (clash_from eq kind x z s second e)) (excludes_one eq l x y z (s ∙ sym first) against)
   where
-    also_second : (kind : Kind) (x y : SubjectValue D) → sort_of x ≡ first_sort kind → sort_of y ≡ first_sort kind → excludes eq x y ≡ true → sort_of y ≡ second_sort kind
+    also_second : (kind : EquivocationKind) (x y : SubjectValue D) → sort_of x ≡ first_sort kind → sort_of y ≡ first_sort kind → excludes eq x y ≡ true → sort_of y ≡ second_sort kind
     also_second Nullify_finalize (Nullifies p) (Nullifies q) s t e = absurd (false≢true e)
     also_second Nullify_finalize _ _ s t e = absurd cc
     also_second Conflicting_notarize _ _ s t e = t
@@ -142,7 +142,7 @@ exact_signers = exact_pairs round_cmp nat_cmp exact_rounds exact_unsigned
 pub exact_accused : CmpEqualImpliesEq accused_cmp
 exact_accused a b h = ap (λ (p : _). record { round = p.0.0; signer = p.0.1; kind = p.1 }) (exact_pairs signer_cmp (λ k l. nat_cmp (kind_rank k) (kind_rank l)) exact_signers kinds ((a.round, a.signer), a.kind) ((b.round, b.signer), b.kind) h)
   where
-    kinds : (k l : Kind) → nat_cmp (kind_rank k) (kind_rank l) ≡ Equal → k ≡ l
+    kinds : (k l : EquivocationKind) → nat_cmp (kind_rank k) (kind_rank l) ≡ Equal → k ≡ l
     kinds Conflicting_notarize Conflicting_notarize e = refl
     kinds Conflicting_finalize Conflicting_finalize e = refl
     kinds Nullify_finalize Nullify_finalize e = refl

@@ -42,13 +42,13 @@ pub use Rattle.simplex_detector.specs.Judging.{certified_under, rules_under, val
 pub use Rattle.simplex_detector.specs.Laws.{ReorderingAccusesSame}
 pub use Rattle.simplex_detector.specs.Line.{line_of, parted}
 pub use Rattle.simplex_detector.specs.Accusation.{Accusation, is_accused, kind_rank, accused_by, accused_cmp, round_cmp, signer_cmp}
-pub use Rattle.simplex_detector.specs.Recorded.{RecordedAreSlots, Slot, both, changes, evidence_from, if_differs, is_news, news_after, other_than, recorded_in, recorded_of, slot_of, slot_with, votes_in_slot, votes_recorded}
+pub use Rattle.simplex_detector.specs.Recorded.{RecordedAreSlots, Slot, changes, equivocation_of, evidence_from, if_differs, is_news, news_after, other_than, recorded_in, recorded_of, slot_of, slot_with, votes_in_slot, votes_recorded}
 pub use Rattle.simplex_detector.specs.Rounds.{HoldsRound, IsSized, ListsSigners, TakesVote, found_at, found_of_kind, if_contradicts, is_for, no_slot, round_count, slots}
 pub use Rattle.simplex_detector.specs.Rules.{AreLawful, HaveCommittees, Rules, is_valid, valid_votes}
 pub use Rattle.simplex_detector.specs.SplitLaws.{EnoughAreAccused, IsAccountable, SignersAreAccountable, shared_signers}
-pub use Rattle.simplex_detector.specs.Splits.{AreSplits, certified_in, if_certified, is_certified, is_accused_in, is_split, accused_count, split_of}
+pub use Rattle.simplex_detector.specs.Splits.{AreSplits, certified_in, if_certified, is_certified_message, is_accused_in, is_split, accused_count, split_of}
 pub use Rattle.simplex_detector.specs.Suspects.{AreSuspect, HasSuspects, JudgeAlike, Suspected, SuspectsSuffice, TellAll, among, claimed, is_suspect, is_suspect_round, judged_by, suspect_of}
-pub use Rattle.simplex_detector.specs.Values.{evidence_value, message_of}
+pub use Rattle.simplex_detector.specs.Values.{activity_of, evidence_value}
 pub use Rattle.simplex_detector.specs.declared.certified_subjects.CertifiedSubjects.{CertifiedSubjects}
 pub use Rattle.simplex_detector.specs.declared.detector.Detector.{Detector}
 pub use Rattle.simplex_detector.specs.declared.judging.Judging.{Judging}
@@ -58,7 +58,7 @@ pub use Rattle.simplex_detector.specs.declared.round_state.RoundState.{RoundStat
 pub use Rattle.simplex_detector.specs.declared.round_votes.RoundVotes.{RoundVotes}
 pub use Rattle.simplex_detector.specs.declared.split.Split.{Split}
 pub use Rattle.simplex_evidence.specs.Activity.{activity_encoding, activity_round, subject_and_certificate, votes_in}
-pub use Rattle.simplex_evidence.specs.Contradiction.{Conflicting_finalize, Conflicting_notarize, Evidence, Kind, Nullify_finalize, clash, contradicts, excludes, first_sort, second_sort}
+pub use Rattle.simplex_evidence.specs.Contradiction.{Conflicting_finalize, Conflicting_notarize, Equivocation, EquivocationKind, Nullify_finalize, clash, contradicts, excludes, first_sort, second_sort}
 pub use Rattle.simplex_evidence.specs.VoteMap.{item_of}
 pub use Rattle.simplex_evidence.specs.declared.types.activity.Activity.{Activity}
 pub use Rattle.simplex_scheme.specs.Committee.{IsQuorum, faults_of, quorum_of, signers_of}

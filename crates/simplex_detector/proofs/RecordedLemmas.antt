@@ -1,5 +1,5 @@
 -- Which votes are recorded, vote by vote, slot by slot and round by round, and the evidence in the slots.
-use Rattle.simplex_detector.proofs.Prelude.{Attestation, Bool, Conflicting_finalize, Conflicting_notarize, Contains, Evidence, Finalizes, Finalizing, HoldsRound, IsEquivalence, Kind, List, Accusation, None, Notarizing, Nullifies, Nullify_finalize, Nullifying, Option, RecordedAreSlots, Round, RoundVotes, SignedVote, Slot, Some, Sort, SubjectValue, TakesVote, [], and_from, and_left, and_parts, and_right, ap, append-nil, append_assoc, arith, both, changes, clash, cond, cond-false, contradicts, eqb, evidence_from, evidence_of, excludes, false, false_from_ne_true, false≢true, filter, filter-append, find, find-append, first_sort, if_differs, if◌then◌else◌, is_at, is_for, is_news, is_of, length, length-append, map, map-append, news_after, no_slot, option_or, option_to_list, other_than, recorded_in, recorded_of, refl, round_of, same_Some, same_round, same_sort, second_sort, slot_of, slot_with, slots, sort_of, subst, sym, true, vote_on, votes_in_slot, with_first, with_second, ℕ, ◌&&◌, ◌++◌, ◌+◌, ◌<◌, ◌∙◌, ◌∷◌, ◌≡◌, ◌≤◌}
+use Rattle.simplex_detector.proofs.Prelude.{Attestation, Bool, Conflicting_finalize, Conflicting_notarize, Contains, Equivocation, Finalizes, Finalizing, HoldsRound, IsEquivalence, EquivocationKind, List, Accusation, None, Notarizing, Nullifies, Nullify_finalize, Nullifying, Option, RecordedAreSlots, Round, RoundVotes, SignedVote, Slot, Some, Sort, SubjectValue, TakesVote, [], and_from, and_left, and_parts, and_right, ap, append-nil, append_assoc, arith, equivocation_of, changes, clash, cond, cond-false, contradicts, eqb, evidence_from, evidence_of, excludes, false, false_from_ne_true, false≢true, filter, filter-append, find, find-append, first_sort, if_differs, if◌then◌else◌, is_at, is_for, is_news, is_of, length, length-append, map, map-append, news_after, no_slot, option_or, option_to_list, other_than, recorded_in, recorded_of, refl, round_of, same_Some, same_round, same_sort, second_sort, slot_of, slot_with, slots, sort_of, subst, sym, true, vote_on, votes_in_slot, with_first, with_second, ℕ, ◌&&◌, ◌++◌, ◌+◌, ◌<◌, ◌∙◌, ◌∷◌, ◌≡◌, ◌≤◌}
 use Rattle.simplex_detector.proofs.EvidenceLemmas.{first_spot}
 use Rattle.simplex_detector.proofs.Lists.{Contains-cons, Contains-filter, Contains-first, Contains-none, find_from_Contains, find_push, found, none_found}
 use Rattle.simplex_detector.proofs.Places.{Spot, excludes_itself, is_at-from, is_at-true, same_round-from, same_round-true, same_sort-refl, spot}
@@ -42,10 +42,10 @@ module _ {D G : Type 0} (eq : D → D → Bool) (l : IsEquivalence eq) (vs : Lis
 -- ---- the evidence in the slots
 
 -- the evidence of two votes consists of them
-pub both-Some : {D G : Type 0} (kind : Kind) (o p : Option (SignedVote D G)) (e : Evidence D G) → both kind o p ≡ Some e → (o ≡ Some e.first) × (p ≡ Some e.second)
-both-Some kind None p e h = absurd cc
-both-Some kind (Some v) None e h = absurd cc
-both-Some kind (Some v) (Some w) e h = (ap (λ x. Some x.first) (same_Some _ e h), ap (λ x. Some x.second) (same_Some _ e h))
+pub equivocation_of-Some : {D G : Type 0} (kind : EquivocationKind) (o p : Option (SignedVote D G)) (e : Equivocation D G) → equivocation_of kind o p ≡ Some e → (o ≡ Some e.first) × (p ≡ Some e.second)
+equivocation_of-Some kind None p e h = absurd cc
+equivocation_of-Some kind (Some v) None e h = absurd cc
+equivocation_of-Some kind (Some v) (Some w) e h = (ap (λ x. Some x.first) (same_Some _ e h), ap (λ x. Some x.second) (same_Some _ e h))
 
 module _ {D G : Type 0} (eq : D → D → Bool) where
   -- the test on the second vote, by its spot and its subject
@@ -60,12 +60,12 @@ module _ {D G : Type 0} (eq : D → D → Bool) where
       regroup true a false e h = and_right a false refl
 
   -- so it asks for another vote where the first is, and for any finalize beside a nullify
-  abbrev pub second_by : Kind → Round → ℕ → SignedVote D G → SignedVote D G → Bool
+  abbrev pub second_by : EquivocationKind → Round → ℕ → SignedVote D G → SignedVote D G → Bool
   second_by Conflicting_notarize round signer v w = is_at Notarizing round signer w && excludes eq v.subject w.subject
   second_by Conflicting_finalize round signer v w = is_at Finalizing round signer w && excludes eq v.subject w.subject
   second_by Nullify_finalize round signer v w = is_at Finalizing round signer w
 
-  pub second_agrees : (kind : Kind) (round : Round) (signer : ℕ) (v : SignedVote D G) → spot v ≡ first_spot (record { round = round; signer = signer; kind = kind }) → (w : SignedVote D G) → contradicts eq kind v w ≡ second_by kind round signer v w
+  pub second_agrees : (kind : EquivocationKind) (round : Round) (signer : ℕ) (v : SignedVote D G) → spot v ≡ first_spot (record { round = round; signer = signer; kind = kind }) → (w : SignedVote D G) → contradicts eq kind v w ≡ second_by kind round signer v w
   second_agrees Conflicting_notarize round signer v at w = second_test (record { round = round; signer = signer; kind = Conflicting_notarize }) v w at
   second_agrees Conflicting_finalize round signer v at w = second_test (record { round = round; signer = signer; kind = Conflicting_finalize }) v w at
   second_agrees Nullify_finalize round signer v at w = second_test (record { round = round; signer = signer; kind = Nullify_finalize }) v w at ∙ any v.subject w.subject (is_of round signer w) (λ i. (at i).sort)
@@ -82,18 +82,18 @@ module _ {D G : Type 0} (eq : D → D → Bool) (vs : List (SignedVote D G)) whe
   evidence_of-slots n = by (find (is_at (first_sort n.kind) n.round n.signer) vs) refl ∙ slots_of n.kind
     where
       -- the second vote, where there is a first
-      second : Kind → Option (SignedVote D G) → Option (SignedVote D G)
+      second : EquivocationKind → Option (SignedVote D G) → Option (SignedVote D G)
       second kind None = None
       second kind (Some v) = find (second_by eq kind n.round n.signer v) vs
 
-      by : (o : Option (SignedVote D G)) → find (is_at (first_sort n.kind) n.round n.signer) vs ≡ o → with_first eq vs n.kind o ≡ both n.kind o (second n.kind o)
+      by : (o : Option (SignedVote D G)) → find (is_at (first_sort n.kind) n.round n.signer) vs ≡ o → with_first eq vs n.kind o ≡ equivocation_of n.kind o (second n.kind o)
       by None e = refl
       by (Some v) e = λ i. with_second n.kind v (find (λ w. second_agrees eq n.kind n.round n.signer v (is_at-true (first_spot n) v (found _ vs v e).1) w i) vs)
 
-      slots_of : (kind : Kind) → both kind (find (is_at (first_sort kind) n.round n.signer) vs) (second kind (find (is_at (first_sort kind) n.round n.signer) vs)) ≡ evidence_from (λ sort. slot_of eq vs sort n.round n.signer) kind
-      slots_of Conflicting_notarize = elim (find (is_at Notarizing n.round n.signer) vs) as (λ o. both Conflicting_notarize o (second Conflicting_notarize o) ≡ both Conflicting_notarize o (other_than eq vs Notarizing n.round n.signer o)) [ None ↦ refl | Some v ↦ refl ]
-      slots_of Conflicting_finalize = elim (find (is_at Finalizing n.round n.signer) vs) as (λ o. both Conflicting_finalize o (second Conflicting_finalize o) ≡ both Conflicting_finalize o (other_than eq vs Finalizing n.round n.signer o)) [ None ↦ refl | Some v ↦ refl ]
-      slots_of Nullify_finalize = elim (find (is_at Nullifying n.round n.signer) vs) as (λ o. both Nullify_finalize o (second Nullify_finalize o) ≡ both Nullify_finalize o (find (is_at Finalizing n.round n.signer) vs)) [ None ↦ refl | Some v ↦ refl ]
+      slots_of : (kind : EquivocationKind) → equivocation_of kind (find (is_at (first_sort kind) n.round n.signer) vs) (second kind (find (is_at (first_sort kind) n.round n.signer) vs)) ≡ evidence_from (λ sort. slot_of eq vs sort n.round n.signer) kind
+      slots_of Conflicting_notarize = elim (find (is_at Notarizing n.round n.signer) vs) as (λ o. equivocation_of Conflicting_notarize o (second Conflicting_notarize o) ≡ equivocation_of Conflicting_notarize o (other_than eq vs Notarizing n.round n.signer o)) [ None ↦ refl | Some v ↦ refl ]
+      slots_of Conflicting_finalize = elim (find (is_at Finalizing n.round n.signer) vs) as (λ o. equivocation_of Conflicting_finalize o (second Conflicting_finalize o) ≡ equivocation_of Conflicting_finalize o (other_than eq vs Finalizing n.round n.signer o)) [ None ↦ refl | Some v ↦ refl ]
+      slots_of Nullify_finalize = elim (find (is_at Nullifying n.round n.signer) vs) as (λ o. equivocation_of Nullify_finalize o (second Nullify_finalize o) ≡ equivocation_of Nullify_finalize o (find (is_at Finalizing n.round n.signer) vs)) [ None ↦ refl | Some v ↦ refl ]
 
 -- ---- what is recorded, vote by vote
 

@@ -1,13 +1,13 @@
 -- The evidence in what is recorded, signer by signer and round by round, is the evidence of the votes.
-use Rattle.simplex_detector.proofs.Prelude.{Activity, All, All-contains, All-from_recursion, All-push, AllByRecursion, Bool, Conflicting_finalize, Conflicting_notarize, Contains, Contains-append_left, Contains-append_right, Contains-dedup_nat, Contains-permutation, Detector, Evidence, HoldsRound, IsEquivalence, IsEvidence, IsOrdered, IsPermutation, IsSorted, IsStrictlyIncreasing-dedup, IsTrue, Kind, Less, List, ListsSigners, Accusation, None, Nullify_finalize, Recalls, RecallsAt, RecallsNothing, RecallsRound, Round, RoundState, RoundVotes, Rules, SignedVote, Slot, Some, Sort, [], ap, append-nil, append_assoc, arith, btree_map_get_iff, cond-true, contradicts, dedup, eqb, eqb-true, evidence_from, evidence_of, false≢true, filter_map, filter_map-append, flat_map, flat_map_more, found_at, found_of_kind, get, get_or, if_contradicts, inl, inr, is_accused, is_some, item_of, kind_rank, length, map, map-append, map-id, accused_by, accused_cmp, nat_cmp, no_slot, option_map, option_to_list, ordering_then, recursion_from_All, refl, round_cmp, round_of, signer_cmp, slot_of, slots, sorted_from_strictly_increasing, subst, sym, take, take_more, tied_itself, true, valid_votes, ℕ, ◌++◌, ◌+◌, ◌<◌, ◌∙◌, ◌∷◌, ◌≡◌, ◌⊎◌}
+use Rattle.simplex_detector.proofs.Prelude.{Activity, All, All-contains, All-from_recursion, All-push, AllByRecursion, Bool, Conflicting_finalize, Conflicting_notarize, Contains, Contains-append_left, Contains-append_right, Contains-dedup_nat, Contains-permutation, Detector, Equivocation, HoldsRound, IsEquivalence, IsEvidence, IsOrdered, IsPermutation, IsSorted, IsStrictlyIncreasing-dedup, IsTrue, EquivocationKind, Less, List, ListsSigners, Accusation, None, Nullify_finalize, Recalls, RecallsAt, RecallsNothing, RecallsRound, Round, RoundState, RoundVotes, Rules, SignedVote, Slot, Some, Sort, [], ap, append-nil, append_assoc, arith, btree_map_get_iff, cond-true, contradicts, dedup, eqb, eqb-true, evidence_from, evidence_of, false≢true, filter_map, filter_map-append, flat_map, flat_map_more, found_at, found_of_kind, get, get_or, if_contradicts, inl, inr, is_accused, is_some, item_of, kind_rank, length, map, map-append, map-id, accused_by, accused_cmp, nat_cmp, no_slot, option_map, option_to_list, ordering_then, recursion_from_All, refl, round_cmp, round_of, signer_cmp, slot_of, slots, sorted_from_strictly_increasing, subst, sym, take, take_more, tied_itself, true, valid_votes, ℕ, ◌++◌, ◌+◌, ◌<◌, ◌∙◌, ◌∷◌, ◌≡◌, ◌⊎◌}
 use Rattle.std.specs.List.Sorted.{IsStrictlySortedBy}
 use Rattle.simplex_detector.proofs.EvidenceLemmas.{evidence-from_accused, evidence_is, from_listing}
 use Rattle.simplex_detector.proofs.Lists.{found_mapped, Contains-flat_map, Contains-from_filter_map, Contains-from_flat_map, Contains-from_map, Contains-map, each, filter_map-joined, found, made_complete, made_ordered, made_sound, some_from_is_some, sorted_joined}
 use Rattle.simplex_detector.proofs.Places.{exact_rounds, round_cmp_total, signer_cmp_total}
-use Rattle.simplex_detector.proofs.RecordedLemmas.{both-Some, evidence_of-slots}
+use Rattle.simplex_detector.proofs.RecordedLemmas.{equivocation_of-Some, evidence_of-slots}
 
 -- es is the evidence of the votes in this round: in order, each that of whom it accuses, and nobody accused there left out
-pub record IsEvidenceIn {D G : Type 0} (eq : D → D → Bool) (vs : List (SignedVote D G)) (round : Round) (es : List (Evidence D G)) : Type 0 where
+pub record IsEvidenceIn {D G : Type 0} (eq : D → D → Bool) (vs : List (SignedVote D G)) (round : Round) (es : List (Equivocation D G)) : Type 0 where
   pub ordered : IsStrictlySortedBy accused_cmp (map accused_by es)
   pub here : All (λ e. round_of e.first.subject ≡ round) es
   pub sound : All (λ e. evidence_of eq vs (accused_by e) ≡ Some e) es
@@ -47,7 +47,7 @@ own_name n = elim n.kind as (λ kind. Contains (names_at n.round n.signer) (reco
 ordered_at : (round : Round) (signer : ℕ) → IsStrictlySortedBy accused_cmp (names_at round signer)
 unfolding IsStrictlySortedBy
 ordered_at round signer =
-    let rise : (k l : Kind) → nat_cmp (kind_rank k) (kind_rank l) ≡ Less → ordering_then (signer_cmp (round, signer) (round, signer)) (nat_cmp (kind_rank k) (kind_rank l)) ≡ Less = λ k l less i. ordering_then (tied_itself signer_cmp_total (round, signer) i) (less i) in
+    let rise : (k l : EquivocationKind) → nat_cmp (kind_rank k) (kind_rank l) ≡ Less → ordering_then (signer_cmp (round, signer) (round, signer)) (nat_cmp (kind_rank k) (kind_rank l)) ≡ Less = λ k l less i. ordering_then (tied_itself signer_cmp_total (round, signer) i) (less i) in
     ((rise Conflicting_notarize Conflicting_finalize refl, (rise Conflicting_notarize Nullify_finalize refl, tt)), ((rise Conflicting_finalize Nullify_finalize refl, tt), (tt, tt)))
 
 -- of one round in the order of signers
@@ -65,7 +65,7 @@ ordered_in round signers sorted =
 
 module _ {D G : Type 0} (eq : D → D → Bool) (vs : List (SignedVote D G)) where
   -- the evidence of whom is accused accuses that
-  pub accuses_own : (n : Accusation) (e : Evidence D G) → evidence_of eq vs n ≡ Some e → accused_by e ≡ n
+  pub accuses_own : (n : Accusation) (e : Equivocation D G) → evidence_of eq vs n ≡ Some e → accused_by e ≡ n
   accuses_own n e is = (evidence_is eq vs n e is).named
 
   -- its votes contradict
@@ -78,7 +78,7 @@ module _ {D G : Type 0} (eq : D → D → Bool) (vs : List (SignedVote D G)) whe
       (λ i. option_to_list (of_kind Conflicting_notarize i) ++ (option_to_list (of_kind Conflicting_finalize i) ++ sym (append-nil (option_to_list (of_kind Nullify_finalize i))) i)) ∙
       sym (filter_map-joined (evidence_of eq vs) (names_at round signer))
     where
-      of_kind : (kind : Kind) → found_of_kind eq slot kind ≡ evidence_of eq vs (record { round = round; signer = signer; kind = kind })
+      of_kind : (kind : EquivocationKind) → found_of_kind eq slot kind ≡ evidence_of eq vs (record { round = round; signer = signer; kind = kind })
       of_kind kind =
           let n : Accusation = record { round = round; signer = signer; kind = kind } in
           ap (if_contradicts eq) ((λ i. evidence_from (λ sort. is sort i) kind) ∙ sym (evidence_of-slots eq vs n)) ∙ contradicts-evidence n
@@ -99,10 +99,10 @@ module _ {D G : Type 0} (eq : D → D → Bool) (vs : List (SignedVote D G)) whe
         item : {V : Type 0} (signer : V → ℕ) (vote : V → SignedVote D G) (items : List V) (y : SignedVote D G) → ((v : V) → Contains items v → Contains signers (signer v)) → option_map vote (item_of signer items n.signer) ≡ Some y → Contains signers n.signer
         item signer vote items y all at = let (v, v_in, e, _) = found_mapped vote (λ v. eqb (signer v) n.signer) items y at in subst (Contains signers) (eqb-true _ _ e) (all v v_in)
 
-        of_kind : (kind : Kind) (x : Evidence D G) → evidence_from (slots recorded n.signer) kind ≡ Some x → Contains signers n.signer
-        of_kind Conflicting_notarize x is = item _ _ recorded.notarizes.others.items x.second lists.notarizers (both-Some _ _ _ x is).1
-        of_kind Conflicting_finalize x is = item _ _ recorded.finalizes.others.items x.second lists.finalizers (both-Some _ _ _ x is).1
-        of_kind Nullify_finalize x is = item _ _ recorded.nullifies.items x.first lists.nullifiers (both-Some _ _ _ x is).0
+        of_kind : (kind : EquivocationKind) (x : Equivocation D G) → evidence_from (slots recorded n.signer) kind ≡ Some x → Contains signers n.signer
+        of_kind Conflicting_notarize x is = item _ _ recorded.notarizes.others.items x.second lists.notarizers (equivocation_of-Some _ _ _ x is).1
+        of_kind Conflicting_finalize x is = item _ _ recorded.finalizes.others.items x.second lists.finalizers (equivocation_of-Some _ _ _ x is).1
+        of_kind Nullify_finalize x is = item _ _ recorded.nullifies.items x.first lists.nullifiers (equivocation_of-Some _ _ _ x is).0
 
     -- so what is found of the listed signers is the evidence of the round
     pub evidence_in_round : IsEquivalence eq → (signers : List ℕ) → ListsSigners recorded signers → IsEvidenceIn eq vs round (flat_map (λ signer. found_at eq (slots recorded signer)) signers)
@@ -122,33 +122,33 @@ pub record Step (S D P G : Type 0) : Type 0 where
   pub signers : List ℕ
 
 -- what is found in a step
-abbrev pub found_in : {S D P G : Type 0} → (D → D → Bool) → Step S D P G → List (Evidence D G)
+abbrev pub found_in : {S D P G : Type 0} → (D → D → Bool) → Step S D P G → List (Equivocation D G)
 found_in eq step = flat_map (λ signer. found_at eq (slots step.round_state.votes signer)) step.signers
 
 -- the round of a step, with what is recorded of it
-abbrev pub entry_of : {S D P G : Type 0} → Step S D P G → Round × RoundState S D P G
-entry_of step = (step.round, step.round_state)
+abbrev pub entry_in : {S D P G : Type 0} → Step S D P G → Round × RoundState S D P G
+entry_in step = (step.round, step.round_state)
 
 -- the evidence found so far is that of the entries before the rest
-pub record Walked {S D P G : Type 0} (eq : D → D → Bool) (entries rest : List (Round × RoundState S D P G)) (found : List (Evidence D G)) : Type 0 where
+pub record Walked {S D P G : Type 0} (eq : D → D → Bool) (entries rest : List (Round × RoundState S D P G)) (found : List (Equivocation D G)) : Type 0 where
   pub steps : List (Step S D P G)
-  pub over : map entry_of steps ++ rest ≡ entries
+  pub over : map entry_in steps ++ rest ≡ entries
   pub listed : All (λ step. ListsSigners step.round_state.votes step.signers) steps
   pub is : found ≡ flat_map (found_in eq) steps
 
 -- one step more
-pub walked_next : {S D P G : Type 0} (eq : D → D → Bool) (entries rest later : List (Round × RoundState S D P G)) (round : Round) (round_state : RoundState S D P G) (signers : List ℕ) (found new : List (Evidence D G)) → rest ≡ (round, round_state) ∷ later → ListsSigners round_state.votes signers → new ≡ found ++ flat_map (λ signer. found_at eq (slots round_state.votes signer)) signers → Walked eq entries rest found → Walked eq entries later new
+pub walked_next : {S D P G : Type 0} (eq : D → D → Bool) (entries rest later : List (Round × RoundState S D P G)) (round : Round) (round_state : RoundState S D P G) (signers : List ℕ) (found new : List (Equivocation D G)) → rest ≡ (round, round_state) ∷ later → ListsSigners round_state.votes signers → new ≡ found ++ flat_map (λ signer. found_at eq (slots round_state.votes signer)) signers → Walked eq entries rest found → Walked eq entries later new
 walked_next {S} {D} {P} {G} eq entries rest later round round_state signers found new first lists is walked =
     let step : Step S D P G = record { round = round; round_state = round_state; signers = signers } in
     record {
       steps = walked.steps ++ step ∷ [];
-      over = ap (λ es. es ++ later) (map-append entry_of walked.steps (step ∷ [])) ∙ append_assoc (map entry_of walked.steps) ((round, round_state) ∷ []) later ∙ ap (λ es. map entry_of walked.steps ++ es) (sym first) ∙ walked.over;
+      over = ap (λ es. es ++ later) (map-append entry_in walked.steps (step ∷ [])) ∙ append_assoc (map entry_in walked.steps) ((round, round_state) ∷ []) later ∙ ap (λ es. map entry_in walked.steps ++ es) (sym first) ∙ walked.over;
       listed = All-push (λ step. ListsSigners step.round_state.votes step.signers) walked.steps step walked.listed lists;
       is = is ∙ ap (λ es. es ++ found_in eq step) walked.is ∙ flat_map_more (found_in eq) [] walked.steps step;
     }
 
 -- the walk over all rounds gives the evidence of the messages' valid votes
-pub report_of_walk : {S D C P G : Type 0} (rules : Rules S D C P G) → IsEquivalence rules.eq → (detector : Detector S D P G) → IsOrdered round_cmp detector.rounds → (found : List (Evidence D G)) → Walked rules.eq detector.rounds.entries [] found → (messages : List (Activity S D C P G)) → Recalls rules messages detector → IsEvidence rules.eq (valid_votes rules messages) found
+pub report_of_walk : {S D C P G : Type 0} (rules : Rules S D C P G) → IsEquivalence rules.eq → (detector : Detector S D P G) → IsOrdered round_cmp detector.rounds → (found : List (Equivocation D G)) → Walked rules.eq detector.rounds.entries [] found → (messages : List (Activity S D C P G)) → Recalls rules messages detector → IsEvidence rules.eq (valid_votes rules messages) found
 report_of_walk {S} {D} {C} {P} {G} rules l detector ordered found walked messages holds =
     subst (IsEvidence rules.eq vs) (sym (walked.is ∙ found_steps walked.steps (recursion_from_All _ walked.steps (each _ walked.steps held)))) (from_listing rules.eq vs l _ (record {
       ordered = made_ordered accused_by accused_cmp (evidence_of rules.eq vs) (accuses_own rules.eq vs) (flat_map names_of walked.steps) (sorted_joined round_cmp accused_cmp (λ step. step.round) names_of
@@ -164,10 +164,10 @@ report_of_walk {S} {D} {C} {P} {G} rules l detector ordered found walked message
     names_of : Step S D P G → List Accusation
     names_of step = names_in step.round step.signers
 
-    over : map entry_of walked.steps ≡ detector.rounds.entries
-    over = sym (append-nil (map entry_of walked.steps)) ∙ walked.over
+    over : map entry_in walked.steps ≡ detector.rounds.entries
+    over = sym (append-nil (map entry_in walked.steps)) ∙ walked.over
 
-    rounds : (xs : List (Step S D P G)) → map (λ e. e.0) (map entry_of xs) ≡ map (λ step. step.round) xs
+    rounds : (xs : List (Step S D P G)) → map (λ e. e.0) (map entry_in xs) ≡ map (λ step. step.round) xs
     rounds [] = refl
     rounds (step ∷ xs) = ap (λ rs. step.round ∷ rs) (rounds xs)
 
@@ -176,7 +176,7 @@ report_of_walk {S} {D} {C} {P} {G} rules l detector ordered found walked message
 
     held : (step : Step S D P G) → Contains walked.steps step → HoldsRound rules.eq (rules.size step.round.epoch) vs step.round step.round_state.votes
     held step step_in =
-        let recalls : RecallsRound rules messages step.round step.round_state = All-contains (λ e. RecallsRound rules messages e.0 e.1) detector.rounds.entries (entry_of step) (recalls_listed rules messages detector ordered holds) (subst (λ es. Contains es (entry_of step)) over (Contains-map entry_of walked.steps step step_in)) in
+        let recalls : RecallsRound rules messages step.round step.round_state = All-contains (λ e. RecallsRound rules messages e.0 e.1) detector.rounds.entries (entry_in step) (recalls_listed rules messages detector ordered holds) (subst (λ es. Contains es (entry_in step)) over (Contains-map entry_in walked.steps step step_in)) in
         recalls.votes
 
     found_steps : (xs : List (Step S D P G)) → AllByRecursion (λ step. HoldsRound rules.eq (rules.size step.round.epoch) vs step.round step.round_state.votes) xs → flat_map (found_in rules.eq) xs ≡ filter_map (evidence_of rules.eq vs) (flat_map names_of xs)
@@ -189,7 +189,7 @@ report_of_walk {S} {D} {C} {P} {G} rules l detector ordered found walked message
         elim (recalled rules messages detector ordered holds n.round) [
           | inl none ↦ absurd (false≢true (ap is_some (sym (elim n.kind as (λ kind. evidence_from (λ sort. no_slot {D = D} {G = G}) kind ≡ None) [ Conflicting_notarize ↦ refl | Conflicting_finalize ↦ refl | Nullify_finalize ↦ refl ]) ∙ (λ i. evidence_from (λ sort. none.votes n.signer sort i) n.kind) ∙ sym (evidence_of-slots rules.eq vs n)) ∙ h))
           | inr there ↦
-              let (step, step_in, is) = Contains-from_map entry_of walked.steps (n.round, there.0) (subst (λ es. Contains es (n.round, there.0)) (sym over) there.1) in
+              let (step, step_in, is) = Contains-from_map entry_in walked.steps (n.round, there.0) (subst (λ es. Contains es (n.round, there.0)) (sym over) there.1) in
               Contains-flat_map names_of walked.steps step n step_in (listed_in_round rules.eq vs (rules.size step.round.epoch) step.round step.round_state.votes (held step step_in) step.signers (lists step step_in) n (λ i. (sym is i).0) h)
         ]
 

@@ -1,5 +1,5 @@
 -- Which rounds are split, by what is recorded of their certificates, and that the messages determine their splits.
-use Rattle.simplex_detector.proofs.Prelude.{Activity, All, AreLawful, AreSplits, Bool, CertifiedSubjects, Contains, Contains-append_left, Contains-push, Contains-push_cases, Finalizing, HaveCommittees, IsEquivalence, IsStrictlySortedBy, List, None, Notarizing, Nullifying, Option, RecordsFirsts, Round, Rules, Some, Sort, Split, SubjectValue, [], activity_round, and_from, and_left, and_parts, and_right, ap, append-nil, are_split, cases_Bool, subject_and_certificate, certificates_contradict, certified_in, certified_subjects, changes_firsts, cond, cond_some, cons_option, excludes, excludes_first, excludes_some, false, false≢true, faults_of, filter_map, filter_map-append, first_certified, first_with, firsts_of, if◌then◌else◌, inl, inr, is_certified, is_none, is_some, is_split, list_any, messages_contradict, accused_count, not, option_or, option_to_list, or_cases, or_left, or_parts, or_right, refl, round_cmp, round_of, same_round, same_sort, sort_of, split_of, subjects_contradict, subst, sym, true, valid_votes, ⊎_elim, ◌&&◌, ◌++◌, ◌+◌, ◌||◌, ◌∙◌, ◌∷◌, ◌≡◌, ◌≤◌, ◌⊎◌}
+use Rattle.simplex_detector.proofs.Prelude.{Activity, All, AreLawful, AreSplits, Bool, CertifiedSubjects, Contains, Contains-append_left, Contains-push, Contains-push_cases, Finalizing, HaveCommittees, IsEquivalence, IsStrictlySortedBy, List, None, Notarizing, Nullifying, Option, RecordsFirsts, Round, Rules, Some, Sort, Split, SubjectValue, [], activity_round, and_from, and_left, and_parts, and_right, ap, append-nil, are_split, cases_Bool, subject_and_certificate, certificates_contradict, certified_in, certified_subjects, changes_firsts, cond, cond_some, cons_option, excludes, excludes_first, excludes_some, false, false≢true, faults_of, filter_map, filter_map-append, first_certified, first_with, firsts_of, if◌then◌else◌, inl, inr, is_certified_message, is_none, is_some, is_split, list_any, messages_contradict, accused_count, not, option_or, option_to_list, or_cases, or_left, or_parts, or_right, refl, round_cmp, round_of, same_round, same_sort, sort_of, split_of, subjects_contradict, subst, sym, true, valid_votes, ⊎_elim, ◌&&◌, ◌++◌, ◌+◌, ◌||◌, ◌∙◌, ◌∷◌, ◌≡◌, ◌≤◌, ◌⊎◌}
 use Rattle.simplex_detector.proofs.AccountLemmas.{accountable_for, certificate_parts, certified_parts, certifies_from, enough_for}
 use Rattle.simplex_detector.proofs.Lists.{Contains-from_filter_map, Contains-from_list_any, IsListing, any_from_Contains, find_from_Contains, find_push, found, made_complete, made_ordered, made_sound, same_bool}
 use Rattle.simplex_detector.proofs.Places.{excludes-flip, excludes_itself, excludes_one, same_round-from, same_round-true, same_sort-refl, same_sort-true}
@@ -156,12 +156,12 @@ module _ {S D C P G : Type 0} (rules : Rules S D C P G) where
   from_subjects messages round =
       (λ i. list_any (λ m. of_message m (certified_in rules m) refl i) messages) ∙ sym (list_any-filter_map (λ x. same_round (round_of x) round && list_any (subjects_contradict rules.eq x) (certified_subjects rules messages)) (certified_in rules) messages)
     where
-      of_other : (m k : Activity S D C P G) (x : SubjectValue D) → certified_in rules m ≡ Some x → (o : Option (SubjectValue D)) → certified_in rules k ≡ o → (is_certified rules k && messages_contradict rules.eq m k) ≡ passes (subjects_contradict rules.eq x) o
-      of_other m k x m_is None is = and_left (is_certified rules k) (messages_contradict rules.eq m k) (ap is_some is)
+      of_other : (m k : Activity S D C P G) (x : SubjectValue D) → certified_in rules m ≡ Some x → (o : Option (SubjectValue D)) → certified_in rules k ≡ o → (is_certified_message rules k && messages_contradict rules.eq m k) ≡ passes (subjects_contradict rules.eq x) o
+      of_other m k x m_is None is = and_left (is_certified_message rules k) (messages_contradict rules.eq m k) (ap is_some is)
       of_other m k x m_is (Some y) is = λ i. is_some (is i) && contradict-subjects m k x y m_is is i
 
-      of_message : (m : Activity S D C P G) (o : Option (SubjectValue D)) → certified_in rules m ≡ o → ((same_round (activity_round m) round && is_certified rules m) && list_any (λ k. is_certified rules k && messages_contradict rules.eq m k) messages) ≡ passes (λ x. same_round (round_of x) round && list_any (subjects_contradict rules.eq x) (certified_subjects rules messages)) o
-      of_message m None is = and_left _ _ (and_right (same_round (activity_round m) round) (is_certified rules m) (ap is_some is))
+      of_message : (m : Activity S D C P G) (o : Option (SubjectValue D)) → certified_in rules m ≡ o → ((same_round (activity_round m) round && is_certified_message rules m) && list_any (λ k. is_certified_message rules k && messages_contradict rules.eq m k) messages) ≡ passes (λ x. same_round (round_of x) round && list_any (subjects_contradict rules.eq x) (certified_subjects rules messages)) o
+      of_message m None is = and_left _ _ (and_right (same_round (activity_round m) round) (is_certified_message rules m) (ap is_some is))
       of_message m (Some x) is =
           (λ i. (same_round (certified_round m x is i) round && is_some (is i)) && list_any (λ k. of_other m k x is (certified_in rules k) refl i) messages) ∙
           elim (same_round (round_of x) round) as (λ a. ((a && true) && list_any (λ k. passes (subjects_contradict rules.eq x) (certified_in rules k)) messages) ≡ (a && list_any (λ k. passes (subjects_contradict rules.eq x) (certified_in rules k)) messages)) [ true ↦ refl | false ↦ refl ] ∙ ap (λ b. same_round (round_of x) round && b) (sym (list_any-filter_map (subjects_contradict rules.eq x) (certified_in rules) messages))

@@ -1,5 +1,5 @@
 -- Which signers and rounds are suspect, and that no other signature has a part in the evidence and the splits.
-use Rattle.simplex_detector.proofs.Prelude.{Activity, All-contains, All-nil, AreLawful, AreSplits, AreSuspect, Attestation, Bool, Claimed, Conflicting_finalize, Conflicting_notarize, Contains, Evidence, HasSuspects, IsEquivalence, IsEvidence, IsTrue, JudgeAlike, Kind, List, Accusation, None, Nullify_finalize, Option, Round, Rules, Schedule, SignedVote, Some, Split, SubjectValue, SuspectSigners, Suspected, Suspects, SuspectsSuffice, TellAll, [], among, and-false, and_parts, ap, are_split, arith, subject_and_certificate, certified_by, certified_in, certified_subjects, certified_under, claimed, clash, committee_of, cond, cond-false, cons_option, contains, contradicts, distinct_count, evidence_of, false, false_from_ne_true, false≢true, faults_of, filter, find, first_sort, flat_map, if_certified, is_at, is_accused, is_accused_in, is_of, is_some, is_split, is_suspect, is_suspect_round, is_valid, judged_by, le-ltb, lt-ltb, map, accused_by, accused_count, nat_eq, nat_lt, refl, round_cmp, round_of, rules_of, rules_under, signer_cmp, size_by, split_of, subst, suspect_of, sym, true, valid_by, valid_under, valid_votes, votes_in, with_first, with_second, ℕ, ◌&&◌, ◌+◌, ◌||◌, ◌↔◌, ◌∙◌, ◌∷◌, ◌≡◌, ◌≤◌}
+use Rattle.simplex_detector.proofs.Prelude.{Activity, All-contains, All-nil, AreLawful, AreSplits, AreSuspect, Attestation, Bool, Claimed, Conflicting_finalize, Conflicting_notarize, Contains, Equivocation, HasSuspects, IsEquivalence, IsEvidence, IsTrue, JudgeAlike, EquivocationKind, List, Accusation, None, Nullify_finalize, Option, Round, Rules, Schedule, SignedVote, Some, Split, SubjectValue, SuspectSigners, Suspected, Suspects, SuspectsSuffice, TellAll, [], among, and-false, and_parts, ap, are_split, arith, subject_and_certificate, certified_by, certified_in, certified_subjects, certified_under, claimed, clash, committee_of, cond, cond-false, cons_option, contains, contradicts, distinct_count, evidence_of, false, false_from_ne_true, false≢true, faults_of, filter, find, first_sort, flat_map, if_certified, is_at, is_accused, is_accused_in, is_of, is_some, is_split, is_suspect, is_suspect_round, is_valid, judged_by, le-ltb, lt-ltb, map, accused_by, accused_count, nat_eq, nat_lt, refl, round_cmp, round_of, rules_of, rules_under, signer_cmp, size_by, split_of, subst, suspect_of, sym, true, valid_by, valid_under, valid_votes, votes_in, with_first, with_second, ℕ, ◌&&◌, ◌+◌, ◌||◌, ◌↔◌, ◌∙◌, ◌∷◌, ◌≡◌, ◌≤◌}
 use Rattle.simplex_detector.proofs.AccountLemmas.{certified_parts, counted_signer, distinct_count-same, kind_from_accused_in, accused_in}
 use Rattle.simplex_detector.proofs.EvidenceLemmas.{evidence_exists, first_spot, moved_evidence, accused_by_more, accused_from_votes, valid_from, valid_in, votes_from_accused}
 use Rattle.simplex_detector.proofs.Lists.{Contains-filter, Contains-first, Contains-from_filter, Contains-from_filter_map, Contains-from_list_any, Contains-from_map, Contains-map, Contains-none, any_from_Contains, found, same_bool}
@@ -27,7 +27,7 @@ module _ {D G : Type 0} (eq : D → D → Bool) (l : IsEquivalence eq) (vs : Lis
   ws = filter (here f) vs
 
   -- of two votes that contradict both are of suspects where one is
-  here_both : (kind : Kind) (v w : SignedVote D G) → contradicts eq kind v w ≡ true → here f w ≡ here f v
+  here_both : (kind : EquivocationKind) (v w : SignedVote D G) → contradicts eq kind v w ≡ true → here f w ≡ here f v
   here_both kind v w h = let at = is_of-true _ _ w (and_parts (is_of (round_of v.subject) v.signer w) (clash eq kind v.subject w.subject) h).0 in λ i. f (at.0 i) (at.1 i)
 
   -- the same are accused
@@ -42,7 +42,7 @@ module _ {D G : Type 0} (eq : D → D → Bool) (l : IsEquivalence eq) (vs : Lis
   same_evidence : (n : Accusation) → evidence_of eq ws n ≡ evidence_of eq vs n
   same_evidence n =
       let at : SignedVote D G → Bool = is_at (first_sort n.kind) n.round n.signer in
-      let none : (o : Option (Evidence D G)) → is_some o ≡ false → o ≡ None = elim [ None ↦ λ h. refl | Some e ↦ λ h. absurd (false≢true (sym h)) ] in
+      let none : (o : Option (Equivocation D G)) → is_some o ≡ false → o ≡ None = elim [ None ↦ λ h. refl | Some e ↦ λ h. absurd (false≢true (sym h)) ] in
       (elim (is_accused eq vs n) as (λ b. is_accused eq vs n ≡ b → evidence_of eq ws n ≡ evidence_of eq vs n) [
         | true ↦ λ h.
             let there : (v : SignedVote D G) → at v ≡ true → here f v ≡ true = λ v v_at. let s = is_at-true (first_spot n) v v_at in (λ i. f (s i).round (s i).signer) ∙ covers n h in
@@ -126,7 +126,7 @@ module _ {S D C P G : Type 0} (rules : Rules S D C P G) (l : AreLawful rules) (m
       valid_in (claimed rules) messages v m m_in own (lt-ltb _ _ (l.members v.subject v.signer v.signature valid))) n h
 
   -- the signers of the evidence that the votes claim are suspect
-  pub claims_are_suspect : (claims : List (Evidence D G)) (s : Suspected) → IsEvidence rules.eq (valid_votes (claimed rules) messages) claims → HasSuspects claims s → AreSuspect rules messages s
+  pub claims_are_suspect : (claims : List (Equivocation D G)) (s : Suspected) → IsEvidence rules.eq (valid_votes (claimed rules) messages) claims → HasSuspects claims s → AreSuspect rules messages s
   claims_are_suspect claims s is has n h =
       let (e, e_in, e_is) = Contains-from_map accused_by claims n (is.complete n (accused_is_claimed n h)) in
       let (signer, round) = has e e_in in
@@ -190,9 +190,9 @@ module _ {S D C P G : Type 0} (rules : Rules S D C P G) (messages : List (Activi
       let (v, w, v_in, w_in, of_v, against) = votes_from_accused rules.eq vs n h in
       (suspect, any_from_Contains (λ v. is_suspect rules messages n.round v.signer) vs v v_in (ap (is_suspect rules messages n.round) (is_of-true n.round n.signer v of_v).1 ∙ suspect))
 
-  module _ (payloads : IsEquivalence rules.eq) (claims : List (Evidence D G)) (is : IsEvidence rules.eq (valid_votes (claimed rules) messages) claims) where
+  module _ (payloads : IsEquivalence rules.eq) (claims : List (Equivocation D G)) (is : IsEvidence rules.eq (valid_votes (claimed rules) messages) claims) where
     -- whom the claims accuse is suspect
-    claim_is_suspect : (e : Evidence D G) → Contains claims e → (is_suspect rules messages (round_of e.first.subject) e.first.signer ≡ true) × (is_suspect_round rules messages (round_of e.first.subject) ≡ true)
+    claim_is_suspect : (e : Equivocation D G) → Contains claims e → (is_suspect rules messages (round_of e.first.subject) e.first.signer ≡ true) × (is_suspect_round rules messages (round_of e.first.subject) ≡ true)
     claim_is_suspect e e_in =
         let vs = valid_votes (claimed rules) messages in
         claimed_is_suspect (accused_by e) (sym (evidence_exists rules.eq vs payloads (accused_by e)) ∙ ap is_some (All-contains (λ e. evidence_of rules.eq vs (accused_by e) ≡ Some e) claims e is.sound e_in))
@@ -210,11 +210,11 @@ module _ {S D C P G : Type 0} (rules : Rules S D C P G) (messages : List (Activi
     -- the rounds of what is claimed are those that are suspect
     pub rounds_are_suspect : (round : Round) → Contains (map (λ e. round_of e.first.subject) claims) round ↔ IsTrue (is_suspect_round rules messages round)
     rounds_are_suspect round = (
-      λ h. let (e, e_in, e_is) = Contains-from_map (λ (e : Evidence D G). round_of e.first.subject) claims round h in subst (λ r. is_suspect_round rules messages r ≡ true) e_is (claim_is_suspect e e_in).1,
+      λ h. let (e, e_in, e_is) = Contains-from_map (λ (e : Equivocation D G). round_of e.first.subject) claims round h in subst (λ r. is_suspect_round rules messages r ≡ true) e_is (claim_is_suspect e e_in).1,
       λ h.
           let (v, v_in, v_accused) = Contains-from_list_any (λ v. is_suspect rules messages round v.signer) (valid_votes (claimed rules) messages) h in
           let (e, e_in, e_is) = Contains-from_map suspect_of claims (round, v.signer) ((signers_are_suspect round v.signer).1 v_accused) in
-          subst (Contains (map (λ (e : Evidence D G). round_of e.first.subject) claims)) (ap (λ (s : Round × ℕ). s.0) e_is) (Contains-map (λ (e : Evidence D G). round_of e.first.subject) claims e e_in),
+          subst (Contains (map (λ (e : Equivocation D G). round_of e.first.subject) claims)) (ap (λ (s : Round × ℕ). s.0) e_is) (Contains-map (λ (e : Equivocation D G). round_of e.first.subject) claims e e_in),
     )
 
 -- rules that judge suspects alike are the same among suspects

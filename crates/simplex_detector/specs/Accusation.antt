@@ -6,20 +6,20 @@ use Rattle.std.specs.declared.cmp.Ordering.{Ordering}
 use Rattle.simplex_base.specs.Positions.{Round}
 use Rattle.simplex_scheme.specs.Subject.{round_of}
 use Rattle.simplex_votes.specs.Votes.{SignedVote, is_of}
-use Rattle.simplex_evidence.specs.Contradiction.{Kind, Conflicting_notarize, Conflicting_finalize, Nullify_finalize, contradicts, Evidence}
+use Rattle.simplex_evidence.specs.Contradiction.{EquivocationKind, Conflicting_notarize, Conflicting_finalize, Nullify_finalize, contradicts, Equivocation}
 
 -- a signer, in a round, with a kind of contradiction
 pub record Accusation : Type 0 where
   pub round : Round
   pub signer : ℕ
-  pub kind : Kind
+  pub kind : EquivocationKind
 
 -- whether some two of the votes contradict with this kind, both of this signer and round. `eq` compares payloads
 abbrev pub is_accused : {D G : Type 0} → (D → D → Bool) → List (SignedVote D G) → Accusation → Bool
 is_accused eq vs n = list_any (λ v. is_of n.round n.signer v && list_any (contradicts eq n.kind v) vs) vs
 
 -- whom an evidence accuses
-abbrev pub accused_by : {D G : Type 0} → Evidence D G → Accusation
+abbrev pub accused_by : {D G : Type 0} → Equivocation D G → Accusation
 accused_by e = record { round = round_of e.first.subject; signer = e.first.signer; kind = e.kind }
 
 -- ---- their order
@@ -33,7 +33,7 @@ abbrev pub signer_cmp : Round × ℕ → Round × ℕ → Ordering
 signer_cmp a b = ordering_then (round_cmp a.0 b.0) (nat_cmp a.1 b.1)
 
 -- the place of a kind in the order of kinds
-abbrev pub kind_rank : Kind → ℕ
+abbrev pub kind_rank : EquivocationKind → ℕ
 kind_rank Conflicting_notarize = 0
 kind_rank Conflicting_finalize = 1
 kind_rank Nullify_finalize = 2

@@ -7,7 +7,7 @@ use Rattle.simplex_scheme.specs.Subject.{SubjectValue}
 use Rattle.simplex_scheme.specs.declared.scheme.Attestation.{Attestation}
 use Rattle.simplex_votes.specs.Votes.{SignedVote, Sort}
 use Rattle.simplex_evidence.specs.Activity.{activity_round, votes_in, subject_and_certificate}
-use Rattle.simplex_evidence.specs.Contradiction.{Evidence}
+use Rattle.simplex_evidence.specs.Contradiction.{Equivocation}
 use Rattle.simplex_evidence.specs.declared.types.activity.Activity.{Activity}
 use Rattle.simplex_detector.specs.Committees.{Schedule, committee_of}
 use Rattle.simplex_detector.specs.Evidence.{IsEvidence}
@@ -50,7 +50,7 @@ module _ {S D C P G : Type 0} (rules : Judging → Schedule S → Rules S D C P 
   RecallsNone detector = (judging : Judging) (schedule : Schedule S) → Recalls (rules judging schedule) [] detector
 
   -- the evidence in the valid votes of the messages that the state is of
-  abbrev pub GivesEvidence : Detector S D P G → List (Evidence D G) → Type 0
+  abbrev pub GivesEvidence : Detector S D P G → List (Equivocation D G) → Type 0
   GivesEvidence detector es = (judging : Judging) (schedule : Schedule S) (messages : List (Activity S D C P G)) →
       Recalls (rules judging schedule) messages detector →
       IsEvidence (rules judging schedule).eq (valid_votes (rules judging schedule) messages) es

@@ -5,21 +5,21 @@ use Rattle.simplex_votes.specs.declared.types.notarize.Notarize.{Notarize}
 use Rattle.simplex_votes.specs.declared.types.nullify.Nullify.{Nullify}
 use Rattle.simplex_votes.specs.declared.types.finalize.Finalize.{Finalize}
 use Rattle.simplex_evidence.specs.Activity.{IsActivity}
-use Rattle.simplex_evidence.specs.Conflict.{Conflict}
-use Rattle.simplex_detector.specs.Values.{message_of}
+use Rattle.simplex_evidence.specs.Conflict.{ConflictValue}
+use Rattle.simplex_detector.specs.Values.{activity_of}
 use Rattle.simplex_detector.specs.declared.evidence.Evidence.{Evidence}
 use Rattle.simplex_detector.specs.declared.evidence.Evidence.TheVariants as variants
 
 -- an evidence that can be encoded as a message: its numbers, payloads and signatures are within their types, and its
 -- votes contradict. `eq` compares payloads
 abbrev pub IsEncoded : {S D P G : Type 0} → (D → D → Bool) → Format D → Format G → Evidence S D P G → Type 0
-IsEncoded eq payload signature e = IsActivity {C = ⊤} eq payload (λ _. ⊤) signature (message_of e)
+IsEncoded eq payload signature e = IsActivity {C = ⊤} eq payload (λ _. ⊤) signature (activity_of e)
 
 -- the same member, equal by its type's equality
 module _ {S D P G : Type 0}
-    (conflicting_notarizes : Conflict (Notarize S D P G) (Notarize S D P G) → Conflict (Notarize S D P G) (Notarize S D P G) → Bool)
-    (conflicting_finalizes : Conflict (Finalize S D P G) (Finalize S D P G) → Conflict (Finalize S D P G) (Finalize S D P G) → Bool)
-    (nullify_finalizes : Conflict (Nullify S P G) (Finalize S D P G) → Conflict (Nullify S P G) (Finalize S D P G) → Bool) where
+    (conflicting_notarizes : ConflictValue (Notarize S D P G) (Notarize S D P G) → ConflictValue (Notarize S D P G) (Notarize S D P G) → Bool)
+    (conflicting_finalizes : ConflictValue (Finalize S D P G) (Finalize S D P G) → ConflictValue (Finalize S D P G) (Finalize S D P G) → Bool)
+    (nullify_finalizes : ConflictValue (Nullify S P G) (Finalize S D P G) → ConflictValue (Nullify S P G) (Finalize S D P G) → Bool) where
   abbrev pub same_evidence : Evidence S D P G → Evidence S D P G → Bool
   same_evidence (variants.ConflictingNotarize a) (variants.ConflictingNotarize b) = conflicting_notarizes a b
   same_evidence (variants.ConflictingFinalize a) (variants.ConflictingFinalize b) = conflicting_finalizes a b

@@ -1,18 +1,18 @@
 -- What holds of the evidence in votes, and of who is accused by messages.
 use Rattle.std.specs.Prelude.{◌≡◌, ◌↔◌, Bool, List, ◌++◌, map, Contains, IsPermutation, IsTrue}
 use Rattle.simplex_votes.specs.Votes.{SignedVote}
-use Rattle.simplex_evidence.specs.Contradiction.{Evidence}
+use Rattle.simplex_evidence.specs.Contradiction.{Equivocation}
 use Rattle.simplex_evidence.specs.declared.types.activity.Activity.{Activity}
 use Rattle.simplex_detector.specs.Rules.{Rules, valid_votes}
 use Rattle.simplex_detector.specs.Accusation.{Accusation, is_accused, accused_by}
 use Rattle.simplex_detector.specs.Evidence.{IsEvidence}
-use Rattle.simplex_detector.specs.Values.{evidence_value, message_of}
+use Rattle.simplex_detector.specs.Values.{activity_of, evidence_value}
 use Rattle.simplex_detector.specs.declared.evidence.Evidence as declared
 
-module _ {D G : Type 0} (eq : D → D → Bool) (vs : List (SignedVote D G)) (es : List (Evidence D G)) where
+module _ {D G : Type 0} (eq : D → D → Bool) (vs : List (SignedVote D G)) (es : List (Equivocation D G)) where
   -- no other list is the evidence of the votes
   abbrev pub EvidenceIsUnique : Type 0
-  EvidenceIsUnique = (fs : List (Evidence D G)) → IsEvidence eq vs fs → es ≡ fs
+  EvidenceIsUnique = (fs : List (Equivocation D G)) → IsEvidence eq vs fs → es ≡ fs
 
   -- the evidence accuses exactly those whom the votes accuse
   abbrev pub AccusesExactly : Type 0
@@ -31,4 +31,4 @@ module _ {S D C P G : Type 0} (rules : Rules S D C P G) where
 
   -- the evidence of messages, as messages of its own, has the same evidence in the same order
   abbrev pub IsEvidenceAgain : List (declared.Evidence S D P G) → Type 0
-  IsEvidenceAgain es = IsEvidence rules.eq (valid_votes rules (map message_of es)) (map evidence_value es)
+  IsEvidenceAgain es = IsEvidence rules.eq (valid_votes rules (map activity_of es)) (map evidence_value es)

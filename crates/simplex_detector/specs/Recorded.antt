@@ -5,7 +5,7 @@ use Rattle.std.specs.List.{find}
 use Rattle.simplex_base.specs.Positions.{Round, same_round}
 use Rattle.simplex_scheme.specs.Subject.{SubjectValue, round_of}
 use Rattle.simplex_votes.specs.Votes.{SignedVote, Sort, Notarizing, Nullifying, Finalizing, sort_of, is_at, is_of}
-use Rattle.simplex_evidence.specs.Contradiction.{Kind, Conflicting_notarize, Conflicting_finalize, Nullify_finalize, Evidence, excludes}
+use Rattle.simplex_evidence.specs.Contradiction.{EquivocationKind, Conflicting_notarize, Conflicting_finalize, Nullify_finalize, Equivocation, excludes}
 use Rattle.simplex_detector.specs.Evidence.{with_second}
 
 -- of one round, signer and sort: the earliest vote, and the earliest with another proposal
@@ -45,15 +45,15 @@ is_news eq vs v =
     changes eq slot.earliest slot.other v.subject
 
 -- the evidence of two votes, if there are two
-abbrev pub both : {D G : Type 0} → Kind → Option (SignedVote D G) → Option (SignedVote D G) → Option (Evidence D G)
-both kind None w = None
-both kind (Some v) w = with_second kind v w
+abbrev pub equivocation_of : {D G : Type 0} → EquivocationKind → Option (SignedVote D G) → Option (SignedVote D G) → Option (Equivocation D G)
+equivocation_of kind None w = None
+equivocation_of kind (Some v) w = with_second kind v w
 
 -- the evidence of one round and signer, from its slots
-abbrev pub evidence_from : {D G : Type 0} → (Sort → Slot D G) → Kind → Option (Evidence D G)
-evidence_from slot Conflicting_notarize = both Conflicting_notarize (slot Notarizing).earliest (slot Notarizing).other
-evidence_from slot Conflicting_finalize = both Conflicting_finalize (slot Finalizing).earliest (slot Finalizing).other
-evidence_from slot Nullify_finalize = both Nullify_finalize (slot Nullifying).earliest (slot Finalizing).earliest
+abbrev pub evidence_from : {D G : Type 0} → (Sort → Slot D G) → EquivocationKind → Option (Equivocation D G)
+evidence_from slot Conflicting_notarize = equivocation_of Conflicting_notarize (slot Notarizing).earliest (slot Notarizing).other
+evidence_from slot Conflicting_finalize = equivocation_of Conflicting_finalize (slot Finalizing).earliest (slot Finalizing).other
+evidence_from slot Nullify_finalize = equivocation_of Nullify_finalize (slot Nullifying).earliest (slot Finalizing).earliest
 
 -- the votes that are news, each to all votes before it
 abbrev pub news_after : {D G : Type 0} → (D → D → Bool) → List (SignedVote D G) → List (SignedVote D G) → List (SignedVote D G)

@@ -5,7 +5,7 @@ use Rattle.std.specs.List.Sorted.{IsStrictlySortedBy}
 use Rattle.std.specs.Ordering.{nat_cmp}
 use Rattle.simplex_base.specs.Positions.{Round}
 use Rattle.simplex_votes.specs.Votes.{SignedVote, Sort, Notarizing, Nullifying, Finalizing, sort_of, same_sort, notarize_vote, nullify_vote, finalize_vote}
-use Rattle.simplex_evidence.specs.Contradiction.{Kind, Conflicting_notarize, Conflicting_finalize, Nullify_finalize, Evidence, contradicts}
+use Rattle.simplex_evidence.specs.Contradiction.{EquivocationKind, Conflicting_notarize, Conflicting_finalize, Nullify_finalize, Equivocation, contradicts}
 use Rattle.simplex_evidence.specs.VoteMap.{item_of}
 use Rattle.simplex_detector.specs.VotePairs.{pairs_count}
 use Rattle.simplex_detector.specs.Recorded.{Slot, slot_of, slot_with, changes, evidence_from, recorded_in}
@@ -62,16 +62,16 @@ pub record HoldsRound {S D P G : Type 0} (eq : D → D → Bool) (n : ℕ) (vs :
 -- ---- the evidence in what is recorded
 
 -- an evidence, if its votes contradict
-abbrev pub if_contradicts : {D G : Type 0} → (D → D → Bool) → Option (Evidence D G) → Option (Evidence D G)
+abbrev pub if_contradicts : {D G : Type 0} → (D → D → Bool) → Option (Equivocation D G) → Option (Equivocation D G)
 if_contradicts eq None = None
 if_contradicts eq (Some e) = if contradicts eq e.kind e.first e.second then Some e else None
 
 -- the evidence of one kind in the slots of a signer
-abbrev pub found_of_kind : {D G : Type 0} → (D → D → Bool) → (Sort → Slot D G) → Kind → Option (Evidence D G)
+abbrev pub found_of_kind : {D G : Type 0} → (D → D → Bool) → (Sort → Slot D G) → EquivocationKind → Option (Equivocation D G)
 found_of_kind eq slot kind = if_contradicts eq (evidence_from slot kind)
 
 -- the evidence in the slots of a signer, by kind
-abbrev pub found_at : {D G : Type 0} → (D → D → Bool) → (Sort → Slot D G) → List (Evidence D G)
+abbrev pub found_at : {D G : Type 0} → (D → D → Bool) → (Sort → Slot D G) → List (Equivocation D G)
 found_at eq slot =
     option_to_list (found_of_kind eq slot Conflicting_notarize) ++
     (option_to_list (found_of_kind eq slot Conflicting_finalize) ++

@@ -9,7 +9,7 @@ use Rattle.simplex_evidence.specs.Activity.{activity_round, subject_and_certific
 use Rattle.simplex_evidence.specs.declared.types.activity.Activity.{Activity}
 use Rattle.simplex_detector.specs.Rules.{Rules, valid_votes}
 use Rattle.simplex_detector.specs.Certificates.{messages_contradict}
-use Rattle.simplex_detector.specs.Splits.{is_certified, is_accused_in, accused_count, AreSplits}
+use Rattle.simplex_detector.specs.Splits.{is_certified_message, is_accused_in, accused_count, AreSplits}
 use Rattle.simplex_detector.specs.declared.split.Split.{Split}
 
 -- who signed both of two certificates
@@ -26,7 +26,7 @@ module _ {S D C P G : Type 0} (rules : Rules S D C P G) (messages : List (Activi
   abbrev pub EnoughAreAccused : Type 0
   EnoughAreAccused =
       (m k : Activity S D C P G) → Contains messages m → Contains messages k →
-      IsTrue (messages_contradict rules.eq m k) → IsTrue (is_certified rules m) → IsTrue (is_certified rules k) →
+      IsTrue (messages_contradict rules.eq m k) → IsTrue (is_certified_message rules m) → IsTrue (is_certified_message rules k) →
       faults_of (rules.size (activity_round m).epoch) + 1 ≤ accused_count rules.eq (valid_votes rules messages) (activity_round m)
 
   -- Two of the messages that contradict and are both certified share, each once, at least all signers but twice as many

@@ -30,8 +30,8 @@ module _ {S D C P G : Type 0} (rules : Rules S D C P G) where
   certified_in message = if_certified (subject_and_certificate message)
 
   -- whether a message has a certificate that certifies its subject
-  abbrev pub is_certified : Activity S D C P G → Bool
-  is_certified message = is_some (certified_in message)
+  abbrev pub is_certified_message : Activity S D C P G → Bool
+  is_certified_message message = is_some (certified_in message)
 
 -- ---- who is accused in a round
 
@@ -53,7 +53,7 @@ module _ {S D C P G : Type 0} (rules : Rules S D C P G) (messages : List (Activi
   -- whether a round is split: two of the messages, of that round, contradict, and both are certified
   abbrev pub is_split : Round → Bool
   is_split round =
-      list_any (λ m. (same_round (activity_round m) round && is_certified rules m) && list_any (λ k. is_certified rules k && messages_contradict rules.eq m k) messages) messages
+      list_any (λ m. (same_round (activity_round m) round && is_certified_message rules m) && list_any (λ k. is_certified_message rules k && messages_contradict rules.eq m k) messages) messages
 
   -- the split of a round, if it is split: how many are accused in it, and one more than may lie in its committee
   abbrev pub split_of : Round → Option Split

@@ -4,7 +4,7 @@ use Rattle.std.specs.BTreeSet.{contains}
 use Rattle.std.specs.List.{list_any}
 use Rattle.simplex_base.specs.Positions.{Round}
 use Rattle.simplex_scheme.specs.Subject.{SubjectValue, round_of}
-use Rattle.simplex_evidence.specs.Contradiction.{Evidence}
+use Rattle.simplex_evidence.specs.Contradiction.{Equivocation}
 use Rattle.simplex_evidence.specs.declared.types.activity.Activity.{Activity}
 use Rattle.simplex_detector.specs.Evidence.{IsEvidence}
 use Rattle.simplex_detector.specs.Accusation.{Accusation, is_accused, round_cmp, signer_cmp}
@@ -21,13 +21,13 @@ pub record Suspected : Type 0 where
   pub rounds : Round → Bool
 
 -- the round and the signer of an evidence
-abbrev pub suspect_of : {D G : Type 0} → Evidence D G → Round × ℕ
+abbrev pub suspect_of : {D G : Type 0} → Equivocation D G → Round × ℕ
 suspect_of e = (round_of e.first.subject, e.first.signer)
 
 -- the signers whom the votes claim to contradict are suspect, and so are their rounds
-abbrev pub HasSuspects : {D G : Type 0} → List (Evidence D G) → Suspected → Type 0
+abbrev pub HasSuspects : {D G : Type 0} → List (Equivocation D G) → Suspected → Type 0
 HasSuspects {D} {G} claims suspected =
-    (e : Evidence D G) → Contains claims e → IsTrue (suspected.signers (round_of e.first.subject) e.first.signer) × IsTrue (suspected.rounds (round_of e.first.subject))
+    (e : Equivocation D G) → Contains claims e → IsTrue (suspected.signers (round_of e.first.subject) e.first.signer) × IsTrue (suspected.rounds (round_of e.first.subject))
 
 -- ---- other judges of the same messages
 
@@ -56,7 +56,7 @@ module _ {S D C P G : Type 0} (rules : Rules S D C P G) (messages : List (Activi
 
   -- Where each signer who is accused is suspect in its round, the suspects alone have the evidence and the splits of all messages.
   pub record TellAll (suspected : Suspected) : Type 0 where
-    pub evidence : (es : List (Evidence D G)) → IsEvidence rules.eq (valid_votes (among rules suspected) messages) es ↔ IsEvidence rules.eq (valid_votes rules messages) es
+    pub evidence : (es : List (Equivocation D G)) → IsEvidence rules.eq (valid_votes (among rules suspected) messages) es ↔ IsEvidence rules.eq (valid_votes rules messages) es
     pub splits : (splits : List Split) → AreSplits (among rules suspected) messages splits ↔ AreSplits rules messages splits
 
   -- whether a signer is suspect in a round: two votes contradict there that claim to be that signer's, and the signer is in the
@@ -78,7 +78,7 @@ module _ {S D C P G : Type 0} (rules : Rules S D C P G) (messages : List (Activi
   -- evidence and the splits: they are the same, no matter which of these are valid.
   pub record SuspectsSuffice : Type 0 where
     pub evidence : (good : SubjectValue D → ℕ → G → Bool) (certified : SubjectValue D → C → Bool) → JudgeAlike good certified →
-        (es : List (Evidence D G)) → IsEvidence rules.eq (valid_votes rules messages) es → IsEvidence rules.eq (valid_votes (judged_by rules good certified) messages) es
+        (es : List (Equivocation D G)) → IsEvidence rules.eq (valid_votes rules messages) es → IsEvidence rules.eq (valid_votes (judged_by rules good certified) messages) es
     pub splits : (good : SubjectValue D → ℕ → G → Bool) (certified : SubjectValue D → C → Bool) → JudgeAlike good certified →
         (splits : List Split) → AreSplits rules messages splits → AreSplits (judged_by rules good certified) messages splits
 
@@ -96,11 +96,11 @@ module _ {S D C P G : Type 0} (rules : Rules S D C P G) (under : Judging → Rul
   -- where all signers of the claims and their rounds are suspect, suspects alone have the evidence and the splits
   abbrev pub SuspectsTellAll : Type 0
   SuspectsTellAll =
-      (messages : List (Activity S D C P G)) (claims : List (Evidence D G)) (suspects : SuspectSigners) → AreLawful rules →
+      (messages : List (Activity S D C P G)) (claims : List (Equivocation D G)) (suspects : SuspectSigners) → AreLawful rules →
       IsEvidence rules.eq (valid_votes (under judging.Claimed) messages) claims →
       All (λ round. IsTrue (contains round_cmp suspects.rounds round)) (map (λ e. round_of e.first.subject) claims) →
       All (λ suspect. IsTrue (contains signer_cmp suspects.signers suspect)) (map suspect_of claims) →
-      (es : List (Evidence D G)) (splits : List Split) →
+      (es : List (Equivocation D G)) (splits : List Split) →
       IsEvidence rules.eq (valid_votes (under (judging.Suspects suspects)) messages) es →
       AreSplits (under (judging.Suspects suspects)) messages splits →
       IsEvidence rules.eq (valid_votes rules messages) es × AreSplits rules messages splits

@@ -7,7 +7,7 @@ ghost use Rattle.simplex_detector.specs.Line.{line_of, parted, with_proposal};
 ghost use Rattle.simplex_evidence.specs.Activity.{activity_encoding};
 ghost use Rattle.simplex_evidence.specs.Conflict.{notarize_evidence, finalize_evidence, nullify_evidence};
 ghost use Rattle.simplex_detector.specs.EncodedEvidence.{IsEncoded};
-ghost use Rattle.simplex_detector.specs.Values.{message_of};
+ghost use Rattle.simplex_detector.specs.Values.{activity_of};
 
 use simplex_base::codec::{EncodeSize, Fixed, Read};
 use simplex_base::positions::{Participant, Round, Roundable};
@@ -59,7 +59,7 @@ impl<S: SchemeTypes, D: Digest> Evidence<S, D> {
     pub fn encode_size(&self) -> usize
         ensures size { result ≡ length
             (activity_encoding {C = ⊤} D.eq (format_of ⟦<D as Read>⟧) (λ _. [])
-            (format_of ⟦<S::Signature as Read>⟧) (message_of self.now)) }
+            (format_of ⟦<S::Signature as Read>⟧) (activity_of self.now)) }
         ensures encoded { IsEncoded D.eq (format_of ⟦<D as Read>⟧)
             (format_of ⟦<S::Signature as Read>⟧) self.now }
     {

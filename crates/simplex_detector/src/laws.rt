@@ -54,13 +54,13 @@ pub fn accused_stay<S: CertificateScheme, D: Digest>()
 /// be no other. Read again as messages it has the same evidence.
 pub fn evidence_is_determined<S: CertificateScheme, D: Digest>()
     ensures names { (vs : List (SignedVote D S.Signature))
-        (es : List (contradiction.Evidence D S.Signature)) → IsEvidence D.eq vs es →
+        (es : List (contradiction.Equivocation D S.Signature)) → IsEvidence D.eq vs es →
         AccusesExactly D.eq vs es }
     ensures sound { (vs : List (SignedVote D S.Signature))
-        (es : List (contradiction.Evidence D S.Signature)) → IsEvidence D.eq vs es →
+        (es : List (contradiction.Equivocation D S.Signature)) → IsEvidence D.eq vs es →
         All (IsEquivocation D.eq vs) es }
     ensures only { (vs : List (SignedVote D S.Signature))
-        (es : List (contradiction.Evidence D S.Signature)) → IsEvidence D.eq vs es →
+        (es : List (contradiction.Equivocation D S.Signature)) → IsEvidence D.eq vs es →
         EvidenceIsUnique D.eq vs es }
     ensures again { (rules : Rules S D S.Certificate S.PublicKey S.Signature)
         (messages : List (Activity S D S.Certificate S.PublicKey S.Signature))
@@ -131,13 +131,13 @@ pub fn suspects_suffice<S: CertificateScheme, D: Digest>()
         AreLawful rules → SuspectsSuffice rules messages }
     ensures rounds { (rules : Rules S D S.Certificate S.PublicKey S.Signature)
         (messages : List (Activity S D S.Certificate S.PublicKey S.Signature))
-        (claims : List (contradiction.Evidence D S.Signature)) → AreLawful rules →
+        (claims : List (contradiction.Equivocation D S.Signature)) → AreLawful rules →
         IsEvidence rules.eq (valid_votes (claimed rules) messages) claims → (round : Round) →
         Contains (map (λ e. round_of e.first.subject) claims) round ↔
         IsTrue (is_suspect_round rules messages round) }
     ensures signers { (rules : Rules S D S.Certificate S.PublicKey S.Signature)
         (messages : List (Activity S D S.Certificate S.PublicKey S.Signature))
-        (claims : List (contradiction.Evidence D S.Signature)) → AreLawful rules →
+        (claims : List (contradiction.Equivocation D S.Signature)) → AreLawful rules →
         IsEvidence rules.eq (valid_votes (claimed rules) messages) claims →
         (round : Round) (signer : ℕ) → Contains (map suspect_of claims) (round, signer) ↔
         IsTrue (is_suspect rules messages round signer) }

@@ -130,7 +130,7 @@ module _ {X : Type 0} (signer : X → ℕ) where
       ]
 
   -- what an item put into its gap leaves
-  pub record IsPut (n : ℕ) (old new : List X) (item : X) : Type 0 where
+  pub record IsPutAt (n : ℕ) (old new : List X) (item : X) : Type 0 where
     pub ordered : IsBySigner signer new
     pub within : AreParticipants signer n new
     pub adds : AddsOnly signer old new item
@@ -139,7 +139,7 @@ module _ {X : Type 0} (signer : X → ℕ) where
     pub room : length old < n
 
   -- `searched_in` and `reserved` are the items as the steps before see them
-  pub put : (n : ℕ) (xs searched_in reserved new : List X) (place s : ℕ) (item : X) → IsBySigner signer xs → AreParticipants signer n xs → searched_in ≡ xs → reserved ≡ xs → s ≡ signer item → s < n → IsGap signer searched_in s place → new ≡ insert reserved place item → IsPut n xs new item
+  pub put : (n : ℕ) (xs searched_in reserved new : List X) (place s : ℕ) (item : X) → IsBySigner signer xs → AreParticipants signer n xs → searched_in ≡ xs → reserved ≡ xs → s ≡ signer item → s < n → IsGap signer searched_in s place → new ≡ insert reserved place item → IsPutAt n xs new item
   put n xs searched_in reserved new place s item ordered within same kept is lt gap inserted =
       let gap_here : IsGap signer xs (signer item) place = rw (← same, ← is) gap in
       let is_new : new ≡ insert xs place item = rw kept at inserted in

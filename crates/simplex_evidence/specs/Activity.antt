@@ -9,7 +9,7 @@ use Rattle.simplex_scheme.specs.declared.scheme.Attestation.{Attestation}
 use Rattle.simplex_scheme.specs.Subject.{SubjectValue, Notarizes, Nullifies, Finalizes}
 use Rattle.simplex_votes.specs.Votes.{SignedVote, vote_on, notarize_vote, nullify_vote, finalize_vote}
 use Rattle.simplex_votes.specs.Encodings.{notarize_format, notarize_lawful, nullify_format, nullify_lawful, finalize_format, finalize_lawful, notarization_format, IsNotarization, notarization_encoding, notarization_lawful, nullification_format, IsNullification, nullification_encoding, nullification_lawful, finalization_format, IsFinalization, finalization_encoding, finalization_lawful}
-use Rattle.simplex_evidence.specs.Conflict.{Conflict, conflicting_notarize_format, conflicting_notarize_lawful, conflicting_finalize_format, conflicting_finalize_lawful, nullify_finalize_format, nullify_finalize_lawful}
+use Rattle.simplex_evidence.specs.Conflict.{ConflictValue, conflicting_notarize_format, conflicting_notarize_lawful, conflicting_finalize_format, conflicting_finalize_lawful, nullify_finalize_format, nullify_finalize_lawful}
 use Rattle.simplex_votes.specs.declared.types.notarize.Notarize.{Notarize}
 use Rattle.simplex_votes.specs.declared.types.nullify.Nullify.{Nullify}
 use Rattle.simplex_votes.specs.declared.types.finalize.Finalize.{Finalize}
@@ -40,9 +40,9 @@ module _ {S D C P G : Type 0}
     (nullifications : Nullification S C P G → Nullification S C P G → Bool)
     (finalizes : Finalize S D P G → Finalize S D P G → Bool)
     (finalizations : Finalization S D C P G → Finalization S D C P G → Bool)
-    (conflicting_notarizes : Conflict (Notarize S D P G) (Notarize S D P G) → Conflict (Notarize S D P G) (Notarize S D P G) → Bool)
-    (conflicting_finalizes : Conflict (Finalize S D P G) (Finalize S D P G) → Conflict (Finalize S D P G) (Finalize S D P G) → Bool)
-    (nullify_finalizes : Conflict (Nullify S P G) (Finalize S D P G) → Conflict (Nullify S P G) (Finalize S D P G) → Bool) where
+    (conflicting_notarizes : ConflictValue (Notarize S D P G) (Notarize S D P G) → ConflictValue (Notarize S D P G) (Notarize S D P G) → Bool)
+    (conflicting_finalizes : ConflictValue (Finalize S D P G) (Finalize S D P G) → ConflictValue (Finalize S D P G) (Finalize S D P G) → Bool)
+    (nullify_finalizes : ConflictValue (Nullify S P G) (Finalize S D P G) → ConflictValue (Nullify S P G) (Finalize S D P G) → Bool) where
   abbrev pub same_activity : Activity S D C P G → Activity S D C P G → Bool
   same_activity (activity.Notarize a) (activity.Notarize b) = notarizes a b
   same_activity (activity.Notarization a) (activity.Notarization b) = notarizations a b

@@ -13,33 +13,33 @@ excludes eq (Finalizes p) (Nullifies r) = true
 excludes _ _ _ = false
 
 -- the three kinds of equivocation
-pub data Kind : Type 0 where
-  Conflicting_notarize : Kind
-  Conflicting_finalize : Kind
-  Nullify_finalize : Kind
+pub data EquivocationKind : Type 0 where
+  Conflicting_notarize : EquivocationKind
+  Conflicting_finalize : EquivocationKind
+  Nullify_finalize : EquivocationKind
 
 -- the sort of the first of two votes that contradict with that kind
-abbrev pub first_sort : Kind → Sort
+abbrev pub first_sort : EquivocationKind → Sort
 first_sort Conflicting_notarize = Notarizing
 first_sort Conflicting_finalize = Finalizing
 first_sort Nullify_finalize = Nullifying
 
 -- the sort of the second
-abbrev pub second_sort : Kind → Sort
+abbrev pub second_sort : EquivocationKind → Sort
 second_sort Conflicting_notarize = Notarizing
 second_sort Conflicting_finalize = Finalizing
 second_sort Nullify_finalize = Finalizing
 
 -- whether subjects of one round clash with that kind, in this order: they are of its sorts, and exclude each other
-abbrev pub clash : {D : Type 0} → (D → D → Bool) → Kind → SubjectValue D → SubjectValue D → Bool
+abbrev pub clash : {D : Type 0} → (D → D → Bool) → EquivocationKind → SubjectValue D → SubjectValue D → Bool
 clash eq kind x y = same_sort (sort_of x) (first_sort kind) && (same_sort (sort_of y) (second_sort kind) && excludes eq x y)
 
 -- whether two votes contradict with that kind: one round, one signer, and subjects that clash
-abbrev pub contradicts : {D G : Type 0} → (D → D → Bool) → Kind → SignedVote D G → SignedVote D G → Bool
+abbrev pub contradicts : {D G : Type 0} → (D → D → Bool) → EquivocationKind → SignedVote D G → SignedVote D G → Bool
 contradicts eq kind v w = is_of (round_of v.subject) v.signer w && clash eq kind v.subject w.subject
 
 -- two votes, and the kind of their contradiction
-pub record Evidence (D G : Type 0) : Type 0 where
-  pub kind : Kind
+pub record Equivocation (D G : Type 0) : Type 0 where
+  pub kind : EquivocationKind
   pub first : SignedVote D G
   pub second : SignedVote D G

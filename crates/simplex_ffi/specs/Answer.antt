@@ -13,7 +13,7 @@ use Rattle.simplex_places.specs.Suspects.{AreSuspects}
 use Rattle.simplex_places.specs.declared.places.Placed.{Placed}
 use Rattle.simplex_places.specs.declared.places.Suspect.{Suspect}
 use Rattle.simplex_places.specs.declared.records.Record.{Record}
-use Rattle.simplex_ffi.specs.declared.answer.Summary.{Summary}
+use Rattle.simplex_ffi.specs.declared.answer.ReportSummary.{ReportSummary}
 
 -- the number of a stream that was read whole, or that has a fault
 abbrev pub ended_of : Option Fault → ℕ
@@ -21,17 +21,17 @@ ended_of None = 0
 ended_of (Some fault) = 1
 
 -- where the fault is
-abbrev pub place_of : Option Fault → ℕ
-place_of None = 0
-place_of (Some fault) = fault.place
+abbrev pub place_of_fault : Option Fault → ℕ
+place_of_fault None = 0
+place_of_fault (Some fault) = fault.place
 
 -- The numbers are those of a report, and of its text.
-pub record IsSummary {S D P G : Type 0} (bytes_of : D → List ℕ) (report : Report S D P G) (summary : Summary) : Type 0 where
+pub record IsSummary {S D P G : Type 0} (bytes_of : D → List ℕ) (report : Report S D P G) (summary : ReportSummary) : Type 0 where
   pub read_is : summary.read ≡ report.read
   pub evidence_is : summary.evidence ≡ length report.evidence.items
   pub splits_are : summary.splits ≡ length report.splits.items
   pub faulted_is : summary.faulted ≡ ended_of report.fault
-  pub place_is : summary.fault_place ≡ place_of report.fault
+  pub place_is : summary.fault_place ≡ place_of_fault report.fault
   pub length_is : summary.length ≡ length (report_text bytes_of report)
 
 -- A text, or other items, is put at the front of a buffer, and what is behind it stays; or it has no room there, and the buffer is
@@ -43,7 +43,7 @@ IsPut text before after status ended =
 
 -- The stream was audited: the summary is that of its report, and the text of the report stands at the front of the buffer,
 -- with 0 where the stream was read whole and 1 where it has a fault; or the buffer is too short and as before, with 4.
-pub record IsAudited {S D C P G : Type 0} (basis : Basis S D C P G) (bytes_of : D → List ℕ) (stream before after : List ℕ) (summary : Summary) (status : ℕ) : Type 0 where
+pub record IsAudited {S D C P G : Type 0} (basis : Basis S D C P G) (bytes_of : D → List ℕ) (stream before after : List ℕ) (summary : ReportSummary) (status : ℕ) : Type 0 where
   pub report : Report S D P G
   pub audit_is : IsAudit basis stream report
   pub summary_is : IsSummary bytes_of report summary
@@ -59,7 +59,7 @@ pub record AreStored {S D C P G : Type 0} (basis : Basis S D C P G) (stream befo
 
 -- The attestations of the stream that have to be verified stand at the front of the buffer, with 0; or the buffer is too short and as
 -- before, with 4. The number needed is that of the attestations.
-pub record AreGiven {S D C P G : Type 0} (basis : Basis S D C P G) (places_in : ℕ → Activity S D C P G → List Placed) (stream : List ℕ) (before after : List Suspect) (needed status : ℕ) : Type 0 where
+pub record AreSuspectsGiven {S D C P G : Type 0} (basis : Basis S D C P G) (places_in : ℕ → Activity S D C P G → List Placed) (stream : List ℕ) (before after : List Suspect) (needed status : ℕ) : Type 0 where
   pub found : List Suspect
   pub suspects_are : AreSuspects basis places_in stream found
   pub needed_is : needed ≡ length found
@@ -68,7 +68,7 @@ pub record AreGiven {S D C P G : Type 0} (basis : Basis S D C P G) (places_in : 
 -- The stream was audited: the summary is that of its report, and the records of the report's evidence stand at the front of the
 -- buffer, with 0 where the stream was read whole and 1 where it has a fault; or the buffer is too short and as before, with 4.
 -- `carries` says whether a message carries a vote.
-pub record AreRecorded {S D C P G : Type 0} (basis : Basis S D C P G) (bytes_of : D → List ℕ) (carries : SignedVote D G → Activity S D C P G → Bool) (stream : List ℕ) (before after : List Record) (summary : Summary) (status : ℕ) : Type 0 where
+pub record AreRecorded {S D C P G : Type 0} (basis : Basis S D C P G) (bytes_of : D → List ℕ) (carries : SignedVote D G → Activity S D C P G → Bool) (stream : List ℕ) (before after : List Record) (summary : ReportSummary) (status : ℕ) : Type 0 where
   pub report : Report S D P G
   pub audit_is : IsAudit basis stream report
   pub summary_is : IsSummary bytes_of report summary

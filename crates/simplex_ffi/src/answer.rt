@@ -3,7 +3,7 @@
 ghost use Rattle.std.specs.Prelude.{◌≡◌, ◌≢◌, ◌<◌, ◌≤◌, ◌++◌, IsTrue, IfOk, false, drop, length, string_bytes};
 ghost use Rattle.simplex_audit.specs.Guarantees.{IsAudit};
 ghost use Rattle.simplex_audit.specs.Run.{report_text};
-ghost use Rattle.simplex_ffi.specs.Answer.{IsAudited, IsSummary, ended_of, place_of};
+ghost use Rattle.simplex_ffi.specs.Answer.{IsAudited, IsSummary, ended_of, place_of_fault};
 
 use simplex_audit::audit::{Committees, Fault, Report, audit};
 use simplex_audit::basis::Audited;
@@ -31,7 +31,7 @@ pub const SHORT: u32 = 4;
 /// The numbers of a report.
 #[repr(C)]
 #[derive(Clone, Copy, Debug, PartialEq, Eq)]
-pub struct Summary {
+pub struct ReportSummary {
     /// The number of messages read.
     pub read: usize,
     /// The number of lines of evidence.
@@ -58,7 +58,7 @@ pub(crate) fn ended(fault: Option<Fault>) -> u32
 
 /// Where the fault is, or 0.
 fn place(fault: Option<Fault>) -> usize
-    ensures { result ≡ place_of fault }
+    ensures { result ≡ place_of_fault fault }
 {
     match fault {
         None => 0,
@@ -82,11 +82,14 @@ pub(crate) fn put<T: Copy>(text: &[T], buffer: &mut [T]) -> bool
 }
 
 /// The numbers of a report whose text has so many bytes.
-pub(crate) fn summarize<S: SchemeTypes, D: Digest>(report: &Report<S, D>, size: usize) -> Summary
+pub(crate) fn summarize<S: SchemeTypes, D: Digest>(
+    report: &Report<S, D>,
+    size: usize,
+) -> ReportSummary
     requires { size ≡ length (report_text D.bytes_of report.now) }
     ensures { IsSummary D.bytes_of report.now result }
 {
-    Summary {
+    ReportSummary {
         read: report.read,
         evidence: report.evidence.len(),
         splits: report.splits.len(),
@@ -119,7 +122,7 @@ pub fn answer<S: Listing<D>, D: Digest>(
     committees: &Committees<S>,
     stream: &[u8],
     buffer: &mut [u8],
-    summary: &mut Summary,
+    summary: &mut ReportSummary,
 ) -> u32
     ensures audited { result ≢ 3 →
         IsAudited (⟦<S as Audited<D>>⟧.basis committees.now) D.bytes_of stream.now

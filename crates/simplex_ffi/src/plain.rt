@@ -6,7 +6,7 @@ ghost use Rattle.simplex_detector.specs.Committees.{Schedule};
 ghost use Rattle.simplex_ffi.specs.Answer.{AreStored, IsAudited};
 ghost use Rattle.simplex_ffi.specs.Keys.{AreKeys, AreOfKeys};
 
-use crate::answer::{ARGUMENTS, MEMORY, Summary, answer};
+use crate::answer::{ARGUMENTS, MEMORY, ReportSummary, answer};
 use crate::keys::committees;
 use crate::store::store;
 use simplex_audit::basis::Audited;
@@ -23,7 +23,7 @@ pub fn answer_plain(
     keys: &[u8],
     stream: &[u8],
     buffer: &mut [u8],
-    summary: &mut Summary,
+    summary: &mut ReportSummary,
 ) -> u32
     ensures audited { result ≢ 2 → result ≢ 3 → (committees : Schedule PlainScheme) ×
         AreOfKeys namespace.now keys.now committees ×

@@ -11,7 +11,7 @@ ghost use Rattle.simplex_ffi.specs.Answer.{AreRecorded};
 ghost use Rattle.simplex_ffi.specs.Keys.{AreKeys, AreOfKeys};
 ghost use Rattle.simplex_ffi.specs.Sizes.{AreSizes};
 
-use crate::answer::{ARGUMENTS, MEMORY, SHORT, Summary, account, ended, put, summarize};
+use crate::answer::{ARGUMENTS, MEMORY, ReportSummary, SHORT, account, ended, put, summarize};
 use crate::{keys, sizes};
 use simplex_audit::audit::{Committees, Report};
 use simplex_audit::basis::Audited;
@@ -50,7 +50,7 @@ fn answer_records<S: Listing<D>, D: Digest>(
     committees: &Committees<S>,
     stream: &[u8],
     buffer: &mut [Record],
-    summary: &mut Summary,
+    summary: &mut ReportSummary,
 ) -> u32
     ensures recorded { result ≢ 3 → AreRecorded (⟦<S as Audited<D>>⟧.basis committees.now)
         D.bytes_of ⟦<S as Located<D>>⟧.carries stream.now
@@ -79,7 +79,7 @@ pub fn records_vouched<R: Role<N>, const N: usize>(
     sizes: &[u32],
     stream: &[u8],
     buffer: &mut [Record],
-    summary: &mut Summary,
+    summary: &mut ReportSummary,
 ) -> u32
     ensures recorded { result ≢ 2 → result ≢ 3 → (committees : Schedule VouchedScheme) ×
         AreSizes epochs.now sizes.now committees ×
@@ -112,7 +112,7 @@ pub fn records_plain(
     keys: &[u8],
     stream: &[u8],
     buffer: &mut [Record],
-    summary: &mut Summary,
+    summary: &mut ReportSummary,
 ) -> u32
     ensures recorded { result ≢ 2 → result ≢ 3 → (committees : Schedule PlainScheme) ×
         AreOfKeys namespace.now keys.now committees ×

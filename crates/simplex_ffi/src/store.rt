@@ -1,6 +1,6 @@
 //! What a ledger stores, put into a buffer.
 
-ghost use Rattle.std.specs.Prelude.{◌≡◌, ◌≢◌, ◌+◌, ◌<◌, ◌^◌, ◌++◌, IfOk, length};
+ghost use Rattle.std.specs.Prelude.{◌≡◌, ◌≢◌, ◌+◌, ◌<◌, ◌++◌, IfOk};
 ghost use Rattle.simplex_clients.specs.Holding.{IsStored};
 ghost use Rattle.simplex_ffi.specs.Answer.{AreStored};
 

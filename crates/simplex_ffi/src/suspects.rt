@@ -3,7 +3,7 @@
 ghost use Rattle.std.specs.Prelude.{◌≡◌, ◌≢◌, ◌⊎◌};
 ghost use Rattle.simplex_detector.specs.Committees.{Schedule};
 ghost use Rattle.simplex_vouched.specs.Vouched.{VouchedScheme};
-ghost use Rattle.simplex_ffi.specs.Answer.{AreGiven};
+ghost use Rattle.simplex_ffi.specs.Answer.{AreSuspectsGiven};
 ghost use Rattle.simplex_ffi.specs.Sizes.{AreSizes};
 
 use crate::answer::{ARGUMENTS, MEMORY, SHORT, WHOLE, put};
@@ -29,7 +29,7 @@ fn give<S: Counted<D>, D: Digest>(
     records: &mut [Suspect],
     needed: &mut usize,
 ) -> u32
-    ensures given { result ≢ 3 → AreGiven (⟦<S as Audited<D>>⟧.basis committees.now)
+    ensures given { result ≢ 3 → AreSuspectsGiven (⟦<S as Audited<D>>⟧.basis committees.now)
         ⟦<S as Located<D>>⟧.places stream.now records.old records.new needed.new result }
     ensures memory { result ≡ 3 → (records.new ≡ records.old) × (needed.new ≡ needed.old) }
     ensures status { result ≢ 2 }
@@ -55,7 +55,7 @@ pub fn suspects_vouched<R: Role<N>, const N: usize>(
 ) -> u32
     ensures given { result ≢ 2 → result ≢ 3 → (committees : Schedule VouchedScheme) ×
         AreSizes epochs.now sizes.now committees ×
-        AreGiven (⟦<Vouched<R, N> as Audited<Sha256Digest>>⟧.basis committees)
+        AreSuspectsGiven (⟦<Vouched<R, N> as Audited<Sha256Digest>>⟧.basis committees)
         ⟦<Vouched<R, N> as Located<Sha256Digest>>⟧.places
         stream.now records.old records.new needed.new result }
     ensures refused { result ≡ 2 → (committees : Schedule VouchedScheme) →

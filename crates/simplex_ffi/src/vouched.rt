@@ -7,7 +7,7 @@ ghost use Rattle.simplex_vouched.specs.Vouched.{VouchedScheme};
 ghost use Rattle.simplex_ffi.specs.Answer.{AreStored, IsAudited};
 ghost use Rattle.simplex_ffi.specs.Sizes.{AreSizes};
 
-use crate::answer::{ARGUMENTS, MEMORY, Summary, answer};
+use crate::answer::{ARGUMENTS, MEMORY, ReportSummary, answer};
 use crate::sizes::committees;
 use crate::store::store;
 use simplex_audit::basis::Audited;
@@ -47,7 +47,7 @@ pub fn answer_vouched<R: Role<N>, const N: usize>(
     sizes: &[u32],
     stream: &[u8],
     buffer: &mut [u8],
-    summary: &mut Summary,
+    summary: &mut ReportSummary,
 ) -> u32
     ensures audited { result ≢ 2 → result ≢ 3 → (committees : Schedule VouchedScheme) ×
         AreSizes epochs.now sizes.now committees ×

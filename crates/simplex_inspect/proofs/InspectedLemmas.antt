@@ -11,7 +11,7 @@ use Rattle.simplex_base.specs.declared.codec.error.Error.{Error}
 use Rattle.simplex_audit.specs.Messages.{IsStop, IsFault}
 use Rattle.simplex_audit.specs.Progress.{fault_of}
 use Rattle.simplex_audit.specs.Run.{AppendsBeginning}
-use Rattle.simplex_inspect.specs.Inspected.{Lines, lines_from, fault_text, AreShown, IsWritten, IsBegun, IsInspected}
+use Rattle.simplex_inspect.specs.Inspected.{Lines, lines_from, fault_text, AreShown, IsWritten, IsPartShown, IsInspected}
 use Rattle.simplex_inspect.proofs.LinesLemmas.{lines_append}
 
 -- what holds whatever the error is
@@ -38,7 +38,7 @@ module _ {M : Type 0} (lines : Lines M) (input : List ℕ) (offset : ℕ) (held 
   before = lines_from lines.line lines.format.encoding 0 far.messages
 
   -- what was written is the text of the first messages
-  pub begun_now : (text : List ℕ) × IsBegun lines input text × AppendsBeginning start w0 text
+  pub begun_now : (text : List ℕ) × IsPartShown lines input text × AppendsBeginning start w0 text
   begun_now = (before, record { messages = far.messages; rest = held; whole = far.whole; each = far.each; text_is = refl }, (length before, subst (Appends start w0) (sym (take-length before)) far.written))
 
   module _ (rest : List ℕ) (next : ℕ) (stop : Option Error) (text : List ℕ) (shown : AreShown lines held rest offset next stop text) where
@@ -81,7 +81,7 @@ module _ {M : Type 0} (lines : Lines M) (input : List ℕ) (offset : ℕ) (held 
     begun_behind w1 more (count, grown) = (length before + count, subst (Appends start w1) (sym (take-append-add before more count)) (Appends-trans start w0 w1 before (take count more) far.written grown))
 
     -- a beginning of the further lines was written
-    pub begun_more : (w1 : Option (List ℕ)) → AppendsBeginning w0 w1 text → (whole : List ℕ) × IsBegun lines input whole × AppendsBeginning start w1 whole
+    pub begun_more : (w1 : Option (List ℕ)) → AppendsBeginning w0 w1 text → (whole : List ℕ) × IsPartShown lines input whole × AppendsBeginning start w1 whole
     begun_more w1 some = (
       before ++ text,
       record { messages = all; rest = rest; whole = all_whole; each = All-append lines.format.is_value far.messages shown.messages far.each shown.are_messages.each; text_is = all_lines },

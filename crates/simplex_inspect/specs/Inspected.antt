@@ -66,7 +66,7 @@ pub record IsInspected {M : Type 0} (lines : Lines M) (input : List ℕ) (fault 
   pub text_is : text ≡ lines_from lines.line lines.format.encoding 0 messages ++ fault_text fault rest
 
 -- The text is that of the first messages of the input.
-pub record IsBegun {M : Type 0} (lines : Lines M) (input : List ℕ) (text : List ℕ) : Type 0 where
+pub record IsPartShown {M : Type 0} (lines : Lines M) (input : List ℕ) (text : List ℕ) : Type 0 where
   pub messages : List M
   pub rest : List ℕ
   pub whole : input ≡ flat_map lines.format.encoding messages ++ rest
@@ -75,7 +75,7 @@ pub record IsBegun {M : Type 0} (lines : Lines M) (input : List ℕ) (text : Lis
 
 -- The text is that of the first messages of the input, or of all of it.
 abbrev pub IsPart : {M : Type 0} → Lines M → List ℕ → List ℕ → Type 0
-IsPart lines input text = IsBegun lines input text ⊎ ((fault : Option Fault) × IsInspected lines input fault text)
+IsPart lines input text = IsPartShown lines input text ⊎ ((fault : Option Fault) × IsInspected lines input fault text)
 
 -- The bytes that are held are what is left of the input behind its first messages, the offset is that of the first of them,
 -- and the lines of those messages were written.
@@ -101,7 +101,7 @@ AppendsText lines input fault old new = (text : List ℕ) × IsInspected lines i
 
 -- a beginning of the lines of the first messages of the input was written
 abbrev pub AppendsBegun : {M : Type 0} → Lines M → List ℕ → Option (List ℕ) → Option (List ℕ) → Type 0
-AppendsBegun lines input old new = (text : List ℕ) × IsBegun lines input text × AppendsBeginning old new text
+AppendsBegun lines input old new = (text : List ℕ) × IsPartShown lines input text × AppendsBeginning old new text
 
 -- the same, or a beginning of the text of the whole input was
 abbrev pub AppendsPart : {M : Type 0} → Lines M → List ℕ → Option (List ℕ) → Option (List ℕ) → Type 0

@@ -1,8 +1,8 @@
 -- The JSON of the parts of a message.
 use Rattle.std.specs.Prelude.{ℕ, List, [], ◌∷◌, ◌++◌, Option, Some, None, codes, decimal}
 use Rattle.hex.specs.Hex.{encode_lower}
-use Rattle.simplex_inspect.specs.declared.verdict.Verdict.{Verdict}
-use Rattle.simplex_inspect.specs.declared.verdict.Verdict.TheVariants.{Valid, NoCommittee, OutsideSigner, WrongSignature, TooFew, WrongAttestation}
+use Rattle.simplex_inspect.specs.declared.validity.Validity.{Validity}
+use Rattle.simplex_inspect.specs.declared.validity.Validity.TheVariants.{Valid, NoCommittee, OutsideSigner, WrongSignature, TooFew, WrongAttestation}
 
 -- some texts, each behind a comma
 abbrev pub each_behind : List (List ℕ) → List ℕ
@@ -14,20 +14,20 @@ abbrev pub listed_texts : List (List ℕ) → List ℕ
 listed_texts [] = []
 listed_texts (text ∷ rest) = text ++ each_behind rest
 
--- the fields of a verdict; there are none where nobody judges
-abbrev pub verdict_json : Option Verdict → List ℕ
-verdict_json None = []
-verdict_json (Some Valid) = codes ",\"valid\":true"
-verdict_json (Some NoCommittee) = codes ",\"valid\":false,\"why\":\"no committee for the epoch\""
-verdict_json (Some OutsideSigner) = codes ",\"valid\":false,\"why\":\"signer outside the committee\""
-verdict_json (Some WrongSignature) = codes ",\"valid\":false,\"why\":\"signature does not verify\""
-verdict_json (Some TooFew) = codes ",\"valid\":false,\"why\":\"fewer signatures than a quorum\""
-verdict_json (Some WrongAttestation) = codes ",\"valid\":false,\"why\":\"a listed signature is not valid\""
+-- the fields that say what is valid; there are none where nobody judges
+abbrev pub validity_json : Option Validity → List ℕ
+validity_json None = []
+validity_json (Some Valid) = codes ",\"valid\":true"
+validity_json (Some NoCommittee) = codes ",\"valid\":false,\"why\":\"no committee for the epoch\""
+validity_json (Some OutsideSigner) = codes ",\"valid\":false,\"why\":\"signer outside the committee\""
+validity_json (Some WrongSignature) = codes ",\"valid\":false,\"why\":\"signature does not verify\""
+validity_json (Some TooFew) = codes ",\"valid\":false,\"why\":\"fewer signatures than a quorum\""
+validity_json (Some WrongAttestation) = codes ",\"valid\":false,\"why\":\"a listed signature is not valid\""
 
--- a signature with its signer and the verdict on it
-abbrev pub signature_json : ℕ → List ℕ → Option Verdict → List ℕ
-signature_json signer signature verdict =
-    codes "{\"signer\":" ++ (decimal signer ++ (codes ",\"signature\":\"" ++ (encode_lower signature ++ (codes "\"" ++ (verdict_json verdict ++ codes "}")))))
+-- a signature with its signer and its validity
+abbrev pub signature_json : ℕ → List ℕ → Option Validity → List ℕ
+signature_json signer signature validity =
+    codes "{\"signer\":" ++ (decimal signer ++ (codes ",\"signature\":\"" ++ (encode_lower signature ++ (codes "\"" ++ (validity_json validity ++ codes "}")))))
 
 -- the fields of a vote for a proposal
 abbrev pub proposal_json : List ℕ → ℕ → List ℕ → List ℕ

@@ -1,4 +1,4 @@
-pub mod Verdict
+pub mod Validity
 pub mod Json
 pub mod Shown
 pub mod Line

@@ -6,8 +6,8 @@ use Rattle.simplex_evidence.specs.Activity.{activity_round}
 use Rattle.simplex_evidence.specs.declared.types.activity.Activity.{Activity}
 use Rattle.simplex_evidence.specs.declared.types.activity.Activity.TheVariants as activity
 use Rattle.simplex_votes.specs.Votes.{vote_on}
-use Rattle.simplex_inspect.specs.Json.{listed_texts, verdict_json, signature_json, proposal_json, nullify_json, head_json}
-use Rattle.simplex_inspect.specs.Shown.{Shown, signature_verdict, certificate_verdict}
+use Rattle.simplex_inspect.specs.Json.{listed_texts, validity_json, signature_json, proposal_json, nullify_json, head_json}
+use Rattle.simplex_inspect.specs.Shown.{Shown, signature_validity, certificate_validity}
 
 -- the fields of a subject, up to the signatures of it
 abbrev pub subject_json : {D : Type 0} → (D → List ℕ) → SubjectValue D → List ℕ
@@ -15,19 +15,19 @@ subject_json bytes_of (Notarizes p) = proposal_json (codes "notarize") p.parent 
 subject_json bytes_of (Nullifies r) = nullify_json
 subject_json bytes_of (Finalizes p) = proposal_json (codes "finalize") p.parent (bytes_of p.payload)
 
--- an attestation of a subject, with the verdict on its signature
+-- an attestation of a subject, with the validity of its signature
 abbrev pub attestation_json : {S D C P G : Type 0} → Shown S D C P G → SubjectValue D → Attestation S P G → List ℕ
-attestation_json shown x a = signature_json a.signer (shown.signature_bytes a.signature) (option_map (λ rules. signature_verdict rules (vote_on x a)) shown.rules)
+attestation_json shown x a = signature_json a.signer (shown.signature_bytes a.signature) (option_map (λ rules. signature_validity rules (vote_on x a)) shown.rules)
 
 -- a vote: its subject, and its signature
 abbrev pub vote_json : {S D C P G : Type 0} → Shown S D C P G → SubjectValue D → Attestation S P G → List ℕ
 vote_json shown x a = subject_json shown.payload_bytes x ++ (attestation_json shown x a ++ codes "]}")
 
--- a certificate: its subject, the signatures that it lists, and the verdict on it
+-- a certificate: its subject, the signatures that it lists, and its validity
 abbrev pub certificate_json : {S D C P G : Type 0} → Shown S D C P G → SubjectValue D → C → List ℕ
 certificate_json shown x certificate =
     subject_json shown.payload_bytes x ++ (listed_texts (map (attestation_json shown x) (shown.listed certificate)) ++
-    (codes "]" ++ (verdict_json (option_map (λ rules. certificate_verdict rules x certificate) shown.rules) ++ codes "}")))
+    (codes "]" ++ (validity_json (option_map (λ rules. certificate_validity rules x certificate) shown.rules) ++ codes "}")))
 
 -- two votes
 abbrev pub two_votes_json : {S D C P G : Type 0} → Shown S D C P G → SubjectValue D → Attestation S P G → SubjectValue D → Attestation S P G → List ℕ
@@ -47,19 +47,19 @@ statements_json shown (activity.ConflictingFinalize c) = two_votes_json shown (F
 statements_json shown (activity.NullifyFinalize c) = two_votes_json shown (Nullifies c.first.round) c.first.attestation (Finalizes c.second.proposal) c.second.attestation
 
 -- the word of a kind of message
-abbrev pub kind_word : {S D C P G : Type 0} → Activity S D C P G → List ℕ
-kind_word (activity.Notarize v) = codes "notarize"
-kind_word (activity.Notarization n) = codes "notarization"
-kind_word (activity.Certification n) = codes "certification"
-kind_word (activity.Nullify v) = codes "nullify"
-kind_word (activity.Nullification n) = codes "nullification"
-kind_word (activity.Finalize v) = codes "finalize"
-kind_word (activity.Finalization n) = codes "finalization"
-kind_word (activity.ConflictingNotarize c) = codes "conflicting-notarize"
-kind_word (activity.ConflictingFinalize c) = codes "conflicting-finalize"
-kind_word (activity.NullifyFinalize c) = codes "nullify-finalize"
+abbrev pub message_word : {S D C P G : Type 0} → Activity S D C P G → List ℕ
+message_word (activity.Notarize v) = codes "notarize"
+message_word (activity.Notarization n) = codes "notarization"
+message_word (activity.Certification n) = codes "certification"
+message_word (activity.Nullify v) = codes "nullify"
+message_word (activity.Nullification n) = codes "nullification"
+message_word (activity.Finalize v) = codes "finalize"
+message_word (activity.Finalization n) = codes "finalization"
+message_word (activity.ConflictingNotarize c) = codes "conflicting-notarize"
+message_word (activity.ConflictingFinalize c) = codes "conflicting-finalize"
+message_word (activity.NullifyFinalize c) = codes "nullify-finalize"
 
 -- the line of a message of some bytes that begins at an offset, with the line's end
 abbrev pub line_json : {S D C P G : Type 0} → Shown S D C P G → ℕ → ℕ → Activity S D C P G → List ℕ
 line_json shown offset len m =
-    head_json offset len (kind_word m) (activity_round m).epoch (activity_round m).view ++ (statements_json shown m ++ codes "]}\n")
+    head_json offset len (message_word m) (activity_round m).epoch (activity_round m).view ++ (statements_json shown m ++ codes "]}\n")

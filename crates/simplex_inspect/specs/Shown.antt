@@ -1,4 +1,4 @@
--- What messages are shown by, and the verdicts on what they hold.
+-- What messages are shown by, and the validity of what they hold.
 use Rattle.std.specs.Prelude.{ℕ, Bool, List, length, Option, option_map}
 use Rattle.simplex_scheme.specs.Committee.{quorum_of}
 use Rattle.simplex_scheme.specs.Subject.{SubjectValue, round_of}
@@ -6,8 +6,8 @@ use Rattle.simplex_scheme.specs.declared.scheme.Attestation.{Attestation}
 use Rattle.simplex_votes.specs.Votes.{SignedVote}
 use Rattle.simplex_detector.specs.Committees.{Schedule, rules_of}
 use Rattle.simplex_detector.specs.Rules.{Rules, is_valid}
-use Rattle.simplex_inspect.specs.Verdict.{verdict_on_signature, verdict_on_certificate}
-use Rattle.simplex_inspect.specs.declared.verdict.Verdict.{Verdict}
+use Rattle.simplex_inspect.specs.Validity.{validity_of_signature, validity_of_certificate}
+use Rattle.simplex_inspect.specs.declared.validity.Validity.{Validity}
 
 -- What messages are shown by: the rules by which an audit judges them, where committees are given, what a certificate
 -- lists, and the bytes of payloads and of signatures.
@@ -26,11 +26,11 @@ shown_of payload_bytes signature_bytes eq keys good certified listed committees 
   signature_bytes = signature_bytes;
 }
 
--- the verdict on the signature of a vote
-abbrev pub signature_verdict : {S D C P G : Type 0} → Rules S D C P G → SignedVote D G → Verdict
-signature_verdict rules v = verdict_on_signature (is_valid rules v) (rules.size (round_of v.subject).epoch) v.signer
+-- the validity of the signature of a vote
+abbrev pub signature_validity : {S D C P G : Type 0} → Rules S D C P G → SignedVote D G → Validity
+signature_validity rules v = validity_of_signature (is_valid rules v) (rules.size (round_of v.subject).epoch) v.signer
 
--- the verdict on a certificate of a subject
-abbrev pub certificate_verdict : {S D C P G : Type 0} → Rules S D C P G → SubjectValue D → C → Verdict
-certificate_verdict rules x certificate =
-    verdict_on_certificate (rules.certified x certificate) (rules.size (round_of x).epoch) (quorum_of (rules.size (round_of x).epoch)) (length (rules.listed certificate))
+-- the validity of a certificate of a subject
+abbrev pub certificate_validity : {S D C P G : Type 0} → Rules S D C P G → SubjectValue D → C → Validity
+certificate_validity rules x certificate =
+    validity_of_certificate (rules.certified x certificate) (rules.size (round_of x).epoch) (quorum_of (rules.size (round_of x).epoch)) (length (rules.listed certificate))

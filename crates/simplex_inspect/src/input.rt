@@ -9,7 +9,7 @@ ghost use Rattle.simplex_inspect.specs.Left.{IsLeft, bytes_seen};
 use crate::basis::Inspected;
 use crate::inspect::{finish, write_text};
 use crate::left::Left;
-use crate::reading::{Reading, read_lines};
+use crate::reading::{ReadLines, read_lines};
 use simplex_audit::audit::{Fault, RunError, Watched};
 use simplex_detector::committees::Committees;
 use simplex_scheme::scheme::{Digest, Listing};
@@ -121,7 +121,7 @@ fn advance<S: Listing<D>, D: Digest, W: Write>(
         tried: _,
     } = left;
     let reading = read_lines::<S, D>(alloc, committees, offset, held.as_slice())?;
-    let Reading {
+    let ReadLines {
         text,
         offset: next,
         rest,

@@ -7,12 +7,12 @@ ghost use Rattle.simplex_scheme.specs.Subject.{Notarizes, Nullifies, Finalizes, 
 ghost use Rattle.simplex_detector.specs.Committees.{valid_by, certified_by, size_by};
 ghost use Rattle.simplex_votes.specs.Votes.{vote_on};
 ghost use Rattle.simplex_inspect.specs.Json.{each_behind, listed_texts};
-ghost use Rattle.simplex_inspect.specs.Line.{subject_json, attestation_json, vote_json, certificate_json, statements_json, kind_word};
-ghost use Rattle.simplex_inspect.specs.Shown.{signature_verdict, certificate_verdict};
+ghost use Rattle.simplex_inspect.specs.Line.{subject_json, attestation_json, vote_json, certificate_json, statements_json, message_word};
+ghost use Rattle.simplex_inspect.specs.Shown.{signature_validity, certificate_validity};
 
 use crate::basis::Inspected;
-use crate::parts::{head_json, proposal_json, signature_json, verdict_json};
-use crate::verdict::{Verdict, verdict_on_certificate, verdict_on_signature};
+use crate::parts::{head_json, proposal_json, signature_json, validity_json};
+use crate::validity::{Validity, validity_of_certificate, validity_of_signature};
 use simplex_base::codec::Fixed;
 use simplex_base::positions::Roundable;
 use simplex_detector::committees::Committees;
@@ -74,14 +74,14 @@ fn is_certified<S: Listing<D>, D: Digest>(
     }
 }
 
-/// The verdict on a signature, where there are committees.
-fn signature_verdict<S: Listing<D>, D: Digest>(
+/// The validity of a signature, where there are committees.
+fn signature_validity<S: Listing<D>, D: Digest>(
     committees: &Option<Committees<S>>,
     subject: &Subject<'_, D>,
     attestation: &Attestation<S>,
-) -> Option<Verdict>
+) -> Option<Validity>
     ensures { result ≡ option_map (λ rules.
-        signature_verdict rules (vote_on (subject_value subject.now) attestation.now))
+        signature_validity rules (vote_on (subject_value subject.now) attestation.now))
         (⟦<S as Inspected<D>>⟧.shown committees.now).rules }
 {
     let Some(committees) = committees else {
@@ -90,17 +90,17 @@ fn signature_verdict<S: Listing<D>, D: Digest>(
     let committee = committees.get(subject.round().epoch());
     let valid = is_valid(committee, subject, attestation);
     let size = size_of(committee) as usize;
-    Some(verdict_on_signature(valid, size, attestation.signer.get()))
+    Some(validity_of_signature(valid, size, attestation.signer.get()))
 }
 
-/// The verdict on a certificate, where there are committees.
-fn certificate_verdict<S: Listing<D>, D: Digest>(
+/// The validity of a certificate, where there are committees.
+fn certificate_validity<S: Listing<D>, D: Digest>(
     committees: &Option<Committees<S>>,
     subject: &Subject<'_, D>,
     certificate: &S::Certificate,
-) -> Option<Verdict>
+) -> Option<Validity>
     ensures { result ≡ option_map (λ rules.
-        certificate_verdict rules (subject_value subject.now) certificate.now)
+        certificate_validity rules (subject_value subject.now) certificate.now)
         (⟦<S as Inspected<D>>⟧.shown committees.now).rules }
 {
     let Some(committees) = committees else {
@@ -110,7 +110,7 @@ fn certificate_verdict<S: Listing<D>, D: Digest>(
     let valid = is_certified(committee, subject, certificate);
     let size = size_of(committee);
     let count = S::attestations(certificate).len();
-    Some(verdict_on_certificate(valid, size as usize, quorum_among(size), count))
+    Some(validity_of_certificate(valid, size as usize, quorum_among(size), count))
 }
 
 /// The fields of a subject, up to the signatures of it.
@@ -134,7 +134,7 @@ fn subject_json<D: Digest>(alloc: Global, subject: &Subject<'_, D>) -> Result<St
     }
 }
 
-/// An attestation of a subject, with the verdict on its signature.
+/// An attestation of a subject, with the validity of its signature.
 fn attestation_json<S: Listing<D>, D: Digest>(
     alloc: Global,
     committees: &Option<Committees<S>>,
@@ -145,9 +145,9 @@ fn attestation_json<S: Listing<D>, D: Digest>(
         attestation_json (⟦<S as Inspected<D>>⟧.shown committees.now)
         (subject_value subject.now) attestation.now) }
 {
-    let verdict = signature_verdict(committees, subject, attestation);
+    let validity = signature_validity(committees, subject, attestation);
     let signer = attestation.signer.get();
-    signature_json(alloc, signer, attestation.signature.as_bytes(), verdict)
+    signature_json(alloc, signer, attestation.signature.as_bytes(), validity)
 }
 
 /// Attestations of a subject, each behind a comma.
@@ -205,7 +205,7 @@ fn vote_json<S: Listing<D>, D: Digest>(
     format!(in alloc; "{says}{signature}]}}")
 }
 
-/// A certificate: its subject, the signatures that it lists, and the verdict on it.
+/// A certificate: its subject, the signatures that it lists, and its validity.
 fn certificate_json<S: Listing<D>, D: Digest>(
     alloc: Global,
     committees: &Option<Committees<S>>,
@@ -219,8 +219,8 @@ fn certificate_json<S: Listing<D>, D: Digest>(
     let says = subject_json(alloc, subject)?;
     let attestations = S::attestations(certificate);
     let signatures = attestations_json(alloc, committees, subject, attestations)?;
-    let verdict = verdict_json(certificate_verdict(committees, subject, certificate));
-    format!(in alloc; "{says}{signatures}]{verdict}}}")
+    let validity = validity_json(certificate_validity(committees, subject, certificate));
+    format!(in alloc; "{says}{signatures}]{validity}}}")
 }
 
 /// A notarize.
@@ -338,8 +338,8 @@ fn statements_json<S: Listing<D>, D: Digest>(
 }
 
 /// The word of a kind of message.
-fn kind_word<S: CertificateScheme, D: Digest>(message: &Activity<S, D>) -> &'static str
-    ensures { result.now ≡ kind_word message.now }
+fn message_word<S: CertificateScheme, D: Digest>(message: &Activity<S, D>) -> &'static str
+    ensures { result.now ≡ message_word message.now }
 {
     match message {
         Activity::Notarize(_) => "notarize",
@@ -369,7 +369,7 @@ pub fn line<S: Listing<D>, D: Digest>(
 {
     let round = message.round();
     let place = (round.epoch().get(), round.view().get());
-    let head = head_json(alloc, offset, length, kind_word(message), place)?;
+    let head = head_json(alloc, offset, length, message_word(message), place)?;
     let statements = statements_json(alloc, committees, message)?;
     format!(in alloc; "{head}{statements}]}}\n")
 }

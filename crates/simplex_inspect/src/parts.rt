@@ -1,44 +1,44 @@
 //! The JSON of the parts of a message. Numbers are decimal, bytes lower-case hexadecimal.
 
 ghost use Rattle.std.specs.Prelude.{◌≡◌, IfOk, string_bytes};
-ghost use Rattle.simplex_inspect.specs.Json.{verdict_json, signature_json, proposal_json, head_json};
+ghost use Rattle.simplex_inspect.specs.Json.{validity_json, signature_json, proposal_json, head_json};
 
-use crate::verdict::Verdict;
+use crate::validity::Validity;
 use std::alloc::{AllocError, Global};
 
-/// The fields of a verdict, each behind a comma; none where nobody judges.
-pub fn verdict_json(verdict: Option<Verdict>) -> &'static str
-    ensures { result.now ≡ verdict_json verdict }
+/// The fields that say what is valid, each behind a comma; none where nobody judges.
+pub fn validity_json(validity: Option<Validity>) -> &'static str
+    ensures { result.now ≡ validity_json validity }
 {
-    match verdict {
+    match validity {
         None => "",
-        Some(Verdict::Valid) => ",\"valid\":true",
-        Some(Verdict::NoCommittee) => { ",\"valid\":false,\"why\":\"no committee for the epoch\"" }
-        Some(Verdict::OutsideSigner) => {
+        Some(Validity::Valid) => ",\"valid\":true",
+        Some(Validity::NoCommittee) => { ",\"valid\":false,\"why\":\"no committee for the epoch\"" }
+        Some(Validity::OutsideSigner) => {
             ",\"valid\":false,\"why\":\"signer outside the committee\""
         }
-        Some(Verdict::WrongSignature) => {
+        Some(Validity::WrongSignature) => {
             ",\"valid\":false,\"why\":\"signature does not verify\""
         }
-        Some(Verdict::TooFew) => { ",\"valid\":false,\"why\":\"fewer signatures than a quorum\"" }
-        Some(Verdict::WrongAttestation) => {
+        Some(Validity::TooFew) => { ",\"valid\":false,\"why\":\"fewer signatures than a quorum\"" }
+        Some(Validity::WrongAttestation) => {
             ",\"valid\":false,\"why\":\"a listed signature is not valid\""
         }
     }
 }
 
-/// A signature with its signer and the verdict on it.
+/// A signature with its signer and its validity.
 pub fn signature_json(
     alloc: Global,
     signer: u32,
     signature: &[u8],
-    verdict: Option<Verdict>,
+    validity: Option<Validity>,
 ) -> Result<String, AllocError>
     ensures { IfOk result (λ text.
-        string_bytes text ≡ signature_json signer signature.now verdict) }
+        string_bytes text ≡ signature_json signer signature.now validity) }
 {
     let digits = hex::encode(alloc, signature)?;
-    let fields = verdict_json(verdict);
+    let fields = validity_json(validity);
     format!(in alloc; "{{\"signer\":{signer},\"signature\":\"{digits}\"{fields}}}")
 }
 

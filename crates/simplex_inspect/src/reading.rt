@@ -1,7 +1,6 @@
 //! The lines of the messages that begin some bytes.
 
 ghost use Rattle.std.specs.Prelude.{◌≡◌, ◌≢◌, ◌+◌, ◌<◌, ◌^◌, length, IfOk, string_bytes};
-ghost use Rattle.simplex_base.specs.Format.{IsLawful};
 ghost use Rattle.simplex_inspect.specs.Inspected.{AreShown, bound_under};
 
 use crate::basis::Inspected;
@@ -15,7 +14,7 @@ use std::alloc::{AllocError, Global};
 
 /// What was read of some bytes.
 #[derive(Drop)]
-pub struct Reading<'a> {
+pub struct ReadLines<'a> {
     /// The lines of the messages.
     pub text: String,
     /// The offset of the bytes after the last message.
@@ -54,7 +53,7 @@ pub fn read_lines<'a, S: Listing<D>, D: Digest>(
     committees: &Option<Committees<S>>,
     offset: usize,
     bytes: &'a [u8],
-) -> Result<Reading<'a>, AllocError>
+) -> Result<ReadLines<'a>, AllocError>
     requires { offset + length bytes.now < 2 ^ 64 }
     ensures shown { IfOk result (λ r.
         AreShown (⟦<S as Inspected<D>>⟧.lines committees.now) bytes.now r.rest.now
@@ -78,7 +77,7 @@ pub fn read_lines<'a, S: Listing<D>, D: Digest>(
             }
             Err(error) => {
                 let stop = Some(refusal(error)?);
-                return Ok(Reading {
+                return Ok(ReadLines {
                     text,
                     offset: place,
                     rest,
@@ -87,7 +86,7 @@ pub fn read_lines<'a, S: Listing<D>, D: Digest>(
             }
         }
     }
-    Ok(Reading {
+    Ok(ReadLines {
         text,
         offset: place,
         rest,

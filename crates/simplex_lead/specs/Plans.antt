@@ -1,5 +1,5 @@
 -- Which plans are the same, and which are clones of others.
-use Rattle.std.specs.Prelude.{◌≡◌, Bool, true, false, ⊤, ◌&&◌, nat_eq, length}
+use Rattle.std.specs.Prelude.{◌≡◌, Bool, true, false, ⊤, ◌&&◌, length}
 use Rattle.std.specs.List.{AllZip}
 use Rattle.std.specs.Cmp.Lexicographic.{pointwise}
 use Rattle.simplex_base.specs.Positions.{same_round}

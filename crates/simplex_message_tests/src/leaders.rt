@@ -3,7 +3,6 @@
 ghost use Rattle.std.specs.Prelude.{◌≡◌, ◌≤◌, ◌-◌, ◌∷◌, [], length, refl};
 ghost use Rattle.std.specs.List.{fold};
 ghost use Rattle.simplex_base.specs.Positions as positions;
-ghost use Rattle.simplex_lead.specs.Terms as structure;
 ghost use Rattle.simplex_lead.specs.declared.elector.mode.Mode.TheVariants.{Dynamic};
 
 use crate::without_memory::is_out;

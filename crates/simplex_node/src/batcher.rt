@@ -1,6 +1,6 @@
 //! Collects the notarizes of one proposal until they make a notarization.
 
-ghost use Rattle.std.specs.Prelude.{◌≡◌, ◌<◌, ◌≤◌, ◌↔◌, ◌++◌, ◌∷◌, ◌⊎◌, List, [], Ok, None, IfOk, IfSome, IsSome, IsTrue, MatchResult, length, map, true};
+ghost use Rattle.std.specs.Prelude.{◌≡◌, ◌<◌, ◌↔◌, ◌++◌, ◌∷◌, ◌⊎◌, List, [], Ok, None, IfOk, IfSome, IsSome, IsTrue, MatchResult, length, map, true};
 ghost use Rattle.simplex_scheme.specs.Subject.{Notarizes};
 ghost use Rattle.simplex_node.specs.Batch.{HasTaken, HasQuorum, is_wanted, signers_in};
 

@@ -5,7 +5,7 @@ use Rattle.std.specs.BTreeMap.{get}
 use Rattle.std.specs.List.{AllZip, flat_map, list_any}
 use Rattle.std.proofs.lemmas.List.Elements.{All-head, All-tail}
 use Rattle.simplex_votes.specs.Votes.{SignedVote}
-use Rattle.simplex_evidence.specs.Contradiction.{Evidence}
+use Rattle.simplex_evidence.specs.Contradiction.{Equivocation}
 use Rattle.simplex_detector.specs.Evidence.{IsEquivocation}
 use Rattle.simplex_places.specs.FirstPlaces.{AreSought, IsSought, NotesAlong, first_place, has_key, or_found}
 use Rattle.simplex_places.specs.Records.{IsFirstPlace, IsRecord, found_place, record_by}
@@ -32,7 +32,7 @@ module _ {M D G K : Type 0} (cmp : K → K → Ordering) (eq : K → K → Bool)
       (subst (IsFirstPlace test encoding messages) (sym (ap found_place got ∙ zero-add p)) at)
 
   -- an evidence whose votes were sought
-  record_stands : (payload_eq : D → D → Bool) (e : Evidence D G) → IsEquivocation payload_eq (filter keep (flat_map votes messages)) e → AreSought cmp key_of before e →
+  record_stands : (payload_eq : D → D → Bool) (e : Equivocation D G) → IsEquivocation payload_eq (filter keep (flat_map votes messages)) e → AreSought cmp key_of before e →
       IsRecord (λ v m. list_any (same v) (votes m)) encoding messages e (record_by cmp key_of after e)
   record_stands payload_eq e casts sought = record {
     epoch_is = refl;
@@ -44,7 +44,7 @@ module _ {M D G K : Type 0} (cmp : K → K → Ordering) (eq : K → K → Bool)
   }
 
   -- all of some evidence
-  pub records_stand : {E : Type 0} (value : E → Evidence D G) (payload_eq : D → D → Bool) (es : List E) → All (IsEquivocation payload_eq (filter keep (flat_map votes messages))) (map value es) →
+  pub records_stand : {E : Type 0} (value : E → Equivocation D G) (payload_eq : D → D → Bool) (es : List E) → All (IsEquivocation payload_eq (filter keep (flat_map votes messages))) (map value es) →
       All (λ e. AreSought cmp key_of before (value e)) es →
       AllZip (IsRecord (λ v m. list_any (same v) (votes m)) encoding messages) (map value es) (map (λ e. record_by cmp key_of after (value e)) es)
   records_stand value payload_eq [] casts sought = tt

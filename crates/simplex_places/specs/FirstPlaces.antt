@@ -6,7 +6,7 @@ use Rattle.std.specs.Option.{option_map, option_or}
 use Rattle.std.specs.declared.cmp.Ordering.{Ordering}
 use Rattle.simplex_base.specs.Format.{Format}
 use Rattle.simplex_votes.specs.Votes.{SignedVote}
-use Rattle.simplex_evidence.specs.Contradiction.{Evidence}
+use Rattle.simplex_evidence.specs.Contradiction.{Equivocation}
 use Rattle.simplex_audit.specs.Messages.{AreMessages}
 
 -- what is known of a key that may be sought, after it may have been found: the first place stays
@@ -47,5 +47,5 @@ abbrev pub IsSought : {K : Type 0} → (K → K → Ordering) → BTreeMap K (Op
 IsSought cmp places key = get cmp places key ≡ Some None
 
 -- those of both votes of an evidence are
-abbrev pub AreSought : {D G K : Type 0} → (K → K → Ordering) → (SignedVote D G → K) → BTreeMap K (Option ℕ) → Evidence D G → Type 0
+abbrev pub AreSought : {D G K : Type 0} → (K → K → Ordering) → (SignedVote D G → K) → BTreeMap K (Option ℕ) → Equivocation D G → Type 0
 AreSought cmp key_of places e = IsSought cmp places (key_of e.first) × IsSought cmp places (key_of e.second)

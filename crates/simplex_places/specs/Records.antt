@@ -5,7 +5,7 @@ use Rattle.std.specs.List.{AllZip, flat_map}
 use Rattle.std.specs.declared.cmp.Ordering.{Ordering}
 use Rattle.simplex_scheme.specs.Subject.{round_of}
 use Rattle.simplex_votes.specs.Votes.{SignedVote}
-use Rattle.simplex_evidence.specs.Contradiction.{Evidence}
+use Rattle.simplex_evidence.specs.Contradiction.{Equivocation}
 use Rattle.simplex_evidence.specs.declared.types.activity.Activity.{Activity}
 use Rattle.simplex_detector.specs.Accusation.{kind_rank}
 use Rattle.simplex_audit.specs.Basis.{Basis}
@@ -25,7 +25,7 @@ pub record IsFirstPlace {M : Type 0} (test : M → Bool) (encoding : M → List 
   pub place_is : place ≡ length (flat_map encoding before)
 
 -- The record is that of an evidence: whom it accuses, of what, and where the first messages begin that carry its votes.
-pub record IsRecord {M D G : Type 0} (carries : SignedVote D G → M → Bool) (encoding : M → List ℕ) (messages : List M) (e : Evidence D G) (found : Record) : Type 0 where
+pub record IsRecord {M D G : Type 0} (carries : SignedVote D G → M → Bool) (encoding : M → List ℕ) (messages : List M) (e : Equivocation D G) (found : Record) : Type 0 where
   pub epoch_is : found.epoch ≡ (round_of e.first.subject).epoch
   pub view_is : found.view ≡ (round_of e.first.subject).view
   pub signer_is : found.signer ≡ e.first.signer
@@ -43,7 +43,7 @@ found_place (Some (Some place)) = place
 found_place _ = 0
 
 -- the record of an evidence, by what was found of its votes
-abbrev pub record_by : {D G K : Type 0} → (K → K → Ordering) → (SignedVote D G → K) → BTreeMap K (Option ℕ) → Evidence D G → Record
+abbrev pub record_by : {D G K : Type 0} → (K → K → Ordering) → (SignedVote D G → K) → BTreeMap K (Option ℕ) → Equivocation D G → Record
 record_by cmp key_of places e = record {
   epoch = (round_of e.first.subject).epoch;
   view = (round_of e.first.subject).view;

@@ -27,11 +27,11 @@ abbrev pub carries : {S D C P G : Type 0} → (D → D → Bool) → (G → G �
 carries payload_eq signature_eq listed v m = list_any (same_signed_vote payload_eq signature_eq v) (votes_in listed m)
 
 -- what a vote says, as a key
-abbrev pub said_in : {D : Type 0} → SubjectValue D → Said D
-said_in (Notarizes p) = said.Notarizes p
-said_in (Nullifies r) = said.Nullifies r
-said_in (Finalizes p) = said.Finalizes p
+abbrev pub said_value : {D : Type 0} → SubjectValue D → Said D
+said_value (Notarizes p) = said.Notarizes p
+said_value (Nullifies r) = said.Nullifies r
+said_value (Finalizes p) = said.Finalizes p
 
 -- a vote as a key
 abbrev pub vote_key : {D G : Type 0} → SignedVote D G → VoteKey D G
-vote_key v = record { said = said_in v.subject; signer = v.signer; signature = v.signature }
+vote_key v = record { said = said_value v.subject; signer = v.signer; signature = v.signature }

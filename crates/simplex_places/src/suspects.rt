@@ -1,6 +1,6 @@
 //! The attestations of a stream that have to be verified.
 
-ghost use Rattle.std.specs.Prelude.{◌≡◌, ◌&&◌, ◌↔◌, ℕ, List, Bool, IsTrue, IfOk, filter, map, nat_lt};
+ghost use Rattle.std.specs.Prelude.{◌≡◌, ◌&&◌, ℕ, List, IfOk, nat_lt};
 ghost use Rattle.std.specs.BTreeSet.{contains};
 ghost use Rattle.simplex_base.specs.Positions as positions;
 ghost use Rattle.simplex_evidence.specs.declared.types.activity.Activity as activities;

@@ -1,10 +1,10 @@
 //! Votes as keys, by which they are looked up.
 
 ghost use Rattle.std.specs.Prelude.{◌≡◌, refl};
-ghost use Rattle.simplex_scheme.specs.Subject.{SubjectValue, Notarizes, Nullifies, Finalizes, subject_value};
+ghost use Rattle.simplex_scheme.specs.Subject.{Notarizes, Nullifies, Finalizes, subject_value};
 ghost use Rattle.simplex_votes.specs.Votes.{SignedVote, notarize_vote, nullify_vote, finalize_vote, vote_on};
 ghost use Rattle.simplex_detector.specs.Values.{evidence_value};
-ghost use Rattle.simplex_places.specs.Votes.{said_in, same_signed_vote, vote_key};
+ghost use Rattle.simplex_places.specs.Votes.{said_value, same_signed_vote, vote_key};
 ghost use Rattle.simplex_places.specs.KeyLaws.{keys_alike};
 
 use simplex_base::positions::{Participant, Round};
@@ -69,7 +69,7 @@ impl<D: Digest, G: Signature> Key<D, G> for VoteKey<D, G> {
 
 /// What a subject says.
 fn said_in<D: Digest>(subject: &Subject<'_, D>) -> Said<D>
-    ensures { result ≡ said_in (subject_value subject.now) }
+    ensures { result ≡ said_value (subject_value subject.now) }
 {
     match subject {
         Subject::Notarize { proposal } => Said::Notarizes(**proposal),

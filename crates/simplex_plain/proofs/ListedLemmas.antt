@@ -14,28 +14,28 @@ use Rattle.simplex_plain.specs.ListedLaws.{attestations_take}
 use Rattle.simplex_scheme.specs.declared.scheme.Attestation.{Attestation}
 
 -- what is read behind a front
-abbrev pub behind : {X : Type 0} → List X → Reading (List X) → Reading (List X)
-behind front read = read >>= λ others. Ok (front ++ others.0, others.1)
+abbrev pub with_front : {X : Type 0} → List X → Reading (List X) → Reading (List X)
+with_front front read = read >>= λ others. Ok (front ++ others.0, others.1)
 
 -- the front was read of the bytes, and a number of attestations are left in the rest
 pub record SoFar {S P G : Type 0} (signature : Format G) (bound count : ℕ) (bytes : List ℕ) (front : List (Attestation S P G)) (least left : ℕ) (rest : List ℕ) : Type 0 where
-  pub is : attestations_at signature bound 0 count bytes ≡ behind front (attestations_at signature bound least left rest)
+  pub is : attestations_at signature bound 0 count bytes ≡ with_front front (attestations_at signature bound least left rest)
 
-behind_none : {X : Type 0} (read : Reading (List X)) → read ≡ behind [] read
-behind_none (Ok x) = refl
-behind_none (Err e) = refl
+with_front_none : {X : Type 0} (read : Reading (List X)) → read ≡ with_front [] read
+with_front_none (Ok x) = refl
+with_front_none (Err e) = refl
 
 pub none_read : {S P G : Type 0} (signature : Format G) (bound count : ℕ) (bytes : List ℕ) → SoFar {S = S} {P = P} signature bound count bytes [] 0 count bytes
-none_read signature bound count bytes = record { is = behind_none (attestations_at signature bound 0 count bytes) }
+none_read signature bound count bytes = record { is = with_front_none (attestations_at signature bound 0 count bytes) }
 
-behind_more : {X : Type 0} (front : List X) (x : X) (read : Reading (List X)) → behind front (behind (x ∷ []) read) ≡ behind (front ++ x ∷ []) read
-behind_more front x (Ok r) = ap (λ (xs : List _). Ok (xs, r.1)) (sym (append_assoc front (x ∷ []) r.0))
-behind_more front x (Err e) = refl
+with_front_more : {X : Type 0} (front : List X) (x : X) (read : Reading (List X)) → with_front front (with_front (x ∷ []) read) ≡ with_front (front ++ x ∷ []) read
+with_front_more front x (Ok r) = ap (λ (xs : List _). Ok (xs, r.1)) (sym (append_assoc front (x ∷ []) r.0))
+with_front_more front x (Err e) = refl
 
 pub read_more : {S P G : Type 0} (signature : Format G) (bound count : ℕ) (bytes : List ℕ) (front : List (Attestation S P G)) (least left : ℕ) (rest : List ℕ) (a : Attestation S P G) (more : List ℕ) → SoFar signature bound count bytes front least (suc left) rest → attestation_at signature bound least rest ≡ Ok (a, more) → SoFar signature bound count bytes (front ++ a ∷ []) (a.signer + 1) left more
 unfolding attestations_at
 read_more signature bound count bytes front least left rest a more so e = record {
-  is = so.is ∙ rw e (behind_more front a (attestations_at signature bound (a.signer + 1) left more));
+  is = so.is ∙ rw e (with_front_more front a (attestations_at signature bound (a.signer + 1) left more));
 }
 
 read_refused : {S P G : Type 0} (signature : Format G) (bound count : ℕ) (bytes : List ℕ) (front : List (Attestation S P G)) (least left : ℕ) (rest : List ℕ) (refusal : Refusal) → SoFar signature bound count bytes front least (suc left) rest → attestation_at {S = S} {P = P} signature bound least rest ≡ Err refusal → attestations_at {S = S} {P = P} signature bound 0 count bytes ≡ Err refusal

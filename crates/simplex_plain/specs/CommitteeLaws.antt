@@ -37,8 +37,8 @@ quorum_meaning n good attestations = (
 )
 
 -- signatures of one size: a certificate under a bound has at most five bytes, and for each participant five and a signature
-pub fixed_within : {S P G : Type 0} (size : ℕ) (bytes_of : G → List ℕ) (of_bytes : List ℕ →
+pub listed_size : {S P G : Type 0} (size : ℕ) (bytes_of : G → List ℕ) (of_bytes : List ℕ →
     G) (bound : ℕ) (attestations : List (Attestation S P G)) → ListedFits (fixed size bytes_of of_bytes) bound attestations →
     length (listed_encoding (fixed size bytes_of of_bytes) attestations) ≤ 5 + bound * (5 + size)
-fixed_within size bytes_of of_bytes bound attestations fits =
+listed_size size bytes_of of_bytes bound attestations fits =
     listed_within (fixed size bytes_of of_bytes) size bound (λ signature is. omega arith) attestations fits

@@ -27,16 +27,16 @@ vote_of (Nullifies r) = votes.Nullify
 vote_of (Finalizes p) = votes.Finalize
 
 -- whether two kinds of vote are one
-abbrev pub same_vote : JudgedVote → JudgedVote → Bool
-same_vote votes.Notarize votes.Notarize = true
-same_vote votes.Nullify votes.Nullify = true
-same_vote votes.Finalize votes.Finalize = true
-same_vote _ _ = false
+abbrev pub same_judged_vote : JudgedVote → JudgedVote → Bool
+same_judged_vote votes.Notarize votes.Notarize = true
+same_judged_vote votes.Nullify votes.Nullify = true
+same_judged_vote votes.Finalize votes.Finalize = true
+same_judged_vote _ _ = false
 
 -- whether a verdict is on this signature of this signer for the subject
 abbrev pub is_on : {D : Type 0} → Format D → SubjectValue D → ℕ → List ℕ → Verdict → Bool
 is_on payload subject signer signature v =
-    same_vote v.vote (vote_of subject) && ((v.signer == signer) && (bytes_eq v.signature signature && bytes_eq v.message.items (message_of payload subject)))
+    same_judged_vote v.vote (vote_of subject) && ((v.signer == signer) && (bytes_eq v.signature signature && bytes_eq v.message.items (message_of payload subject)))
 
 -- the signer is in the committee, and there is a verdict
 abbrev pub judged_good : {D : Type 0} → Format D → JudgedScheme → SubjectValue D → ℕ → List ℕ → Bool

@@ -13,7 +13,7 @@ ghost use Rattle.std.proofs.Common.{lit≤};
 ghost use Rattle.simplex_base.specs.Readable.{format_of};
 ghost use Rattle.simplex_scheme.specs.Subject.{SubjectValue, subject_value};
 ghost use Rattle.simplex_scheme.specs.Committee.{IsInOrder, is_quorum, quorum_of, signers_of, RefusesFew};
-ghost use Rattle.simplex_plain.specs.CommitteeLaws.{quorum_meaning, fixed_within};
+ghost use Rattle.simplex_plain.specs.CommitteeLaws.{quorum_meaning, listed_size};
 ghost use Rattle.simplex_plain.specs.Judged.{nobody, vote_of, is_on, judged_good, judged_members};
 
 use crate::certificates::{AttestationVerifier, are_certified, assembled, is_certified};
@@ -171,7 +171,7 @@ impl CertificateScheme for Judged {
     ghost certificates_limited = { lit≤ tt };
 
     ghost certificates_within = { λ participants certificate few fits.
-        fixed_within 32 (λ signature. signature) (λ bytes. bytes) participants certificate fits };
+        listed_size 32 (λ signature. signature) (λ bytes. bytes) participants certificate fits };
 }
 
 impl<D: Digest> AttestationVerifier<D> for Judged {

@@ -6,7 +6,7 @@ ghost use Rattle.std.specs.Str.{bytes_eq};
 ghost use Rattle.std.proofs.Common.{lit<, lit≤};
 ghost use Rattle.simplex_scheme.specs.Subject.{SubjectValue, subject_value};
 ghost use Rattle.simplex_scheme.specs.Committee.{IsInOrder, IsQuorum, is_quorum, quorum_of, signers_of, RefusesFew};
-ghost use Rattle.simplex_plain.specs.CommitteeLaws.{quorum_meaning, fixed_within};
+ghost use Rattle.simplex_plain.specs.CommitteeLaws.{quorum_meaning, listed_size};
 ghost use Rattle.std.specs.List.{IsDistinct};
 ghost use Rattle.simplex_plain.specs.Marked.{numbered, marked_good, marked_members};
 
@@ -160,7 +160,7 @@ impl CertificateScheme for Marked {
     ghost certificates_limited = { lit≤ tt };
 
     ghost certificates_within = { λ participants certificate few fits.
-        fixed_within 1 (λ signature. signature) (λ bytes. bytes) participants certificate fits };
+        listed_size 1 (λ signature. signature) (λ bytes. bytes) participants certificate fits };
 }
 
 impl<D: Digest> AttestationVerifier<D> for Marked {

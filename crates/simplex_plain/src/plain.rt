@@ -8,7 +8,7 @@ ghost use Rattle.simplex_base.specs.Varint.{number_64};
 ghost use Rattle.simplex_scheme.specs.Namespace.{names_of};
 ghost use Rattle.simplex_scheme.specs.Subject.{SubjectValue, subject_value};
 ghost use Rattle.simplex_scheme.specs.Committee.{IsInOrder, IsQuorum, is_quorum, quorum_of, signers_of, RefusesFew};
-ghost use Rattle.simplex_plain.specs.CommitteeLaws.{quorum_meaning, fixed_within};
+ghost use Rattle.simplex_plain.specs.CommitteeLaws.{quorum_meaning, listed_size};
 ghost use Rattle.std.specs.List.{IsDistinct};
 ghost use Rattle.simplex_plain.specs.Plain.{hashed, plain_good, good_members};
 ghost use Rattle.simplex_scheme.specs.Proposal.{proposal_format};
@@ -250,7 +250,7 @@ impl CertificateScheme for Plain {
     ghost certificates_limited = { lit≤ tt };
 
     ghost certificates_within = { λ participants certificate few fits.
-        fixed_within 32 (λ signature. signature) (λ bytes. bytes) participants certificate fits };
+        listed_size 32 (λ signature. signature) (λ bytes. bytes) participants certificate fits };
 }
 
 impl<D: Digest> AttestationVerifier<D> for Plain {

@@ -61,11 +61,11 @@ module _ {S D C P G : Type 0}
   same_artifact _ _ = false
 
 -- whether an artifact has a certificate
-abbrev pub has_certificate : {S D C P G : Type 0} → Artifact S D C P G → Bool
-has_certificate (artifact.Notarization n) = true
-has_certificate (artifact.Nullification n) = true
-has_certificate (artifact.Finalization n) = true
-has_certificate _ = false
+abbrev pub artifact_has_certificate : {S D C P G : Type 0} → Artifact S D C P G → Bool
+artifact_has_certificate (artifact.Notarization n) = true
+artifact_has_certificate (artifact.Nullification n) = true
+artifact_has_certificate (artifact.Finalization n) = true
+artifact_has_certificate _ = false
 
 -- an artifact with a clone of the other's certificate and the other's parts besides
 abbrev pub IsArtifactClone : {S D C P G : Type 0} → (C → C → Type 0) → Artifact S D C P G → Artifact S D C P G → Type 0
@@ -75,11 +75,11 @@ IsArtifactClone is_clone (artifact.Finalization n) (artifact.Finalization copy) 
 IsArtifactClone is_clone a copy = copy ≡ a
 
 -- a clone of the certificate in it, if there is one, is that certificate
-abbrev pub ClonesCertificate : {S D C P G : Type 0} → (C → C → Type 0) → Artifact S D C P G → Type 0
-ClonesCertificate {C = C} is_clone (artifact.Notarization n) = (copy : C) → is_clone n.certificate copy → copy ≡ n.certificate
-ClonesCertificate {C = C} is_clone (artifact.Nullification n) = (copy : C) → is_clone n.certificate copy → copy ≡ n.certificate
-ClonesCertificate {C = C} is_clone (artifact.Finalization n) = (copy : C) → is_clone n.certificate copy → copy ≡ n.certificate
-ClonesCertificate is_clone _ = ⊤
+abbrev pub ArtifactClonesCertificate : {S D C P G : Type 0} → (C → C → Type 0) → Artifact S D C P G → Type 0
+ArtifactClonesCertificate {C = C} is_clone (artifact.Notarization n) = (copy : C) → is_clone n.certificate copy → copy ≡ n.certificate
+ArtifactClonesCertificate {C = C} is_clone (artifact.Nullification n) = (copy : C) → is_clone n.certificate copy → copy ≡ n.certificate
+ArtifactClonesCertificate {C = C} is_clone (artifact.Finalization n) = (copy : C) → is_clone n.certificate copy → copy ≡ n.certificate
+ArtifactClonesCertificate is_clone _ = ⊤
 
 -- the refusal of a tag that no artifact has
 abbrev pub unknown_artifact : Refusal

@@ -9,7 +9,7 @@ ghost use Rattle.std.specs.List.{IsDistinct};
 ghost use Rattle.std.proofs.Common.{lit≤};
 ghost use Rattle.simplex_scheme.specs.Subject.{SubjectValue, subject_value};
 ghost use Rattle.simplex_scheme.specs.Committee.{IsInOrder, is_quorum, quorum_of, signers_of, RefusesFew, AssemblesQuorum};
-ghost use Rattle.simplex_plain.specs.CommitteeLaws.{quorum_meaning, fixed_within};
+ghost use Rattle.simplex_plain.specs.CommitteeLaws.{quorum_meaning, listed_size};
 ghost use Rattle.simplex_plain.specs.Marked.{numbered};
 ghost use Rattle.simplex_vouched.specs.Vouched.{nobody, is_vouched, vouched_valid, vouched_members};
 
@@ -111,7 +111,7 @@ impl<R: Role<N>, const N: usize> CertificateScheme for Vouched<R, N> {
     ghost certificates_limited = { lit≤ tt };
 
     ghost certificates_within = { λ participants certificate few fits.
-        fixed_within N (λ signature. signature) (λ bytes. bytes) participants certificate fits };
+        listed_size N (λ signature. signature) (λ bytes. bytes) participants certificate fits };
 }
 
 impl<D: Digest, R: Role<N>, const N: usize> AttestationVerifier<D> for Vouched<R, N> {

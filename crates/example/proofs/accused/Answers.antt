@@ -6,13 +6,13 @@ use Rattle.simplex_detector.specs.Committees.{Schedule, Every}
 use Rattle.simplex_audit.specs.Basis.{Basis}
 use Rattle.simplex_audit.specs.Report.{IsReport}
 use Rattle.simplex_audit.specs.declared.audit.Report.{Report}
-use Rattle.example.specs.Accused.{AreAccused, IsPlainCommittee, place_of}
+use Rattle.example.specs.Accused.{AreAccused, IsPlainCommittee, round_and_signer}
 use Rattle.example.proofs.accused.Goals as goal
 
 -- whom the report accuses under this committee
 are_accused : {C : Type 0} (basis : Schedule PlainScheme → Basis PlainScheme (List ℕ) C (List ℕ) (List ℕ)) (namespace : List ℕ) (keys : List (List ℕ)) (stream : List ℕ) (accused : List (Round × ℕ))
     (committee : PlainScheme) (committees : Schedule PlainScheme) (report : Report PlainScheme (List ℕ) (List ℕ) (List ℕ)) → committees ≡ Every committee →
-    IsPlainCommittee namespace keys committee → IsReport (basis committees) stream report → accused ≡ map place_of report.evidence.items →
+    IsPlainCommittee namespace keys committee → IsReport (basis committees) stream report → accused ≡ map round_and_signer report.evidence.items →
     AreAccused basis namespace keys stream accused
 are_accused basis namespace keys stream accused committee committees report every committee_is report_is accused_are = record {
   committee = committee;

@@ -1,7 +1,7 @@
 use Rattle.std.proofs.Common.{◌≡◌, ℕ, ◌+◌, ◌<◌, List, [], ◌∷◌, ◌++◌, length, take, get_or, sym, ap, ◌∙◌}
 use Rattle.std.specs.Prelude.{map}
 use Rattle.std.proofs.lemmas.List.{map-append, take_more}
-use Rattle.example.specs.Accused.{place_of}
+use Rattle.example.specs.Accused.{round_and_signer}
 use Rattle.example.proofs.places.Goals as goal
 
 -- one more
@@ -12,6 +12,6 @@ map_more {X} {Y} f xs i x ys lt is so_far =
 
 pub loop-one-preserved : goal.loop-one-preserved
 loop-one-preserved c =
-    let more : c.loop-one.places.items ++ (c.round.result, c.signer.result) ∷ [] ≡ map place_of (take (c.loop-one.one-index + 1) c.args.evidence.now) =
-    rw (c.round.ensures, c.signer.ensures) (map_more place_of c.args.evidence.now c.loop-one.one-index c.one-item.result c.loop-one.places.items c.loop-one-test.true c.one-item.is c.loop-one.invariant) in
+    let more : c.loop-one.places.items ++ (c.round.result, c.signer.result) ∷ [] ≡ map round_and_signer (take (c.loop-one.one-index + 1) c.args.evidence.now) =
+    rw (c.round.ensures, c.signer.ensures) (map_more round_and_signer c.args.evidence.now c.loop-one.one-index c.one-item.result c.loop-one.places.items c.loop-one-test.true c.one-item.is c.loop-one.invariant) in
     c.in_ok-push.ensures.items ∙ more

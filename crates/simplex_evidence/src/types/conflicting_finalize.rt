@@ -30,9 +30,9 @@ impl<S: SchemeTypes, D: Digest> Model for ConflictingFinalize<S, D> {
     ghost use Rattle.simplex_votes.specs.declared.types.finalize.Finalize as declared;
     ghost use Rattle.simplex_votes.specs.Votes.{finalize_vote};
     ghost use Rattle.simplex_evidence.specs.Contradiction.{contradicts, Conflicting_finalize};
-    ghost use Rattle.simplex_evidence.specs.Conflict.{Conflict};
+    ghost use Rattle.simplex_evidence.specs.Conflict.{ConflictValue};
 
-    ghost Value = { Conflict (declared.Finalize S D S.PublicKey S.Signature)
+    ghost Value = { ConflictValue (declared.Finalize S D S.PublicKey S.Signature)
         (declared.Finalize S D S.PublicKey S.Signature) };
 
     ghost view = { λ conflict.

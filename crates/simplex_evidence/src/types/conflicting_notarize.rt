@@ -30,9 +30,9 @@ impl<S: SchemeTypes, D: Digest> Model for ConflictingNotarize<S, D> {
     ghost use Rattle.simplex_votes.specs.declared.types.notarize.Notarize as declared;
     ghost use Rattle.simplex_votes.specs.Votes.{notarize_vote};
     ghost use Rattle.simplex_evidence.specs.Contradiction.{contradicts, Conflicting_notarize};
-    ghost use Rattle.simplex_evidence.specs.Conflict.{Conflict};
+    ghost use Rattle.simplex_evidence.specs.Conflict.{ConflictValue};
 
-    ghost Value = { Conflict (declared.Notarize S D S.PublicKey S.Signature)
+    ghost Value = { ConflictValue (declared.Notarize S D S.PublicKey S.Signature)
         (declared.Notarize S D S.PublicKey S.Signature) };
 
     ghost view = { λ conflict.

@@ -31,9 +31,9 @@ impl<S: SchemeTypes, D: Digest> Model for NullifyFinalize<S, D> {
     ghost use Rattle.simplex_votes.specs.declared.types.finalize.Finalize as finalizes;
     ghost use Rattle.simplex_votes.specs.Votes.{nullify_vote, finalize_vote};
     ghost use Rattle.simplex_evidence.specs.Contradiction.{contradicts, Nullify_finalize};
-    ghost use Rattle.simplex_evidence.specs.Conflict.{Conflict};
+    ghost use Rattle.simplex_evidence.specs.Conflict.{ConflictValue};
 
-    ghost Value = { Conflict (nullifies.Nullify S S.PublicKey S.Signature)
+    ghost Value = { ConflictValue (nullifies.Nullify S S.PublicKey S.Signature)
         (finalizes.Finalize S D S.PublicKey S.Signature) };
 
     ghost view = { λ conflict. record { first = conflict.nullify; second = conflict.finalize } };

@@ -42,15 +42,15 @@ pub enum Artifact<S: CertificateScheme, D: Digest> {
 }
 
 impl<S: CertificateScheme, D: Digest> Artifact<S, D> {
-    ghost use Rattle.simplex_votes.specs.Artifact.{has_certificate, IsArtifactClone, ClonesCertificate};
+    ghost use Rattle.simplex_votes.specs.Artifact.{artifact_has_certificate, IsArtifactClone, ArtifactClonesCertificate};
 
     /// The same artifact, with a clone of the certificate where it has one. Only that clone takes memory.
     pub fn clone(&self) -> Result<Self, AllocError>
         ensures parts { IfOk result (λ copy. IsArtifactClone S.Certificate.is_clone self.now copy) }
         // Where a certificate's clone is the certificate, this one's is this artifact.
-        ensures same { ClonesCertificate S.Certificate.is_clone self.now →
+        ensures same { ArtifactClonesCertificate S.Certificate.is_clone self.now →
             IfOk result (λ copy. copy ≡ self.now) }
-        ensures refused { IfErr result (λ _. IsTrue (has_certificate self.now)) }
+        ensures refused { IfErr result (λ _. IsTrue (artifact_has_certificate self.now)) }
     {
         match self {
             Artifact::Notarize(vote) => Ok(Artifact::Notarize(vote.copy())),

@@ -1,7 +1,7 @@
 use Rattle.std.proofs.Common.{map, arith}
 use Rattle.simplex_detector.specs.Committees.{Schedule, rules_of}
 use Rattle.simplex_detector.specs.Rules.{Rules}
-use Rattle.simplex_detector.specs.Values.{message_of}
+use Rattle.simplex_detector.specs.Values.{activity_of}
 use Rattle.simplex_audit.proofs.AccusedLemmas.{if_ok, if_both, report_evidence, report_splits, accused_stay}
 use Rattle.simplex_audit.proofs.StreamLemmas.{messages_once, are_joined}
 use Rattle.simplex_audit.proofs.audit.audit.Given as given
@@ -54,7 +54,7 @@ returns-clause-splits g c =
 pub returns-clause-again : goal.returns-clause-again
 returns-clause-again g c =
     if_both _ _ _ (λ report is each. record {
-      stream = are_joined _ (λ m. omega arith) (map message_of report.evidence.items) each;
+      stream = are_joined _ (λ m. omega arith) (map activity_of report.evidence.items) each;
       evidence = c.evidence_is_determined.ensures.again (rules g c.args.committees.now) is.messages report.evidence.items c.audit_stream.ensures.lawful is.evidence_is;
     })
     c.audit_stream.result c.audit_stream.ensures.report c.audit_stream.ensures.encoded

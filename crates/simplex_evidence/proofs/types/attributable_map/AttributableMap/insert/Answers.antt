@@ -1,5 +1,5 @@
 use Rattle.std.proofs.Common.{length, inl, inr, ap, refl, arith}
-use Rattle.simplex_evidence.proofs.GapLemmas.{IsPut, put, length_le, some_item}
+use Rattle.simplex_evidence.proofs.GapLemmas.{IsPutAt, put, length_le, some_item}
 use Rattle.simplex_evidence.proofs.FirstsLemmas.{firsts_added, firsts_kept}
 use Rattle.simplex_evidence.proofs.types.attributable_map.AttributableMap.insert.Given.{Over}
 use Rattle.simplex_evidence.proofs.types.attributable_map.AttributableMap.insert.Goals as goal
@@ -30,7 +30,7 @@ returns-in_err-insert-clause-refused g c =
     absurd (omega (arith, is_put.room, c.deref.ensures.len, ap length c.deref.ensures.value, c.in_err-insert.ensures.full, c.in_ok-try_reserve_exact.ensures.ok, c.in_ok-try_reserve_exact.ensures.len))
 
 -- the item went into its gap
-put_here : (g : Over) (c : goal.In_ok-insert g) → IsPut {X = g.row.T.Denot} g.T.Attributable.signer_of c.self.inside.participants c.self.inside.items.items c.insert.new.self.items c.args.item
+put_here : (g : Over) (c : goal.In_ok-insert g) → IsPutAt {X = g.row.T.Denot} g.T.Attributable.signer_of c.self.inside.participants c.self.inside.items.items c.insert.new.self.items c.args.item
 put_here g c = put g.T.Attributable.signer_of _ _ _ _ _ _ _ _ c.self.invariant.0 c.self.invariant.1 c.deref.ensures.value c.in_ok-try_reserve_exact.ensures.items c.signer-signer.ensures (omega arith) c.in-Err.ensures.gap c.in_ok-insert.ensures.items
 
 pub invariant_of-self-2 : goal.invariant_of-self-2

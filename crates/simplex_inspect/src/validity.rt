@@ -1,13 +1,13 @@
 //! What is said of a signature and of a certificate.
 
 ghost use Rattle.std.specs.Prelude.{◌≡◌, refl};
-ghost use Rattle.simplex_inspect.specs.Verdict.{verdict_on_signature, verdict_on_certificate};
+ghost use Rattle.simplex_inspect.specs.Validity.{validity_of_signature, validity_of_certificate};
 
 use simplex_base::values::{EqByParts, ExactClone};
 
 /// Whether a signature or a certificate is valid, and why not.
 #[derive(Clone, Copy, Debug, PartialEq, Eq)]
-pub enum Verdict {
+pub enum Validity {
     /// It is valid.
     Valid,
     /// The epoch has no committee.
@@ -22,15 +22,15 @@ pub enum Verdict {
     WrongAttestation,
 }
 
-impl ExactClone for Verdict {
+impl ExactClone for Validity {
     ghost exact = { λ x y same. same };
 }
 
-impl EqByParts for Verdict {
-    ghost use Rattle.simplex_inspect.specs.Verdict.{same_verdict};
-    ghost use Rattle.simplex_inspect.specs.declared.verdict.Verdict.TheVariants.{Valid, NoCommittee, OutsideSigner, WrongSignature, TooFew, WrongAttestation};
+impl EqByParts for Validity {
+    ghost use Rattle.simplex_inspect.specs.Validity.{same_validity};
+    ghost use Rattle.simplex_inspect.specs.declared.validity.Validity.TheVariants.{Valid, NoCommittee, OutsideSigner, WrongSignature, TooFew, WrongAttestation};
 
-    ghost same = { same_verdict };
+    ghost same = { same_validity };
 
     ghost equal = { elim [
       | Valid ↦ elim [ Valid ↦ refl | _ ↦ refl ]
@@ -42,39 +42,39 @@ impl EqByParts for Verdict {
     ] };
 }
 
-/// The verdict on a signature, by whether it is valid, how many participants the epoch's committee has (0 where there is
+/// The validity of a signature, by whether it is valid, how many participants the epoch's committee has (0 where there is
 /// none), and the number of its signer.
-pub(crate) fn verdict_on_signature(valid: bool, size: usize, signer: u32) -> Verdict
-    ensures { result ≡ verdict_on_signature valid size signer }
+pub(crate) fn validity_of_signature(valid: bool, size: usize, signer: u32) -> Validity
+    ensures { result ≡ validity_of_signature valid size signer }
 {
     if valid {
-        Verdict::Valid
+        Validity::Valid
     } else if size == 0 {
-        Verdict::NoCommittee
+        Validity::NoCommittee
     } else if (signer as usize) < size {
-        Verdict::WrongSignature
+        Validity::WrongSignature
     } else {
-        Verdict::OutsideSigner
+        Validity::OutsideSigner
     }
 }
 
-/// The verdict on a certificate, by whether it is valid, how many participants the epoch's committee has (0 where there is
+/// The validity of a certificate, by whether it is valid, how many participants the epoch's committee has (0 where there is
 /// none), how many of them are a quorum, and how many attestations it lists.
-pub(crate) fn verdict_on_certificate(
+pub(crate) fn validity_of_certificate(
     valid: bool,
     size: usize,
     quorum: usize,
     count: usize,
-) -> Verdict
-    ensures { result ≡ verdict_on_certificate valid size quorum count }
+) -> Validity
+    ensures { result ≡ validity_of_certificate valid size quorum count }
 {
     if valid {
-        Verdict::Valid
+        Validity::Valid
     } else if size == 0 {
-        Verdict::NoCommittee
+        Validity::NoCommittee
     } else if count < quorum {
-        Verdict::TooFew
+        Validity::TooFew
     } else {
-        Verdict::WrongAttestation
+        Validity::WrongAttestation
     }
 }
