@@ -14,7 +14,7 @@ use std::alloc::{AllocError, Global};
 /// How many keys a committee has at most.
 const MOST_KEYS: usize = 4_294_967_295;
 
-/// Whether a committee may have so many keys.
+/// Whether a committee may have this many keys.
 fn is_committee_size(count: usize) -> bool
     ensures { IsTrue result ↔ ((1 ≤ count) × (count < 2 ^ 32)) }
 {

@@ -21,12 +21,12 @@ use Rattle.simplex_audit.specs.Report.{IsReport, as_messages, evidence_in}
 use Rattle.simplex_audit.specs.declared.audit.Report.{Report}
 use Rattle.simplex_audit.proofs.StreamLemmas.{IsNeverEmpty, are_joined, messages_once, messages_continue}
 
--- what follows from an answer
+-- what follows from a result
 pub if_ok : {X E : Type 0} (Given Wanted : X → Type 0) → ((x : X) → Given x → Wanted x) → (r : Result X E) → IfOk r Given → IfOk r Wanted
 if_ok Given Wanted f (Ok x) h = f x h
 if_ok Given Wanted f (Err e) h = tt
 
--- what follows from what two clauses say of an answer
+-- what follows from what two clauses say of a result
 pub if_both : {X E : Type 0} (Given Also Wanted : X → Type 0) → ((x : X) → Given x → Also x → Wanted x) → (r : Result X E) → IfOk r Given → IfOk r Also → IfOk r Wanted
 if_both Given Also Wanted f (Ok x) h k = f x h k
 if_both Given Also Wanted f (Err e) h k = tt

@@ -131,7 +131,7 @@ stands_after {S} {D} {C} {P} {G} basis old next piece bytes left more stop same 
 pub stands_now : {S D C P G : Type 0} (basis : Schedule S → Basis S D C P G) (committees : Schedule S) (auditor : Auditor S D P G) (stream : List ℕ) → Stands basis committees auditor (stream ++ []) → Stands basis committees auditor stream
 stands_now basis committees auditor stream h = subst (λ (xs : List ℕ). Stands basis committees auditor xs) (append-nil stream) h
 
--- what is left of bytes behind a front of them
+-- what is left of bytes behind a prefix of them
 pub front_dropped : (all front left : List ℕ) (n : ℕ) → all ≡ front ++ left → n + length left ≡ length all → drop n all ≡ left
 front_dropped all front left n whole len =
     let same : n ≡ length front = let e = ap length whole in omega (arith, length-append front left) in

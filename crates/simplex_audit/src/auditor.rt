@@ -318,7 +318,7 @@ fn counts_are_few(count: usize)
     ensures { count < 2 ^ 64 }
 {}
 
-/// Drops this many bytes in front.
+/// Drops this many bytes at the start.
 fn drop_front(bytes: &mut Vec<u8>, count: usize)
     requires { count ≤ vec_len bytes.old }
     ensures { bytes.new.items ≡ drop count bytes.old.items }

@@ -134,7 +134,7 @@ fn read_messages<T: Read + Drop>(
     Ok((stream.len(), None))
 }
 
-/// Moves the slice past the value at its front.
+/// Moves the slice past the value at its start.
 fn skip<T: Read + Drop>(alloc: Global, bound: &T::Cfg, bytes: &mut &[u8]) -> Result<(), Error> {
     T::read_cfg(alloc, bytes, bound)?;
     Ok(())

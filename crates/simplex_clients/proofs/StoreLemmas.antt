@@ -134,7 +134,7 @@ one_more {X} f xs i x old new lt here before after =
 pub none_left : {X : Type 0} (f : X → List ℕ) (xs : List X) (i : ℕ) (all : List ℕ) → length xs ≤ i → all ≡ flat_map f (take i xs) → all ≡ flat_map f xs
 none_left f xs i all past is = is ∙ ap (flat_map f) (take_all i xs past)
 
--- what follows from an answer
+-- what follows from a result
 pub if_ok : {X E : Type 0} (Given Wanted : X → Type 0) → ((x : X) → Given x → Wanted x) → (r : Result X E) → IfOk r Given → IfOk r Wanted
 if_ok Given Wanted f (Ok x) h = f x h
 if_ok Given Wanted f (Err e) h = tt

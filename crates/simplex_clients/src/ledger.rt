@@ -49,7 +49,7 @@ impl<'a, S: Listing<D>, D: Digest> Ledger<'a, S, D> {
         Ok(ledger)
     }
 
-    /// The ledger that was fed this piece too. Where memory is refused there is none.
+    /// The ledger that was fed this piece too. Where an allocation fails there is none.
     pub fn feed(self, piece: &[u8]) -> Result<Self, AllocError>
         requires { bytes_fed self + length piece.now < 2 ^ 64 }
         ensures bytes { IfOk result (λ next.

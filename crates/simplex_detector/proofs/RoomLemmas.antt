@@ -12,11 +12,11 @@ news_among eq before (v ∷ vs) =
 front_some : (front rest : List ℕ) → 1 ≤ length front → 1 ≤ length (front ++ rest)
 front_some front rest some = omega (arith, length-append front rest)
 
--- behind a front, the votes of a list of attestations that the bytes have room for
+-- behind a prefix, the votes of a list of attestations that the bytes have room for
 votes_behind : {X Y : Type 0} (vote : X → Y) (xs : List X) (front bytes : List ℕ) → length xs ≤ length bytes → length (map vote xs) ≤ suc (length (front ++ bytes))
 votes_behind vote xs front bytes room = omega (arith, length-map xs vote, length-append front bytes)
 
--- two votes whose encodings begin with a front that is not empty
+-- two votes whose encodings begin with a prefix that is not empty
 two_behind : (front mid rest : List ℕ) → 1 ≤ length front → 2 ≤ suc (length ((front ++ mid) ++ rest))
 two_behind front mid rest some = omega (arith, length-append (front ++ mid) rest, length-append front mid)
 

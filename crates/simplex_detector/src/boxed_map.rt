@@ -80,7 +80,7 @@ impl<V: Attributable> BoxedMap<V> {
     }
 
     /// Inserts a vote, if its signer is a participant and has none yet, and returns whether it did. The map is as it was
-    /// where memory is refused.
+    /// where an allocation fails.
     pub fn insert(&mut self, vote: V) -> Result<bool, AllocError>
     where
         V: Drop,

@@ -43,7 +43,7 @@ impl<D: Digest> CertifiedSubjects<D> {
         none && self.finalized.is_none() && !self.split
     }
 
-    /// Takes in a certificate of a subject of the round, and answers whether it was found to certify the subject. It is
+    /// Takes in a certificate of a subject of the round, and returns whether it was found to certify the subject. It is
     /// verified only where that can change what is recorded: in a round that is not known to be split, and there not where a
     /// subject of its sort is recorded already, unless the two contradict.
     pub fn observe<S: CertificateVerifier<D>>(

@@ -34,14 +34,14 @@ pub record IsSummary {S D P G : Type 0} (bytes_of : D → List ℕ) (report : Re
   pub place_is : summary.fault_place ≡ place_of_fault report.fault
   pub length_is : summary.length ≡ length (report_text bytes_of report)
 
--- A text, or other items, is put at the front of a buffer, and what is behind it stays; or it has no room there, and the buffer is
+-- A text, or other items, is put at the start of a buffer, and what is behind it stays; or it has no room there, and the buffer is
 -- as before.
 abbrev pub IsPut : {A : Type 0} → List A → List A → List A → ℕ → ℕ → Type 0
 IsPut text before after status ended =
     ((length text ≤ length before) × (status ≡ ended) × (after ≡ text ++ drop (length text) before))
     ⊎ ((length before < length text) × (status ≡ 4) × (after ≡ before))
 
--- The stream was audited: the summary is that of its report, and the text of the report stands at the front of the buffer,
+-- The stream was audited: the summary is that of its report, and the text of the report stands at the start of the buffer,
 -- with 0 where the stream was read whole and 1 where it has a fault; or the buffer is too short and as before, with 4.
 pub record IsAudited {S D C P G : Type 0} (basis : Basis S D C P G) (bytes_of : D → List ℕ) (stream before after : List ℕ) (summary : ReportSummary) (status : ℕ) : Type 0 where
   pub report : Report S D P G
@@ -49,7 +49,7 @@ pub record IsAudited {S D C P G : Type 0} (basis : Basis S D C P G) (bytes_of : 
   pub summary_is : IsSummary bytes_of report summary
   pub text_is : IsPut (report_text bytes_of report) before after status (ended_of report.fault)
 
--- The evidence of the stream was stored: as messages it stands at the front of the buffer, with 0; or the buffer is too short and
+-- The evidence of the stream was stored: as messages it stands at the start of the buffer, with 0; or the buffer is too short and
 -- as before, with 4. The size is that of the messages.
 pub record AreStored {S D C P G : Type 0} (basis : Basis S D C P G) (stream before after : List ℕ) (size status : ℕ) : Type 0 where
   pub bytes : List ℕ
@@ -57,7 +57,7 @@ pub record AreStored {S D C P G : Type 0} (basis : Basis S D C P G) (stream befo
   pub size_is : size ≡ length bytes
   pub bytes_are : IsPut bytes before after status 0
 
--- The attestations of the stream that have to be verified stand at the front of the buffer, with 0; or the buffer is too short and as
+-- The attestations of the stream that have to be verified stand at the start of the buffer, with 0; or the buffer is too short and as
 -- before, with 4. The number needed is that of the attestations.
 pub record AreSuspectsGiven {S D C P G : Type 0} (basis : Basis S D C P G) (places_in : ℕ → Activity S D C P G → List Placed) (stream : List ℕ) (before after : List Suspect) (needed status : ℕ) : Type 0 where
   pub found : List Suspect
@@ -65,7 +65,7 @@ pub record AreSuspectsGiven {S D C P G : Type 0} (basis : Basis S D C P G) (plac
   pub needed_is : needed ≡ length found
   pub records_are : IsPut found before after status 0
 
--- The stream was audited: the summary is that of its report, and the records of the report's evidence stand at the front of the
+-- The stream was audited: the summary is that of its report, and the records of the report's evidence stand at the start of the
 -- buffer, with 0 where the stream was read whole and 1 where it has a fault; or the buffer is too short and as before, with 4.
 -- `carries` says whether a message carries a vote.
 pub record AreRecorded {S D C P G : Type 0} (basis : Basis S D C P G) (bytes_of : D → List ℕ) (carries : SignedVote D G → Activity S D C P G → Bool) (stream : List ℕ) (before after : List Record) (summary : ReportSummary) (status : ℕ) : Type 0 where

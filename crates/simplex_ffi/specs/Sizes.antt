@@ -4,7 +4,7 @@ use Rattle.simplex_detector.specs.Committees.{Schedule, Every, Listed, AreRising
 use Rattle.simplex_plain.specs.Marked.{numbered}
 use Rattle.simplex_vouched.specs.Vouched.{VouchedScheme}
 
--- the committee of so many participants
+-- the committee of this many participants
 abbrev pub of_size : ℕ → VouchedScheme
 of_size n = record { keys = numbered n }
 

@@ -66,7 +66,7 @@ fn place(fault: Option<Fault>) -> usize
     }
 }
 
-/// Puts a text, or other items, at the front of a buffer, if there is room.
+/// Puts a text, or other items, at the start of a buffer, if there is room.
 pub(crate) fn put<T: Copy>(text: &[T], buffer: &mut [T]) -> bool
     ensures fits { IsTrue result → length text.now ≤ length buffer.old }
     ensures short { result ≡ false → length buffer.old < length text.now }
@@ -81,7 +81,7 @@ pub(crate) fn put<T: Copy>(text: &[T], buffer: &mut [T]) -> bool
     true
 }
 
-/// The numbers of a report whose text has so many bytes.
+/// The numbers of a report whose text has this many bytes.
 pub(crate) fn summarize<S: SchemeTypes, D: Digest>(
     report: &Report<S, D>,
     size: usize,
@@ -114,7 +114,7 @@ pub(crate) fn account<S: Listing<D>, D: Digest>(
     Ok((report, lines))
 }
 
-/// Audits a stream, and puts the text of the report at the front of a buffer. The status is
+/// Audits a stream, and puts the text of the report at the start of a buffer. The status is
 /// [`WHOLE`], [`FAULT`], [`MEMORY`] or [`SHORT`]. Where an allocation failed nothing is written;
 /// where the buffer is too short it is as before, and the summary has the length that is needed.
 pub fn answer<S: Listing<D>, D: Digest>(

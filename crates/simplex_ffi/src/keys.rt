@@ -22,7 +22,7 @@ fn key_at(bytes: &[u8], place: usize) -> PlainKey
     PlainKey::from_bytes(&bytes[start..start + 32])
 }
 
-/// Whether so many bytes are those of keys of a committee: of at least one, and of fewer than 2^32.
+/// Whether this many bytes are those of keys of a committee: of at least one, and of fewer than 2^32.
 fn have_keys(size: usize) -> bool
     ensures { IsTrue result ↔ ((size % 32 ≡ 0) × (1 ≤ size / 32) × (size / 32 < 2 ^ 32)) }
 {

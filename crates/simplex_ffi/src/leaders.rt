@@ -24,7 +24,7 @@ fn rotation(alloc: Global, seed: Option<&[u8]>) -> Result<RoundRobin<Sha256>, Al
     }
 }
 
-/// The rotation by a seed, if there is one, in terms of so many views.
+/// The rotation by a seed, if there is one, in terms of this many views.
 fn rotation_of(
     alloc: Global,
     seed: Option<&[u8]>,
@@ -62,7 +62,7 @@ fn elected(
 }
 
 /// The number of the participant who leads a view of an epoch, written to `number`: of so many
-/// participants, in their order by the seed, if there is one, and in terms of so many views. The
+/// participants, in their order by the seed, if there is one, and in terms of this many views. The
 /// status is [`WHOLE`]; [`ARGUMENTS`] where there is no participant or a term has no view; or
 /// [`MEMORY`], as the order of the participants takes 8 bytes of memory for each and with a seed
 /// more. Where it is not [`WHOLE`] nothing is written.

@@ -33,7 +33,7 @@ pub fn quorum(n: u32) -> u32
     if n == 0 { 0 } else { faults::quorum(n) }
 }
 
-/// The lookahead of terms of so many views, which are not none.
+/// The lookahead of terms of this many views, which are not none.
 fn lookahead(term_length: u32, optimistic_views: u64) -> Lookahead
     requires { 1 ≤ term_length }
     ensures { result ≡ record { term_length = term_length; optimistic_views = optimistic_views } }

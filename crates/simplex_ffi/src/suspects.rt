@@ -19,7 +19,7 @@ use simplex_scheme::scheme::Digest;
 use simplex_vouched::vouched::Vouched;
 use std::alloc::Global;
 
-/// Puts the attestations of a stream that have to be verified at the front of a buffer. The status is
+/// Puts the attestations of a stream that have to be verified at the start of a buffer. The status is
 /// [`WHOLE`], [`MEMORY`] or [`SHORT`]. Where an allocation failed nothing is written; where the
 /// buffer is too short it is as before, and how many records are needed is written.
 fn give<S: Counted<D>, D: Digest>(
@@ -41,7 +41,7 @@ fn give<S: Counted<D>, D: Digest>(
     if put(&found, records) { WHOLE } else { SHORT }
 }
 
-/// Puts the attestations that have to be verified at the front of a buffer: those of a stream whose
+/// Puts the attestations that have to be verified at the start of a buffer: those of a stream whose
 /// signatures have `N` bytes, the last of which is the caller's verdict and may yet be any, under
 /// the committees of these sizes. The status is [`WHOLE`], [`MEMORY`] or [`SHORT`], or
 /// [`ARGUMENTS`] where there are no such committees, and then nothing is written.

@@ -28,7 +28,7 @@ fn listed<T: Read + Drop>(alloc: Global, cfg: &T::Cfg, encodings: &[&str]) -> Op
 }
 
 /// Certificates of these encodings for the proposal with this payload in round (0, 10), under a bound of four, verify as wanted.
-/// Returns whether memory was refused; then the same list is verified when it is asked about again.
+/// Returns whether an allocation failed; then the same list is verified when it is asked about again.
 fn is_refused<S: CertificateVerifier<D>, D: Digest>(
     rt: &(impl Abort + AllocGlobal),
     scheme: &S,
@@ -56,7 +56,7 @@ fn is_refused<S: CertificateVerifier<D>, D: Digest>(
     is_answer_refused(rt, scheme, pairs.as_slice(), wanted)
 }
 
-/// Certificates verify as wanted. Returns whether memory was refused; then the same list is verified when it is asked about again.
+/// Certificates verify as wanted. Returns whether an allocation failed; then the same list is verified when it is asked about again.
 fn is_answer_refused<S: CertificateVerifier<D>, D: Digest>(
     rt: &(impl Abort + AllocGlobal),
     scheme: &S,
@@ -73,7 +73,7 @@ fn is_answer_refused<S: CertificateVerifier<D>, D: Digest>(
 }
 
 /// Five certificates, of which the first has a participant too few and the fourth a bad signature, the second of them alone, the
-/// fourth alone, and none. Returns whether memory was refused.
+/// fourth alone, and none. Returns whether an allocation failed.
 fn any_list_is_refused<S: CertificateVerifier<D>, D: Digest>(
     rt: &(impl Abort + AllocGlobal),
     scheme: &S,
@@ -135,7 +135,7 @@ fn ample(rt: HostRuntime) {
     assert!(rt; !marked_is_refused(&rt) && !plain_is_refused(&rt));
 }
 
-/// Where the answers' memory is refused there is none.
+/// Where the allocation for the answers fails there is none.
 #[test]
 fn refused(rt: HostRuntime) {
     let _ = marked_is_refused(&rt);

@@ -1,4 +1,4 @@
-//! What is as before where memory was refused, of which no test vector can tell.
+//! What is as before where an allocation failed, of which no test vector can tell.
 
 use simplex_base::codec::{Encode, Read, Write};
 use simplex_plain::marked::{Marked, MarkedDigest};

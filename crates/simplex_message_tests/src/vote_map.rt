@@ -64,7 +64,7 @@ fn ample_million_inserts(rt: HostRuntime) -> Result<(), Fail> {
     Ok(())
 }
 
-/// Fills a map twice, with a clear between. Answers whether memory was refused; then the map was as before, and
+/// Fills a map twice, with a clear between. Returns whether an allocation failed; then the map was as before, and
 /// took the item when it came again.
 fn is_refused(rt: &(impl Abort + AllocGlobal)) -> bool {
     let mut map = AttributableMap::new(rt.alloc(), 5);
@@ -123,7 +123,7 @@ fn without_memory(rt: HostRuntime) -> Result<(), Fail> {
     Ok(())
 }
 
-/// No memory has room for so many participants.
+/// No memory has room for this many participants.
 #[test]
 fn too_many_participants(rt: HostRuntime) {
     let mut map = AttributableMap::new(rt.alloc(), usize::MAX);
