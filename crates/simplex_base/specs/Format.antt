@@ -21,6 +21,20 @@ pub record Format (T : Type 0) : Type 1 where
 abbrev pub IsLawful : {T : Type 0} → Format T → Type 0
 IsLawful f = Lawful f.is_value f.encoding f.reading
 
+-- ---- a type that can be read
+
+-- what `Read` states of a type that is read under a configuration
+abbrev pub Readable : Type 0 → Type 0 → Type 1
+Readable C T = record { is_value : T → Type 0; encoding : T → List ℕ; fits : C → T → Type 0; reading : C → List ℕ → Reading T; takes_memory : Bool }
+
+-- the format of the values that are read under this configuration
+abbrev pub format_under : {C T : Type 0} → Readable C T → C → Format T
+format_under type cfg = record { is_value = type.fits cfg; encoding = type.encoding; reading = type.reading cfg }
+
+-- the format of a type that needs no configuration
+abbrev pub format_of : {T : Type 0} → Readable Unit T → Format T
+format_of type = format_under type tt
+
 -- ---- one part after the other
 
 abbrev pub BothAre : {A B : Type 0} → (A → Type 0) → (B → Type 0) → A × B → Type 0

@@ -1,5 +1,6 @@
 -- What reading the front of some bytes gives, and what a call that reads may answer.
-use Rattle.std.specs.Prelude.{◌≡◌, ◌==◌, Bool, IsTrue, if◌then◌else◌, length, ℕ, ◌<◌, List, Result, Ok, Err, slice_index_or}
+use Rattle.std.specs.Prelude.{◌≡◌, ◌==◌, ◌&&◌, Bool, true, false, IsTrue, if◌then◌else◌, length, ℕ, ◌<◌, List, Result, Ok, Err, slice_index_or}
+use Rattle.std.specs.Str.{bytes_eq}
 use Rattle.simplex_base.specs.declared.codec.error.Error.{Error}
 use Rattle.simplex_base.specs.declared.codec.error.Error.TheVariants as errors
 
@@ -24,6 +25,17 @@ abbrev pub ◌>>=◌ : {A B : Type 0} → Result A Refusal → (A → Result B R
 -- each is a byte
 abbrev pub IsBytes : List ℕ → Type 0
 IsBytes bytes = (i : ℕ) → slice_index_or bytes i 0 < 256
+
+-- whether two errors are the same: the variant, and of an invalid value its type and the condition
+abbrev pub same_error : Error → Error → Bool
+same_error errors.EndOfBuffer errors.EndOfBuffer = true
+same_error errors.InvalidVarint errors.InvalidVarint = true
+same_error errors.InvalidBool errors.InvalidBool = true
+same_error (errors.Invalid type condition) (errors.Invalid other_type other_condition) =
+    bytes_eq type.now other_type.now && bytes_eq condition.now other_condition.now
+same_error errors.ExtraData errors.ExtraData = true
+same_error errors.OutOfMemory errors.OutOfMemory = true
+same_error _ _ = false
 
 -- an error of the code is this refusal, or tells of memory where that may be
 abbrev pub Fails : {X : Type 0} → Bool → Error → Result X Refusal → Type 0

@@ -2,8 +2,7 @@
 use Rattle.std.proofs.Common.{◌≡◌, ℕ, ◌+◌, ◌*◌, ◌-◌, ◌^◌, ◌<◌, ◌≤◌, ◌↔◌, ◌⊎◌, min, max, inl, inr, arith}
 use Rattle.std.proofs.lemmas.Bool.{cases_lt}
 use Rattle.simplex_base.specs.Terms.{term_start, term_end}
-use Rattle.simplex_lead.specs.Windows.{FitsWindow, IsAdmitted, IsInReach, Leads, admitted_above, next_start}
-use Rattle.simplex_lead.specs.Counting.{NumberExactly}
+use Rattle.simplex_lead.specs.Windows.{FitsWindow, IsAdmitted, IsInReach, Leads, NumberExactly, admitted_above, next_start}
 use Rattle.simplex_base.specs.TermLaws.{end_after, end_same, end_next, end_rises, start_to_end}
 use Rattle.simplex_lead.proofs.Counting.{number_between, number_both, number_same}
 

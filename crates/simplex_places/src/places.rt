@@ -2,7 +2,7 @@
 
 ghost use Rattle.std.specs.Prelude.{◌≡◌, ◌+◌, ◌-◌, ◌<◌, ◌^◌, ◌++◌, [], ◌∷◌, ◌&&◌, true, false, IfOk, OnOk, length, nat_eq, refl};
 ghost use Rattle.std.specs.List.{flat_map};
-ghost use Rattle.simplex_base.specs.Readable.{format_of};
+ghost use Rattle.simplex_base.specs.Format.{format_of};
 ghost use Rattle.simplex_base.specs.Varint.{number_32};
 ghost use Rattle.simplex_places.specs.Places.{behind, places_from, message_places, placed_at};
 

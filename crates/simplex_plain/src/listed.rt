@@ -7,7 +7,7 @@ ghost use Rattle.std.specs.Cmp.Lexicographic.{pointwise, lists_per};
 ghost use Rattle.std.specs.Cmp.Rules.{comparing, hashing};
 ghost use Rattle.std.proofs.Common.{rules};
 ghost use Rattle.std.proofs.lemmas.Cmp.{lists_equiv};
-ghost use Rattle.simplex_base.specs.Readable.{format_of};
+ghost use Rattle.simplex_base.specs.Format.{format_of};
 ghost use Rattle.simplex_base.specs.Reading.{Gives};
 ghost use Rattle.simplex_scheme.specs.declared.scheme.Attestation.{Attestation};
 ghost use Rattle.simplex_plain.specs.Listed.{AreListed, ListedFits, listed_encoding, attestation_at, attestations_at, listed_at};

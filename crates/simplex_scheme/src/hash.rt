@@ -3,7 +3,7 @@
 ghost use Rattle.std.specs.Prelude.{◌≡◌, ℕ, List};
 ghost use Rattle.std.proofs.Common.{lit<, lit≤};
 ghost use Rattle.sha2.specs.Sha256.{sha256};
-ghost use Rattle.simplex_scheme.specs.Parts.{joined};
+ghost use Rattle.simplex_scheme.specs.Hashing.{joined};
 
 use crate::scheme::Digest;
 use simplex_base::codec::Fixed;

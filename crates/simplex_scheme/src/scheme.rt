@@ -2,7 +2,7 @@
 
 ghost use Rattle.std.specs.Prelude.{◌≡◌, ⊤, ◌+◌, ℕ, Bool, true, false, List, Option, Some, None, Ok, Err, IfOk, IfErr, IfSome, MatchOption, All, length, nat_eq, ◌&&◌, ◌<◌, ◌≤◌, ◌^◌, refl};
 ghost use Rattle.std.specs.List.{IsDistinct, list_all};
-ghost use Rattle.simplex_base.specs.Readable.{format_of};
+ghost use Rattle.simplex_base.specs.Format.{format_of};
 ghost use Rattle.simplex_scheme.specs.Subject.{SubjectValue, subject_value};
 ghost use Rattle.simplex_scheme.specs.Committee.{IsQuorum, IsInOrder, quorum_of, signers_of};
 
@@ -93,7 +93,7 @@ impl ExactClone for AssemblyError {
 
 impl EqByParts for AssemblyError {
     ghost use Rattle.std.specs.Prelude.{refl};
-    ghost use Rattle.simplex_scheme.specs.Errors.{same_assembly_error};
+    ghost use Rattle.simplex_scheme.specs.Committee.{same_assembly_error};
     ghost use Rattle.simplex_scheme.specs.declared.scheme.AssemblyError.TheVariants.{InsufficientAttestations, OutOfMemory};
 
     ghost same = { same_assembly_error };

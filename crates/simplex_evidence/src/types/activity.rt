@@ -1,7 +1,7 @@
 //! The union of all messages.
 
 ghost use Rattle.std.specs.Prelude.{◌≡◌, ◌+◌, ◌*◌, ◌^◌, IfOk, IfErr, IsTrue};
-ghost use Rattle.simplex_base.specs.Readable.{format_of, format_under};
+ghost use Rattle.simplex_base.specs.Format.{format_of, format_under};
 
 use crate::types::conflicting_finalize::ConflictingFinalize;
 use crate::types::conflicting_notarize::ConflictingNotarize;

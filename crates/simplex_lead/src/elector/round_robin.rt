@@ -161,7 +161,7 @@ fn order_of<H: Hasher>(
 }
 
 impl<S: CertificateScheme, H: Hasher> Config<S> for RoundRobin<H> {
-    ghost use Rattle.simplex_lead.specs.ElectionLaws.{one_alike};
+    ghost use Rattle.simplex_lead.specs.Election.{one_alike};
     ghost use Rattle.simplex_lead.specs.RotationLaws.{one_rotation, same_rotations};
 
     type Elector = RoundRobinElector<S>;
@@ -257,7 +257,7 @@ impl<S> RoundRobinElector<S> {
 
 impl<S: CertificateScheme> Elector<S> for RoundRobinElector<S> {
     ghost use Rattle.std.proofs.Common.{refl, sym};
-    ghost use Rattle.simplex_lead.specs.ElectionLaws.{one_alike};
+    ghost use Rattle.simplex_lead.specs.Election.{one_alike};
     ghost use Rattle.simplex_lead.specs.RotationLaws.{same_leader};
     ghost use Rattle.simplex_lead.specs.declared.elector.mode.Mode.TheVariants.{Scheduled};
 

@@ -1,7 +1,7 @@
 //! The union of certificate messages.
 
 ghost use Rattle.std.specs.Prelude.{◌≡◌, ◌+◌, ◌≤◌, ◌^◌, IfOk, Some, length};
-ghost use Rattle.simplex_base.specs.Readable.{format_of, format_under};
+ghost use Rattle.simplex_base.specs.Format.{format_of, format_under};
 
 use crate::map_ok;
 use crate::types::finalization::Finalization;
