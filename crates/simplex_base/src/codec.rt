@@ -16,9 +16,9 @@ pub mod truth;
 pub mod unions;
 pub mod varint;
 
+use crate::codec::error::Error;
 use crate::codec::parts::known_bytes;
 use bytes::Bytes;
-pub use error::Error;
 use std::alloc::{AllocError, Global};
 use std::hash::Hash;
 

@@ -2,9 +2,9 @@
 #![tactic(auto)]
 
 pub mod elector;
-pub mod lookahead;
-pub mod plan;
-pub mod viewport;
+mod lookahead;
+mod plan;
+mod viewport;
 
 pub use lookahead::Lookahead;
 pub use plan::{Plan, Recipients};

@@ -5,7 +5,7 @@ ghost use Rattle.simplex_base.specs.Terms.{term_start, term_end};
 ghost use Rattle.simplex_lead.specs.Windows.{FitsWindow, NumberExactly, next_start, own_limit, next_limit};
 ghost use Rattle.simplex_lead.specs.Windows.{IsAdmitted, admitted_above, Leads, IsOutbound, IsInReach, views_between};
 
-use crate::elector::terms::Terms;
+use crate::elector::Terms;
 use simplex_base::positions::{TermLength, View, ViewDelta};
 use simplex_base::values::ExactClone;
 

@@ -6,12 +6,8 @@ ghost use Rattle.simplex_base.specs.Format.{format_of};
 ghost use Rattle.simplex_scheme.specs.Subject.{SubjectValue, subject_value};
 ghost use Rattle.simplex_scheme.specs.Committee.{IsQuorum, IsInOrder, quorum_of, signers_of};
 
-pub use crate::faults::{max_faults, quorum};
-pub use crate::hash::{Hasher, Sha256, Sha256Digest};
-pub use crate::namespace::{CertificateNamespace, Namespace};
-pub use crate::proposal::Proposal;
-pub use crate::set::{Set, SetError};
-pub use crate::subject::{CertificateSubject, Subject};
+use crate::set::Set;
+use crate::subject::Subject;
 use simplex_base::codec::error::Error;
 use simplex_base::codec::fixed_bytes::{FixedBytes, Role};
 use simplex_base::codec::parts::{size_both, write_both};
