@@ -12,7 +12,7 @@ pub mod counted;
 pub mod error;
 pub mod fixed_bytes;
 pub mod parts;
-pub mod truth;
+mod truth;
 pub mod unions;
 pub mod varint;
 
