@@ -37,7 +37,7 @@ impl Lookahead {
         }
     }
 
-    /// Whether all that is counted from the view `current` is a view: the start of the next term plus the term
+    /// Whether all views that are counted from `current` are 64-bit numbers: the start of the next term plus the term
     /// length plus 1 is at most 2^64 - 1. It is the condition of the calls that take `current`.
     pub fn fits(&self, current: View) -> bool
         ensures { IsTrue result ↔ FitsWindow self.now.term_length current }
@@ -76,7 +76,7 @@ impl Lookahead {
         requires { FitsWindow self.now.term_length current }
         ensures admitted { IsTrue result ↔
             IsAdmitted self.now.term_length self.now.optimistic_views current pending }
-        // So many later views are admitted, and no more.
+        // Exactly this many later views are admitted.
         ensures number { NumberExactly
             (λ q. (current < q) × IsAdmitted self.now.term_length self.now.optimistic_views current
             q)

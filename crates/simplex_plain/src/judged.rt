@@ -1,11 +1,12 @@
-//! A scheme by verdicts: a committee whose signatures are judged by a table, which the caller found elsewhere. It is an
-//! example of a scheme of one's own.
+//! A scheme by verdicts: a committee whose valid signatures the caller found elsewhere and lists in a table. It is an
+//! example of a scheme of your own.
 //!
-//! A scheme has to show these laws, each in the ghost member that is named. `certificates_limited` and
-//! `certificates_within`: how long a certificate is at most. `members`: whose signature is valid is in the committee. And
-//! where its certificates list their attestations, `lists_quorums`: what certifies lists a quorum of distinct signers, each
-//! signature valid, and `lists_given`: an assembled certificate lists what was given. By `AttestationVerifier` and the
-//! calls of [`certificates`](crate::certificates) it has to write only what makes one signature valid.
+//! A scheme has to prove these laws, each in the ghost member of that name. `certificates_limited` and
+//! `certificates_within`: the greatest size of a certificate. `members`: the signer of a valid signature is in the
+//! committee. And where its certificates list their attestations, `lists_quorums`: a certificate that certifies lists
+//! a quorum of distinct signers, each signature valid, and `lists_given`: an assembled certificate lists the
+//! attestations that it was assembled from. With `AttestationVerifier` and the calls of
+//! [`certificates`](crate::certificates) it only has to say when one signature is valid.
 
 ghost use Rattle.std.specs.Prelude.{◌≡◌, ◌≢◌, ◌↔◌, ◌&&◌, ◌==◌, ◌++◌, ◌<◌, ◌≤◌, ◌^◌, ◌+◌, ◌*◌, ℕ, List, None, Some, Ok, Err, IsOk, IfOk, IfSome, IsTrue, MatchOption, All, length, nat_eq, nat_lt, true};
 ghost use Rattle.std.specs.List.{IsDistinct, list_any};
@@ -103,7 +104,7 @@ impl Verdict {
 impl Judged {
     /// The committee of these keys, and the signatures that were found valid.
     ///
-    /// The table is searched for each signature, from its front.
+    /// The table is searched for each signature, from its start.
     pub fn new(participants: Set<PlainKey>, verdicts: Vec<Verdict>) -> Judged
         requires some { 1 ≤ length participants }
         requires few { length participants < 2 ^ 32 }
@@ -248,7 +249,7 @@ impl<D: Digest> Scheme<D> for Judged {
         ensures below { length attestations.items < quorum_of (length self.now.keys) →
             result ≡ Err (AssemblyError.InsufficientAttestations (quorum_of (length self.now.keys))
             (length attestations.items)) }
-        // No memory is taken.
+        // Nothing is allocated.
         ensures ample { quorum_of (length self.now.keys) ≤ length attestations.items → IsOk result }
         ensures made { IfOk result (λ certificate. IsInOrder attestations.items certificate) }
         ensures certified { IfOk result (λ certificate. (subject : SubjectValue D) →

@@ -1,4 +1,4 @@
-//! Hashing.
+//! Hash functions, and SHA-256.
 
 ghost use Rattle.std.specs.Prelude.{◌≡◌, ℕ, List};
 ghost use Rattle.std.proofs.Common.{lit<, lit≤};
@@ -16,7 +16,7 @@ pub trait Hasher {
     /// The digest of some bytes.
     ghost digest_of: { List ℕ → Self.Digest };
 
-    /// The digest of the parts, taken as one list of bytes. It takes no memory.
+    /// The digest of the concatenation of the parts. It allocates nothing.
     fn hash(parts: &[&[u8]]) -> Self::Digest
         ensures { result ≡ digest_of (joined parts.now) };
 }

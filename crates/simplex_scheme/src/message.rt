@@ -1,4 +1,4 @@
-//! Whether bytes are the message that is signed, compared part by part without memory.
+//! Whether bytes are the message that is signed, compared part by part without an allocation.
 
 ghost use Rattle.std.specs.Prelude.{◌≡◌, ◌≢◌, ◌↔◌, ◌++◌, ℕ, List, IsTrue, MatchOption};
 ghost use Rattle.simplex_base.specs.Format.{format_of};

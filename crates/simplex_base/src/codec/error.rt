@@ -1,4 +1,4 @@
-//! Why bytes are no value.
+//! Why bytes are not read as a value.
 
 use crate::values::{EqByParts, ExactClone};
 use thiserror::Error as ThisError;

@@ -55,7 +55,8 @@ impl<S: SchemeTypes, D: Digest> NullifyFinalize<S, D> {
             && finalize.attestation.signer == nullify.attestation.signer
     }
 
-    /// The evidence of a nullify and a finalize that contradict, as [`conflicts`](NullifyFinalize::conflicts) tells.
+    /// The evidence of a nullify and a finalize that contradict, as [`conflicts`](NullifyFinalize::conflicts)
+    /// returns.
     pub fn new(nullify: Nullify<S>, finalize: Finalize<S, D>) -> Self
         requires { IsTrue (contradicts D.eq Nullify_finalize (nullify_vote nullify)
             (finalize_vote finalize)) }

@@ -59,7 +59,7 @@ impl<H: Hasher> Default for RoundRobin<H> {
 }
 
 impl<H: Hasher> RoundRobin<H> {
-    /// In an order by this seed, in terms of one view. `AllocError` comes where the seed found no memory.
+    /// In an order by this seed, in terms of one view. `AllocError` where the allocation of the seed failed.
     pub fn shuffled(alloc: Global, seed: &[u8]) -> Result<Self, AllocError>
         ensures { IfOk result (λ settings.
             settings ≡ record { seed = Some seed.now; terms = rotating }) }
@@ -112,7 +112,7 @@ impl<H: Hasher> ExactClone for RoundRobin<H> {
     ghost exact = { λ x y same. same };
 }
 
-/// The hash by which a participant is placed.
+/// The hash that decides a participant's place in the order.
 fn ticket<H: Hasher>(seed: &[u8], participant: Participant) -> H::Digest
     ensures { result ≡ H.digest_of (seed.now ++ to_be_bytes w32 participant) }
 {

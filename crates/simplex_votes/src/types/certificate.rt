@@ -28,7 +28,7 @@ pub enum Kind {
 impl Kind {
     ghost use Rattle.simplex_votes.specs.Unions.{kind_word};
 
-    /// The word of the kind.
+    /// The name of the kind, as it prints.
     pub fn as_str(self) -> &'static str
         ensures { result.now ≡ kind_word self }
     {
