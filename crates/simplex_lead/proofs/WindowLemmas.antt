@@ -60,7 +60,7 @@ admitted_led l k c q positive above within admitted =
     let same : term_end l (p + 1) ≡ term_end l c = end_same l c (p + 1) positive (omega arith) (omega arith) in
     (p, (grind arith, inl (omega arith), grind arith))
 
--- what is admitted is a view
+-- an admitted view is a 64-bit number
 pub admitted_small : (l k c q : ℕ) → 1 ≤ l → FitsWindow l c → IsAdmitted l k c q → q < 2 ^ 64
 admitted_small l k c q positive fits admitted = let after = end_after l c positive in grind arith
 

@@ -1,4 +1,4 @@
--- Who elects, and by what.
+-- Electors: how they use certificates, and when two elect alike.
 use Rattle.std.proofs.Common.{ap}
 use Rattle.std.specs.Prelude.{◌≡◌, ℕ, Bool, true, false, Option, None}
 use Rattle.simplex_base.specs.Positions.{Round}
@@ -13,7 +13,7 @@ same_mode Scheduled Dynamic = false
 same_mode Dynamic Scheduled = false
 same_mode Dynamic Dynamic = true
 
--- what of a certificate an elector of this mode reads
+-- the certificate, as an elector of this mode is given it
 abbrev pub seen : {C : Type 0} → Mode → Option C → Option C
 seen Scheduled certificate = None
 seen Dynamic certificate = certificate

@@ -8,7 +8,7 @@ use Rattle.simplex_base.specs.Terms.{term_end}
 abbrev pub next_start : ℕ → ℕ → ℕ
 next_start l v = term_end l v + 1
 
--- all that is counted from c is a view
+-- all views that are counted from c are 64-bit numbers
 abbrev pub FitsWindow : ℕ → ℕ → Type 0
 FitsWindow l c = next_start l c + l + 1 < 2 ^ 64
 

@@ -2,8 +2,7 @@
 
 ghost use Rattle.std.specs.Prelude.{◌≡◌, ℕ, ◌+◌, ◌-◌, ◌<◌, ◌≤◌, ◌^◌, ◌↔◌, ◌⊎◌, IsTrue, IfSome, MatchOption};
 ghost use Rattle.simplex_base.specs.Terms.{term_start, term_end};
-ghost use Rattle.simplex_lead.specs.Windows.{FitsWindow, NumberExactly, next_start, own_limit, next_limit};
-ghost use Rattle.simplex_lead.specs.Windows.{IsAdmitted, admitted_above, Leads, IsOutbound, IsInReach, views_between};
+ghost use Rattle.simplex_lead.specs.Windows.{FitsWindow, IsAdmitted, IsInReach, IsOutbound, Leads, NumberExactly, admitted_above, next_limit, next_start, own_limit, views_between};
 
 use crate::elector::Terms;
 use simplex_base::positions::{TermLength, View, ViewDelta};

@@ -172,7 +172,7 @@ pub listed_lawful : {S P G : Type 0} (signature : Format G) (bound : ℕ) → Is
     Lawful (ListedFits {S = S} {P = P} signature bound) (listed_encoding signature) (listed_at signature bound)
 listed_lawful signature bound law = record { takes = listed_take signature bound law; again = listed_again signature bound law }
 
--- no signer stands twice
+-- no two have the same signer
 pub ascending_distinct : {S P G : Type 0} (xs : List (Attestation S P G)) → SignersAscend xs → AllPairs (λ a b. a.signer ≢ b.signer) xs
 ascending_distinct xs ascending i j d lt within e = let less = ascending i j d lt within in omega arith
 
