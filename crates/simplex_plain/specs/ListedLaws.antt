@@ -1,4 +1,4 @@
--- Reading a listed certificate gives the one whose encoding begins the input, and how long an encoding is.
+-- Reading a listed certificate gives the one whose encoding is a prefix of the input; and how long an encoding is.
 -- They stand beside the definitions because ghost members of impls cite them, and those see no proofs.
 use Rattle.std.proofs.Common.{◌≡◌, ◌==◌, ◌⊎◌, inl, inr, ℕ, zero, suc, ◌+◌, ◌*◌, ◌<◌, ◌≤◌, List, [], ◌∷◌, ◌++◌, length, Ok, Err, Bool, true, false, cond, nat_lt, nat_le, ◌||◌, refl, ap, sym, subst, ◌∙◌, append_assoc, arith, length-append}
 use Rattle.std.specs.Prelude.{All, AllPairs, ◌≢◌}
