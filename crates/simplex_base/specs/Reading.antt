@@ -46,7 +46,7 @@ Fails memory (errors.Invalid subject reason) read = read ≡ Err (invalid subjec
 Fails memory errors.ExtraData read = read ≡ Err extra_data
 Fails memory errors.OutOfMemory read = IsTrue memory
 
--- A call returned what reading gives, and left the input behind the value. An error leaves the input as it was.
+-- A call returned what reading gives, and moved the input past the value. An error leaves the input as it was.
 abbrev pub Gives : {T : Type 0} → Bool → Result T Error → List ℕ → List ℕ → Reading T → Type 0
 Gives memory (Ok x) old new read = read ≡ Ok (x, new)
 Gives memory (Err e) old new read = (new ≡ old) × Fails memory e read

@@ -109,7 +109,7 @@ pub trait ReadExt: Read<Cfg = ()> {
 
 /// A value that can be written as one byte string.
 pub trait Encode: Write + EncodeSize {
-    /// The encoding, in one allocation of its size. `AllocError` where that failed.
+    /// The encoding, in memory of exactly its size. `AllocError` where an allocation failed.
     fn encode(&self, alloc: Global) -> Result<Bytes, AllocError>
         ensures encoding { IfOk result (λ bytes. bytes ≡ Self.encoding self.now) }
         ensures value { Self.is_value self.now }
