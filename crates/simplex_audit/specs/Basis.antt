@@ -1,7 +1,6 @@
 -- What an audit goes by.
 use Rattle.std.specs.Prelude.{ℕ, Bool, List}
-use Rattle.simplex_base.specs.Format.{Format}
-use Rattle.simplex_base.specs.Readable.{Readable, format_under}
+use Rattle.simplex_base.specs.Format.{Format, Readable, format_under}
 use Rattle.simplex_scheme.specs.Subject.{SubjectValue}
 use Rattle.simplex_scheme.specs.declared.scheme.Attestation.{Attestation}
 use Rattle.simplex_evidence.specs.declared.types.activity.Activity.{Activity}

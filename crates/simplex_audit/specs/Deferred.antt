@@ -1,6 +1,6 @@
 -- What the two readings of a deferred audit go by, and what its report depends on.
 use Rattle.std.specs.Prelude.{ℕ, Bool, List}
-use Rattle.simplex_base.specs.Readable.{Readable, format_under}
+use Rattle.simplex_base.specs.Format.{Readable, format_under}
 use Rattle.simplex_scheme.specs.Subject.{SubjectValue}
 use Rattle.simplex_scheme.specs.declared.scheme.Attestation.{Attestation}
 use Rattle.simplex_evidence.specs.declared.types.activity.Activity.{Activity}

@@ -2,12 +2,12 @@
 use Rattle.std.specs.Prelude.{◌≡◌, ◌++◌, ◌∷◌, [], ◌==◌, ⊤, ℕ, Bool, true, false, IsTrue, List, Ok, Err, nat_lt, take, drop, length, if◌then◌else◌}
 use Rattle.simplex_base.specs.Reading.{Reading, Refusal, ◌>>=◌, IsBytes, end_of_buffer, invalid_bool}
 
--- x is a value, and its encoding stands in front of the rest
+-- x is a value, and the bytes are its encoding and then the rest
 pub record Encoded {T : Type 0} (is_value : T → Type 0) (encoding : T → List ℕ) (bytes : List ℕ) (x : T) (rest : List ℕ) : Type 0 where
   pub value : is_value x
   pub parts : bytes ≡ encoding x ++ rest
 
--- Reading gives the value whose encoding begins the input, and gives it wherever there is one.
+-- Reading gives the value whose encoding is a prefix of the input, and gives it wherever there is one.
 pub record Lawful {T : Type 0} (is_value : T → Type 0) (encoding : T → List ℕ) (reading : List ℕ → Reading T) : Type 0 where
   pub takes : (bytes : List ℕ) (x : T) (rest : List ℕ) → IsBytes bytes → reading bytes ≡ Ok (x, rest) → Encoded is_value encoding bytes x rest
   pub again : (x : T) (rest : List ℕ) → is_value x → reading (encoding x ++ rest) ≡ Ok (x, rest)
@@ -20,6 +20,20 @@ pub record Format (T : Type 0) : Type 1 where
 
 abbrev pub IsLawful : {T : Type 0} → Format T → Type 0
 IsLawful f = Lawful f.is_value f.encoding f.reading
+
+-- ---- a type that can be read
+
+-- what `Read` states of a type that is read under a configuration
+abbrev pub Readable : Type 0 → Type 0 → Type 1
+Readable C T = record { is_value : T → Type 0; encoding : T → List ℕ; fits : C → T → Type 0; reading : C → List ℕ → Reading T; takes_memory : Bool }
+
+-- the format of the values that are read under this configuration
+abbrev pub format_under : {C T : Type 0} → Readable C T → C → Format T
+format_under type cfg = record { is_value = type.fits cfg; encoding = type.encoding; reading = type.reading cfg }
+
+-- the format of a type that needs no configuration
+abbrev pub format_of : {T : Type 0} → Readable Unit T → Format T
+format_of type = format_under type tt
 
 -- ---- one part after the other
 
@@ -45,7 +59,7 @@ made make parts f = record { is_value = λ b. f.is_value (parts b); encoding = �
 
 -- ---- a fixed number of bytes
 
--- as many bytes as the size says
+-- a list of exactly this many bytes
 pub record IsFixed (size : ℕ) (bytes : List ℕ) : Type 0 where
   pub len : length bytes ≡ size
   pub fit : IsBytes bytes
@@ -65,7 +79,7 @@ tested_at test refusal read bytes = read bytes >>= λ x. if test x.0 then Ok x e
 abbrev pub tested : {T : Type 0} → (T → Bool) → Refusal → Format T → Format T
 tested test refusal f = record { is_value = λ x. f.is_value x × IsTrue (test x); encoding = f.encoding; reading = tested_at test refusal f.reading }
 
--- ---- a truth value: 0 for false, 1 for true
+-- ---- a boolean: 0 for false, 1 for true
 
 abbrev pub truth_encoding : Bool → List ℕ
 truth_encoding b = (if b then 1 else 0) ∷ []

@@ -114,7 +114,7 @@ all_of_again {T} {fits} {encoding} {read} law bytes x v e =
     let h = rw (append-nil (encoding x)) at (law.again x [] v) in rw (e, h) refl
 
 -- what a call that read all of the bytes returned
--- what a call returned begins the input, and the rest of the input follows it
+-- the encoding of what a call returned is a prefix of the input, and the rest of the input follows it
 pub gave : {T : Type 0} {fits : T → Type 0} {encoding : T → List ℕ} {read : List ℕ → Reading T} (memory : Bool) →
     Lawful fits encoding read → (bytes rest : List ℕ) → IsBytes bytes → (r : Result T Error) → Gives memory r bytes rest (read bytes) →
     IfOk r (λ x. fits x × (bytes ≡ encoding x ++ rest))
@@ -155,7 +155,7 @@ fixed_lawful {T} size bytes_of of_bytes back forth = record {
     guarded true v r w s e = absurd cc
     guarded false v r w s e = (refl, cc)
 
--- no encoding begins another's
+-- no encoding is a prefix of another
 pub one_encoding : {T : Type 0} {fits : T → Type 0} {encoding : T → List ℕ} {read : List ℕ → Reading T} → Lawful fits encoding read →
     (x y : T) (rest more : List ℕ) → fits x → fits y → encoding x ++ rest ≡ encoding y ++ more → (x ≡ y) × (rest ≡ more)
 one_encoding {T} {fits} {encoding} {read} law x y rest more fx fy e =

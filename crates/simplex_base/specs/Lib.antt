@@ -1,7 +1,5 @@
 pub mod Reading
-pub mod Errors
 pub mod Format
-pub mod Readable
 pub mod FormatLaws
 pub mod Union
 pub mod Varint

@@ -1,5 +1,6 @@
--- What reading the front of some bytes gives, and what a call that reads may answer.
-use Rattle.std.specs.Prelude.{◌≡◌, ◌==◌, Bool, IsTrue, if◌then◌else◌, length, ℕ, ◌<◌, List, Result, Ok, Err, slice_index_or}
+-- What reading a prefix of some bytes gives, and what a call that reads may return.
+use Rattle.std.specs.Prelude.{◌≡◌, ◌==◌, ◌&&◌, Bool, true, false, IsTrue, if◌then◌else◌, length, ℕ, ◌<◌, List, Result, Ok, Err, slice_index_or}
+use Rattle.std.specs.Str.{bytes_eq}
 use Rattle.simplex_base.specs.declared.codec.error.Error.{Error}
 use Rattle.simplex_base.specs.declared.codec.error.Error.TheVariants as errors
 
@@ -25,7 +26,18 @@ abbrev pub ◌>>=◌ : {A B : Type 0} → Result A Refusal → (A → Result B R
 abbrev pub IsBytes : List ℕ → Type 0
 IsBytes bytes = (i : ℕ) → slice_index_or bytes i 0 < 256
 
--- an error of the code is this refusal, or tells of memory where that may be
+-- whether two errors are the same: the variant, and of an invalid value its type and the condition
+abbrev pub same_error : Error → Error → Bool
+same_error errors.EndOfBuffer errors.EndOfBuffer = true
+same_error errors.InvalidVarint errors.InvalidVarint = true
+same_error errors.InvalidBool errors.InvalidBool = true
+same_error (errors.Invalid type condition) (errors.Invalid other_type other_condition) =
+    bytes_eq type.now other_type.now && bytes_eq condition.now other_condition.now
+same_error errors.ExtraData errors.ExtraData = true
+same_error errors.OutOfMemory errors.OutOfMemory = true
+same_error _ _ = false
+
+-- an error of the code is this refusal, or `OutOfMemory` where the call may allocate
 abbrev pub Fails : {X : Type 0} → Bool → Error → Result X Refusal → Type 0
 Fails memory errors.EndOfBuffer read = read ≡ Err end_of_buffer
 Fails memory errors.InvalidVarint read = read ≡ Err invalid_varint
@@ -34,7 +46,7 @@ Fails memory (errors.Invalid subject reason) read = read ≡ Err (invalid subjec
 Fails memory errors.ExtraData read = read ≡ Err extra_data
 Fails memory errors.OutOfMemory read = IsTrue memory
 
--- What a call returned, and the input before and after it, is what reading gives. An error leaves the input.
+-- A call returned what reading gives, and moved the input past the value. An error leaves the input as it was.
 abbrev pub Gives : {T : Type 0} → Bool → Result T Error → List ℕ → List ℕ → Reading T → Type 0
 Gives memory (Ok x) old new read = read ≡ Ok (x, new)
 Gives memory (Err e) old new read = (new ≡ old) × Fails memory e read

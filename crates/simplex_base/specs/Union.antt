@@ -1,4 +1,4 @@
--- Unions: a tag, and what it says comes after it.
+-- Unions: a tag, and then the body that belongs to the tag.
 use Rattle.std.proofs.Common.{◌≡◌, ◌==◌, if◌then◌else◌, ℕ, suc, List, [], ◌∷◌, ◌++◌, Ok, Err, refl, Bool, true, false, cond, ap, subst}
 use Rattle.std.proofs.lemmas.Bool.{eqb-true}
 use Rattle.simplex_base.specs.Reading.{Reading, Refusal, end_of_buffer, IsBytes}

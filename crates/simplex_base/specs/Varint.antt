@@ -1,4 +1,4 @@
--- Numbers in groups of seven bits, the lowest group first.
+-- Numbers in LEB128: groups of seven bits, the lowest group first.
 use Rattle.std.specs.Prelude.{◌≡◌, ◌≢◌, ℕ, zero, suc, ◌+◌, ◌-◌, ◌*◌, ◌/◌, ◌%◌, ◌^◌, ◌<◌, ◌≤◌, List, [], ◌∷◌, ◌++◌, Result, Ok, Err, nat_lt, ◌==◌, if◌then◌else◌, OnErr, IfOk}
 use Rattle.simplex_base.specs.Reading.{Reading, end_of_buffer, invalid_varint, ◌>>=◌}
 use Rattle.simplex_base.specs.Format.{Format}
@@ -14,14 +14,14 @@ IsNumber [] n = ⊥
 IsNumber (b ∷ []) n = (b < 128) × (n ≡ b)
 IsNumber (b ∷ c ∷ bs) n = (128 ≤ b) × (b < 256) × (high : ℕ) × (0 < high) × (n + 128 ≡ b + 128 * high) × IsNumber (c ∷ bs) high
 
--- the encoding of n, a number below the limit, begins the bytes
+-- the encoding of n, a number below the limit, is a prefix of the bytes
 pub record BeginsWith (limit : ℕ) (bytes : List ℕ) (n : ℕ) (rest : List ℕ) : Type 0 where
   pub below : n < limit
   pub front : List ℕ
   pub number : IsNumber front n
   pub parts : bytes ≡ front ++ rest
 
--- the bytes are a proper beginning of the encoding of a number below the limit
+-- the bytes are a proper prefix of the encoding of a number below the limit
 pub record IsCutOff (limit : ℕ) (bytes : List ℕ) : Type 0 where
   pub n : ℕ
   pub below : n < limit
@@ -29,7 +29,7 @@ pub record IsCutOff (limit : ℕ) (bytes : List ℕ) : Type 0 where
   pub some : missing ≢ []
   pub number : IsNumber (bytes ++ missing) n
 
--- What reading a number below the limit answers, and what it leaves of the input.
+-- What reading a number below the limit returns, and what it leaves of the input.
 pub record ReadsNumber (limit : ℕ) (result : Result ℕ Error) (old new : List ℕ) : Type 0 where
   pub taken : IfOk result (λ n. BeginsWith limit old n new)
   pub again : (n : ℕ) (rest : List ℕ) → BeginsWith limit old n rest → (result ≡ Ok n) × (new ≡ rest)
@@ -45,7 +45,7 @@ unfoldable pub groups : ℕ → ℕ → List ℕ
 groups zero n = n ∷ []
 groups (suc k) n = if nat_lt n 128 then n ∷ [] else (n % 128 + 128) ∷ groups k (n / 128)
 
--- a group b in front of what reading gave
+-- a group b before what reading gave
 abbrev pub with_group : ℕ → Reading ℕ → Reading ℕ
 with_group b read = read >>= λ high. Ok ((b - 128) + 128 * high.0, high.1)
 
@@ -57,7 +57,7 @@ groups_at (b ∷ bytes) k top =
     else if nat_lt b 128 then (if nat_lt 0 b then Ok (b, bytes) else Err invalid_varint)
     else with_group b (groups_at bytes (k - 1) top)
 
--- a number with k groups after the first at most
+-- a number with at most k groups after the first
 unfoldable pub number_at : ℕ → ℕ → List ℕ → Reading ℕ
 number_at k top [] = Err end_of_buffer
 number_at k top (b ∷ bytes) = if nat_lt b 128 then Ok (b, bytes) else with_group b (groups_at bytes (k - 1) top)

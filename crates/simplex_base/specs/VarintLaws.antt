@@ -32,7 +32,7 @@ top_of_power top more h = let p : top * 1 ≤ top * 128 ^ more = mul-le-mul_left
 pub some_of_power : (top more : ℕ) → 0 < more → 1 ≤ top → 128 ≤ top * 128 ^ more
 some_of_power top more h t = let e = step_of_power top more h in let p = top_of_power top (more - 1) t in omega (arith, e, p)
 
--- ---- reading gives the number whose groups begin the input
+-- ---- reading gives the number whose groups are a prefix of the input
 
 -- which way a test went
 pub chosen : {A : Type 0} (b : Bool) (x y z : A) → cond b x y ≡ z → ((b ≡ true) × (x ≡ z)) ⊎ ((b ≡ false) × (y ≡ z))
@@ -278,9 +278,9 @@ pub longest_32 : length (groups 4 (2 ^ 32 - 1)) ≡ 5
 unfolding groups
 longest_32 = refl
 
--- ---- what reading a number answers, in the words of the grammar
+-- ---- what reading a number returns, by the grammar
 
--- one more group in front of some missing ones
+-- one more group before some missing ones
 cut_off_group : (b : ℕ) (bytes missing : List ℕ) (high : ℕ) → 128 ≤ b → b < 256 → 0 < high → IsNumber (bytes ++ missing) high →
     IsNumber (b ∷ bytes ++ missing) ((b - 128) + 128 * high)
 cut_off_group b bytes missing high p q some h = cons_number b (bytes ++ missing) high ((b - 128) + 128 * high) p q some (omega arith) h
@@ -349,7 +349,7 @@ groups_cut (b ∷ bytes) (suc k) top t fit e =
           }
     ]
 
--- a byte in front of bytes that miss some is no last group
+-- a byte before bytes that miss some is no last group
 record Higher (b n : ℕ) (rest : List ℕ) : Type 0 where
   pub big : 128 ≤ b
   pub byte : b < 256

@@ -1,4 +1,4 @@
-//! Values as bytes: each value has one encoding, and reading finds it wherever it begins the input.
+//! Encoding and decoding. Each value has one encoding, and reading returns it wherever that is a prefix of the input.
 
 ghost use Rattle.std.specs.Prelude.{◌≡◌, ◌↔◌, true, ℕ, Bool, Ok, Err, List, ◌++◌, length, OnOk, OnErr, IfOk, ◌≤◌, ◌<◌};
 ghost use Rattle.std.specs.Ordering.{nat_cmp};
@@ -12,13 +12,13 @@ pub mod counted;
 pub mod error;
 pub mod fixed_bytes;
 pub mod parts;
-pub mod truth;
+mod truth;
 pub mod unions;
 pub mod varint;
 
+use crate::codec::error::Error;
 use crate::codec::parts::known_bytes;
 use bytes::Bytes;
-pub use error::Error;
 use std::alloc::{AllocError, Global};
 use std::hash::Hash;
 
@@ -33,8 +33,8 @@ pub trait Encoding {
 
 /// A value that can be written.
 pub trait Write: Encoding {
-    /// Appends the encoding. `AllocError` comes where the buffer had to grow and could not; the buffer
-    /// is then as before.
+    /// Appends the encoding. `AllocError` where the buffer had to grow and the allocation failed; the buffer is then
+    /// as before.
     fn write(&self, buf: &mut Vec<u8>) -> Result<(), AllocError>
         ensures ok { OnOk result (buf.new.items ≡ buf.old.items ++ Self.encoding self.now) }
         ensures err { OnErr result (buf.new.items ≡ buf.old.items) };
@@ -42,7 +42,7 @@ pub trait Write: Encoding {
 
 /// A value that knows how long its encoding is.
 pub trait EncodeSize: Encoding {
-    /// A bound on the lengths, so that they can be added up.
+    /// A bound on the sizes, so that sums of them do not overflow.
     ghost limit: { ℕ };
 
     /// The number of bytes of the encoding.
@@ -84,19 +84,20 @@ pub trait Read: Encoding {
     /// The value is within the configuration.
     ghost fits: { Self.Cfg → Self → Type 0 };
 
-    /// What reading the front of some bytes gives.
+    /// What reading a prefix of some bytes gives.
     ghost reading: { Self.Cfg → List ℕ → Reading Self };
 
-    /// Whether reading takes memory. Where it doesn't, `OutOfMemory` is never answered.
+    /// Whether reading allocates. Where it doesn't, `OutOfMemory` is never returned.
     ghost takes_memory: { Bool };
 
-    /// Reads the value at the front of the input and moves the slice past it. After an error the slice
+    /// Reads the value whose encoding is a prefix of the input, and moves the slice past it. After an error the slice
     /// is as before.
     fn read_cfg(alloc: Global, input: &mut &[u8], cfg: &Self::Cfg) -> Result<Self, Error>
         ensures { Gives takes_memory result input.old.now input.new.now
             (reading cfg.now input.old.now) };
 
-    /// Reading gives the value whose encoding begins the input, with any bytes behind it, and only that.
+    /// What is read is the value whose encoding is a prefix of the input, and each value is read whose encoding is
+    /// one.
     ghost lawful: { (cfg : Self.Cfg) → Lawful (fits cfg) Self.encoding (reading cfg) };
 }
 
@@ -108,7 +109,7 @@ pub trait ReadExt: Read<Cfg = ()> {
 
 /// A value that can be written as one byte string.
 pub trait Encode: Write + EncodeSize {
-    /// The encoding, in memory of just its size.
+    /// The encoding, in memory of exactly its size. `AllocError` where an allocation failed.
     fn encode(&self, alloc: Global) -> Result<Bytes, AllocError>
         ensures encoding { IfOk result (λ bytes. bytes ≡ Self.encoding self.now) }
         ensures value { Self.is_value self.now }
@@ -143,7 +144,7 @@ pub trait Fixed: FixedSize + Copy + Eq + Ord + Hash {
         ensures value { result.now ≡ bytes_of self.now }
         ensures fixed { IsFixed Self.SIZE (bytes_of self.now) };
 
-    /// The value of these bytes, which have to be as many as the size says.
+    /// The value of these bytes, of which there have to be [`SIZE`](FixedSize::SIZE).
     fn from_bytes(bytes: &[u8]) -> Self
         requires { length bytes.now ≡ Self.SIZE }
         ensures { result ≡ of_bytes bytes.now };
@@ -157,7 +158,7 @@ pub trait Fixed: FixedSize + Copy + Eq + Ord + Hash {
     /// and of one only.
     ghost forth: { (x : Self) → IsFixed Self.SIZE (bytes_of x) → of_bytes (bytes_of x) ≡ x };
 
-    /// Reading that many bytes gives the value of them, and no more are read.
+    /// Reading gives the value of the first bytes, as many as the size, and reads no others.
     ghost lawful: { Lawful (λ x. IsFixed Self.SIZE (bytes_of x)) bytes_of
         (fixed_at Self.SIZE of_bytes) } = { fixed_lawful Self.SIZE bytes_of of_bytes back forth };
 
@@ -169,7 +170,7 @@ pub trait Fixed: FixedSize + Copy + Eq + Ord + Hash {
     ghost longest: { Longest (fixed Self.SIZE bytes_of of_bytes)
         Self.SIZE } = { fixed_longest Self.SIZE bytes_of of_bytes back };
 
-    /// Equal is what has the same bytes.
+    /// Two values are equal exactly where their bytes are.
     ghost equal: { (x y : Self) → (Self.eq x y ≡ true) ↔ (bytes_of x ≡ bytes_of y) };
 
     /// Values are ordered as their bytes are.
@@ -178,13 +179,13 @@ pub trait Fixed: FixedSize + Copy + Eq + Ord + Hash {
 
 /// Reads a value that needs no configuration, and moves the slice past it. After an error the slice is as before.
 pub fn read_value<T: ReadExt>(alloc: Global, input: &mut &[u8]) -> Result<T, Error>
-    // What is read begins the input, and the slice is what follows it.
+    // The value's encoding is a prefix of the input, and the slice is then the bytes after it.
     ensures taken { IfOk result (λ x. T.fits tt x ×
         (input.old.now ≡ T.encoding x ++ input.new.now)) }
-    // A value that begins the input is read, with any bytes behind it, unless an allocation fails.
+    // A value whose encoding is a prefix of the input is read, unless an allocation fails.
     ensures again { (x : T) (rest : List ℕ) → T.is_value x → input.old.now ≡ T.encoding x ++ rest →
         Gives T.takes_memory result input.old.now input.new.now (Ok (x, rest)) }
-    // Which refusal it is.
+    // Which error it is.
     ensures refusal { Gives T.takes_memory result input.old.now input.new.now
         (T.reading tt input.old.now) }
 {
@@ -192,16 +193,16 @@ pub fn read_value<T: ReadExt>(alloc: Global, input: &mut &[u8]) -> Result<T, Err
     T::read_cfg(alloc, input, &())
 }
 
-/// Reads a value that is all of the bytes. A rest after the value is refused by `ExtraData`.
+/// Reads a value whose encoding is all of the bytes. `ExtraData` where bytes are left after it.
 pub fn decode_cfg<T: Read + Drop>(alloc: Global, bytes: &[u8], cfg: &T::Cfg) -> Result<T, Error>
-    // What is read is encoded so,
+    // What is read has these bytes as its encoding,
     ensures taken { IfOk result (λ x. T.fits cfg.now x × (bytes.now ≡ T.encoding x)) }
-    // and what is encoded so is read, memory aside.
+    // and each value with this encoding is read, unless an allocation fails.
     ensures again { (x : T) → T.fits cfg.now x → bytes.now ≡ T.encoding x →
         GivesAll T.takes_memory result (Ok x) }
-    // Which refusal it is.
+    // Which error it is.
     ensures refusal { GivesAll T.takes_memory result (all_of (T.reading cfg.now) bytes.now) }
-    // No encoding begins another's, so each encoding is one value's.
+    // No encoding is a prefix of another, so no two values share one.
     ensures one { (x y : T) (rest more : List ℕ) → T.fits cfg.now x → T.fits cfg.now y →
         T.encoding x ++ rest ≡ T.encoding y ++ more → (x ≡ y) × (rest ≡ more) }
 {
@@ -219,14 +220,15 @@ fn read_all<T: Read + Drop>(alloc: Global, bytes: &[u8], cfg: &T::Cfg) -> Result
     Ok(value)
 }
 
-/// Reads a value that is all of the bytes and needs no configuration. A rest after the value is refused by `ExtraData`.
+/// Reads a value that needs no configuration and whose encoding is all of the bytes. `ExtraData` where bytes are left
+/// after it.
 pub fn decode<T: ReadExt + Drop>(alloc: Global, bytes: &[u8]) -> Result<T, Error>
     ensures taken { IfOk result (λ x. T.fits tt x × (bytes.now ≡ T.encoding x)) }
-    // Each value that was written is read again, memory aside.
+    // Each value that was written is read again, unless an allocation fails.
     ensures again { (x : T) → T.is_value x → bytes.now ≡ T.encoding x →
         GivesAll T.takes_memory result (Ok x) }
     ensures refusal { GivesAll T.takes_memory result (all_of (T.reading tt) bytes.now) }
-    // No encoding is a prefix of another, with any bytes behind it.
+    // No encoding is a prefix of another.
     ensures one { (x y : T) (rest more : List ℕ) → T.is_value x → T.is_value y →
         T.encoding x ++ rest ≡ T.encoding y ++ more → (x ≡ y) × (rest ≡ more) }
 {

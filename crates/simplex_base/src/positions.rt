@@ -1,11 +1,11 @@
 //! Epochs, views, terms, rounds and participants: plain numbers with types of their own.
 
-pub mod epoch;
-pub mod participant;
-pub mod round;
-pub mod terms;
-pub mod view;
-pub mod view_delta;
+mod epoch;
+mod participant;
+mod round;
+mod terms;
+mod view;
+mod view_delta;
 
 pub use epoch::{Epoch, Epochable};
 pub use participant::Participant;

@@ -9,7 +9,7 @@ pub trait EqByParts: Eq {
     /// Whether the parts of two values are equal.
     ghost same: { Self → Self → Bool };
 
-    /// It is what `==` answers.
+    /// It is what `==` returns.
     ghost equal: { (x y : Self) → Self.eq x y ≡ same x y };
 }
 
@@ -18,7 +18,7 @@ pub trait OrdByParts: Ord {
     /// How the parts of two values compare.
     ghost order: { Self → Self → Ordering };
 
-    /// It is what `cmp` answers.
+    /// It is what `cmp` returns.
     ghost ordered: { (x y : Self) → Self.cmp x y ≡ order x y };
 }
 

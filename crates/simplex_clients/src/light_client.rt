@@ -2,7 +2,7 @@
 
 ghost use Rattle.std.specs.Prelude.{◌≡◌, ◌++◌, ◌⊎◌, ⊤, None, true, IfOk, IfErr, OnErr, MatchOption, map};
 ghost use Rattle.std.specs.Option.{option_copied};
-ghost use Rattle.simplex_base.specs.Readable.{format_of};
+ghost use Rattle.simplex_base.specs.Format.{format_of};
 ghost use Rattle.simplex_base.specs.Reading.{Fails, all_of};
 ghost use Rattle.simplex_base.specs.declared.codec.error.Error.TheVariants as errors;
 ghost use Rattle.simplex_evidence.specs.declared.types.activity.Activity.TheVariants as activity;
@@ -14,8 +14,9 @@ ghost use Rattle.simplex_votes.specs.declared.types.finalization.Finalization as
 
 use simplex_audit::audit::{Committees, Evidence, audit};
 use simplex_audit::basis::Audited;
+use simplex_base::codec::error::Error;
 use simplex_base::codec::unions::write_tagged;
-use simplex_base::codec::{Error, Read, decode_cfg};
+use simplex_base::codec::{Read, decode_cfg};
 use simplex_base::positions::{Round, Roundable};
 use simplex_scheme::scheme::{Digest, Listing, SchemeTypes};
 use simplex_votes::types::Finalization;

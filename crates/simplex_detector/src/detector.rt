@@ -2,7 +2,7 @@
 
 ghost use Rattle.std.specs.Prelude.{◌≡◌, [], ◌∷◌, ◌++◌, All, map, IfOk, OnOk};
 ghost use Rattle.std.specs.Option.{option_to_list};
-ghost use Rattle.simplex_base.specs.Readable.{format_of};
+ghost use Rattle.simplex_base.specs.Format.{format_of};
 ghost use Rattle.simplex_scheme.specs.Subject.{round_of};
 ghost use Rattle.simplex_evidence.specs.Activity.{activity_round, votes_in};
 ghost use Rattle.simplex_detector.specs.Detector.{RecallsNone, RecallsMore, GivesEvidence, GivesSplits, CountsVotes};

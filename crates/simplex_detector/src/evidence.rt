@@ -1,7 +1,7 @@
 //! The evidence of a report, and the line that it prints.
 
 ghost use Rattle.std.specs.Prelude.{◌≡◌, ⊤, ◌∷◌, [], All, IfOk, length, string_bytes, decimal};
-ghost use Rattle.simplex_base.specs.Readable.{format_of};
+ghost use Rattle.simplex_base.specs.Format.{format_of};
 ghost use Rattle.simplex_scheme.specs.Subject.{round_of};
 ghost use Rattle.simplex_detector.specs.Line.{line_of, parted, with_proposal};
 ghost use Rattle.simplex_evidence.specs.Activity.{activity_encoding};

@@ -4,7 +4,7 @@
 ghost use Rattle.std.specs.Prelude.{◌≡◌, ◌≤◌, ◌↔◌, ℕ, List, Some, All, Contains, length, map, IsTrue};
 ghost use Rattle.std.specs.List.{flat_map};
 ghost use Rattle.simplex_base.specs.Positions.{Round};
-ghost use Rattle.simplex_base.specs.Readable.{format_of};
+ghost use Rattle.simplex_base.specs.Format.{format_of};
 ghost use Rattle.simplex_scheme.specs.Subject.{round_of};
 ghost use Rattle.simplex_votes.specs.Votes.{SignedVote};
 ghost use Rattle.simplex_evidence.specs.Activity.{activity_encoding};

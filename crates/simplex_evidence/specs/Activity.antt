@@ -87,7 +87,7 @@ votes_in listed message = own_votes message ++ listed_votes listed (subject_and_
 
 -- ---- what makes a message valid
 
--- a vote's signature is one of its signer for its subject
+-- a vote's signature is valid for its signer and its subject
 abbrev pub vote_verifies : {D G : Type 0} → (SubjectValue D → ℕ → G → Bool) → SignedVote D G → Bool
 vote_verifies good v = good v.subject v.signer v.signature
 

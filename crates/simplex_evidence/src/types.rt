@@ -1,12 +1,12 @@
 //! Evidence, the union of all messages, the vote map, and many certificates verified at once.
 
-pub mod activity;
-pub mod attributable_map;
-pub mod bisection;
+mod activity;
+mod attributable_map;
+mod bisection;
 mod conflict;
-pub mod conflicting_finalize;
-pub mod conflicting_notarize;
-pub mod nullify_finalize;
+mod conflicting_finalize;
+mod conflicting_notarize;
+mod nullify_finalize;
 
 pub use activity::Activity;
 pub use attributable_map::{AttributableIter, AttributableMap};

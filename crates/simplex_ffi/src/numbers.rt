@@ -6,7 +6,7 @@ ghost use Rattle.simplex_scheme.specs.Committee.{faults_of, quorum_of};
 ghost use Rattle.simplex_lead.specs.Windows.{FitsWindow, IsAdmitted, IsOutbound};
 
 use simplex_base::positions::{TermLength, View, ViewDelta};
-use simplex_lead::lookahead::Lookahead;
+use simplex_lead::Lookahead;
 use simplex_scheme::faults;
 
 /// The answer is no.

@@ -4,8 +4,7 @@ use Rattle.std.specs.List.{flat_map}
 use Rattle.std.specs.Io.KnownBytes.{Appends}
 use Rattle.hex.specs.Hex.{encode_lower}
 use Rattle.json.specs.Print.{quoted}
-use Rattle.simplex_base.specs.Format.{Format}
-use Rattle.simplex_base.specs.Readable.{Readable, format_under}
+use Rattle.simplex_base.specs.Format.{Format, Readable, format_under}
 use Rattle.simplex_base.specs.declared.codec.error.Error.{Error}
 use Rattle.simplex_base.specs.declared.codec.error.Error.TheVariants as errors
 use Rattle.simplex_evidence.specs.declared.types.activity.Activity.{Activity}

@@ -5,7 +5,7 @@ use Rattle.std.specs.List.Sorted.{IsStrictlyIncreasing}
 use Rattle.std.proofs.lemmas.Bool.{cases_lt}
 use Rattle.std.proofs.lemmas.List.{get_or_append_left, get_or-append_right}
 use Rattle.std.proofs.lemmas.List.Elements.{Contains-append_left, Contains-append_right, Contains-append_cases, Contains-get_or}
-use Rattle.simplex_lead.specs.Counting.{NumberExactly}
+use Rattle.simplex_lead.specs.Windows.{NumberExactly}
 
 -- n numbers, from a on
 abbrev run : ℕ → ℕ → List ℕ

@@ -1,4 +1,4 @@
--- Arrangements that rise by hash, and the leaders of terms in a row.
+-- Arrangements that ascend by hash, and the leaders of successive terms.
 use Rattle.std.proofs.Common.{◌≡◌, ℕ, zero, suc, ◌+◌, ◌*◌, ◌-◌, ◌%◌, ◌^◌, ◌<◌, ◌≤◌, inl, inr, refl, sym, ap, arith, false, eqb, List, [], ◌∷◌, ◌++◌, length, get_or, map, take, drop, length-append, length-drop, add-one, ◌∙◌, Ordering, Option, Some, None}
 use Rattle.std.proofs.Math.Nat.{mod-eq_of_lt, mod-add-mod}
 use Rattle.std.proofs.Math.Arith.{digits_mod}
@@ -25,7 +25,7 @@ range_more a n = rw add-one (step a n)
     step a zero = let e : a + 0 ≡ a = omega arith in rw e refl
     step a (suc n) = let e : a + 1 + n ≡ a + suc n = omega arith in ap (λ t. a ∷ t) (step (a + 1) n ∙ ap (λ x. range_with_len (a + 1) n ++ x ∷ []) e)
 
--- entry i of the order turned by r
+-- entry i of the order rotated by r
 turned : (order : List ℕ) (r i : ℕ) → r < length order → i < length order → get_or (drop r order ++ take r order) i 0 ≡ get_or order ((r + i) % length order) 0
 turned order r i r_lt i_lt = elim (cases_lt (r + i) (length order)) [
   | inl within ↦ (let e : (r + i) % length order ≡ r + i = mod-eq_of_lt within in rw (e, get_or_append_left (drop r order) (take r order) 0 i (omega (arith, length-drop r order)), get_or-drop r order i 0) refl)
@@ -36,7 +36,7 @@ turned order r i r_lt i_lt = elim (cases_lt (r + i) (length order)) [
       rw (e, get_or-append_right (drop r order) (take r order) (length order - r) i 0 (length-drop r order) (omega arith), at, get_or-take r order (r + i - length order) 0 (omega arith)) refl)
 ]
 
--- the leaders of terms in a row are the order, turned
+-- the leaders of successive terms are the order, rotated
 leaders_turned : (order : List ℕ) (epoch first : ℕ) → 0 < length order → epoch + first + length order ≤ 2 ^ 64 → map (λ i. leader order epoch (first + i)) (range_with_len 0 (length order)) ≡ drop ((epoch + first) % length order) order ++ take ((epoch + first) % length order) order
 leaders_turned order epoch first some fits =
     let n = length order in

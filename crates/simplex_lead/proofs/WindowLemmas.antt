@@ -2,8 +2,7 @@
 use Rattle.std.proofs.Common.{◌≡◌, ℕ, ◌+◌, ◌*◌, ◌-◌, ◌^◌, ◌<◌, ◌≤◌, ◌↔◌, ◌⊎◌, min, max, inl, inr, arith}
 use Rattle.std.proofs.lemmas.Bool.{cases_lt}
 use Rattle.simplex_base.specs.Terms.{term_start, term_end}
-use Rattle.simplex_lead.specs.Windows.{FitsWindow, IsAdmitted, IsInReach, Leads, admitted_above, next_start}
-use Rattle.simplex_lead.specs.Counting.{NumberExactly}
+use Rattle.simplex_lead.specs.Windows.{FitsWindow, IsAdmitted, IsInReach, Leads, NumberExactly, admitted_above, next_start}
 use Rattle.simplex_base.specs.TermLaws.{end_after, end_same, end_next, end_rises, start_to_end}
 use Rattle.simplex_lead.proofs.Counting.{number_between, number_both, number_same}
 
@@ -61,7 +60,7 @@ admitted_led l k c q positive above within admitted =
     let same : term_end l (p + 1) ≡ term_end l c = end_same l c (p + 1) positive (omega arith) (omega arith) in
     (p, (grind arith, inl (omega arith), grind arith))
 
--- what is admitted is a view
+-- an admitted view is a 64-bit number
 pub admitted_small : (l k c q : ℕ) → 1 ≤ l → FitsWindow l c → IsAdmitted l k c q → q < 2 ^ 64
 admitted_small l k c q positive fits admitted = let after = end_after l c positive in grind arith
 

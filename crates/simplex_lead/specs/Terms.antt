@@ -17,7 +17,7 @@ CanBeStable term_length timeout = (1 < term_length) × (0 < as_nanos timeout)
 abbrev pub rotating : Terms
 rotating = record { term_length = 1; stall_timeout = None; optimistic_views = 0 }
 
--- a time is there exactly where terms have several views, and where they have one nothing is looked ahead
+-- there is a time exactly where terms have several views, and terms of one view have no lookahead
 abbrev pub AreTerms : Terms → Type 0
 AreTerms terms =
     MatchOption terms.stall_timeout ((terms.term_length ≡ 1) × (terms.optimistic_views ≡ 0)) (λ timeout. CanBeStable terms.term_length timeout)

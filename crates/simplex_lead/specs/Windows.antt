@@ -1,13 +1,14 @@
 -- Which views are taken by a node in view c, where terms have l views and a node looks k views ahead. Each is a
 -- union of intervals of views.
-use Rattle.std.specs.Prelude.{◌≡◌, ℕ, ◌+◌, ◌*◌, ◌-◌, ◌<◌, ◌≤◌, ◌^◌, ◌⊎◌, min, max}
+use Rattle.std.specs.Prelude.{◌≡◌, ℕ, ◌+◌, ◌*◌, ◌-◌, ◌<◌, ◌≤◌, ◌^◌, ◌⊎◌, ◌↔◌, min, max, List, Contains, length}
+use Rattle.std.specs.List.Sorted.{IsStrictlyIncreasing}
 use Rattle.simplex_base.specs.Terms.{term_end}
 
 -- the first view of the term after v's
 abbrev pub next_start : ℕ → ℕ → ℕ
 next_start l v = term_end l v + 1
 
--- all that is counted from c is a view
+-- all views that are counted from c are 64-bit numbers
 abbrev pub FitsWindow : ℕ → ℕ → Type 0
 FitsWindow l c = next_start l c + l + 1 < 2 ^ 64
 
@@ -31,6 +32,13 @@ abbrev pub IsOutbound : ℕ → ℕ → ℕ → ℕ → Type 0
 IsOutbound l k c q =
     (q ≤ c) ⊎ (q ≡ c + 1) ⊎ (q ≡ next_start l c)
     ⊎ ((c < q) × (q ≤ min (term_end l c) (c + k)))
+
+-- exactly n numbers have the property: they are the members of a rising list of this length
+pub record NumberExactly (P : ℕ → Type 0) (n : ℕ) : Type 0 where
+  pub members : List ℕ
+  pub rising : IsStrictlyIncreasing members
+  pub exact : (q : ℕ) → Contains members q ↔ P q
+  pub many : length members ≡ n
 
 -- how many views above c are admitted
 abbrev pub admitted_above : ℕ → ℕ → ℕ → ℕ

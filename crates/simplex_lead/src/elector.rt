@@ -1,9 +1,9 @@
 //! Who leads a view.
 
-pub mod electing;
-pub mod mode;
-pub mod round_robin;
-pub mod terms;
+mod electing;
+mod mode;
+mod round_robin;
+mod terms;
 
 pub use electing::{Config, Elector};
 pub use mode::Mode;

@@ -2,11 +2,9 @@
 
 ghost use Rattle.std.specs.Prelude.{◌≡◌, ℕ, ◌+◌, ◌-◌, ◌<◌, ◌≤◌, ◌^◌, ◌↔◌, ◌⊎◌, IsTrue, IfSome, MatchOption};
 ghost use Rattle.simplex_base.specs.Terms.{term_start, term_end};
-ghost use Rattle.simplex_lead.specs.Counting.{NumberExactly};
-ghost use Rattle.simplex_lead.specs.Windows.{FitsWindow, next_start, own_limit, next_limit};
-ghost use Rattle.simplex_lead.specs.Windows.{IsAdmitted, admitted_above, Leads, IsOutbound, IsInReach, views_between};
+ghost use Rattle.simplex_lead.specs.Windows.{FitsWindow, IsAdmitted, IsInReach, IsOutbound, Leads, NumberExactly, admitted_above, next_limit, next_start, own_limit, views_between};
 
-use crate::elector::terms::Terms;
+use crate::elector::Terms;
 use simplex_base::positions::{TermLength, View, ViewDelta};
 use simplex_base::values::ExactClone;
 
@@ -38,7 +36,7 @@ impl Lookahead {
         }
     }
 
-    /// Whether all that is counted from the view `current` is a view: the start of the next term plus the term
+    /// Whether all views that are counted from `current` are 64-bit numbers: the start of the next term plus the term
     /// length plus 1 is at most 2^64 - 1. It is the condition of the calls that take `current`.
     pub fn fits(&self, current: View) -> bool
         ensures { IsTrue result ↔ FitsWindow self.now.term_length current }
@@ -77,7 +75,7 @@ impl Lookahead {
         requires { FitsWindow self.now.term_length current }
         ensures admitted { IsTrue result ↔
             IsAdmitted self.now.term_length self.now.optimistic_views current pending }
-        // So many later views are admitted, and no more.
+        // Exactly this many later views are admitted.
         ensures number { NumberExactly
             (λ q. (current < q) × IsAdmitted self.now.term_length self.now.optimistic_views current
             q)

@@ -1,4 +1,4 @@
--- What stands of the votes that a batcher records.
+-- What holds of the votes that a batcher records.
 use Rattle.std.proofs.Common.{◌≡◌, ℕ, ◌≤◌, Bool, true, false, List, [], ◌∷◌, ◌++◌, length, cond, Result, Ok, Err, MatchResult, ◌⊎◌, inr, sym, ap, subst, ◌∙◌, arith}
 use Rattle.std.specs.Prelude.{All}
 use Rattle.std.specs.List.{filter}
@@ -13,13 +13,13 @@ use Rattle.simplex_votes.specs.declared.types.notarize.Notarize.{Notarize}
 use Rattle.simplex_evidence.specs.VoteMap.{IsBySigner, AreParticipants}
 use Rattle.simplex_node.specs.Batch.{AreForProposal, signer_of}
 
--- two that all of some votes are for are one
+-- two proposals that all of some votes are for are the same
 pub one_proposal : {S D P G : Type 0} (votes : List (Notarize S D P G)) (p q : Proposal D) → 1 ≤ length votes → All (λ v. v.proposal ≡ p) votes → All (λ v. v.proposal ≡ q) votes → p ≡ q
 one_proposal [] p q some one other = absurd (omega arith)
 one_proposal (v ∷ vs) p q some one other = sym (All-head (λ w. w.proposal ≡ p) v vs one) ∙ All-head (λ w. w.proposal ≡ q) v vs other
 
 module _ {S D P G : Type 0} (good : SubjectValue D → ℕ → G → Bool) (proposal : Proposal D) where
-  -- votes that stand make a notarization, in the order of their signers
+  -- from the recorded votes, in the order of their signers, a notarization can be assembled
   pub in_order : (n : ℕ) (votes : List (Notarize S D P G)) → 1 ≤ length votes → AreForProposal good proposal votes → IsBySigner signer_of votes → AreParticipants signer_of n votes → StandInOrder (λ v. v.proposal) (λ v. v.attestation) n votes
   in_order n votes some stands ordered within = record {
     some = some;
@@ -28,7 +28,7 @@ module _ {S D P G : Type 0} (good : SubjectValue D → ℕ → G → Bool) (prop
     members = within;
   }
 
-  -- after an insert of a valid vote for the proposal the votes stand
+  -- after an insert of a valid vote for the proposal, all votes are still valid and for the proposal
   pub stands_after : {E : Type 0} (old new : List (Notarize S D P G)) (vote : Notarize S D P G) (result : Result Bool E) (added : Bool) → result ≡ Ok added → AreForProposal good proposal old → vote.proposal ≡ proposal → good (Notarizes vote.proposal) vote.attestation.signer vote.attestation.signature ≡ true →
       (result ≡ Ok true → IsPermutation (vote ∷ old) new) → (result ≡ Ok false → new ≡ old) → AreForProposal good proposal new
   stands_after old new vote result true is stands same valid more kept = record {
@@ -50,6 +50,6 @@ pub either_way : {A E : Type 0} (result : Result A E) (Before After : Type 0) �
 either_way (Ok a) Before After after = after
 either_way (Err e) Before After after = inr after
 
--- what was answered, and what that says
+-- what a call returned, and what holds of it
 pub answered : {A E : Type 0} (P : A → Type 0) (Q : E → Type 0) (result : Result A E) (a : A) → result ≡ Ok a → MatchResult result P Q → P a
 answered P Q result a is h = subst (λ r. MatchResult r P Q) is h

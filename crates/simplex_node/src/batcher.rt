@@ -12,8 +12,8 @@ use simplex_votes::types::{Notarization, Notarize};
 use std::alloc::{AllocError, Global};
 use std::marker::Model;
 
-/// Of each participant the first valid notarize of one proposal. It records at most one vote of a participant, no matter how
-/// many come.
+/// The first valid notarize of each participant for one proposal. It records at most one vote of a participant, no
+/// matter how many come.
 #[derive(Drop)]
 pub struct Batcher<'a, S: Scheme<D>, D: Digest> {
     scheme: &'a S,
@@ -52,10 +52,10 @@ impl<'a, S: Scheme<D>, D: Digest> Batcher<'a, S, D> {
         }
     }
 
-    /// Takes a vote of any signer for any proposal. It is recorded if it is valid, for the proposal, and its signer's first
-    /// such; so no invalid vote is in a valid one's place. Once a quorum of participants has signed such votes there is a
-    /// notarization, made of all that are recorded, and before there is none. Where an allocation failed the vote may have been
-    /// recorded or not.
+    /// Takes a vote of any signer for any proposal. It is recorded if it is valid, for the proposal, and its signer's
+    /// first such vote; so an invalid vote never takes the place of a valid one. Returns a notarization, assembled
+    /// from all recorded votes, once a quorum of participants has signed such votes, and `None` before. After an
+    /// error the vote may have been recorded or not.
     pub fn take(
         &mut self,
         alloc: Global,

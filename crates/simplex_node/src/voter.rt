@@ -4,8 +4,7 @@ ghost use Rattle.std.specs.Prelude.{◌≡◌, ◌+◌, ◌<◌, ◌≤◌, ◌^
 ghost use Rattle.std.specs.Option.{option_copied};
 ghost use Rattle.simplex_base.specs.Positions as positions;
 ghost use Rattle.simplex_base.specs.Terms.{HoldsView, term_end};
-ghost use Rattle.simplex_lead.specs.Counting.{NumberExactly};
-ghost use Rattle.simplex_lead.specs.Windows.{FitsWindow, IsAdmitted, IsInReach, IsRetained, admitted_above};
+ghost use Rattle.simplex_lead.specs.Windows.{FitsWindow, IsAdmitted, IsInReach, IsRetained, NumberExactly, admitted_above};
 
 use simplex_base::positions::{Participant, Round, View, ViewDelta};
 use simplex_lead::elector::{Config, Elector};

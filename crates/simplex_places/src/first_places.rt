@@ -2,7 +2,7 @@
 
 ghost use Rattle.std.specs.Prelude.{◌≡◌, All, IfOk, OnOk, Some, None, map};
 ghost use Rattle.std.specs.BTreeMap.{get};
-ghost use Rattle.simplex_base.specs.Readable.{format_under};
+ghost use Rattle.simplex_base.specs.Format.{format_under};
 ghost use Rattle.simplex_scheme.specs.Subject.{subject_value};
 ghost use Rattle.simplex_evidence.specs.Activity.{votes_in};
 ghost use Rattle.simplex_votes.specs.Votes.{vote_on};

@@ -1,7 +1,7 @@
 //! Schemes whose certificates say where their attestations stand.
 
 ghost use Rattle.std.specs.Prelude.{◌≡◌, ℕ, Bool, List, length, refl};
-ghost use Rattle.simplex_base.specs.Readable.{format_of};
+ghost use Rattle.simplex_base.specs.Format.{format_of};
 ghost use Rattle.simplex_evidence.specs.declared.types.activity.Activity.{Activity};
 ghost use Rattle.simplex_plain.specs.Listed.{listed_encoding};
 ghost use Rattle.simplex_votes.specs.Votes.{SignedVote};

@@ -2,7 +2,7 @@
 
 ghost use Rattle.std.specs.Prelude.{◌≡◌, ◌+◌, ◌-◌, ◌<◌, ◌^◌, ◌++◌, [], ◌∷◌, ◌&&◌, true, false, IfOk, OnOk, length, nat_eq, refl};
 ghost use Rattle.std.specs.List.{flat_map};
-ghost use Rattle.simplex_base.specs.Readable.{format_of};
+ghost use Rattle.simplex_base.specs.Format.{format_of};
 ghost use Rattle.simplex_base.specs.Varint.{number_32};
 ghost use Rattle.simplex_places.specs.Places.{behind, places_from, message_places, placed_at};
 
@@ -12,7 +12,8 @@ use simplex_base::codec::{EncodeSize, Encoding, Fixed, Read};
 use simplex_base::positions::{Round, Roundable};
 use simplex_base::values::{EqByParts, ExactClone};
 use simplex_evidence::types::Activity;
-use simplex_scheme::scheme::{Attestation, Digest, Proposal, SchemeTypes};
+use simplex_scheme::proposal::Proposal;
+use simplex_scheme::scheme::{Attestation, Digest, SchemeTypes};
 use std::alloc::AllocError;
 
 /// The number of a notarize in a record.

@@ -13,7 +13,7 @@ ghost use Rattle.simplex_detector.specs.declared.judging.Judging.TheVariants.{Cl
 ghost use Rattle.simplex_places.specs.Bytes.{AreVotesAt};
 ghost use Rattle.simplex_places.specs.Suspects.{AreSuspects, is_sought, sought_of, suspected_by};
 ghost use Rattle.simplex_places.specs.declared.places.Suspect as suspect;
-ghost use Rattle.simplex_base.specs.Readable.{format_of};
+ghost use Rattle.simplex_base.specs.Format.{format_of};
 
 use crate::located::{Counted, Located};
 use crate::places::{Placed, Suspect};

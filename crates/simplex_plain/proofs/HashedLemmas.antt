@@ -5,7 +5,7 @@ use Rattle.simplex_base.specs.FormatLaws.{one_encoding}
 use Rattle.simplex_base.specs.VarintLaws.{number_64_lawful}
 use Rattle.simplex_plain.specs.Plain.{hashed}
 
--- two lists whose fronts are of one length are equal where their parts are
+-- equal lists whose first parts have one length have equal parts
 parts : (front other rest more : List ℕ) → length front ≡ length other → front ++ rest ≡ other ++ more → (front ≡ other) × (rest ≡ more)
 parts front other rest more size same = (
   sym (take_at front rest (length front) refl) ∙ (ap (take (length front)) same ∙ take_at other more (length front) (sym size)),

@@ -3,4 +3,4 @@ pub mod PlainLemmas
 pub mod HashedLemmas
 pub mod MarkedLemmas
 pub mod ListedLemmas
-pub mod RoomLemmas
+pub mod CountLemmas

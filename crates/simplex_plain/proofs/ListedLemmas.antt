@@ -13,11 +13,11 @@ use Rattle.simplex_plain.specs.Listed.{SignersAscend, AreListed, attestation_at,
 use Rattle.simplex_plain.specs.ListedLaws.{attestations_take}
 use Rattle.simplex_scheme.specs.declared.scheme.Attestation.{Attestation}
 
--- what is read behind a front
+-- what is read, with `front` before it
 abbrev pub with_front : {X : Type 0} → List X → Reading (List X) → Reading (List X)
 with_front front read = read >>= λ others. Ok (front ++ others.0, others.1)
 
--- the front was read of the bytes, and a number of attestations are left in the rest
+-- `front` was read of the bytes, and `left` attestations are to be read of the rest
 pub record SoFar {S P G : Type 0} (signature : Format G) (bound count : ℕ) (bytes : List ℕ) (front : List (Attestation S P G)) (least left : ℕ) (rest : List ℕ) : Type 0 where
   pub is : attestations_at signature bound 0 count bytes ≡ with_front front (attestations_at signature bound least left rest)
 

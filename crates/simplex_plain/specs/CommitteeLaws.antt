@@ -1,4 +1,4 @@
--- What the test of a quorum means, and how long a certificate is.
+-- What the test of a quorum means, and how long a certificate is at most.
 -- They stand beside the definitions because ghost members of impls cite them, and those see no proofs.
 use Rattle.std.specs.Prelude.{◌≡◌, ◌↔◌, ℕ, ◌+◌, ◌*◌, ◌≤◌, Bool, true, false, ◌&&◌, List, length, refl}
 use Rattle.std.proofs.Common.{sym, ◌∙◌, arith}
@@ -18,7 +18,7 @@ both_true : (a b : Bool) → (a && b) ≡ true → (a ≡ true) × (b ≡ true)
 both_true true b h = (refl, h)
 both_true false b h = absurd cc
 
--- the test answers true exactly where they are a quorum
+-- the test is true exactly where they are a quorum
 pub quorum_meaning : {S P G : Type 0} (n : ℕ) (good : ℕ → G → Bool) (attestations : List (Attestation S P G)) →
     (is_quorum n good attestations ≡ true) ↔ IsQuorum n good attestations
 quorum_meaning n good attestations = (

@@ -7,7 +7,7 @@ use Rattle.simplex_base.specs.Varint.{number_32}
 use Rattle.simplex_scheme.specs.Attestation.{attestation_format}
 use Rattle.simplex_scheme.specs.declared.scheme.Attestation.{Attestation}
 
--- each signer is below those after it, so no signer stands twice
+-- each signer is below those after it, so no two have the same signer
 abbrev pub SignersAscend : {S P G : Type 0} → List (Attestation S P G) → Type 0
 SignersAscend attestations = AllPairs (λ a b. a.signer < b.signer) attestations
 

@@ -1,4 +1,4 @@
--- Reading a listed certificate gives the one whose encoding begins the input, and how long an encoding is.
+-- Reading a listed certificate gives the one whose encoding is a prefix of the input; and how long an encoding is.
 -- They stand beside the definitions because ghost members of impls cite them, and those see no proofs.
 use Rattle.std.proofs.Common.{◌≡◌, ◌==◌, ◌⊎◌, inl, inr, ℕ, zero, suc, ◌+◌, ◌*◌, ◌<◌, ◌≤◌, List, [], ◌∷◌, ◌++◌, length, Ok, Err, Bool, true, false, cond, nat_lt, nat_le, ◌||◌, refl, ap, sym, subst, ◌∙◌, append_assoc, arith, length-append}
 use Rattle.std.specs.Prelude.{All, AllPairs, ◌≢◌}
@@ -172,7 +172,7 @@ pub listed_lawful : {S P G : Type 0} (signature : Format G) (bound : ℕ) → Is
     Lawful (ListedFits {S = S} {P = P} signature bound) (listed_encoding signature) (listed_at signature bound)
 listed_lawful signature bound law = record { takes = listed_take signature bound law; again = listed_again signature bound law }
 
--- no signer stands twice
+-- no two have the same signer
 pub ascending_distinct : {S P G : Type 0} (xs : List (Attestation S P G)) → SignersAscend xs → AllPairs (λ a b. a.signer ≢ b.signer) xs
 ascending_distinct xs ascending i j d lt within e = let less = ascending i j d lt within in omega arith
 

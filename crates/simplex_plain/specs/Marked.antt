@@ -20,7 +20,7 @@ numbered n = map (to_be_bytes w32) (range_with_len 0 n)
 abbrev pub marked_good : {D : Type 0} → ℕ → SubjectValue D → ℕ → List ℕ → Bool
 marked_good n subject signer signature = nat_lt signer n && bytes_eq signature (170 ∷ [])
 
--- whose signature is valid is in the committee
+-- the signer of a valid signature is in the committee
 pub marked_members : {D : Type 0} (n : ℕ) (subject : SubjectValue D) (signer : ℕ) (signature : List ℕ) →
     marked_good n subject signer signature ≡ true → signer < n
 marked_members n subject signer signature h = grind (arith, nat_tests)

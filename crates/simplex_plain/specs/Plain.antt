@@ -28,7 +28,7 @@ abbrev pub plain_good : {D : Type 0} → Format D → PlainScheme → SubjectVal
 plain_good payload scheme subject signer signature =
     option_map_or (λ key. bytes_eq signature (plain_signature payload scheme.names key subject)) (slice_get scheme.keys signer) false
 
--- whose signature is valid is in the committee
+-- the signer of a valid signature is in the committee
 pub good_members : {D : Type 0} (payload : Format D) (scheme : PlainScheme) (subject : SubjectValue D) (signer : ℕ) (signature : List ℕ) →
     plain_good payload scheme subject signer signature ≡ true → signer < length scheme.keys
 good_members payload scheme subject signer signature h = inside scheme.keys signer h

@@ -1,5 +1,6 @@
-//! What lists of attestations certify, and how they are made, for each scheme that verifies attestations one by one. A
-//! scheme of one's own whose certificates are [`Listed`] is an [`AttestationVerifier`], and answers by these calls.
+//! How certificates that list attestations are verified and assembled, for each scheme that verifies attestations one
+//! by one. A scheme of your own whose certificates are [`Listed`] implements [`AttestationVerifier`] and calls these
+//! functions.
 
 ghost use Rattle.std.specs.Prelude.{◌≡◌, ℕ, Bool, true, length, nat_eq, All, Ok, Err, IsOk, IfOk, ◌<◌, ◌≤◌};
 ghost use Rattle.std.specs.List.{IsDistinct, list_all};
@@ -13,10 +14,10 @@ use simplex_scheme::subject::Subject;
 
 /// A committee whose attestations are verified one by one.
 pub trait AttestationVerifier<D: Digest>: CertificateScheme {
-    /// Whether a signature is one of this signer for the subject.
+    /// Whether a signature of this signer is valid for the subject.
     ghost accepted: { Self → SubjectValue D → ℕ → Self.Signature → Bool };
 
-    /// Whether a signature is one of its signer for the subject.
+    /// Whether the signature is valid for the subject and its signer.
     fn accepts(&self, subject: &Subject<'_, D>, attestation: &Attestation<Self>) -> bool
     where
         Self: Sized,
@@ -24,7 +25,7 @@ pub trait AttestationVerifier<D: Digest>: CertificateScheme {
             attestation.now.signature };
 }
 
-/// Whether a certificate lists a quorum, each attestation of it for the subject.
+/// Whether a certificate lists a quorum, each attestation of which is valid for the subject.
 pub fn is_certified<D: Digest, S: AttestationVerifier<D>>(
     scheme: &S,
     subject: &Subject<'_, D>,
@@ -62,7 +63,7 @@ pub fn are_certified<'a, D: Digest, S: AttestationVerifier<D>>(
     true
 }
 
-/// Sorts attestations by their signers, which are distinct, in place without memory.
+/// Sorts attestations by their signers, which are distinct, in place without an allocation.
 fn sort_by_signers<S: SchemeTypes>(attestations: &mut Vec<Attestation<S>>)
     requires { IsDistinct nat_eq (signers_of attestations.old.items) }
     ensures { IsInOrder attestations.old.items attestations.new.items }
@@ -70,8 +71,8 @@ fn sort_by_signers<S: SchemeTypes>(attestations: &mut Vec<Attestation<S>>)
     attestations.sort_unstable_by_key(|attestation| attestation.signer);
 }
 
-/// The certificate of these attestations, sorted in place without memory. Its condition is that of
-/// [`can_assemble`](simplex_scheme::assembly::can_assemble).
+/// The certificate of these attestations, sorted in place without an allocation. The signers have to be distinct and
+/// in the committee, as [`can_assemble`](simplex_scheme::assembly::can_assemble) returns.
 pub fn assembled<S: CertificateScheme>(
     scheme: &S,
     mut attestations: Vec<Attestation<S>>,

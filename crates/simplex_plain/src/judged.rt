@@ -1,16 +1,17 @@
-//! A scheme by verdicts: a committee whose signatures are judged by a table, which the caller found elsewhere. It is an
-//! example of a scheme of one's own.
+//! A scheme by verdicts: a committee whose valid signatures the caller found elsewhere and lists in a table. It is an
+//! example of a scheme of your own.
 //!
-//! A scheme has to show these laws, each in the ghost member that is named. `certificates_limited` and
-//! `certificates_within`: how long a certificate is at most. `members`: whose signature is valid is in the committee. And
-//! where its certificates list their attestations, `lists_quorums`: what certifies lists a quorum of distinct signers, each
-//! signature valid, and `lists_given`: an assembled certificate lists what was given. By `AttestationVerifier` and the
-//! calls of [`certificates`](crate::certificates) it has to write only what makes one signature valid.
+//! A scheme has to prove these laws, each in the ghost member of that name. `certificates_limited` and
+//! `certificates_within`: the greatest size of a certificate. `members`: the signer of a valid signature is in the
+//! committee. And where its certificates list their attestations, `lists_quorums`: a certificate that certifies lists
+//! a quorum of distinct signers, each signature valid, and `lists_given`: an assembled certificate lists the
+//! attestations that it was assembled from. With `AttestationVerifier` and the calls of
+//! [`certificates`](crate::certificates) it only has to say when one signature is valid.
 
 ghost use Rattle.std.specs.Prelude.{◌≡◌, ◌&&◌, ◌==◌, ◌<◌, ◌≤◌, ◌^◌, ◌+◌, ◌*◌, None, Some, Ok, IsOk, IfOk, MatchOption, All, length, nat_eq, true};
 ghost use Rattle.std.specs.List.{IsDistinct, list_any};
 ghost use Rattle.std.proofs.Common.{lit≤};
-ghost use Rattle.simplex_base.specs.Readable.{format_of};
+ghost use Rattle.simplex_base.specs.Format.{format_of};
 ghost use Rattle.simplex_scheme.specs.Subject.{SubjectValue, subject_value};
 ghost use Rattle.simplex_scheme.specs.Committee.{IsInOrder, is_quorum, quorum_of, signers_of, RefusesFew};
 ghost use Rattle.simplex_plain.specs.CommitteeLaws.{quorum_meaning, listed_size};
@@ -102,7 +103,7 @@ impl Verdict {
 impl Judged {
     /// The committee of these keys, and the signatures that were found valid.
     ///
-    /// The table is searched for each signature, from its front.
+    /// The table is searched for each signature, from its start.
     pub fn new(participants: Set<PlainKey>, verdicts: Vec<Verdict>) -> Judged
         requires some { 1 ≤ length participants }
         requires few { length participants < 2 ^ 32 }
@@ -245,7 +246,7 @@ impl<D: Digest> Scheme<D> for Judged {
         requires distinct { IsDistinct nat_eq (signers_of attestations.items) }
         requires members { All (λ a. a.signer < length self.now.keys) attestations.items }
         ensures below { RefusesFew (length self.now.keys) (length attestations.items) result }
-        // No memory is taken.
+        // Nothing is allocated.
         ensures ample { quorum_of (length self.now.keys) ≤ length attestations.items → IsOk result }
         ensures made { IfOk result (λ certificate. IsInOrder attestations.items certificate) }
         ensures certified { IfOk result (λ certificate. (subject : SubjectValue D) →

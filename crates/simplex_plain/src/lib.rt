@@ -1,5 +1,11 @@
-//! Certificates that list their attestations, how they are made and judged, and the schemes that have them: one by a hash,
-//! one for tests, and one by verdicts that the caller found elsewhere.
+//! Certificates that list their attestations, and the schemes that have them.
+//!
+//! [`listed`] has these certificates, and [`certificates`] how they are verified and assembled. The schemes are
+//! [`plain`], which signs by a hash and has no secrets, [`marked`] for tests, and [`judged`], an example of a scheme
+//! of your own.
+//!
+//! Crates above rest on [`certificates::AttestationVerifier`] and the calls beside it, by which a further scheme only
+//! has to say when one signature is valid.
 #![tactic(auto)]
 
 pub mod certificates;

@@ -7,7 +7,7 @@ ghost use Rattle.std.specs.Cmp.Lexicographic.{pointwise, lists_per};
 ghost use Rattle.std.specs.Cmp.Rules.{comparing, hashing};
 ghost use Rattle.std.proofs.Common.{rules};
 ghost use Rattle.std.proofs.lemmas.Cmp.{lists_equiv};
-ghost use Rattle.simplex_base.specs.Readable.{format_of};
+ghost use Rattle.simplex_base.specs.Format.{format_of};
 ghost use Rattle.simplex_base.specs.Reading.{Gives};
 ghost use Rattle.simplex_scheme.specs.declared.scheme.Attestation.{Attestation};
 ghost use Rattle.simplex_plain.specs.Listed.{AreListed, ListedFits, listed_encoding, attestation_at, attestations_at, listed_at};
@@ -45,7 +45,8 @@ impl<S: SchemeTypes> Model for Listed<S> {
 }
 
 impl<S: SchemeTypes> Listed<S> {
-    /// The certificate of these attestations, from 1 to 2^32 - 1 with strictly ascending signers. It takes no memory.
+    /// The certificate of these attestations, from 1 to 2^32 - 1 with strictly ascending signers. It allocates
+    /// nothing.
     pub(crate) fn from_ascending(attestations: Vec<Attestation<S>>) -> Listed<S>
         requires { AreListed attestations.items }
         ensures { result ≡ attestations.items }
@@ -133,10 +134,10 @@ pub fn lists_within<S: SchemeTypes>()
         (listed_encoding (format_of ⟦<S::Signature as Read>⟧) certificate) }
 {}
 
-/// A certificate is read under a bound, the number of participants. `Invalid` comes at once where the count is 0 or
-/// above the bound, and behind an attestation whose signer is at or past the bound or not above the one before it.
-/// `OutOfMemory` comes where no room for the attestations was given: for as many as the bytes behind the count can
-/// hold, and for no more than the count.
+/// A certificate is read under a bound, the number of participants. `Invalid` where the count is 0 or above the
+/// bound, before any attestation is read, and right after an attestation whose signer is not below the bound, or not
+/// above the one before it. `OutOfMemory` where the allocation for the attestations failed: it is of as many as the
+/// bytes after the count can hold, and of the count at most.
 impl<S: SchemeTypes> Read for Listed<S> {
     type Cfg = u32;
 
@@ -166,8 +167,8 @@ impl<S: SchemeTypes> Read for Listed<S> {
         listed_lawful (format_of ⟦<S::Signature as Read>⟧) bound S.Signature.lawful };
 }
 
-/// An empty list with room for as many attestations as the bytes can hold, and for no more than the count. Each
-/// takes a byte at least, and its signature's.
+/// An empty list with the capacity for as many attestations as the bytes can hold, and for the count at most. Each
+/// attestation takes at least one byte and those of its signature.
 fn with_room_for<S: SchemeTypes>(
     alloc: Global,
     bytes: &[u8],

@@ -24,7 +24,7 @@ use simplex_scheme::subject::Subject;
 use std::alloc::{AllocError, Global};
 use std::marker::Model;
 
-/// The digest of a payload in tests.
+/// The role of a digest for tests.
 pub enum MarkedDigestRole {}
 
 impl Role<1> for MarkedDigestRole {
@@ -77,8 +77,8 @@ impl Model for Marked {
 }
 
 impl Marked {
-    /// The scheme of a committee of `n`, for the participant with this number, or with `None` for who only
-    /// verifies. The key of a participant is its number.
+    /// The scheme of a committee of `n`, for the participant with this number or, with `None`, for a verifier. The
+    /// key of a participant is its number.
     pub fn new(alloc: Global, n: u32, me: Option<Participant>) -> Result<Marked, AllocError>
         requires some { 1 ≤ n }
         requires member { ForSome me (λ me. me < n) }
@@ -179,7 +179,7 @@ impl<D: Digest> CertificateVerifier<D> for Marked {
         ensures certified { result ≡
             is_quorum (length self.now.keys)
             (marked_good (length self.now.keys) (subject_value subject.entry)) certificate.now }
-        // The test says exactly this.
+        // True exactly where the certificate's attestations are a quorum.
         ensures exactly { IsTrue result ↔
             IsQuorum (length self.now.keys)
             (marked_good (length self.now.keys) (subject_value subject.entry)) certificate.now }
@@ -213,7 +213,7 @@ impl<D: Digest> Scheme<D> for Marked {
             (self.now.me ≡ Some a.signer) ×
             (marked_good (length self.now.keys) (subject_value _subject.entry) a.signer
             a.signature ≡ true))) }
-        // No memory is taken.
+        // Nothing is allocated.
         ensures ample { IsOk result }
     {
         let Some(signer) = self.me else {
@@ -240,7 +240,7 @@ impl<D: Digest> Scheme<D> for Marked {
         requires distinct { IsDistinct nat_eq (signers_of attestations.items) }
         requires members { All (λ a. a.signer < length self.now.keys) attestations.items }
         ensures below { RefusesFew (length self.now.keys) (length attestations.items) result }
-        // No memory is taken.
+        // Nothing is allocated.
         ensures ample { quorum_of (length self.now.keys) ≤ length attestations.items → IsOk result }
         ensures made { IfOk result (λ certificate. IsInOrder attestations.items certificate) }
         ensures certified { IfOk result (λ certificate. (subject : SubjectValue D) →

@@ -1,9 +1,10 @@
-//! A scheme without secrets: the signature of a participant is the SHA-256 of a namespace, its key and the
-//! message. It lets streams be made and judged by anyone, and binds nobody.
+//! A scheme without secrets: the signature of a participant is the SHA-256 of a namespace, its key and the message.
+//! Anyone can make the signature of any participant, so that test vectors can be made and verified, and it binds
+//! nobody.
 
 ghost use Rattle.std.specs.Prelude.{◌≡◌, ◌≢◌, ◌↔◌, ◌+◌, ◌*◌, ℕ, List, Option, Some, None, Ok, IsOk, IsTrue, IfOk, MatchOption, All, length, nat_eq, slice_get, option_copied, option_map, option_and_then, ◌++◌, ◌<◌, ◌≤◌, ◌^◌, true};
 ghost use Rattle.std.proofs.Common.{lit<, lit≤};
-ghost use Rattle.simplex_base.specs.Readable.{format_of};
+ghost use Rattle.simplex_base.specs.Format.{format_of};
 ghost use Rattle.simplex_base.specs.Varint.{number_64};
 ghost use Rattle.simplex_scheme.specs.Namespace.{names_of};
 ghost use Rattle.simplex_scheme.specs.Subject.{SubjectValue, subject_value};
@@ -82,7 +83,7 @@ impl Model for Plain {
 }
 
 impl Plain {
-    /// The scheme of this committee, for who only verifies. The namespace is the base of all names.
+    /// The scheme of this committee, for a verifier. `namespace` is the base of the namespaces of all kinds of votes.
     pub fn verifier(
         alloc: Global,
         namespace: &[u8],
@@ -100,8 +101,8 @@ impl Plain {
         })
     }
 
-    /// The scheme of this committee, for the participant with this key. `None` comes where the key is not in
-    /// the committee, and then no memory is taken.
+    /// The scheme of this committee, for the participant with this key. `None` where the key is not in the committee;
+    /// nothing is then allocated.
     pub fn signer(
         alloc: Global,
         namespace: &[u8],
@@ -130,14 +131,14 @@ impl Plain {
         }))
     }
 
-    /// The key of a participant, if the number is one's.
+    /// The key of the participant with this number, if there is one.
     fn key_of(&self, signer: Option<Participant>) -> Option<&PlainKey>
         ensures { option_copied result ≡ option_and_then (slice_get self.now.keys) signer }
     {
         self.participants.get(signer?.get() as usize)
     }
 
-    /// The signature of a participant over a round, under a name.
+    /// The signature of a participant over a round, in a namespace.
     fn sign_round(
         &self,
         name: &[u8],
@@ -152,7 +153,7 @@ impl Plain {
         Some(hash_of_round(name, key, round))
     }
 
-    /// The signature of a participant over a proposal, under a name.
+    /// The signature of a participant over a proposal, in a namespace.
     fn sign_proposal<D: Digest>(
         &self,
         name: &[u8],
@@ -170,7 +171,7 @@ impl Plain {
     }
 }
 
-/// The hash under a name, with a key, of a round.
+/// The hash of a namespace, a key and a round.
 fn hash_of_round(name: &[u8], key: &PlainKey, round: Round) -> PlainSignature
     ensures { result ≡ sha256 (hashed name.now key.now (round_format.encoding round)) }
 {
@@ -184,7 +185,7 @@ fn hash_of_round(name: &[u8], key: &PlainKey, round: Round) -> PlainSignature
     PlainSignature::from_bytes(digest.as_bytes())
 }
 
-/// The hash under a name, with a key, of a proposal.
+/// The hash of a namespace, a key and a proposal.
 fn hash_of_proposal<'a>(
     name: &'a [u8],
     key: &PlainKey,
@@ -284,7 +285,7 @@ impl<D: Digest> CertificateVerifier<D> for Plain {
             is_quorum (length self.now.keys)
             (plain_good (format_of ⟦<D as Read>⟧) self.now (subject_value subject.entry))
             certificate.now }
-        // The test says exactly this.
+        // True exactly where the certificate's attestations are a quorum.
         ensures exactly { IsTrue result ↔
             IsQuorum (length self.now.keys)
             (plain_good (format_of ⟦<D as Read>⟧) self.now (subject_value subject.entry))
@@ -319,7 +320,7 @@ impl<D: Digest> Scheme<D> for Plain {
             (self.now.me ≡ Some a.signer) ×
             (plain_good (format_of ⟦<D as Read>⟧) self.now (subject_value subject.entry) a.signer
             a.signature ≡ true))) }
-        // No memory is taken.
+        // Nothing is allocated.
         ensures ample { IsOk result }
     {
         let names = &self.namespace;
@@ -341,7 +342,7 @@ impl<D: Digest> Scheme<D> for Plain {
     fn verify_attestation(&self, subject: Subject<'_, D>, attestation: &Attestation<Self>) -> bool
         ensures good { result ≡ plain_good (format_of ⟦<D as Read>⟧) self.now
             (subject_value subject.entry) attestation.now.signer attestation.now.signature }
-        // The hashed bytes decide the name, the key and the message.
+        // The hashed bytes determine the namespace, the key and the message.
         ensures decided { (name other_name key other_key message other_message : List ℕ) →
             length name < 2 ^ 64 → length other_name < 2 ^ 64 →
             length key ≡ length other_key →
@@ -365,7 +366,7 @@ impl<D: Digest> Scheme<D> for Plain {
         requires distinct { IsDistinct nat_eq (signers_of attestations.items) }
         requires members { All (λ a. a.signer < length self.now.keys) attestations.items }
         ensures below { RefusesFew (length self.now.keys) (length attestations.items) result }
-        // No memory is taken.
+        // Nothing is allocated.
         ensures ample { quorum_of (length self.now.keys) ≤ length attestations.items → IsOk result }
         ensures made { IfOk result (λ certificate. IsInOrder attestations.items certificate) }
         ensures certified { IfOk result (λ certificate. (subject : SubjectValue D) →

@@ -1,4 +1,4 @@
-pub mod PartsLemmas
+pub mod HashingLemmas
 pub mod SetLemmas
 pub mod AssemblyLemmas
 pub mod NamespaceLemmas

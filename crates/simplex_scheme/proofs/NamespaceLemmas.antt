@@ -1,4 +1,4 @@
--- The suffix of a name tells its kind, and what stands before it is the base.
+-- The suffix of a name determines its kind, and the bytes before it are the base.
 use Rattle.std.proofs.Common.{◌≡◌, ◌≢◌, ◌↔◌, ℕ, List, ◌++◌, get_or, sym, ap, ◌∙◌, arith}
 use Rattle.std.specs.Prelude.{codes, reverse}
 use Rattle.std.proofs.lemmas.List.{append_cancel_right, reverse-append}

@@ -50,7 +50,7 @@ module _ {K : Type 0} (E : K → K → Bool) where
 
 -- `given` was sorted to `sorted`, and `kept` is what `dedup` left of that
 module _ {K : Type 0} {E : K → K → Bool} {order : K → K → Ordering} (total : IsTotalOrder order) (ties : (x y : K) → E x y ≡ is_eq (order x y)) (given sorted kept : List K) (moved : IsPermutation given sorted) (filtered : IsFiltered (DiffersFromLast E) [] sorted kept) where
-  -- equality answers the same whichever key comes first
+  -- equality returns the same for two keys in either order
   flips : (x y : K) → E x y ≡ E y x
   flips x y = ties x y ∙ (eq_by_cmp_equiv total).symm x y ∙ sym (ties y x)
 
@@ -60,7 +60,7 @@ module _ {K : Type 0} {E : K → K → Bool} {order : K → K → Ordering} (tot
   pub kept_ascends : IsSorted order sorted → IsStrictlySortedBy order kept
   kept_ascends rising = subst (IsStrictlySortedBy order) (sym kept_is) (IsStrictlySortedBy-dedup total ties sorted rising)
 
-  -- where nothing was left out, the keys kept are those sorted
+  -- where nothing was left out, `kept` is `sorted`
   kept_all : length given ≤ length kept → kept ≡ sorted
   kept_all whole =
       kept_is ∙ dedup_whole E sorted (omega (arith, length_permutation given sorted moved, ap length kept_is))

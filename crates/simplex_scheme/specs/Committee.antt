@@ -1,5 +1,5 @@
 -- Committees: how many may lie, how many are a quorum, and what a quorum signs.
-use Rattle.std.specs.Prelude.{◌≡◌, ℕ, ◌-◌, ◌/◌, ◌<◌, ◌≤◌, ◌&&◌, Bool, true, List, length, map, All, nat_eq, nat_le, IsPermutation, Result, Err, IfErr}
+use Rattle.std.specs.Prelude.{◌≡◌, ℕ, ◌-◌, ◌/◌, ◌<◌, ◌≤◌, ◌&&◌, Bool, true, false, List, length, map, All, nat_eq, nat_le, IsPermutation, Result, Err, IfErr}
 use Rattle.std.specs.List.{IsDistinct, list_all}
 use Rattle.std.specs.List.Sorted.{IsStrictlySortedBy}
 use Rattle.std.specs.Ordering.{nat_cmp}
@@ -36,6 +36,13 @@ is_quorum n good attestations =
 pub record IsInOrder {S P G : Type 0} (given listed : List (Attestation S P G)) : Type 0 where
   pub same : IsPermutation given listed
   pub ascending : IsStrictlySortedBy nat_cmp (signers_of listed)
+
+-- whether two errors of an assembly are the same: the variant, and the numbers that it gives
+abbrev pub same_assembly_error : AssemblyError → AssemblyError → Bool
+same_assembly_error (InsufficientAttestations quorum count) (InsufficientAttestations other_quorum other_count) =
+    nat_eq quorum other_quorum && nat_eq count other_count
+same_assembly_error OutOfMemory OutOfMemory = true
+same_assembly_error _ _ = false
 
 -- ---- making a certificate of attestations of n participants
 

@@ -2,6 +2,5 @@ pub mod Namespace
 pub mod Proposal
 pub mod Subject
 pub mod Committee
-pub mod Parts
+pub mod Hashing
 pub mod Attestation
-pub mod Errors

@@ -28,7 +28,7 @@ fn has_signer<S: SchemeTypes>(attestations: &[Attestation<S>], signer: Participa
     attestations.iter().any(|one| signer == one.signer)
 }
 
-/// Whether no signer stands twice.
+/// Whether no two have the same signer.
 fn are_distinct<S: SchemeTypes>(attestations: &[Attestation<S>]) -> bool
     ensures { IsTrue result ↔ IsDistinct nat_eq (signers_of attestations.now) }
 {

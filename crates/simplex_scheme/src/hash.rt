@@ -1,9 +1,9 @@
-//! Hashing.
+//! Hash functions, and SHA-256.
 
 ghost use Rattle.std.specs.Prelude.{◌≡◌, ℕ, List};
 ghost use Rattle.std.proofs.Common.{lit<, lit≤};
 ghost use Rattle.sha2.specs.Sha256.{sha256};
-ghost use Rattle.simplex_scheme.specs.Parts.{joined};
+ghost use Rattle.simplex_scheme.specs.Hashing.{joined};
 
 use crate::scheme::Digest;
 use simplex_base::codec::Fixed;
@@ -16,7 +16,7 @@ pub trait Hasher {
     /// The digest of some bytes.
     ghost digest_of: { List ℕ → Self.Digest };
 
-    /// The digest of the parts, taken as one list of bytes. It takes no memory.
+    /// The digest of the concatenation of the parts. It allocates nothing.
     fn hash(parts: &[&[u8]]) -> Self::Digest
         ensures { result ≡ digest_of (joined parts.now) };
 }

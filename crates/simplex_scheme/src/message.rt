@@ -1,7 +1,7 @@
-//! Whether bytes are the message that is signed, compared part by part without memory.
+//! Whether bytes are the message that is signed, compared part by part without an allocation.
 
 ghost use Rattle.std.specs.Prelude.{◌≡◌, ◌≢◌, ◌↔◌, ◌++◌, ℕ, List, IsTrue, MatchOption};
-ghost use Rattle.simplex_base.specs.Readable.{format_of};
+ghost use Rattle.simplex_base.specs.Format.{format_of};
 ghost use Rattle.simplex_base.specs.Positions.{round_format};
 ghost use Rattle.simplex_scheme.specs.Proposal.{proposal_format};
 

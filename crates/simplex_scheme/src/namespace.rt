@@ -35,8 +35,8 @@ impl Model for Namespace {
 }
 
 impl Namespace {
-    /// The namespaces of a base, which may be empty. `AllocError` comes where one of the four strings
-    /// found no memory.
+    /// The namespaces of a base, which may be empty. `AllocError` where the allocation of one of the four strings
+    /// failed.
     pub fn new(alloc: Global, base: &[u8]) -> Result<Self, AllocError>
         ensures names { IfOk result (λ namespace. namespace ≡ names_of base.now) }
         // Namespaces of two kinds differ, for any two bases.
@@ -70,7 +70,7 @@ pub trait CertificateNamespace: Sized {
     /// The namespaces of a base.
     ghost of_base: { List ℕ → Self };
 
-    /// Makes the namespaces of a base. `AllocError` comes where a string found no memory.
+    /// Makes the namespaces of a base. `AllocError` where an allocation failed.
     fn derive(alloc: Global, base: &[u8]) -> Result<Self, AllocError>
         ensures { IfOk result (λ namespace. namespace ≡ of_base base.now) };
 }

@@ -1,8 +1,8 @@
-//! What is voted on.
+//! Proposals, which are voted on.
 
 ghost use Rattle.std.specs.Prelude.{◌≡◌, ◌↔◌, ◌&&◌, ⊤, ◌+◌, IsTrue, false, nat_eq, refl};
 ghost use Rattle.std.specs.Ordering.{nat_cmp, ordering_then};
-ghost use Rattle.simplex_base.specs.Readable.{format_of};
+ghost use Rattle.simplex_base.specs.Format.{format_of};
 
 use crate::scheme::Digest;
 use simplex_base::codec::error::Error;
@@ -37,8 +37,8 @@ impl<D> Proposal<D> {
 }
 
 impl<D: Digest> Proposal<D> {
-    /// Whether another proposal is the same: its round, its parent and the bytes of its payload are. It is what `==`
-    /// answers.
+    /// Whether another proposal has the same round, the same parent and a payload of the same bytes. It is what `==`
+    /// returns.
     pub fn is_same(&self, other: &Self) -> bool
         ensures same { IsTrue result ↔ (self.now ≡ other.now) }
         ensures equal { result ≡ ⟦<Proposal<D> as PartialEq>⟧.eq self.now other.now }

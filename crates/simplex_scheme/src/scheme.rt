@@ -1,17 +1,13 @@
-//! The schemes that sign and verify.
+//! The traits of schemes that sign and verify, with the laws that each scheme proves.
 
 ghost use Rattle.std.specs.Prelude.{◌≡◌, ⊤, ◌+◌, ℕ, Bool, true, false, List, Option, Some, None, Ok, Err, IfOk, IfSome, MatchOption, All, length, nat_eq, ◌&&◌, ◌<◌, ◌≤◌, ◌^◌, refl};
 ghost use Rattle.std.specs.List.{IsDistinct, list_all};
-ghost use Rattle.simplex_base.specs.Readable.{format_of};
+ghost use Rattle.simplex_base.specs.Format.{format_of};
 ghost use Rattle.simplex_scheme.specs.Subject.{SubjectValue, subject_value};
 ghost use Rattle.simplex_scheme.specs.Committee.{IsQuorum, IsInOrder, signers_of, RefusesFew, AssemblesQuorum};
 
-pub use crate::faults::{max_faults, quorum};
-pub use crate::hash::{Hasher, Sha256, Sha256Digest};
-pub use crate::namespace::{CertificateNamespace, Namespace};
-pub use crate::proposal::Proposal;
-pub use crate::set::{Set, SetError};
-pub use crate::subject::{CertificateSubject, Subject};
+use crate::set::Set;
+use crate::subject::Subject;
 use simplex_base::codec::error::Error;
 use simplex_base::codec::fixed_bytes::{FixedBytes, Role};
 use simplex_base::codec::parts::{size_both, write_both};
@@ -82,7 +78,7 @@ pub enum AssemblyError {
     /// The attestations are fewer than a quorum: the quorum, and how many there are.
     #[error("{1} attestations are fewer than the quorum of {0}")]
     InsufficientAttestations(u32, u32),
-    /// Memory was refused.
+    /// An allocation failed.
     #[error("out of memory")]
     OutOfMemory,
 }
@@ -93,7 +89,7 @@ impl ExactClone for AssemblyError {
 
 impl EqByParts for AssemblyError {
     ghost use Rattle.std.specs.Prelude.{refl};
-    ghost use Rattle.simplex_scheme.specs.Errors.{same_assembly_error};
+    ghost use Rattle.simplex_scheme.specs.Committee.{same_assembly_error};
     ghost use Rattle.simplex_scheme.specs.declared.scheme.AssemblyError.TheVariants.{InsufficientAttestations, OutOfMemory};
 
     ghost same = { same_assembly_error };
@@ -104,9 +100,9 @@ impl EqByParts for AssemblyError {
     ] };
 }
 
-/// A committee, who of it this is, and the certificates that it makes.
+/// A committee, which participant of it this is, if any, and the type of its certificates.
 pub trait CertificateScheme: SchemeTypes {
-    /// What a quorum makes of its attestations. It is read under the number of participants.
+    /// What the attestations of a quorum are assembled into. It is read under the number of participants.
     type Certificate: Read<Cfg = u32> + Write + EncodeSize + Clone + Eq + Hash + Drop;
 
     /// The keys of the committee, in the order of the participants.
@@ -118,7 +114,7 @@ pub trait CertificateScheme: SchemeTypes {
     /// The greatest length of a certificate under a bound.
     ghost max_size: { ℕ → ℕ };
 
-    /// Whether a certificate tells who signed it.
+    /// Whether a certificate states who signed it.
     ghost attributable: { Bool };
 
     /// The keys of the committee, from 1 to 2^32 - 1 of them. A participant's number is the place of its
@@ -142,7 +138,7 @@ pub trait CertificateScheme: SchemeTypes {
         ensures size { result ≡ max_size participants }
         ensures limited { result ≤ 2 ^ 50 };
 
-    /// Whether a certificate tells who signed it.
+    /// Whether a certificate states who signed it.
     fn is_attributable() -> bool
         ensures { result ≡ attributable };
 
@@ -157,7 +153,7 @@ pub trait CertificateScheme: SchemeTypes {
 
 /// Who verifies certificates of subjects with this digest.
 pub trait CertificateVerifier<D: Digest>: CertificateScheme {
-    /// Whether a certificate certifies the subject, a fixed meaning of the scheme, the subject's value and the
+    /// Whether a certificate certifies the subject: a function of the scheme, the subject's value and the
     /// certificate.
     ghost certified: { Self → SubjectValue D → Self.Certificate → Bool };
 
@@ -175,16 +171,16 @@ pub trait CertificateVerifier<D: Digest>: CertificateScheme {
 pub trait Scheme<D: Digest>: CertificateVerifier<D> {
     ghost use Rattle.simplex_scheme.specs.declared.scheme.Attestation.{Attestation};
 
-    /// Whether a signature is one of this signer for the subject, a fixed meaning of the scheme, the subject's value,
+    /// Whether a signature of this signer is valid for the subject: a function of the scheme, the subject's value,
     /// the signer and the signature.
     ghost good: { Self → SubjectValue D → ℕ → Self.Signature → Bool };
 
-    /// The certificate is made of these attestations.
+    /// The certificate is assembled from these attestations.
     ghost made_of: { List (Attestation Self Self.PublicKey Self.Signature) → Self.Certificate →
         Type 0 };
 
-    /// Signs as this participant. `None` comes exactly where this is no participant, and then no memory is
-    /// taken.
+    /// Signs as this participant. `None` exactly where the scheme has no participant of its own; nothing is then
+    /// allocated.
     fn sign(
         &self,
         alloc: Global,
@@ -197,7 +193,7 @@ pub trait Scheme<D: Digest>: CertificateVerifier<D> {
             (Self.own self.now ≡ Some a.signer) ×
             (good self.now (subject_value subject.entry) a.signer a.signature ≡ true))) };
 
-    /// Whether a signature is one of its signer for the subject. It is not where the signer is outside the
+    /// Whether the signature is valid for the subject and its signer. It is not where the signer is outside the
     /// committee.
     fn verify_attestation(&self, subject: Subject<'_, D>, attestation: &Attestation<Self>) -> bool
     where
@@ -205,10 +201,10 @@ pub trait Scheme<D: Digest>: CertificateVerifier<D> {
         ensures { result ≡ good self.now (subject_value subject.entry) attestation.now.signer
             attestation.now.signature };
 
-    /// Makes a certificate of attestations whose signers are distinct and in the committee, which
-    /// [`can_assemble`](crate::assembly::can_assemble) tells. Fewer than a quorum are refused by
-    /// `InsufficientAttestations`, the quorum and their number, and then no memory is taken. From a quorum on there
-    /// is a certificate, or memory was refused. It certifies whatever subject all the attestations are valid for.
+    /// Assembles a certificate from attestations whose signers are distinct and in the committee, as
+    /// [`can_assemble`](crate::assembly::can_assemble) returns. `InsufficientAttestations`, with the quorum and the
+    /// number of attestations, where that number is below the quorum; nothing is then allocated. From a quorum on the
+    /// only error is `OutOfMemory`. The certificate certifies every subject that all the attestations are valid for.
     fn assemble(
         &self,
         alloc: Global,
@@ -227,7 +223,7 @@ pub trait Scheme<D: Digest>: CertificateVerifier<D> {
             All (λ a. good self.now subject a.signer a.signature ≡ true) attestations.items →
             Self.certified self.now subject certificate ≡ true) };
 
-    /// Whose signature is valid is in the committee.
+    /// The signer of a valid signature is in the committee.
     ghost members: { (scheme : Self) (subject : SubjectValue D) (signer : ℕ)
         (signature : Self.Signature) →
         good scheme subject signer signature ≡ true → signer < length (Self.keys scheme) };

@@ -49,8 +49,7 @@ impl<K: Ord> Model for Set<K> {
 impl<K: Ord> Set<K> {
     ghost use Rattle.std.specs.List.Sorted.{IsStrictlySortedBy};
 
-    /// The set of these keys, sorted in place without memory. `Repeated` comes exactly where two of them
-    /// are equal.
+    /// The set of these keys, sorted in place without an allocation. `Repeated` exactly where two of them are equal.
     pub fn try_from_vec(mut keys: Vec<K>) -> Result<Set<K>, SetError>
     where
         K: Drop,

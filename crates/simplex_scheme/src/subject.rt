@@ -1,7 +1,7 @@
-//! What is signed.
+//! Subjects: what is signed.
 
 ghost use Rattle.std.specs.Prelude.{◌≡◌, ◌↔◌, ℕ, List, IfOk, IsTrue};
-ghost use Rattle.simplex_base.specs.Readable.{format_of};
+ghost use Rattle.simplex_base.specs.Format.{format_of};
 
 use crate::message::{is_proposal, is_round};
 use crate::namespace::Namespace;
@@ -62,8 +62,8 @@ impl<D> Subject<'_, D> {
 impl<D: Digest> Subject<'_, D> {
     ghost use Rattle.simplex_scheme.specs.Subject.{subject_value, message_of};
 
-    /// Whether the bytes are those that are signed, as [`message`](CertificateSubject::message) gives them. It takes
-    /// no memory.
+    /// Whether the bytes are those that are signed, as [`message`](CertificateSubject::message) returns them. It
+    /// allocates nothing.
     pub fn is_message(&self, bytes: &[u8]) -> bool
         ensures { IsTrue result ↔
             (bytes.now ≡ message_of (format_of ⟦<D as Read>⟧) (subject_value self.now)) }

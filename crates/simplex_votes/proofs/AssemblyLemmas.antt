@@ -1,4 +1,4 @@
--- Distinct signers, one after another, and what votes make a certificate.
+-- Distinct signers, one after another, and from which votes a certificate can be assembled.
 use Rattle.std.proofs.Common.{◌≡◌, ℕ, zero, suc, ◌+◌, ◌<◌, ◌≤◌, Bool, true, false, List, [], ◌∷◌, ◌++◌, length, get_or, map, sym, refl, ap, subst, ◌∙◌, inl, inr, arith, ◌||◌}
 use Rattle.std.specs.Prelude.{All, nat_eq}
 use Rattle.std.specs.List.{IsDistinct, AllPairs, AllByRecursion, list_any}
@@ -99,7 +99,7 @@ of_votes Q attestation [] each k d lt = absurd (omega (arith, lt))
 of_votes Q attestation (v ∷ vs) each zero d lt = each zero (attestation d) (omega arith)
 of_votes Q attestation (v ∷ vs) each (suc k) d lt = of_votes Q attestation vs (All-tail Q (attestation v) (map attestation vs) each) k d (omega (arith, lt))
 
--- of votes for one subject, with distinct signers out of n, a certificate can be made
+-- from votes for one subject, with distinct signers out of n, a certificate can be assembled
 pub can_assemble_from : {V X S P G : Type 0} (subject : V → X) (attestation : V → Attestation S P G) (n : ℕ) (votes : List V) (x : X) → 1 ≤ length votes → All (λ v. subject v ≡ x) votes → IsDistinct nat_eq (map (λ v. (attestation v).signer) votes) × All (λ v. (attestation v).signer < n) votes → CanAssemble subject attestation n votes
 can_assemble_from subject attestation n votes x some each (distinct, members) = record {
   some = some;
@@ -132,7 +132,7 @@ module _ {V S P G : Type 0} (attestation : V → Attestation S P G) where
       let inside : j < length (v ∷ vs) = omega (arith, length-map (v ∷ vs) number) in
       rw (get_or-map number (v ∷ vs) i v d (omega arith), get_or-map number (v ∷ vs) j v d inside) (differ _ _ (ordered i j v before inside)))
 
-  -- a certificate can be made of them
+  -- a certificate can be assembled from them
   pub can_in_order : {X : Type 0} (subject : V → X) (n : ℕ) (votes : List V) → StandInOrder subject attestation n votes → CanAssemble subject attestation n votes
   can_in_order subject n votes stand = record {
     some = stand.some;

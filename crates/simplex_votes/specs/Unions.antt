@@ -142,7 +142,7 @@ certificate_kind (certificate.Notarization n) = kind.Notarization
 certificate_kind (certificate.Nullification n) = kind.Nullification
 certificate_kind (certificate.Finalization n) = kind.Finalization
 
--- the word of a kind
+-- the name of a kind, as it prints
 abbrev pub kind_word : Kind → List ℕ
 kind_word kind.Notarization = codes "notarization"
 kind_word kind.Nullification = codes "nullification"

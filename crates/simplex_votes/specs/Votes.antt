@@ -1,4 +1,4 @@
--- Votes as plain values, and their places: round, signer and sort.
+-- Votes as plain values, and their rounds, signers and sorts.
 use Rattle.std.specs.Prelude.{ℕ, Bool, true, false, ◌==◌, ◌&&◌}
 use Rattle.simplex_base.specs.Positions.{Round, same_round}
 use Rattle.simplex_scheme.specs.declared.proposal.Proposal.{Proposal}

@@ -1,17 +1,17 @@
 //! Votes, certificate messages, and the unions of both.
 
-pub mod artifact;
+mod artifact;
 mod assembly;
-pub mod attributable;
-pub mod certificate;
-pub mod context;
-pub mod finalization;
-pub mod finalize;
-pub mod notarization;
-pub mod notarize;
-pub mod nullification;
-pub mod nullify;
-pub mod vote;
+mod attributable;
+mod certificate;
+mod context;
+mod finalization;
+mod finalize;
+mod notarization;
+mod notarize;
+mod nullification;
+mod nullify;
+mod vote;
 
 pub use artifact::Artifact;
 pub use attributable::Attributable;

@@ -21,7 +21,7 @@ is_vouched signature = ends_with nat_eq signature (1 ∷ [])
 abbrev pub vouched_valid : {D : Type 0} → List (List ℕ) → SubjectValue D → ℕ → List ℕ → Bool
 vouched_valid keys subject signer signature = nat_lt signer (length keys) && is_vouched signature
 
--- whose signature is valid is in the committee
+-- the signer of a valid signature is in the committee
 pub vouched_members : {D : Type 0} (keys : List (List ℕ)) (subject : SubjectValue D) (signer : ℕ) (signature : List ℕ) →
     vouched_valid keys subject signer signature ≡ true → signer < length keys
 vouched_members keys subject signer signature h = grind (arith, nat_tests)

@@ -46,7 +46,8 @@ impl<R, const N: usize> Model for Vouched<R, N> {
 }
 
 impl<R, const N: usize> Vouched<R, N> {
-    /// The committee of so many participants, in 4 bytes of memory for each. The key of a participant is its number.
+    /// The committee of `participants` participants, in 4 bytes of memory for each. The key of a participant is its
+    /// number.
     pub fn new(alloc: Global, participants: u32) -> Result<Self, AllocError>
         requires { 1 ≤ participants }
         ensures { IfOk result (λ vouched. vouched ≡ record { keys = numbered participants }) }
@@ -184,7 +185,7 @@ impl<D: Digest, R: Role<N>, const N: usize> Scheme<D> for Vouched<R, N> {
         requires members { All (λ a. a.signer < length self.now.keys) attestations.items }
         ensures below { RefusesFew (length self.now.keys) (length attestations.items) result }
         ensures enough { AssemblesQuorum (length self.now.keys) (length attestations.items) result }
-        // No memory is taken.
+        // Nothing is allocated.
         ensures ample { quorum_of (length self.now.keys) ≤ length attestations.items → IsOk result }
         ensures made { IfOk result (λ certificate. IsInOrder attestations.items certificate) }
         ensures certified { IfOk result (λ certificate. (subject : SubjectValue D) →

@@ -1,4 +1,4 @@
-//! Values of one type, encoded one after another behind their number.
+//! Lists of values of one type: their number, and then the values one after another.
 
 ghost use Rattle.std.specs.Prelude.{◌≡◌, ◌++◌, ◌+◌, ◌*◌, ◌<◌, ◌≤◌, ◌^◌, All, OnOk, OnErr, length};
 ghost use Rattle.std.specs.List.{flat_map};
@@ -9,7 +9,7 @@ use crate::codec::varint::{size_u32, write_u32};
 use crate::codec::{EncodeSize, Write};
 use std::alloc::AllocError;
 
-/// Appends values one after another. After a refusal the buffer is as before.
+/// Appends values one after another. After an error the buffer is as before.
 fn write_all<T: Write>(items: &[T], buf: &mut Vec<u8>) -> Result<(), AllocError>
     ensures ok { OnOk result (buf.new.items ≡ buf.old.items ++ flat_map T.encoding items.now) }
     ensures err { OnErr result (buf.new.items ≡ buf.old.items) }
@@ -22,8 +22,8 @@ fn write_all<T: Write>(items: &[T], buf: &mut Vec<u8>) -> Result<(), AllocError>
     Ok(())
 }
 
-/// Appends the number of the values as a 32-bit number, 1 to 5 bytes, and then the values one after another. After a
-/// refusal the buffer is as before.
+/// Appends the number of the values as a 32-bit number, 1 to 5 bytes, and then the values one after another. After an
+/// error the buffer is as before.
 pub fn write_counted<T: Write>(items: &[T], buf: &mut Vec<u8>) -> Result<(), AllocError>
     requires { length items.now < 2 ^ 32 }
     ensures ok { OnOk result
@@ -37,8 +37,8 @@ pub fn write_counted<T: Write>(items: &[T], buf: &mut Vec<u8>) -> Result<(), All
     or_restore(buf, start, done)
 }
 
-/// The number of bytes that the values take with their number in front. The bound of the type's sizes has to leave
-/// room for the sum.
+/// The number of bytes of the encoded number of values and of the values. The bound of the type's sizes has to be so
+/// small that the sum does not overflow.
 pub fn size_counted<T: EncodeSize>(items: &[T]) -> usize
     requires few { length items.now < 2 ^ 32 }
     requires room { 5 + length items.now * T.limit < 2 ^ 64 }

@@ -1,4 +1,4 @@
-//! Why bytes are no value.
+//! Why bytes are not read as a value.
 
 use crate::values::{EqByParts, ExactClone};
 use thiserror::Error as ThisError;
@@ -28,7 +28,7 @@ pub enum Error {
 
 impl EqByParts for Error {
     ghost use Rattle.std.specs.Prelude.{refl};
-    ghost use Rattle.simplex_base.specs.Errors.{same_error};
+    ghost use Rattle.simplex_base.specs.Reading.{same_error};
     ghost use Rattle.simplex_base.specs.declared.codec.error.Error.TheVariants.{EndOfBuffer, InvalidVarint, InvalidBool, Invalid, ExtraData, OutOfMemory};
 
     ghost same = { same_error };

@@ -8,7 +8,7 @@ use crate::codec::{Fixed, FixedSize};
 use crate::values::ExactClone;
 use std::marker::{Model, PhantomData};
 
-/// What `N` bytes stand for, as a digest of some hash. It tells types of one size apart.
+/// What `N` bytes stand for, as a digest of some hash. Types of one size differ by it.
 pub trait Role<const N: usize> {
     /// `N` is from 1 to 65,535.
     ghost sized: { (0 < N) × (N ≤ 65535) };

@@ -9,7 +9,7 @@ use crate::codec::error::Error;
 use crate::codec::{EncodeSize, Encoding, Fixed, Read, ReadExt, Write};
 use std::alloc::{AllocError, Global};
 
-/// Takes back what a refused write left behind it.
+/// Truncates the buffer to its old length where a write failed.
 pub(super) fn or_restore(
     buf: &mut Vec<u8>,
     start: usize,
@@ -26,7 +26,7 @@ pub(super) fn or_restore(
     done
 }
 
-/// Appends one value and then another. After a refusal the buffer is as before.
+/// Appends one value and then another. After an error the buffer is as before.
 pub fn write_both<A: Write, B: Write>(
     first: &A,
     second: &B,
@@ -42,7 +42,8 @@ pub fn write_both<A: Write, B: Write>(
     or_restore(buf, start, done)
 }
 
-/// The number of bytes that one value and then another take. The bounds of both sizes have to leave room for the sum.
+/// The number of bytes of one value and then another. The bounds of both sizes have to be so small that the sum does
+/// not overflow.
 pub fn size_both<A: EncodeSize, B: EncodeSize>(first: &A, second: &B) -> usize
     requires room { A.limit + B.limit < 2 ^ 64 }
     ensures size { result ≡ length (both_encoded A.encoding B.encoding (first.now, second.now)) }

@@ -1,4 +1,4 @@
-//! Truth values.
+//! Booleans.
 
 ghost use Rattle.std.specs.Prelude.{false};
 ghost use Rattle.simplex_base.specs.Format.{truth};
@@ -8,7 +8,7 @@ use crate::codec::error::Error;
 use crate::codec::{EncodeSize, Encoding, Read, ReadExt, Write};
 use std::alloc::{AllocError, Global};
 
-/// One byte: `00` is false, `01` is true, and another is refused by `InvalidBool`.
+/// One byte: `00` is false, `01` is true, and any other is refused by `InvalidBool`.
 impl Encoding for bool {
     ghost is_value = { truth.is_value };
 

@@ -1,4 +1,4 @@
-//! Unions: values that are encoded as a tag of one byte, and then what the tag says comes after it.
+//! Unions: values that are encoded as a tag of one byte, and then the body that belongs to the tag.
 
 ghost use Rattle.std.specs.Prelude.{◌≡◌, ◌++◌, ◌∷◌, ℕ, Bool, List, OnOk, OnErr};
 ghost use Rattle.simplex_base.specs.Reading.{Reading, Gives};
@@ -9,7 +9,7 @@ use crate::codec::error::Error;
 use crate::codec::parts::or_restore;
 use std::alloc::{AllocError, Global};
 
-/// Appends a tag of one byte and then a value. After a refusal the buffer is as before.
+/// Appends a tag of one byte and then a value. After an error the buffer is as before.
 pub fn write_tagged<T: Write>(tag: u8, body: &T, buf: &mut Vec<u8>) -> Result<(), AllocError>
     ensures ok { OnOk result (buf.new.items ≡ buf.old.items ++ (tag ∷ T.encoding body.now)) }
     ensures err { OnErr result (buf.new.items ≡ buf.old.items) }
@@ -20,7 +20,7 @@ pub fn write_tagged<T: Write>(tag: u8, body: &T, buf: &mut Vec<u8>) -> Result<()
     or_restore(buf, start, done)
 }
 
-/// A union: which tags there are, and what comes after each.
+/// A union: its tags, and the body of each.
 pub trait Tagged {
     /// What bounds the values that are read.
     type Cfg;
@@ -28,18 +28,18 @@ pub trait Tagged {
     /// What reading gives after a tag.
     ghost branches: { Self.Cfg → ℕ → List ℕ → Reading Self };
 
-    /// Whether reading takes memory.
+    /// Whether reading allocates.
     ghost takes_memory: { Bool };
 
-    /// Reads what comes after this tag and moves the slice past it. A tag that the union lacks is refused by
-    /// `Invalid`. After an error the slice is as before.
+    /// Reads the body of this tag and moves the slice past it. `Invalid` where the union has no such tag. After an
+    /// error the slice is as before.
     fn read_body(alloc: Global, tag: u8, input: &mut &[u8], cfg: &Self::Cfg) -> Result<Self, Error>
         ensures { Gives takes_memory result input.old.now input.new.now
             (branches cfg.now tag input.old.now) };
 }
 
-/// Reads a tag, and then what comes after it, and moves the slice past both. `EndOfBuffer` comes where there is no
-/// tag. After an error the slice is as before.
+/// Reads a tag and then its body, and moves the slice past both. `EndOfBuffer` where the input is empty. After an
+/// error the slice is as before.
 pub fn read_tagged<T: Tagged>(alloc: Global, input: &mut &[u8], cfg: &T::Cfg) -> Result<T, Error>
     ensures { Gives T.takes_memory result input.old.now input.new.now
         (union_at (T.branches cfg.now) input.old.now) }

@@ -1,5 +1,5 @@
-//! Numbers in groups of seven bits, the lowest group first, as in LEB128. The top bit is set on each byte
-//! but the last, and the last is not zero unless it is the only one, so each number has one encoding.
+//! Numbers in LEB128: groups of seven bits, the lowest group first. The top bit is set on each byte but the last, and
+//! the last is not zero unless it is the only one, so each number has one encoding.
 
 ghost use Rattle.std.specs.Prelude.{◌≡◌, ℕ, length, ◌++◌, OnOk, OnErr, IfOk, List, take, ◌≤◌, ◌<◌, ◌+◌, ◌*◌, ◌^◌, false};
 ghost use Rattle.simplex_base.specs.Reading.{Gives, GivesRest, IsBytes};
@@ -10,7 +10,7 @@ use crate::codec::parts::known_bytes;
 use std::alloc::AllocError;
 use std::marker::Model;
 
-/// The groups of a number after the first, of which `more` may follow another; the last of all is below `top`.
+/// Reads the groups of a number after the first, at most `more` + 1 of them; the last of that many is below `top`.
 #[tactic(auto, unfolding(crate::specs::Varint::groups_at))]
 fn groups_of(bytes: &[u8], more: u8, top: u8) -> Result<(u64, &[u8]), Error>
     requires size { top * 128 ^ more ≤ 2 ^ 64 }
@@ -69,9 +69,9 @@ fn read_number(input: &mut &[u8], more: u8, top: u8) -> Result<u64, Error>
     }
 }
 
-/// Reads a 64-bit number of 1 to 10 bytes and moves the slice past it. `EndOfBuffer` comes where the whole
-/// input is a proper beginning of the encoding of some 64-bit number (the empty input is one), and
-/// `InvalidVarint` where the input neither begins with such an encoding nor is a beginning of one.
+/// Reads a 64-bit number of 1 to 10 bytes and moves the slice past it. `EndOfBuffer` where the whole input is a
+/// proper prefix of the encoding of some 64-bit number, as the empty input is, and `InvalidVarint` where no such
+/// encoding is a prefix of the input, nor the input of one.
 pub fn read_u64(input: &mut &[u8]) -> Result<u64, Error>
     ensures reads { ReadsNumber (2 ^ 64) result input.old.now input.new.now }
     ensures gives { Gives false result input.old.now input.new.now
@@ -137,7 +137,7 @@ impl Varint {
     }
 }
 
-/// Appends the encoding of a 64-bit number, 1 to 10 bytes. After a refusal the buffer is as before.
+/// Appends the encoding of a 64-bit number, 1 to 10 bytes. After an error the buffer is as before.
 #[tactic(auto, using(crate::specs::VarintLaws::encodes_64, crate::specs::VarintLaws::only_encoding_64))]
 pub fn write_u64(number: u64, buf: &mut Vec<u8>) -> Result<(), AllocError>
     ensures ok { OnOk result (buf.new.items ≡ buf.old.items ++ number_64.encoding number) }
@@ -149,7 +149,7 @@ pub fn write_u64(number: u64, buf: &mut Vec<u8>) -> Result<(), AllocError>
     buf.extend_from_slice(Varint::new(number).as_slice())
 }
 
-/// Appends the encoding of a 32-bit number, 1 to 5 bytes. After a refusal the buffer is as before.
+/// Appends the encoding of a 32-bit number, 1 to 5 bytes. After an error the buffer is as before.
 #[tactic(auto, using(crate::specs::VarintLaws::encodes_32, crate::specs::VarintLaws::only_encoding_32))]
 pub fn write_u32(number: u32, buf: &mut Vec<u8>) -> Result<(), AllocError>
     ensures ok { OnOk result (buf.new.items ≡ buf.old.items ++ number_32.encoding number) }
@@ -160,7 +160,7 @@ pub fn write_u32(number: u32, buf: &mut Vec<u8>) -> Result<(), AllocError>
     buf.extend_from_slice(Varint::new(u64::from(number)).as_slice())
 }
 
-/// The number of bytes of a 64-bit number's encoding.
+/// The number of bytes of a 64-bit number's encoding, 1 to 10.
 #[tactic(auto, using(crate::specs::VarintLaws::groups_len_64))]
 pub fn size_u64(number: u64) -> usize
     ensures size { result ≡ length (number_64.encoding number) }
@@ -169,7 +169,7 @@ pub fn size_u64(number: u64) -> usize
     Varint::new(number).as_slice().len()
 }
 
-/// The number of bytes of a 32-bit number's encoding.
+/// The number of bytes of a 32-bit number's encoding, 1 to 5.
 #[tactic(auto, using(crate::specs::VarintLaws::groups_len_32))]
 pub fn size_u32(number: u32) -> usize
     ensures size { result ≡ length (number_32.encoding number) }

@@ -72,14 +72,14 @@ impl View {
         self.0 == 0
     }
 
-    /// So many views later, or view 2^64 - 1 where there is no such view.
+    /// The view `delta` views later, or view 2^64 - 1 where there is no such view.
     pub fn saturating_add(self, delta: ViewDelta) -> Self
         ensures { result ≡ min (self + delta) (2 ^ 64 - 1) }
     {
         View(self.0.saturating_add(delta.get()))
     }
 
-    /// So many views earlier, or view 0 where there is no such view.
+    /// The view `delta` views earlier, or view 0 where there is no such view.
     pub fn saturating_sub(self, delta: ViewDelta) -> Self
         ensures { result ≡ self - delta }
     {

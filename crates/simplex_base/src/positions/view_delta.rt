@@ -35,7 +35,7 @@ impl ExactClone for ViewDelta {
 }
 
 impl ViewDelta {
-    /// So many views.
+    /// This many views.
     pub fn new(views: u64) -> Self
         ensures { result ≡ views }
     {

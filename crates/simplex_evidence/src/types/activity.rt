@@ -1,7 +1,7 @@
 //! The union of all messages.
 
 ghost use Rattle.std.specs.Prelude.{◌≡◌, ◌+◌, ◌*◌, ◌^◌, IfOk, IfErr, IsTrue};
-ghost use Rattle.simplex_base.specs.Readable.{format_of, format_under};
+ghost use Rattle.simplex_base.specs.Format.{format_of, format_under};
 
 use crate::types::conflicting_finalize::ConflictingFinalize;
 use crate::types::conflicting_notarize::ConflictingNotarize;
@@ -62,7 +62,7 @@ impl<S: CertificateScheme, D: Digest> Activity<S, D> {
         }
     }
 
-    /// The same message, with a clone of the certificate where it has one. Only that clone takes memory.
+    /// The same message, with a clone of the certificate where it has one. Only that clone allocates.
     pub fn clone(&self) -> Result<Self, AllocError>
         ensures parts { IfOk result (λ copy. IsActivityClone S.Certificate.is_clone self.now copy) }
         // Where a certificate's clone is the certificate, this one's is this message.
@@ -98,7 +98,7 @@ impl<S: Scheme<D>, D: Digest> Activity<S, D> {
     ghost use Rattle.simplex_evidence.specs.Activity.{activity_verifies};
 
     /// Whether the message is valid: a vote by its signature, a certificate message by its certificate, and evidence
-    /// by both of its signatures. It verifies whatever [`verified`](Activity::verified) answers.
+    /// by both of its signatures. It verifies them no matter what [`verified`](Activity::verified) returns.
     pub fn verify(&self, scheme: &S) -> bool
         ensures { result ≡ activity_verifies (S.good scheme.now) (S.certified scheme.now) self.now }
     {

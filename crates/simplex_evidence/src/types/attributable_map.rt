@@ -12,7 +12,7 @@ use std::marker::Model;
 
 /// A map from participants to the first item that each of them signed.
 ///
-/// It takes memory once: the first item takes room for as many as there are participants.
+/// It allocates once: the first item allocates for all participants.
 #[derive(Drop)]
 pub struct AttributableMap<T: Attributable> {
     participants: usize,
@@ -34,8 +34,8 @@ impl<T: Attributable> Model for AttributableMap<T> {
 }
 
 impl<T: Attributable> AttributableMap<T> {
-    /// A map without items for this many participants, whose numbers are those below it. It takes no memory
-    /// yet; items take theirs from `alloc`.
+    /// A map without items for this many participants, whose numbers are those below it. It allocates nothing yet;
+    /// the first item is allocated from `alloc`.
     pub fn new(alloc: Global, participants: usize) -> Self
         ensures value { result ≡ record { participants = participants; items = [] } }
         ensures firsts { IsFirsts T.signer_of participants [] result.items }
@@ -49,8 +49,8 @@ impl<T: Attributable> AttributableMap<T> {
     /// Inserts an item, if its signer is a participant and has none yet, and returns whether it did. An item that
     /// is not inserted is dropped.
     ///
-    /// `AllocError` comes only where the room for the first item is refused; the map is then as it was. So once
-    /// an item is inserted none is refused until `clear`.
+    /// `AllocError` only where the allocation for the first item failed; the map is then as before. Once there is an
+    /// item, no insertion fails until `clear`.
     pub fn insert(&mut self, item: T) -> Result<bool, AllocError>
     where
         T: Drop,
@@ -68,7 +68,7 @@ impl<T: Attributable> AttributableMap<T> {
             IsSome (item_of T.signer_of self.old.items (T.signer_of item)) }
         ensures refused { OnErr result ((self.new.items ≡ self.old.items) × (self.old.items ≡ []) ×
             (T.signer_of item < self.old.participants)) }
-        // After any list of calls the map holds the first items of those that were not refused.
+        // After any list of calls the map has the first items of those that did not fail.
         ensures firsts { (inserted : List T) →
             IsFirsts T.signer_of self.old.participants inserted self.old.items →
             MatchResult result (λ _.
@@ -82,7 +82,7 @@ impl<T: Attributable> AttributableMap<T> {
         let Err(place) = place_of(&self.items, signer) else {
             return Ok(false);
         };
-        // Room for all participants, which is there once an item is.
+        // The capacity for all participants, which is there once an item is.
         self.items
             .try_reserve_exact(self.participants - self.items.len())?;
         self.items.insert(place, item)?;
@@ -103,7 +103,7 @@ impl<T: Attributable> AttributableMap<T> {
     pub fn len(&self) -> usize
         ensures items { result ≡ length self.now.items }
         ensures most { result ≤ self.now.participants }
-        // So many participants are signers of what was inserted.
+        // It is the number of participants that signed something of what was inserted.
         ensures signers { (inserted : List T) →
             IsFirsts T.signer_of self.now.participants inserted self.now.items →
             result ≡ signers_among T.signer_of self.now.participants inserted }
@@ -118,7 +118,7 @@ impl<T: Attributable> AttributableMap<T> {
         self.items.is_empty()
     }
 
-    /// Drops all items and gives their memory up. The number of participants stays.
+    /// Drops all items and frees their memory. The number of participants stays.
     pub fn clear(&mut self)
     where
         T: Drop,
@@ -144,7 +144,7 @@ impl<T: Attributable> AttributableMap<T> {
         ensures ordered { IsBySigner T.signer_of self.now.items }
         ensures within { AreParticipants T.signer_of self.now.participants self.now.items }
         ensures small { length self.now.items < 2 ^ 64 }
-        // What was inserted decides the items and their order.
+        // What was inserted determines the items and their order.
         ensures single { (inserted others : List T) →
             IsFirsts T.signer_of self.now.participants inserted self.now.items →
             IsFirsts T.signer_of self.now.participants inserted others → others ≡ self.now.items }
@@ -179,7 +179,7 @@ impl<'a, T> Iterator for AttributableIter<'a, T> {
     }
 }
 
-/// The place of a signer's item, or else the place where it would go.
+/// The index of a signer's item, or else the index at which it would be inserted.
 fn place_of<T: Attributable>(items: &[T], signer: Participant) -> Result<usize, usize>
     requires { IsBySigner T.signer_of items.now }
     ensures found { IfOk result (λ place. (place < length items.now) ×

@@ -8,13 +8,13 @@ use simplex_scheme::subject::Subject;
 use simplex_votes::types::{Finalization, Notarization, Nullification};
 use std::alloc::{AllocError, Global};
 
-/// Whether each certificate certifies its subject: item by item what `verify_certificate` answers.
+/// Whether each certificate certifies its subject: item by item what `verify_certificate` returns.
 ///
-/// The scheme is asked about all items together. A part of them that it refuses is cut in the middle, and it is
-/// asked about both halves, down to single items. So it is asked once where every certificate is valid, and never
-/// about an empty list. For n items the recursion is at most log2 n deep, rounded up.
+/// `verify_all` of the scheme is called on all items together. A part for which it returns false is cut in the
+/// middle, and it is called on both halves, down to single items. So it is called once where every certificate is
+/// valid, and never on an empty list. For n items the recursion is at most log2 n deep, rounded up.
 ///
-/// The answers take their memory before anything is verified; `AllocError` comes only where that is refused.
+/// The results are allocated before anything is verified; `AllocError` only where that allocation failed.
 pub fn verify_certificates<'a, S: CertificateVerifier<D>, D: Digest>(
     alloc: Global,
     scheme: &S,
@@ -31,8 +31,8 @@ pub fn verify_certificates<'a, S: CertificateVerifier<D>, D: Digest>(
     Ok(answers)
 }
 
-/// Whether each notarization is certified, for who owns the messages: item by item what `verify` answers.
-/// `AllocError` comes only where the room for the answers is refused.
+/// Whether each notarization is certified, over the messages themselves: item by item what `verify` returns.
+/// `AllocError` only where the allocation of the results failed.
 pub fn verify_notarizations<S: CertificateVerifier<D>, D: Digest>(
     alloc: Global,
     scheme: &S,
@@ -48,7 +48,7 @@ pub fn verify_notarizations<S: CertificateVerifier<D>, D: Digest>(
         .collect(alloc)
 }
 
-/// Whether each nullification is certified, as [`verify_notarizations`] answers.
+/// Whether each nullification is certified, as [`verify_notarizations`] returns.
 pub fn verify_nullifications<S: CertificateVerifier<D>, D: Digest>(
     alloc: Global,
     scheme: &S,
@@ -64,7 +64,7 @@ pub fn verify_nullifications<S: CertificateVerifier<D>, D: Digest>(
         .collect(alloc)
 }
 
-/// Whether each finalization is certified, as [`verify_notarizations`] answers.
+/// Whether each finalization is certified, as [`verify_notarizations`] returns.
 pub fn verify_finalizations<S: CertificateVerifier<D>, D: Digest>(
     alloc: Global,
     scheme: &S,
@@ -80,8 +80,8 @@ pub fn verify_finalizations<S: CertificateVerifier<D>, D: Digest>(
         .collect(alloc)
 }
 
-/// Answers for the items of a part that is not empty. A part that the scheme accepts is true throughout, and an
-/// item that it refuses alone is false; any other part is cut in the middle.
+/// Writes the results for the items of a part that is not empty. A part that the scheme accepts is true throughout,
+/// and an item that it refuses alone is false; any other part is cut in the middle.
 fn bisect<'a, S: CertificateVerifier<D>, D: Digest>(
     scheme: &S,
     items: &[(Subject<'a, D>, &'a S::Certificate)],

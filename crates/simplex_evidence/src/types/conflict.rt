@@ -22,7 +22,7 @@ pub trait Conflict: Sized {
     /// Whether its votes contradict.
     ghost holds: { Self → Bool };
 
-    /// The refusal of two votes that do not.
+    /// The refusal of two votes that do not contradict.
     ghost refusal: { Refusal };
 
     /// Whether two votes contradict.
@@ -34,7 +34,7 @@ pub trait Conflict: Sized {
         requires { IsTrue (holds (made (first, second))) }
         ensures { result ≡ made (first, second) };
 
-    /// The refusal of two votes that do not.
+    /// The error of two votes that do not contradict.
     fn refused() -> Error
         ensures { Fails {X = Self} false result (Err refusal) };
 }

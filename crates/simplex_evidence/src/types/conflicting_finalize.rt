@@ -1,7 +1,7 @@
 //! Two finalizes that contradict.
 
 ghost use Rattle.std.specs.Prelude.{◌≡◌, ◌&&◌, ◌+◌, ◌*◌, ⊤, false, IsTrue, refl};
-ghost use Rattle.simplex_base.specs.Readable.{format_of};
+ghost use Rattle.simplex_base.specs.Format.{format_of};
 ghost use Rattle.simplex_scheme.specs.Subject.{Finalizes};
 ghost use Rattle.simplex_votes.specs.Votes.{finalize_vote};
 ghost use Rattle.simplex_evidence.specs.Contradiction.{contradicts, Conflicting_finalize};
@@ -57,7 +57,7 @@ impl<S: SchemeTypes, D: Digest> ConflictingFinalize<S, D> {
             && first.proposal != second.proposal
     }
 
-    /// The evidence of two finalizes that contradict, as [`conflicts`](ConflictingFinalize::conflicts) tells.
+    /// The evidence of two finalizes that contradict, as [`conflicts`](ConflictingFinalize::conflicts) returns.
     pub fn new(finalize_1: Finalize<S, D>, finalize_2: Finalize<S, D>) -> Self
         requires { IsTrue (contradicts D.eq Conflicting_finalize (finalize_vote finalize_1)
             (finalize_vote finalize_2)) }

@@ -1,7 +1,7 @@
-//! Two votes that contradict.
+//! Two notarizes that contradict.
 
 ghost use Rattle.std.specs.Prelude.{◌≡◌, ◌&&◌, ◌+◌, ◌*◌, ⊤, false, IsTrue, refl};
-ghost use Rattle.simplex_base.specs.Readable.{format_of};
+ghost use Rattle.simplex_base.specs.Format.{format_of};
 ghost use Rattle.simplex_scheme.specs.Subject.{Notarizes};
 ghost use Rattle.simplex_votes.specs.Votes.{notarize_vote};
 ghost use Rattle.simplex_evidence.specs.Contradiction.{contradicts, Conflicting_notarize};
@@ -57,7 +57,7 @@ impl<S: SchemeTypes, D: Digest> ConflictingNotarize<S, D> {
             && first.proposal != second.proposal
     }
 
-    /// The evidence of two notarizes that contradict, as [`conflicts`](ConflictingNotarize::conflicts) tells.
+    /// The evidence of two notarizes that contradict, as [`conflicts`](ConflictingNotarize::conflicts) returns.
     pub fn new(notarize_1: Notarize<S, D>, notarize_2: Notarize<S, D>) -> Self
         requires { IsTrue (contradicts D.eq Conflicting_notarize (notarize_vote notarize_1)
             (notarize_vote notarize_2)) }

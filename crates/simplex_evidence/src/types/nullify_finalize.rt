@@ -1,7 +1,7 @@
 //! A nullify and a finalize that contradict.
 
 ghost use Rattle.std.specs.Prelude.{◌≡◌, ◌&&◌, ◌+◌, ◌*◌, ⊤, false, IsTrue, refl};
-ghost use Rattle.simplex_base.specs.Readable.{format_of};
+ghost use Rattle.simplex_base.specs.Format.{format_of};
 ghost use Rattle.simplex_scheme.specs.Subject.{Nullifies, Finalizes};
 ghost use Rattle.simplex_votes.specs.Votes.{nullify_vote, finalize_vote};
 ghost use Rattle.simplex_evidence.specs.Contradiction.{contradicts, Nullify_finalize};
@@ -55,7 +55,8 @@ impl<S: SchemeTypes, D: Digest> NullifyFinalize<S, D> {
             && finalize.attestation.signer == nullify.attestation.signer
     }
 
-    /// The evidence of a nullify and a finalize that contradict, as [`conflicts`](NullifyFinalize::conflicts) tells.
+    /// The evidence of a nullify and a finalize that contradict, as [`conflicts`](NullifyFinalize::conflicts)
+    /// returns.
     pub fn new(nullify: Nullify<S>, finalize: Finalize<S, D>) -> Self
         requires { IsTrue (contradicts D.eq Nullify_finalize (nullify_vote nullify)
             (finalize_vote finalize)) }

@@ -25,8 +25,8 @@ pub trait Config<S: CertificateScheme>: Clone {
     /// The electors that are made of a configuration and the keys of a committee.
     ghost builds: { Self → List S.PublicKey → Self.Elector → Type 0 };
 
-    /// The elector of a committee of 1 to 2^32 - 1 participants, as [`Set::len`] tells, each leader being one of
-    /// them. `AllocError` comes where it found no memory.
+    /// The elector of a committee of 1 to 2^32 - 1 participants, as [`Set::len`] returns; each leader is one of them.
+    /// `AllocError` where an allocation failed.
     fn build(
         self,
         alloc: Global,

@@ -1,4 +1,4 @@
-//! What electors go by.
+//! What electors depend on.
 
 ghost use Rattle.std.specs.Prelude.{◌≡◌, refl};
 ghost use Rattle.std.specs.Option.{option_copied};
@@ -34,7 +34,7 @@ impl Mode {
     ghost use Rattle.simplex_lead.specs.Election.{seen};
     ghost use Rattle.simplex_lead.specs.declared.elector.mode.Mode.TheVariants.{Scheduled, Dynamic};
 
-    /// What of the certificate the elector is given: the certificate where it may depend on it, else `None`.
+    /// The certificate as the elector is given it: itself where leaders may depend on it, else `None`.
     pub fn input<C>(self, certificate: Option<&C>) -> Option<&C>
         ensures { option_copied result ≡ seen self (option_copied certificate.entry) }
     {
@@ -44,8 +44,8 @@ impl Mode {
         }
     }
 
-    /// What the elector can be given before the certificate is there: `Some(None)` where it goes by none, and
-    /// `None` where it has to wait.
+    /// What the elector is given before there is a certificate: `Some(None)` where leaders do not depend on it, and
+    /// `None` where the elector has to wait for it.
     pub fn early<'a, C>(self) -> Option<Option<&'a C>>
         ensures scheduled { self ≡ Scheduled → result ≡ Some None }
         ensures dynamic { self ≡ Dynamic → result ≡ None }

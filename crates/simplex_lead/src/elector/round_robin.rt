@@ -59,7 +59,7 @@ impl<H: Hasher> Default for RoundRobin<H> {
 }
 
 impl<H: Hasher> RoundRobin<H> {
-    /// In an order by this seed, in terms of one view. `AllocError` comes where the seed found no memory.
+    /// In an order by this seed, in terms of one view. `AllocError` where the allocation of the seed failed.
     pub fn shuffled(alloc: Global, seed: &[u8]) -> Result<Self, AllocError>
         ensures { IfOk result (λ settings.
             settings ≡ record { seed = Some seed.now; terms = rotating }) }
@@ -112,7 +112,7 @@ impl<H: Hasher> ExactClone for RoundRobin<H> {
     ghost exact = { λ x y same. same };
 }
 
-/// The hash by which a participant is placed.
+/// The hash that decides a participant's place in the order.
 fn ticket<H: Hasher>(seed: &[u8], participant: Participant) -> H::Digest
     ensures { result ≡ H.digest_of (seed.now ++ to_be_bytes w32 participant) }
 {
@@ -161,7 +161,7 @@ fn order_of<H: Hasher>(
 }
 
 impl<S: CertificateScheme, H: Hasher> Config<S> for RoundRobin<H> {
-    ghost use Rattle.simplex_lead.specs.ElectionLaws.{one_alike};
+    ghost use Rattle.simplex_lead.specs.Election.{one_alike};
     ghost use Rattle.simplex_lead.specs.RotationLaws.{one_rotation, same_rotations};
 
     type Elector = RoundRobinElector<S>;
@@ -257,7 +257,7 @@ impl<S> RoundRobinElector<S> {
 
 impl<S: CertificateScheme> Elector<S> for RoundRobinElector<S> {
     ghost use Rattle.std.proofs.Common.{refl, sym};
-    ghost use Rattle.simplex_lead.specs.ElectionLaws.{one_alike};
+    ghost use Rattle.simplex_lead.specs.Election.{one_alike};
     ghost use Rattle.simplex_lead.specs.RotationLaws.{same_leader};
     ghost use Rattle.simplex_lead.specs.declared.elector.mode.Mode.TheVariants.{Scheduled};
 

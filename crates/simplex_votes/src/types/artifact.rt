@@ -1,7 +1,7 @@
 //! The union of what a node stores.
 
 ghost use Rattle.std.specs.Prelude.{◌≡◌, ◌+◌, ◌^◌, IfOk, IfErr, IsTrue};
-ghost use Rattle.simplex_base.specs.Readable.{format_of, format_under};
+ghost use Rattle.simplex_base.specs.Format.{format_of, format_under};
 
 use crate::map_ok;
 use crate::types::certificate::Certificate;
@@ -44,7 +44,7 @@ pub enum Artifact<S: CertificateScheme, D: Digest> {
 impl<S: CertificateScheme, D: Digest> Artifact<S, D> {
     ghost use Rattle.simplex_votes.specs.Artifact.{artifact_has_certificate, IsArtifactClone, ArtifactClonesCertificate};
 
-    /// The same artifact, with a clone of the certificate where it has one. Only that clone takes memory.
+    /// The same artifact, with a clone of the certificate where it has one. Only that clone allocates.
     pub fn clone(&self) -> Result<Self, AllocError>
         ensures parts { IfOk result (λ copy. IsArtifactClone S.Certificate.is_clone self.now copy) }
         // Where a certificate's clone is the certificate, this one's is this artifact.

@@ -1,4 +1,4 @@
-//! What certificates are made of.
+//! How certificates are assembled from votes.
 
 ghost use Rattle.std.specs.Prelude.{◌≡◌, ◌↔◌, ◌<◌, true, Err, IsTrue, IfOk, All, length, map, nat_eq, refl};
 ghost use Rattle.std.specs.List.{IsDistinct, list_any};
@@ -16,7 +16,7 @@ use simplex_scheme::proposal::Proposal;
 use simplex_scheme::scheme::{AssemblyError, Attestation, Digest, Scheme, SchemeTypes};
 use std::alloc::{AllocError, Global};
 
-/// What a participant attests: a vote for a proposal or a round.
+/// A vote for a proposal or a round, with the attestation of its signer.
 pub trait Attested<S: SchemeTypes>: Attributable {
     ghost use Rattle.simplex_scheme.specs.declared.scheme.Attestation.{Attestation};
 
@@ -37,7 +37,7 @@ pub trait Attested<S: SchemeTypes>: Attributable {
     fn agrees_with(&self, other: &Self) -> bool
         ensures { IsTrue result ↔ (subject_of self.now ≡ subject_of other.now) };
 
-    /// Who is held to it is the attestation's signer.
+    /// The signer of the vote is that of the attestation.
     ghost attests: { (vote : Self) → Self.signer_of vote ≡ (attestation_of vote).signer };
 }
 
@@ -114,8 +114,8 @@ fn has_signer<T: Attributable>(signed: &[T], signer: Participant) -> bool
     signed.iter().any(|one| one.signer() == signer)
 }
 
-/// Whether the signers are distinct participants out of this many. No memory is taken for it: where signers
-/// ascend each is looked at once, and one that is below an earlier one is compared to all before it.
+/// Whether the signers are distinct and below this number of participants. It allocates nothing. Signers in ascending
+/// order take linear time; each one that is below an earlier one is compared to all before it.
 fn are_distinct<T: Attributable>(signed: &[T], participants: usize) -> bool
     ensures { IsTrue result ↔
         (IsDistinct nat_eq (map T.signer_of signed.now) ×
@@ -137,8 +137,8 @@ fn are_distinct<T: Attributable>(signed: &[T], participants: usize) -> bool
     true
 }
 
-/// Whether a certificate can be made of the votes by a committee of this many: there is at least one, all are for
-/// one subject, and the signers are distinct and in the committee.
+/// Whether a certificate can be assembled from the votes by a committee of this many, a quorum of votes provided:
+/// there is at least one, all are for one subject, and the signers are distinct and in the committee.
 pub fn stand_together<S: SchemeTypes, V: Attested<S>>(votes: &[V], participants: usize) -> bool
     ensures { IsTrue result ↔ CanAssemble V.subject_of V.attestation_of participants votes.now }
 {
@@ -166,9 +166,10 @@ fn attestations<S: SchemeTypes, V: Attested<S>>(
     Ok(attestations)
 }
 
-/// The certificate of votes whose signers are distinct and in the committee. Fewer than a quorum are refused by
-/// `InsufficientAttestations`, the quorum and their number, and then no memory is taken. From a quorum on there is
-/// a certificate, or memory was refused. It certifies whatever subject all the votes are valid for.
+/// Assembles a certificate from votes whose signers are distinct and in the committee. `InsufficientAttestations`,
+/// with the quorum and the number of votes, where that number is below the quorum; nothing is then allocated. From a
+/// quorum on the only error is `OutOfMemory`. The certificate certifies every subject that all the votes are valid
+/// for.
 pub fn assemble<S: Scheme<D>, D: Digest, V: Attested<S>>(
     alloc: Global,
     scheme: &S,

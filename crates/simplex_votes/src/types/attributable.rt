@@ -1,10 +1,10 @@
-//! What participants are held to.
+//! Values with one signer.
 
 ghost use Rattle.std.specs.Prelude.{◌≡◌, ℕ};
 
 use simplex_base::positions::Participant;
 
-/// What one participant can be held to.
+/// A value that one participant signed.
 pub trait Attributable {
     /// The number of the participant.
     ghost signer_of: { Self → ℕ };

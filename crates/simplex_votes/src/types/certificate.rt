@@ -1,7 +1,7 @@
 //! The union of certificate messages.
 
 ghost use Rattle.std.specs.Prelude.{◌≡◌, ◌+◌, ◌≤◌, ◌^◌, IfOk, Some, length};
-ghost use Rattle.simplex_base.specs.Readable.{format_of, format_under};
+ghost use Rattle.simplex_base.specs.Format.{format_of, format_under};
 
 use crate::map_ok;
 use crate::types::finalization::Finalization;
@@ -28,7 +28,7 @@ pub enum Kind {
 impl Kind {
     ghost use Rattle.simplex_votes.specs.Unions.{kind_word};
 
-    /// The word of the kind.
+    /// The name of the kind, as it prints.
     pub fn as_str(self) -> &'static str
         ensures { result.now ≡ kind_word self }
     {

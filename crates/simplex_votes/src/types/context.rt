@@ -1,7 +1,7 @@
 //! What a payload is built on.
 
 ghost use Rattle.std.specs.Prelude.{◌≡◌, ⊤, ◌+◌, false, ◌&&◌, nat_eq, refl};
-ghost use Rattle.simplex_base.specs.Readable.{format_of};
+ghost use Rattle.simplex_base.specs.Format.{format_of};
 
 use simplex_base::codec::error::Error;
 use simplex_base::codec::parts::{size_both, write_both};

@@ -1,7 +1,7 @@
 //! Certificates that a proposal is finalized.
 
 ghost use Rattle.std.specs.Prelude.{◌≡◌, ◌↔◌, ◌+◌, ◌<◌, ◌≤◌, ◌^◌, true, Err, IsTrue, IfOk, All, length, map, ◌&&◌, refl};
-ghost use Rattle.simplex_base.specs.Readable.{format_of, format_under};
+ghost use Rattle.simplex_base.specs.Format.{format_of, format_under};
 ghost use Rattle.simplex_scheme.specs.Committee.{RefusesFew, AssemblesQuorum};
 ghost use Rattle.simplex_scheme.specs.Subject.{Finalizes};
 
@@ -77,21 +77,22 @@ impl<S: CertificateVerifier<D>, D: Digest> Finalization<S, D> {
 impl<S: Scheme<D>, D: Digest> Finalization<S, D> {
     ghost use Rattle.simplex_votes.specs.Assembly.{CanFinalize, StandInOrder};
 
-    /// Whether a finalization can be made of the votes, a quorum of them provided: there is at least one, all are
-    /// for one proposal, and the signers are distinct and in the committee. Votes whose signers ascend are looked
-    /// at once each, and one that is out of order is compared to all before it; no memory is taken.
+    /// Whether a finalization can be assembled from the votes, a quorum of them provided: there is at least one, all
+    /// are for one proposal, and the signers are distinct and in the committee. It allocates nothing. Votes in
+    /// ascending order of their signers take linear time; each vote out of that order is compared to all before it.
     pub fn can_assemble(scheme: &S, votes: &[Finalize<S, D>]) -> bool
         ensures can { IsTrue result ↔ CanFinalize (length (S.keys scheme.now)) votes.now }
-        // So are votes for one proposal in the order of their signers.
+        // It is so for votes for one proposal in ascending order of their signers.
         ensures ordered { StandInOrder (λ v. v.proposal) (λ v. v.attestation)
             (length (S.keys scheme.now)) votes.now → IsTrue result }
     {
         stand_together(votes, scheme.participants().len())
     }
 
-    /// Makes a finalization of votes, which [`can_assemble`](Finalization::can_assemble) has to allow. Fewer than a
-    /// quorum are refused by `InsufficientAttestations`, the quorum and their number, and then no memory is taken.
-    /// From a quorum on there is a finalization, or memory was refused. Valid votes make a certified one.
+    /// Assembles a finalization from votes, for which [`can_assemble`](Finalization::can_assemble) has to hold.
+    /// `InsufficientAttestations`, with the quorum and the number of votes, where that number is below the quorum;
+    /// nothing is then allocated. From a quorum on the only error is `OutOfMemory`. Where all the votes are valid,
+    /// the finalization is certified.
     pub fn from_finalizes(
         alloc: Global,
         scheme: &S,
@@ -119,7 +120,7 @@ impl<S: Scheme<D>, D: Digest> Finalization<S, D> {
         }
     }
 
-    /// Makes a finalization of votes as [`from_finalizes`](Finalization::from_finalizes) does.
+    /// Assembles a finalization from votes as [`from_finalizes`](Finalization::from_finalizes) does.
     pub fn from_owned_finalizes(
         alloc: Global,
         scheme: &S,

@@ -1,7 +1,7 @@
 //! Votes to notarize a proposal.
 
 ghost use Rattle.std.specs.Prelude.{◌≡◌, ⊤, ◌+◌, false, true, Ok, None, Some, IfOk, MatchOption, ◌&&◌, refl};
-ghost use Rattle.simplex_base.specs.Readable.{format_of};
+ghost use Rattle.simplex_base.specs.Format.{format_of};
 ghost use Rattle.simplex_scheme.specs.Subject.{Notarizes};
 
 use crate::types::attributable::Attributable;
@@ -26,7 +26,7 @@ pub struct Notarize<S: SchemeTypes, D: Digest> {
 }
 
 impl<S: SchemeTypes, D: Digest> Notarize<S, D> {
-    /// The same vote, without memory.
+    /// The same vote, copied without an allocation.
     pub fn copy(&self) -> Self
         ensures { result ≡ self.now }
     {
@@ -51,7 +51,7 @@ impl<S: SchemeTypes, D: Digest> Clone for Notarize<S, D> {
 }
 
 impl<S: Scheme<D>, D: Digest> Notarize<S, D> {
-    /// Signs a proposal as the scheme's participant. `None` comes exactly where it has none.
+    /// Signs a proposal as the scheme's participant. `None` exactly where the scheme has none.
     pub fn sign(
         alloc: Global,
         scheme: &S,
@@ -76,7 +76,7 @@ impl<S: Scheme<D>, D: Digest> Notarize<S, D> {
         }
     }
 
-    /// Whether the signature is one of the signer for the proposal.
+    /// Whether the signature is valid for the proposal and the signer.
     pub fn verify(&self, scheme: &S) -> bool
         ensures { result ≡ S.good scheme.now (Notarizes self.now.proposal)
             self.now.attestation.signer self.now.attestation.signature }

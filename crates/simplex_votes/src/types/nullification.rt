@@ -1,7 +1,7 @@
 //! Certificates that a round is nullified.
 
 ghost use Rattle.std.specs.Prelude.{◌≡◌, ◌↔◌, ◌+◌, ◌<◌, ◌≤◌, ◌^◌, true, Err, IsTrue, IfOk, All, length, map, ◌&&◌, refl};
-ghost use Rattle.simplex_base.specs.Readable.{format_under};
+ghost use Rattle.simplex_base.specs.Format.{format_under};
 ghost use Rattle.simplex_scheme.specs.Committee.{RefusesFew, AssemblesQuorum};
 ghost use Rattle.simplex_scheme.specs.Subject.{Nullifies};
 
@@ -68,23 +68,24 @@ impl<S: CertificateScheme> Nullification<S> {
         scheme.verify_certificate(subject, &self.certificate)
     }
 
-    /// Whether a nullification can be made of the votes, a quorum of them provided: there is at least one, all are
-    /// for one round, and the signers are distinct and in the committee. Votes whose signers ascend are looked at
-    /// once each, and one that is out of order is compared to all before it; no memory is taken.
+    /// Whether a nullification can be assembled from the votes, a quorum of them provided: there is at least one, all
+    /// are for one round, and the signers are distinct and in the committee. It allocates nothing. Votes in ascending
+    /// order of their signers take linear time; each vote out of that order is compared to all before it.
     pub fn can_assemble<'a, D: Digest + 'a>(scheme: &'a S, votes: &[Nullify<S>]) -> bool
     where
         S: Scheme<D>,
         ensures can { IsTrue result ↔ CanNullify (length (S.keys scheme.now)) votes.now }
-        // So are votes for one round in the order of their signers.
+        // It is so for votes for one round in ascending order of their signers.
         ensures ordered { StandInOrder (λ v. v.round) (λ v. v.attestation)
             (length (S.keys scheme.now)) votes.now → IsTrue result }
     {
         stand_together(votes, scheme.participants().len())
     }
 
-    /// Makes a nullification of votes, which [`can_assemble`](Nullification::can_assemble) has to allow. Fewer than
-    /// a quorum are refused by `InsufficientAttestations`, the quorum and their number, and then no memory is taken.
-    /// From a quorum on there is a nullification, or memory was refused. Valid votes make a certified one.
+    /// Assembles a nullification from votes, for which [`can_assemble`](Nullification::can_assemble) has to hold.
+    /// `InsufficientAttestations`, with the quorum and the number of votes, where that number is below the quorum;
+    /// nothing is then allocated. From a quorum on the only error is `OutOfMemory`. Where all the votes are valid,
+    /// the nullification is certified.
     pub fn from_nullifies<'a, D: Digest + 'a>(
         alloc: Global,
         scheme: &'a S,
@@ -114,7 +115,7 @@ impl<S: CertificateScheme> Nullification<S> {
         }
     }
 
-    /// Makes a nullification of votes as [`from_nullifies`](Nullification::from_nullifies) does.
+    /// Assembles a nullification from votes as [`from_nullifies`](Nullification::from_nullifies) does.
     pub fn from_owned_nullifies<'a, D: Digest + 'a>(
         alloc: Global,
         scheme: &'a S,

@@ -1,7 +1,7 @@
 //! Votes to nullify a round.
 
 ghost use Rattle.std.specs.Prelude.{◌≡◌, ⊤, ◌+◌, false, true, Ok, None, Some, IfOk, MatchOption, ◌&&◌, refl};
-ghost use Rattle.simplex_base.specs.Readable.{format_of};
+ghost use Rattle.simplex_base.specs.Format.{format_of};
 ghost use Rattle.simplex_scheme.specs.Subject.{Nullifies};
 
 use crate::types::attributable::Attributable;
@@ -25,7 +25,7 @@ pub struct Nullify<S: SchemeTypes> {
 }
 
 impl<S: SchemeTypes> Nullify<S> {
-    /// The same vote, without memory.
+    /// The same vote, copied without an allocation.
     pub fn copy(&self) -> Self
         ensures { result ≡ self.now }
     {
@@ -38,7 +38,7 @@ impl<S: SchemeTypes> Nullify<S> {
         }
     }
 
-    /// Signs a round as the scheme's participant. `None` comes exactly where it has none.
+    /// Signs a round as the scheme's participant. `None` exactly where the scheme has none.
     pub fn sign<'a, D: Digest + 'a>(
         alloc: Global,
         scheme: &'a S,
@@ -60,7 +60,7 @@ impl<S: SchemeTypes> Nullify<S> {
         }
     }
 
-    /// Whether the signature is one of the signer for the round.
+    /// Whether the signature is valid for the round and the signer.
     pub fn verify<'a, D: Digest + 'a>(&self, scheme: &'a S) -> bool
     where
         S: Scheme<D>,

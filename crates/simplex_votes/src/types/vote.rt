@@ -1,7 +1,7 @@
 //! The union of votes.
 
 ghost use Rattle.std.specs.Prelude.{◌≡◌, ⊤, ◌+◌, false};
-ghost use Rattle.simplex_base.specs.Readable.{format_of};
+ghost use Rattle.simplex_base.specs.Format.{format_of};
 
 use crate::map_ok;
 use crate::types::attributable::Attributable;

@@ -4,7 +4,7 @@ use Rattle.std.specs.List.{fold}
 use Rattle.std.proofs.lemmas.List.{take_more}
 use Rattle.std.proofs.lemmas.List.Sums.{fold-append}
 use Rattle.std.proofs.lemmas.Grind.{flat_map-append}
-use Rattle.simplex_scheme.specs.Parts.{joined}
+use Rattle.simplex_scheme.specs.Hashing.{joined}
 use Rattle.simplex_message_tests.proofs.leaders.FallingHasher.hash.Goals as goal
 
 -- one more part

@@ -1,6 +1,6 @@
 use Rattle.std.proofs.Common.{◌≡◌, take}
 use Rattle.std.specs.List.{fold}
-use Rattle.simplex_scheme.specs.Parts.{joined}
+use Rattle.simplex_scheme.specs.Hashing.{joined}
 use Rattle.simplex_message_tests.proofs.leaders.FallingHasher.hash.Given as goal
 
 abbrev pub invariant-loop-part : goal.invariant-loop-part

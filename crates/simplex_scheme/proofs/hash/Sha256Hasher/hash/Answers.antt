@@ -1,6 +1,6 @@
 use Rattle.std.proofs.Common.{ℕ, List, sym, subst}
 use Rattle.sha2.specs.Hashers.{Holds256}
-use Rattle.simplex_scheme.proofs.PartsLemmas.{joined_more}
+use Rattle.simplex_scheme.proofs.HashingLemmas.{joined_more}
 use Rattle.simplex_scheme.proofs.hash.Sha256Hasher.hash.Goals as goal
 
 pub loop-part-preserved : goal.loop-part-preserved

@@ -23,7 +23,7 @@ returns-in_default-clause-firsts g c inserted firsts =
 pub overflow_sub-self-inside : goal.overflow_sub-self-inside
 overflow_sub-self-inside g c = omega (arith, length_le g.T.Attributable.signer_of _ _ c.self.invariant.0 c.self.invariant.1, c.deref.ensures.len, ap length c.deref.ensures.value)
 
--- the vector had room, so its insert was not refused
+-- the vector had the capacity, so its insert did not fail
 pub returns-in_err-insert-clause-refused : goal.returns-in_err-insert-clause-refused
 returns-in_err-insert-clause-refused g c =
     let is_put = put g.T.Attributable.signer_of _ _ _ _ _ _ _ c.args.item c.self.invariant.0 c.self.invariant.1 c.deref.ensures.value c.in_ok-try_reserve_exact.ensures.items c.signer-signer.ensures (omega arith) c.in-Err.ensures.gap refl in

@@ -1,8 +1,8 @@
--- Byte lists in parts.
+-- What a hasher hashes.
 use Rattle.std.specs.Prelude.{ℕ, List}
 use Rattle.std.specs.Borrow.{Bor}
 use Rattle.std.specs.List.{flat_map}
 
--- the parts taken as one
+-- the bytes of the parts, one part after another
 abbrev pub joined : List (Bor (List ℕ)) → List ℕ
 joined parts = flat_map (λ part. part.now) parts
