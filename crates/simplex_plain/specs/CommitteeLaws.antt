@@ -36,7 +36,8 @@ quorum_meaning n good attestations = (
       rw (eq-eqb _ _ whole, le-leb _ _ is.enough) all,
 )
 
--- signatures of one size: a certificate under a bound has at most five bytes, and for each participant five and a signature
+-- signatures of one size: a certificate under a bound has at most five bytes for the count, and for each participant
+-- five and a signature
 pub fixed_within : {S P G : Type 0} (size : ℕ) (bytes_of : G → List ℕ) (of_bytes : List ℕ →
     G) (bound : ℕ) (attestations : List (Attestation S P G)) → ListedFits (fixed size bytes_of of_bytes) bound attestations →
     length (listed_encoding (fixed size bytes_of of_bytes) attestations) ≤ 5 + bound * (5 + size)
