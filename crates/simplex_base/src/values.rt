@@ -1,5 +1,4 @@
-//! What `==`, `cmp` and `clone` return for values that have parts. What `Hash` feeds agrees with `==`, which is a law of
-//! its own.
+//! What `==`, `cmp` and `clone` return for values that have parts. That `Hash` agrees with `==` is a law of its own.
 
 ghost use Rattle.std.specs.Prelude.{◌≡◌, Bool};
 ghost use Rattle.std.specs.declared.cmp.Ordering.{Ordering};

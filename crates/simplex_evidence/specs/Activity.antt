@@ -191,7 +191,7 @@ activity_branches eq payload certificate signature =
     branch_at 9 (λ c. activity.NullifyFinalize c) (nullify_finalize_format eq payload signature).reading (
     no_branch unknown_activity))))))))))
 
--- a tag, and then the parts of the member with that tag, where `certificate` is the format of certificates under a bound
+-- a tag, and then the parts of the member with that tag; `certificate` is the format of certificates under a bound
 abbrev pub activity_format : {S D C P G : Type 0} → (D → D → Bool) → Format D → Format C → Format G → Format (Activity S D C P G)
 activity_format eq payload certificate signature = record {
   is_value = IsActivity eq payload certificate.is_value signature;

@@ -7,8 +7,8 @@ use Rattle.simplex_votes.specs.Votes.{same_proposal}
 use Rattle.simplex_votes.specs.declared.types.notarize.Notarize.{Notarize}
 use Rattle.simplex_evidence.specs.VoteMap.{IsFirsts, signers_among}
 
--- who verifies, which proposal the votes are for, and the votes that are recorded. S, P and G are the types of the scheme, its
--- keys and its signatures, D that of payloads
+-- who verifies, which proposal the votes are for, and the votes that are recorded. S, P and G are the types of the
+-- scheme, its keys and its signatures, D that of payloads
 pub record Batch (S D P G : Type 0) : Type 0 where
   pub scheme : S
   pub proposal : Proposal D

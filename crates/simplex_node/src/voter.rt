@@ -31,8 +31,8 @@ pub fn takes(viewport: &Viewport, view: View) -> bool
     viewport.lookahead.admits(viewport.current, view) && viewport.retains(view)
 }
 
-/// Whether a node that has certified view `certified` casts votes of the view: it is then in the view after that one, and
-/// the view is in reach of it.
+/// Whether a node that has certified view `certified` casts votes of the view: it is then in the view after that one,
+/// and the view is in reach of it.
 pub fn casts(lookahead: &Lookahead, certified: View, view: View) -> bool
     requires { certified + 1 < 2 ^ 64 }
     ensures { IsTrue result ↔
@@ -41,9 +41,9 @@ pub fn casts(lookahead: &Lookahead, certified: View, view: View) -> bool
     lookahead.reaches(certified.saturating_add(ViewDelta::new(1)), view)
 }
 
-/// Whether a vote of a view is heard, by a node with this viewport, from a node with the same lookahead that has certified
-/// view `certified`: it is not cast or it is taken. It is heard wherever that view is in reach of this node's own, and
-/// of its term, and this node retains what is voted on.
+/// Whether a vote of a view is heard, by a node with this viewport, from a node with the same lookahead that has
+/// certified view `certified`: it is not cast or it is taken. It is heard wherever that view is in reach of this node's
+/// own, and of its term, and this node retains what is voted on.
 pub fn is_heard(viewport: &Viewport, certified: View, view: View) -> bool
     requires current { FitsWindow viewport.now.lookahead.term_length viewport.now.current }
     requires certified { certified + 1 < 2 ^ 64 }

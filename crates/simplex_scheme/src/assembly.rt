@@ -7,8 +7,9 @@ ghost use Rattle.simplex_scheme.specs.Committee.{signers_of};
 use crate::scheme::{Attestation, CertificateScheme, SchemeTypes};
 use simplex_base::positions::Participant;
 
-/// Whether the signers are distinct and in the committee: the condition of [`assemble`](crate::scheme::Scheme::assemble).
-/// Each signer is compared to those after it.
+/// Whether the signers are distinct and in the committee: the condition of
+/// [`assemble`](crate::scheme::Scheme::assemble). Each signer is compared to those after it, so the time is quadratic
+/// in their number.
 pub fn can_assemble<S: CertificateScheme>(scheme: &S, attestations: &[Attestation<S>]) -> bool
     ensures { IsTrue result ↔
         (IsDistinct nat_eq (signers_of attestations.now) ×

@@ -1,4 +1,5 @@
--- A scheme whose signatures the caller verified. The proof at the end stands here, since a ghost member of the scheme cites it.
+-- A scheme whose signatures the caller verified. The proof at the end stands here, since a ghost member of the scheme
+-- cites it.
 use Rattle.std.specs.Prelude.{◌≡◌, ℕ, ◌<◌, ◌&&◌, Bool, true, List, [], ◌∷◌, Option, None, length, nat_eq, nat_lt}
 use Rattle.std.specs.List.{ends_with}
 use Rattle.std.proofs.Common.{arith}

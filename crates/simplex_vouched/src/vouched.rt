@@ -1,8 +1,9 @@
-//! A committee whose signatures the caller verified. In a message a signature is that of another library, as Ed25519 or BLS, with
-//! one byte more, the verdict of the caller: `01` where it verified the signature as one of this signer over this vote, and `00`
-//! where it did not. Any other byte is no verdict, and the signature is not valid.
+//! A committee whose signatures the caller verified. In a message a signature is that of another library, as Ed25519 or
+//! BLS, and one byte more, the verdict of the caller: `01` where it verified the signature as one of this signer over
+//! this vote, and `00` where it did not. With any other byte the signature is not valid either.
 //!
-//! The verdict has to be the caller's own, written once it has verified the signature, and never one that came with a message.
+//! The verdict has to be the caller's own, written once it has verified the signature, and never one that came with a
+//! message.
 
 ghost use Rattle.std.specs.Prelude.{◌≡◌, ◌+◌, ◌*◌, ◌<◌, ◌≤◌, None, Some, Ok, IsOk, IfOk, MatchOption, All, length, nat_eq, nat_lt, ◌&&◌, true};
 ghost use Rattle.std.specs.List.{IsDistinct};
