@@ -12,7 +12,7 @@ use crate::status::{Failure, Status, complaint};
 use simplex_audit::audit::{Fault, Watched, run};
 use simplex_audit::basis::Audited;
 use simplex_plain::plain::Plain;
-use simplex_scheme::hash::Sha256Digest;
+use simplex_scheme::scheme::Sha256Digest;
 use std::alloc::Global;
 use std::io::{ErrorKind, Read, Write};
 

@@ -8,7 +8,7 @@ use crate::status::Failure;
 use hex::FromHex;
 use simplex_base::codec::Fixed;
 use simplex_plain::plain::{Plain, PlainKey};
-use simplex_scheme::set::Set;
+use simplex_scheme::scheme::Set;
 use std::alloc::{AllocError, Global};
 
 /// How many keys a committee has at most.

@@ -14,7 +14,7 @@ use crate::status::{Failure, Status};
 use simplex_audit::audit::Watched;
 use simplex_audit::basis::Audited;
 use simplex_plain::plain::Plain;
-use simplex_scheme::hash::Sha256Digest;
+use simplex_scheme::scheme::Sha256Digest;
 use std::alloc::{AllocError, Global};
 use std::env::Args;
 use std::io;

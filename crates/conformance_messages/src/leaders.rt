@@ -7,8 +7,7 @@ use simplex_base::positions::{Round, TermLength, ViewDelta};
 use simplex_lead::elector::{Config, Elector, RoundRobin, can_be_stable};
 use simplex_node::voter;
 use simplex_plain::marked::Marked;
-use simplex_scheme::hash::Sha256;
-use simplex_scheme::scheme::CertificateScheme;
+use simplex_scheme::scheme::{CertificateScheme, Sha256};
 use std::alloc::Global;
 use std::time::Duration;
 

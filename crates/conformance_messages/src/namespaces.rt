@@ -3,10 +3,7 @@
 use crate::refusals::name;
 use crate::vectors::{Unanswered, bytes};
 use simplex_base::codec::decode;
-use simplex_scheme::namespace::Namespace;
-use simplex_scheme::proposal::Proposal;
-use simplex_scheme::scheme::Digest;
-use simplex_scheme::subject::{CertificateSubject, Subject};
+use simplex_scheme::scheme::{CertificateSubject, Digest, Namespace, Proposal, Subject};
 use std::alloc::Global;
 
 /// The names under a base, of a clone of them.

@@ -10,9 +10,9 @@ use simplex_lead::Viewport;
 use simplex_node::batcher::Batcher;
 use simplex_node::resolver::resolve;
 use simplex_node::voter::{casts, is_heard, takes};
-use simplex_scheme::proposal::Proposal;
-use simplex_scheme::scheme::{CertificateScheme, Digest, Scheme};
-use simplex_scheme::subject::{CertificateSubject, Subject};
+use simplex_scheme::scheme::{
+    CertificateScheme, CertificateSubject, Digest, Proposal, Scheme, Subject,
+};
 use simplex_votes::types::{Notarization, Notarize};
 use std::alloc::{AllocError, Global};
 

@@ -6,17 +6,14 @@ use crate::memory;
 use crate::refusals::name;
 use crate::vectors::{Unanswered, bytes, small};
 use crate::votes::encoded;
-use simplex_base::codec::error::Error;
-use simplex_base::codec::{Encode, Read, ReadExt, decode, decode_cfg, read_value};
+use simplex_base::codec::{Encode, Error, Read, ReadExt, decode, decode_cfg, read_value};
 use simplex_base::positions::{Epoch, Participant, Round, View};
 use simplex_evidence::types::{
     Activity, ConflictingFinalize, ConflictingNotarize, NullifyFinalize,
 };
 use simplex_plain::marked::{Marked, MarkedDigest};
 use simplex_plain::plain::{Plain, PlainKey};
-use simplex_scheme::hash::Sha256Digest;
-use simplex_scheme::proposal::Proposal;
-use simplex_scheme::scheme::{Attestation, Digest, Scheme};
+use simplex_scheme::scheme::{Attestation, Digest, Proposal, Scheme, Sha256Digest};
 use simplex_votes::types::{
     Artifact, Certificate, Context, Finalization, Finalize, Notarization, Notarize, Nullification,
     Nullify, Vote,

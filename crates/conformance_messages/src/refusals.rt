@@ -3,7 +3,7 @@
 ghost use Rattle.std.specs.Prelude.{◌≡◌, IfOk, string_bytes};
 ghost use Rattle.conformance_messages.specs.Words.{refusal_name};
 
-use simplex_base::codec::error::Error;
+use simplex_base::codec::Error;
 use std::alloc::{AllocError, Global};
 
 /// The name of a refusal, with the type and the condition of an invalid value. `OutOfMemory` is never given.

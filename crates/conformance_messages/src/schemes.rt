@@ -7,7 +7,7 @@ use simplex_base::codec::Fixed;
 use simplex_base::positions::Participant;
 use simplex_plain::marked::Marked;
 use simplex_plain::plain::{Plain, PlainKey};
-use simplex_scheme::set::Set;
+use simplex_scheme::scheme::Set;
 use std::alloc::{AllocError, Global};
 
 /// The marked scheme of a committee of this many, `N`, or of this participant of it, `N/SIGNER`.

@@ -5,13 +5,12 @@ use crate::memory;
 use crate::refusals::name;
 use crate::schemes::{marked, plain};
 use crate::vectors::{Unanswered, bytes};
-use simplex_base::codec::error::Error;
-use simplex_base::codec::{Encode, Read, decode};
+use simplex_base::codec::{Encode, Error, Read, decode};
 use simplex_evidence::types::Activity;
 use simplex_plain::marked::MarkedDigest;
-use simplex_scheme::faults::quorum;
-use simplex_scheme::hash::Sha256Digest;
-use simplex_scheme::scheme::{AssemblyError, CertificateScheme, Digest, Scheme};
+use simplex_scheme::scheme::{
+    AssemblyError, CertificateScheme, Digest, Scheme, Sha256Digest, quorum,
+};
 use simplex_votes::types::{
     Finalization, Finalize, Notarization, Notarize, Nullification, Nullify,
 };

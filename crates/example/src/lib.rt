@@ -8,8 +8,7 @@ use simplex_audit::audit::{Committees, Evidence, audit};
 use simplex_audit::basis::Audited;
 use simplex_base::positions::{Participant, Round};
 use simplex_plain::plain::{Plain, PlainKey};
-use simplex_scheme::hash::Sha256Digest;
-use simplex_scheme::set::Set;
+use simplex_scheme::scheme::{Set, Sha256Digest};
 use std::alloc::{AllocError, Global};
 
 /// Who is accused by the stream, in which round, in the order of the evidence. One committee judges every epoch. `None`

@@ -16,7 +16,7 @@ use simplex_audit::audit::{Fault, Watched};
 use simplex_inspect::basis::Inspected;
 use simplex_inspect::input::inspect_input;
 use simplex_plain::plain::Plain;
-use simplex_scheme::hash::Sha256Digest;
+use simplex_scheme::scheme::Sha256Digest;
 use std::alloc::Global;
 use std::io::{Read, Write};
 

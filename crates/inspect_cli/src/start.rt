@@ -18,7 +18,7 @@ use audit_cli::status::Failure;
 use simplex_audit::audit::Watched;
 use simplex_inspect::basis::Inspected;
 use simplex_plain::plain::Plain;
-use simplex_scheme::hash::Sha256Digest;
+use simplex_scheme::scheme::Sha256Digest;
 use std::alloc::Global;
 use std::env::Args;
 use std::io;

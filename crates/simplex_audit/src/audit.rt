@@ -13,7 +13,7 @@ use crate::reading::{read_messages, reading_bound};
 use crate::reporting::make_report;
 pub use crate::run::{RunError, Summary, run};
 pub use crate::watched::Watched;
-use simplex_base::codec::error::Error;
+use simplex_base::codec::Error;
 use simplex_base::values::{EqByParts, ExactClone};
 pub use simplex_detector::committees::{Committees, CommitteesError};
 use simplex_detector::detector::Detector;

@@ -12,7 +12,7 @@ use crate::audit::Report;
 use crate::basis::Audited;
 use crate::reading::{read_messages, reading_bound};
 use crate::reporting::make_report;
-use simplex_base::codec::error::Error;
+use simplex_base::codec::Error;
 use simplex_detector::committees::Committees;
 use simplex_detector::detector::Detector;
 use simplex_detector::judging::Judging;

@@ -9,7 +9,7 @@ ghost use Rattle.simplex_detector.specs.Detector.{Recalls};
 
 use crate::audit::{Fault, Report};
 use crate::basis::Audited;
-use simplex_base::codec::error::Error;
+use simplex_base::codec::Error;
 use simplex_detector::committees::Committees;
 use simplex_detector::detector::Detector;
 use simplex_scheme::scheme::{Digest, Listing};

@@ -19,10 +19,8 @@ use simplex_plain::listed::Listed;
 use simplex_plain::marked::{MarkedKey, MarkedKeyRole, MarkedSignatureRole};
 use simplex_scheme::scheme::{
     AssemblyError, Attestation, CertificateScheme, CertificateVerifier, Digest, Listing, Scheme,
-    SchemeTypes,
+    SchemeTypes, Set, Subject,
 };
-use simplex_scheme::set::Set;
-use simplex_scheme::subject::Subject;
 use std::alloc::{AllocError, Global};
 use std::cell::Cell;
 use std::marker::Model;

@@ -4,8 +4,7 @@
 
 use crate::outcome::Outcome;
 use simplex_audit::audit::Fault;
-use simplex_base::codec::Read;
-use simplex_base::codec::error::Error;
+use simplex_base::codec::{Error, Read};
 use simplex_base::positions::{Epoch, Round, View};
 use std::alloc::{AllocError, Global};
 

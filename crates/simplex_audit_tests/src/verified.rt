@@ -10,7 +10,7 @@ use simplex_clients::ledger::store_batch;
 use simplex_places::records::records;
 use simplex_places::suspects::suspects;
 use simplex_plain::marked::{MarkedDigest, MarkedKey};
-use simplex_scheme::set::Set;
+use simplex_scheme::scheme::Set;
 use std::alloc::{AllocError, Global};
 use std::process::Abort;
 use std::test::Fail;

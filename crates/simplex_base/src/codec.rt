@@ -9,16 +9,16 @@ ghost use Rattle.simplex_base.specs.FormatLaws.{fixed_lawful};
 ghost use Rattle.simplex_base.specs.Sizes.{IsWithin, Longest, fixed_within, fixed_longest};
 
 pub mod counted;
-pub mod error;
+mod error;
 pub mod fixed_bytes;
 pub mod parts;
 mod truth;
 pub mod unions;
 pub mod varint;
 
-use crate::codec::error::Error;
 use crate::codec::parts::known_bytes;
 use bytes::Bytes;
+pub use error::Error;
 use std::alloc::{AllocError, Global};
 use std::hash::Hash;
 

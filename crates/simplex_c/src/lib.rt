@@ -26,7 +26,7 @@ use simplex_places::located::Located;
 use simplex_places::places::Suspect;
 use simplex_places::records::Record;
 use simplex_plain::plain::Plain;
-use simplex_scheme::hash::{Hasher, Sha256, Sha256Digest};
+use simplex_scheme::scheme::{Hasher, Sha256, Sha256Digest};
 use simplex_vouched::vouched::Vouched;
 use std::alloc::Global;
 

@@ -14,9 +14,8 @@ ghost use Rattle.simplex_votes.specs.declared.types.finalization.Finalization as
 
 use simplex_audit::audit::{Committees, Evidence, audit};
 use simplex_audit::basis::Audited;
-use simplex_base::codec::error::Error;
 use simplex_base::codec::unions::write_tagged;
-use simplex_base::codec::{Read, decode_cfg};
+use simplex_base::codec::{Error, Read, decode_cfg};
 use simplex_base::positions::{Round, Roundable};
 use simplex_scheme::scheme::{Digest, Listing, SchemeTypes};
 use simplex_votes::types::Finalization;

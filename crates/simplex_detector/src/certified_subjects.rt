@@ -9,9 +9,7 @@ ghost use Rattle.simplex_detector.specs.FirstCertified.{nothing_certified, Recor
 
 use crate::judging::Judging;
 use simplex_base::positions::Round;
-use simplex_scheme::proposal::Proposal;
-use simplex_scheme::scheme::{CertificateVerifier, Digest};
-use simplex_scheme::subject::Subject;
+use simplex_scheme::scheme::{CertificateVerifier, Digest, Proposal, Subject};
 
 /// Whether two certified subjects of a round contradict, and the first certified subject of each sort before they do.
 #[derive(Drop)]

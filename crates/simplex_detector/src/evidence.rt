@@ -13,8 +13,7 @@ use simplex_base::codec::{EncodeSize, Fixed, Read};
 use simplex_base::positions::{Participant, Round, Roundable};
 use simplex_base::values::EqByParts;
 use simplex_evidence::types::{ConflictingFinalize, ConflictingNotarize, NullifyFinalize};
-use simplex_scheme::proposal::Proposal;
-use simplex_scheme::scheme::{Digest, SchemeTypes};
+use simplex_scheme::scheme::{Digest, Proposal, SchemeTypes};
 use simplex_votes::types::Attributable;
 use std::alloc::{AllocError, Global};
 

@@ -11,8 +11,9 @@ ghost use Rattle.simplex_detector.specs.Values.{evidence_value};
 
 use crate::evidence::Evidence;
 use simplex_base::positions::{Participant, Round, Roundable};
-use simplex_scheme::scheme::{Attestation, CertificateVerifier, Digest, Scheme, SchemeTypes};
-use simplex_scheme::subject::Subject;
+use simplex_scheme::scheme::{
+    Attestation, CertificateVerifier, Digest, Scheme, SchemeTypes, Subject,
+};
 use std::alloc::{AllocError, Global};
 use std::collections::BTreeSet;
 

@@ -20,9 +20,7 @@ use crate::rules::Judges;
 use crate::split::Split;
 use simplex_base::positions::{Participant, Round};
 use simplex_evidence::types::Activity;
-use simplex_scheme::faults::max_faults;
-use simplex_scheme::scheme::{Attestation, Digest, Listing, SchemeTypes};
-use simplex_scheme::subject::Subject;
+use simplex_scheme::scheme::{Attestation, Digest, Listing, SchemeTypes, Subject, max_faults};
 use simplex_votes::types::{Finalize, Notarize, Nullify};
 use std::alloc::{AllocError, Global};
 

@@ -17,8 +17,7 @@ use crate::judging::Judging;
 use crate::vote_pairs::{VotePairs, add_signers};
 use simplex_base::positions::Participant;
 use simplex_evidence::types::{ConflictingFinalize, ConflictingNotarize, NullifyFinalize};
-use simplex_scheme::scheme::{Attestation, Digest, Scheme, SchemeTypes};
-use simplex_scheme::subject::Subject;
+use simplex_scheme::scheme::{Attestation, Digest, Scheme, SchemeTypes, Subject};
 use simplex_votes::types::{Finalize, Notarize, Nullify};
 use std::alloc::{AllocError, Global};
 

@@ -7,7 +7,7 @@ ghost use Rattle.simplex_ffi.specs.Keys.{AreKeys, AreOfKeys, key_at, keys_in};
 use simplex_base::codec::Fixed;
 use simplex_detector::committees::Committees;
 use simplex_plain::plain::{Plain, PlainKey};
-use simplex_scheme::set::Set;
+use simplex_scheme::scheme::Set;
 use std::alloc::{AllocError, Global};
 
 /// How many keys a committee has at most.

@@ -8,8 +8,7 @@ use crate::answer::{ARGUMENTS, MEMORY, WHOLE};
 use simplex_base::positions::{Epoch, Round, TermLength, View, ViewDelta};
 use simplex_lead::elector::{Config, Elector, RoundRobin, can_be_stable};
 use simplex_plain::marked::Marked;
-use simplex_scheme::hash::{Hasher, Sha256, Sha256Digest};
-use simplex_scheme::scheme::CertificateScheme;
+use simplex_scheme::scheme::{CertificateScheme, Hasher, Sha256, Sha256Digest};
 use std::alloc::{AllocError, Global};
 use std::time::Duration;
 

@@ -7,7 +7,7 @@ ghost use Rattle.simplex_lead.specs.Windows.{FitsWindow, IsAdmitted, IsOutbound}
 
 use simplex_base::positions::{TermLength, View, ViewDelta};
 use simplex_lead::Lookahead;
-use simplex_scheme::faults;
+use simplex_scheme::scheme;
 
 /// The answer is no.
 pub const NO: u32 = 0;
@@ -23,14 +23,14 @@ pub const NONE: u32 = 2;
 pub fn max_faults(n: u32) -> u32
     ensures { result ≡ faults_of n }
 {
-    if n == 0 { 0 } else { faults::max_faults(n) }
+    if n == 0 { 0 } else { scheme::max_faults(n) }
 }
 
 /// How many of `n` participants are a quorum: all but as many as may lie. Of none none are.
 pub fn quorum(n: u32) -> u32
     ensures { result ≡ quorum_of n }
 {
-    if n == 0 { 0 } else { faults::quorum(n) }
+    if n == 0 { 0 } else { scheme::quorum(n) }
 }
 
 /// The lookahead of terms of this many views, which are not none.

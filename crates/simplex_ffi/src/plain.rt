@@ -12,7 +12,7 @@ use crate::store::store;
 use simplex_audit::basis::Audited;
 use simplex_base::codec::Fixed;
 use simplex_plain::plain::Plain;
-use simplex_scheme::hash::Sha256Digest;
+use simplex_scheme::scheme::Sha256Digest;
 use std::alloc::Global;
 
 /// Audits a stream under the committee of these keys, for every epoch. The status is that of

@@ -20,8 +20,7 @@ use simplex_base::codec::fixed_bytes::Role;
 use simplex_places::located::Located;
 use simplex_places::records::{Record, records};
 use simplex_plain::plain::Plain;
-use simplex_scheme::hash::Sha256Digest;
-use simplex_scheme::scheme::{Digest, Listing};
+use simplex_scheme::scheme::{Digest, Listing, Sha256Digest};
 use simplex_vouched::vouched::Vouched;
 use std::alloc::{AllocError, Global};
 

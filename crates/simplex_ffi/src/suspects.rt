@@ -14,8 +14,7 @@ use simplex_base::codec::fixed_bytes::Role;
 use simplex_places::located::{Counted, Located};
 use simplex_places::places::Suspect;
 use simplex_places::suspects::suspects;
-use simplex_scheme::hash::Sha256Digest;
-use simplex_scheme::scheme::Digest;
+use simplex_scheme::scheme::{Digest, Sha256Digest};
 use simplex_vouched::vouched::Vouched;
 use std::alloc::Global;
 

@@ -13,7 +13,7 @@ use crate::store::store;
 use simplex_audit::basis::Audited;
 use simplex_base::codec::Fixed;
 use simplex_base::codec::fixed_bytes::Role;
-use simplex_scheme::hash::Sha256Digest;
+use simplex_scheme::scheme::Sha256Digest;
 use simplex_vouched::vouched::Vouched;
 use std::alloc::Global;
 

@@ -6,7 +6,7 @@ ghost use Rattle.simplex_inspect.specs.Inspected.{refusal_name, fault_line};
 
 use json::Writer;
 use simplex_audit::audit::Fault;
-use simplex_base::codec::error::Error;
+use simplex_base::codec::Error;
 use std::alloc::{AllocError, Global};
 use std::str;
 

@@ -11,7 +11,7 @@ use crate::basis::Inspected;
 use crate::fault::fault_line;
 use crate::reading::read_lines;
 use simplex_audit::audit::{Fault, RunError, Watched};
-use simplex_base::codec::error::Error;
+use simplex_base::codec::Error;
 use simplex_detector::committees::Committees;
 use simplex_scheme::scheme::{Digest, Listing};
 use std::alloc::{AllocError, Global};

@@ -17,9 +17,9 @@ use simplex_base::codec::Fixed;
 use simplex_base::positions::Roundable;
 use simplex_detector::committees::Committees;
 use simplex_evidence::types::Activity;
-use simplex_scheme::faults::quorum;
-use simplex_scheme::scheme::{Attestation, CertificateScheme, Digest, Listing, Scheme};
-use simplex_scheme::subject::Subject;
+use simplex_scheme::scheme::{
+    Attestation, CertificateScheme, Digest, Listing, Scheme, Subject, quorum,
+};
 use simplex_votes::types::{Finalize, Notarization, Notarize, Nullify};
 use std::alloc::{AllocError, Global};
 

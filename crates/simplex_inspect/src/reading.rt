@@ -5,8 +5,7 @@ ghost use Rattle.simplex_inspect.specs.Inspected.{AreShown, bound_under};
 
 use crate::basis::Inspected;
 use crate::line::line;
-use simplex_base::codec::Read;
-use simplex_base::codec::error::Error;
+use simplex_base::codec::{Error, Read};
 use simplex_detector::committees::Committees;
 use simplex_evidence::types::Activity;
 use simplex_scheme::scheme::{CertificateScheme, Digest, Listing};

@@ -5,11 +5,7 @@ use simplex_base::positions::{Epoch, Round, View};
 use simplex_evidence::types::verify_certificates;
 use simplex_plain::marked::{Marked, MarkedDigest};
 use simplex_plain::plain::{Plain, PlainKey};
-use simplex_scheme::hash::Sha256Digest;
-use simplex_scheme::proposal::Proposal;
-use simplex_scheme::scheme::{CertificateVerifier, Digest};
-use simplex_scheme::set::Set;
-use simplex_scheme::subject::Subject;
+use simplex_scheme::scheme::{CertificateVerifier, Digest, Proposal, Set, Sha256Digest, Subject};
 use std::alloc::Global;
 use std::process::Abort;
 

@@ -5,10 +5,9 @@ use simplex_base::codec::MaxEncodeSize;
 use simplex_base::positions::{Epoch, Participant, Round, View};
 use simplex_plain::marked::{Marked, MarkedDigest};
 use simplex_plain::plain::Plain;
-use simplex_scheme::faults::{max_faults, quorum};
-use simplex_scheme::hash::Sha256Digest;
-use simplex_scheme::proposal::Proposal;
-use simplex_scheme::scheme::{Attestation, CertificateScheme, Digest};
+use simplex_scheme::scheme::{
+    Attestation, CertificateScheme, Digest, Proposal, Sha256Digest, max_faults, quorum,
+};
 use simplex_votes::types::{
     Certificate, Context, Finalization, Finalize, Kind, Notarization, Notarize, Nullification,
     Nullify, Vote,

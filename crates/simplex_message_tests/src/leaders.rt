@@ -13,10 +13,7 @@ use simplex_base::positions::{Epoch, Participant, Round, TermLength, View, ViewD
 use simplex_lead::elector::{Config, Elector, Mode, RoundRobin, Terms, can_be_stable};
 use simplex_lead::{Lookahead, Viewport};
 use simplex_plain::marked::{Marked, MarkedDigest, MarkedDigestRole};
-use simplex_scheme::faults::{max_faults, quorum};
-use simplex_scheme::hash::{Hasher, Sha256};
-use simplex_scheme::scheme::CertificateScheme;
-use simplex_scheme::set::Set;
+use simplex_scheme::scheme::{CertificateScheme, Hasher, Set, Sha256, max_faults, quorum};
 use std::alloc::{AllocError, Global};
 use std::process::Abort;
 use std::test::Fail;

@@ -12,13 +12,10 @@ use simplex_plain::listed::Listed;
 use simplex_plain::marked::{Marked, MarkedDigest};
 use simplex_plain::plain::{Plain, PlainKey};
 use simplex_scheme::assembly::can_assemble;
-use simplex_scheme::hash::Sha256Digest;
-use simplex_scheme::proposal::Proposal;
 use simplex_scheme::scheme::{
-    AssemblyError, Attestation, CertificateScheme, CertificateVerifier, Digest, Scheme, SchemeTypes,
+    AssemblyError, Attestation, CertificateScheme, CertificateVerifier, Digest, Proposal, Scheme,
+    SchemeTypes, Set, SetError, Sha256Digest, Subject,
 };
-use simplex_scheme::set::{Set, SetError};
-use simplex_scheme::subject::Subject;
 use simplex_votes::types::{
     Artifact, Attributable, Certificate, Finalize, Notarize, Nullify, Vote,
 };

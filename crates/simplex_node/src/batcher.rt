@@ -5,9 +5,7 @@ ghost use Rattle.simplex_scheme.specs.Subject.{Notarizes};
 ghost use Rattle.simplex_node.specs.Batch.{HasTaken, HasQuorum, is_wanted, signers_in};
 
 use simplex_evidence::types::AttributableMap;
-use simplex_scheme::faults::quorum;
-use simplex_scheme::proposal::Proposal;
-use simplex_scheme::scheme::{Digest, Scheme};
+use simplex_scheme::scheme::{Digest, Proposal, Scheme, quorum};
 use simplex_votes::types::{Notarization, Notarize};
 use std::alloc::{AllocError, Global};
 use std::marker::Model;

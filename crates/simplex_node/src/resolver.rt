@@ -5,8 +5,7 @@ ghost use Rattle.std.specs.List.{filter};
 ghost use Rattle.simplex_scheme.specs.Subject.{subject_value};
 
 use simplex_evidence::types::verify_certificates;
-use simplex_scheme::scheme::{CertificateVerifier, Digest};
-use simplex_scheme::subject::Subject;
+use simplex_scheme::scheme::{CertificateVerifier, Digest, Subject};
 use std::alloc::{AllocError, Global};
 
 /// The items whose certificate certifies their subject, in the order given.

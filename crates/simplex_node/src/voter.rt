@@ -9,8 +9,7 @@ ghost use Rattle.simplex_lead.specs.Windows.{FitsWindow, IsAdmitted, IsInReach, 
 use simplex_base::positions::{Participant, Round, View, ViewDelta};
 use simplex_lead::elector::{Config, Elector};
 use simplex_lead::{Lookahead, Viewport};
-use simplex_scheme::scheme::CertificateScheme;
-use simplex_scheme::set::Set;
+use simplex_scheme::scheme::{CertificateScheme, Set};
 use std::alloc::{AllocError, Global};
 
 /// Whether a node takes a vote of this view, which it then holds until it no longer retains the view.

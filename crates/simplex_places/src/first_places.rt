@@ -14,8 +14,7 @@ use crate::votes::{Key, attested, finalize, first, notarize, nullify, second};
 use simplex_base::codec::Read;
 use simplex_detector::evidence::Evidence;
 use simplex_evidence::types::Activity;
-use simplex_scheme::scheme::{Attestation, Digest, Listing, SchemeTypes};
-use simplex_scheme::subject::Subject;
+use simplex_scheme::scheme::{Attestation, Digest, Listing, SchemeTypes, Subject};
 use std::alloc::{AllocError, Global};
 use std::collections::BTreeMap;
 

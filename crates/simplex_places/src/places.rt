@@ -12,8 +12,7 @@ use simplex_base::codec::{EncodeSize, Encoding, Fixed, Read};
 use simplex_base::positions::{Round, Roundable};
 use simplex_base::values::{EqByParts, ExactClone};
 use simplex_evidence::types::Activity;
-use simplex_scheme::proposal::Proposal;
-use simplex_scheme::scheme::{Attestation, Digest, SchemeTypes};
+use simplex_scheme::scheme::{Attestation, Digest, Proposal, SchemeTypes};
 use std::alloc::AllocError;
 
 /// The number of a notarize in a record.

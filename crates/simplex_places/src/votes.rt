@@ -9,9 +9,7 @@ ghost use Rattle.simplex_places.specs.KeyLaws.{keys_alike};
 
 use simplex_base::positions::{Participant, Round};
 use simplex_detector::evidence::Evidence;
-use simplex_scheme::proposal::Proposal;
-use simplex_scheme::scheme::{Attestation, Digest, SchemeTypes, Signature};
-use simplex_scheme::subject::Subject;
+use simplex_scheme::scheme::{Attestation, Digest, Proposal, SchemeTypes, Signature, Subject};
 use simplex_votes::types::{Finalize, Notarize, Nullify};
 
 /// What a vote says.

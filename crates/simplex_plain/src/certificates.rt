@@ -8,9 +8,9 @@ ghost use Rattle.simplex_scheme.specs.Subject.{SubjectValue, subject_value};
 ghost use Rattle.simplex_scheme.specs.Committee.{IsInOrder, is_quorum, quorum_of, signers_of, RefusesFew};
 
 use crate::listed::Listed;
-use simplex_scheme::faults::quorum;
-use simplex_scheme::scheme::{AssemblyError, Attestation, CertificateScheme, Digest, SchemeTypes};
-use simplex_scheme::subject::Subject;
+use simplex_scheme::scheme::{
+    AssemblyError, Attestation, CertificateScheme, Digest, SchemeTypes, Subject, quorum,
+};
 
 /// A committee whose attestations are verified one by one.
 pub trait AttestationVerifier<D: Digest>: CertificateScheme {

@@ -26,10 +26,8 @@ use simplex_base::positions::Participant;
 use simplex_base::values::ExactClone;
 use simplex_scheme::scheme::{
     AssemblyError, Attestation, CertificateScheme, CertificateVerifier, Digest, Listing, Scheme,
-    SchemeTypes,
+    SchemeTypes, Set, Subject,
 };
-use simplex_scheme::set::Set;
-use simplex_scheme::subject::Subject;
 use std::alloc::{AllocError, Global};
 use std::marker::Model;
 

@@ -14,10 +14,9 @@ ghost use Rattle.simplex_plain.specs.Listed.{AreListed, ListedFits, listed_encod
 ghost use Rattle.simplex_plain.specs.ListedLaws.{listed_lawful};
 
 use simplex_base::codec::counted::{size_counted, write_counted};
-use simplex_base::codec::error::Error;
 use simplex_base::codec::parts::known_bytes;
 use simplex_base::codec::varint::read_u32;
-use simplex_base::codec::{EncodeSize, Encoding, FixedSize, Read, Write};
+use simplex_base::codec::{EncodeSize, Encoding, Error, FixedSize, Read, Write};
 use simplex_base::values::{EqByParts, ExactClone};
 use simplex_scheme::scheme::{Attestation, SchemeTypes};
 use std::alloc::{AllocError, Global};

@@ -17,10 +17,8 @@ use simplex_base::codec::fixed_bytes::{FixedBytes, Role};
 use simplex_base::positions::Participant;
 use simplex_scheme::scheme::{
     AssemblyError, Attestation, CertificateScheme, CertificateVerifier, Digest, Listing, PublicKey,
-    Scheme, SchemeTypes, Signature,
+    Scheme, SchemeTypes, Set, Signature, Subject,
 };
-use simplex_scheme::set::Set;
-use simplex_scheme::subject::Subject;
 use std::alloc::{AllocError, Global};
 use std::marker::Model;
 

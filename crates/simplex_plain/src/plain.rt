@@ -22,15 +22,10 @@ use simplex_base::codec::fixed_bytes::{FixedBytes, Role};
 use simplex_base::codec::varint::Varint;
 use simplex_base::codec::{Fixed, Read};
 use simplex_base::positions::{Participant, Round, View};
-use simplex_scheme::hash::{Hasher, Sha256};
-use simplex_scheme::namespace::Namespace;
-use simplex_scheme::proposal::Proposal;
 use simplex_scheme::scheme::{
-    AssemblyError, Attestation, CertificateScheme, CertificateVerifier, Digest, Listing, PublicKey,
-    Scheme, SchemeTypes, Signature,
+    AssemblyError, Attestation, CertificateScheme, CertificateVerifier, Digest, Hasher, Listing,
+    Namespace, Proposal, PublicKey, Scheme, SchemeTypes, Set, Sha256, Signature, Subject,
 };
-use simplex_scheme::set::Set;
-use simplex_scheme::subject::Subject;
 use std::alloc::{AllocError, Global};
 use std::marker::Model;
 

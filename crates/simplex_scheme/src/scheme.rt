@@ -6,13 +6,16 @@ ghost use Rattle.simplex_base.specs.Format.{format_of};
 ghost use Rattle.simplex_scheme.specs.Subject.{SubjectValue, subject_value};
 ghost use Rattle.simplex_scheme.specs.Committee.{IsQuorum, IsInOrder, signers_of, RefusesFew, AssemblesQuorum};
 
-use crate::set::Set;
-use crate::subject::Subject;
-use simplex_base::codec::error::Error;
+pub use crate::faults::{max_faults, quorum};
+pub use crate::hash::{Hasher, Sha256, Sha256Digest};
+pub use crate::namespace::{CertificateNamespace, Namespace};
+pub use crate::proposal::Proposal;
+pub use crate::set::{Set, SetError};
+pub use crate::subject::{CertificateSubject, Subject};
 use simplex_base::codec::fixed_bytes::{FixedBytes, Role};
 use simplex_base::codec::parts::{size_both, write_both};
 use simplex_base::codec::{
-    EncodeSize, Encoding, Fixed, FixedSize, MaxEncodeSize, Read, ReadExt, Write,
+    EncodeSize, Encoding, Error, Fixed, FixedSize, MaxEncodeSize, Read, ReadExt, Write,
 };
 use simplex_base::positions::Participant;
 use simplex_base::values::{EqByParts, ExactClone};

@@ -22,10 +22,8 @@ use simplex_plain::listed::Listed;
 use simplex_plain::marked::{Marked, MarkedKey, MarkedKeyRole};
 use simplex_scheme::scheme::{
     AssemblyError, Attestation, CertificateScheme, CertificateVerifier, Digest, Listing, PublicKey,
-    Scheme, SchemeTypes, Signature,
+    Scheme, SchemeTypes, Set, Signature, Subject,
 };
-use simplex_scheme::set::Set;
-use simplex_scheme::subject::Subject;
 use std::alloc::{AllocError, Global};
 use std::marker::{Model, PhantomData};
 

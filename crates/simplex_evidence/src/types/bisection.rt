@@ -3,8 +3,7 @@
 ghost use Rattle.std.specs.Prelude.{◌≡◌, ◌<◌, IfOk, length, map};
 ghost use Rattle.simplex_scheme.specs.Subject.{subject_value, Notarizes, Nullifies, Finalizes};
 
-use simplex_scheme::scheme::{CertificateVerifier, Digest};
-use simplex_scheme::subject::Subject;
+use simplex_scheme::scheme::{CertificateVerifier, Digest, Subject};
 use simplex_votes::types::{Finalization, Notarization, Nullification};
 use std::alloc::{AllocError, Global};
 

@@ -4,8 +4,7 @@ ghost use Rattle.std.specs.Prelude.{◌≡◌, ◌||◌, Bool, false, Err, IsTru
 ghost use Rattle.simplex_base.specs.Reading.{Refusal, Fails, Gives};
 ghost use Rattle.simplex_base.specs.Format.{both_at, made_at, tested_at};
 
-use simplex_base::codec::Read;
-use simplex_base::codec::error::Error;
+use simplex_base::codec::{Error, Read};
 use std::alloc::Global;
 
 /// Evidence of two votes that contradict.

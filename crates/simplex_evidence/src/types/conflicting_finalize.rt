@@ -7,9 +7,8 @@ ghost use Rattle.simplex_votes.specs.Votes.{finalize_vote};
 ghost use Rattle.simplex_evidence.specs.Contradiction.{contradicts, Conflicting_finalize};
 
 use crate::types::conflict::{Conflict, read_conflict};
-use simplex_base::codec::error::Error;
 use simplex_base::codec::parts::{size_both, write_both};
-use simplex_base::codec::{EncodeSize, Encoding, Fixed, Read, ReadExt, Write};
+use simplex_base::codec::{EncodeSize, Encoding, Error, Fixed, Read, ReadExt, Write};
 use simplex_base::positions::{Participant, Round, Roundable};
 use simplex_base::values::{EqByParts, ExactClone};
 use simplex_scheme::scheme::{Digest, Scheme, SchemeTypes};

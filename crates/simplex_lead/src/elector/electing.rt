@@ -12,8 +12,7 @@ ghost use Rattle.simplex_lead.specs.declared.elector.mode.Mode.TheVariants.{Sche
 use crate::elector::mode::Mode;
 use crate::elector::terms::Terms;
 use simplex_base::positions::{Participant, Round};
-use simplex_scheme::scheme::CertificateScheme;
-use simplex_scheme::set::Set;
+use simplex_scheme::scheme::{CertificateScheme, Set};
 use std::alloc::{AllocError, Global};
 
 /// What an elector is made of, once the committee is known. Nodes that hold equal ones of these, or clones, and

@@ -11,9 +11,9 @@ use crate::types::finalize::Finalize;
 use crate::types::notarize::Notarize;
 use crate::types::nullify::Nullify;
 use simplex_base::positions::{Participant, Round};
-use simplex_scheme::faults::quorum;
-use simplex_scheme::proposal::Proposal;
-use simplex_scheme::scheme::{AssemblyError, Attestation, Digest, Scheme, SchemeTypes};
+use simplex_scheme::scheme::{
+    AssemblyError, Attestation, Digest, Proposal, Scheme, SchemeTypes, quorum,
+};
 use std::alloc::{AllocError, Global};
 
 /// A vote for a proposal or a round, with the attestation of its signer.

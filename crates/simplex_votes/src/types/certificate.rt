@@ -7,13 +7,13 @@ use crate::map_ok;
 use crate::types::finalization::Finalization;
 use crate::types::notarization::Notarization;
 use crate::types::nullification::Nullification;
-use simplex_base::codec::error::Error;
 use simplex_base::codec::unions::{Tagged, read_tagged, write_tagged};
-use simplex_base::codec::{EncodeSize, Encoding, Fixed, FixedSize, MaxEncodeSize, Read, Write};
+use simplex_base::codec::{
+    EncodeSize, Encoding, Error, Fixed, FixedSize, MaxEncodeSize, Read, Write,
+};
 use simplex_base::positions::{Round, Roundable};
 use simplex_base::values::{EqByParts, ExactClone};
-use simplex_scheme::proposal::Proposal;
-use simplex_scheme::scheme::{CertificateScheme, CertificateVerifier, Digest};
+use simplex_scheme::scheme::{CertificateScheme, CertificateVerifier, Digest, Proposal};
 use std::alloc::{AllocError, Global};
 use std::fmt;
 

@@ -3,10 +3,9 @@
 ghost use Rattle.std.specs.Prelude.{◌≡◌, ⊤, ◌+◌, false, ◌&&◌, nat_eq, refl};
 ghost use Rattle.simplex_base.specs.Format.{format_of};
 
-use simplex_base::codec::error::Error;
 use simplex_base::codec::parts::{size_both, write_both};
 use simplex_base::codec::{
-    EncodeSize, Encoding, Fixed, FixedSize, MaxEncodeSize, Read, ReadExt, Write,
+    EncodeSize, Encoding, Error, Fixed, FixedSize, MaxEncodeSize, Read, ReadExt, Write,
 };
 use simplex_base::positions::{Round, Roundable, View};
 use simplex_base::values::{EqByParts, ExactClone};

@@ -5,16 +5,13 @@ ghost use Rattle.simplex_base.specs.Format.{format_of};
 ghost use Rattle.simplex_scheme.specs.Subject.{Finalizes};
 
 use crate::types::attributable::Attributable;
-use simplex_base::codec::error::Error;
 use simplex_base::codec::parts::{size_both, write_both};
 use simplex_base::codec::{
-    EncodeSize, Encoding, Fixed, FixedSize, MaxEncodeSize, Read, ReadExt, Write,
+    EncodeSize, Encoding, Error, Fixed, FixedSize, MaxEncodeSize, Read, ReadExt, Write,
 };
 use simplex_base::positions::{Participant, Round, Roundable};
 use simplex_base::values::{EqByParts, ExactClone};
-use simplex_scheme::proposal::Proposal;
-use simplex_scheme::scheme::{Attestation, Digest, Scheme, SchemeTypes};
-use simplex_scheme::subject::Subject;
+use simplex_scheme::scheme::{Attestation, Digest, Proposal, Scheme, SchemeTypes, Subject};
 use std::alloc::{AllocError, Global};
 
 /// A vote to finalize a proposal, encoded as the proposal and the attestation.

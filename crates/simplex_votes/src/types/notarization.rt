@@ -7,16 +7,15 @@ ghost use Rattle.simplex_scheme.specs.Subject.{Notarizes};
 
 use crate::types::assembly::{assemble, stand_together};
 use crate::types::notarize::Notarize;
-use simplex_base::codec::error::Error;
 use simplex_base::codec::parts::{size_both, write_both};
-use simplex_base::codec::{EncodeSize, Encoding, Fixed, FixedSize, MaxEncodeSize, Read, Write};
+use simplex_base::codec::{
+    EncodeSize, Encoding, Error, Fixed, FixedSize, MaxEncodeSize, Read, Write,
+};
 use simplex_base::positions::{Round, Roundable, View};
 use simplex_base::values::EqByParts;
-use simplex_scheme::proposal::Proposal;
 use simplex_scheme::scheme::{
-    AssemblyError, CertificateScheme, CertificateVerifier, Digest, Scheme,
+    AssemblyError, CertificateScheme, CertificateVerifier, Digest, Proposal, Scheme, Subject,
 };
-use simplex_scheme::subject::Subject;
 use std::alloc::{AllocError, Global};
 
 /// A proposal with a certificate of votes to notarize it, encoded in that order. It is read under the

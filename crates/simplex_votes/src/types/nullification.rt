@@ -7,15 +7,13 @@ ghost use Rattle.simplex_scheme.specs.Subject.{Nullifies};
 
 use crate::types::assembly::{assemble, stand_together};
 use crate::types::nullify::Nullify;
-use simplex_base::codec::error::Error;
 use simplex_base::codec::parts::{size_both, write_both};
-use simplex_base::codec::{EncodeSize, Encoding, MaxEncodeSize, Read, Write};
+use simplex_base::codec::{EncodeSize, Encoding, Error, MaxEncodeSize, Read, Write};
 use simplex_base::positions::{Round, Roundable};
 use simplex_base::values::EqByParts;
 use simplex_scheme::scheme::{
-    AssemblyError, CertificateScheme, CertificateVerifier, Digest, Scheme,
+    AssemblyError, CertificateScheme, CertificateVerifier, Digest, Scheme, Subject,
 };
-use simplex_scheme::subject::Subject;
 use std::alloc::{AllocError, Global};
 
 /// A round with a certificate of votes to nullify it, encoded in that order. It is read under the committee's
