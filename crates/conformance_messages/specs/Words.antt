@@ -12,7 +12,7 @@ pub record IsDecimal (word : List ℕ) (number : ℕ) : Type 0 where
   pub digits : IsNumeral 10 word
   pub value : number ≡ digits_value 10 word
 
--- a scheme is that of the marked committee of this many participants as the word encodes, and signs nothing
+-- a scheme is that of the marked committee of as many participants as the word encodes, and signs nothing
 pub record IsMarkedCommittee (word : List ℕ) (scheme : MarkedScheme) : Type 0 where
   pub size : ℕ
   pub encoded : IsDecimal word size

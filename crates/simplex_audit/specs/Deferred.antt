@@ -13,7 +13,7 @@ use Rattle.simplex_audit.specs.Guarantees.{OfMessages}
 use Rattle.simplex_audit.specs.Report.{IsReport}
 use Rattle.simplex_audit.specs.declared.audit.Report.{Report}
 
--- messages are read as ever, and votes and certificates are judged so strictly
+-- messages are read as ever, and votes and certificates are judged as strictly as a `Judging` says
 abbrev pub basis_under : {S D C P G : Type 0} → Readable ℕ (Activity S D C P G) → (D → D → Bool) → (S → List P) → (S → SubjectValue D → ℕ → G → Bool) → (S → SubjectValue D → C → Bool) → (C → List (Attestation S P G)) → Judging → Schedule S → Basis S D C P G
 basis_under message eq keys good certified listed judging committees = record {
   bound = bound_of keys committees;

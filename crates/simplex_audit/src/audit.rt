@@ -174,7 +174,7 @@ fn audit_suspects<S: Listing<D>, D: Digest>(
     Ok(report)
 }
 
-/// The report of a stream whose votes and certificates are judged so strictly.
+/// The report of a stream whose votes and certificates are judged as strictly as a `Judging` says.
 fn audit_stream<S: Listing<D>, D: Digest>(
     alloc: Global,
     committees: &Committees<S>,

@@ -15,7 +15,7 @@ pub trait Audited<D: Digest>: Listing<D> {
     /// How messages are read under committees, and what they are judged by.
     ghost basis: { Schedule Self → Basis Self D Self.Certificate Self.PublicKey Self.Signature };
 
-    /// The same, where votes and certificates are judged so strictly.
+    /// The same, where votes and certificates are judged as strictly as a `Judging` says.
     ghost basis_under: { Judging → Schedule Self →
         Basis Self D Self.Certificate Self.PublicKey Self.Signature };
 }

@@ -31,10 +31,6 @@ term_of-one l t v positive holds = one_term l t _ v holds (holds_view l v positi
 pub term_start-one : (l t v : ℕ) → 1 ≤ l → HoldsView l t v → term_start l v ≡ first_view l t
 term_start-one l t v positive holds = sym (ap (first_view l) (term_of-one l t v positive holds))
 
-pub term_end-one : (l t v : ℕ) → 1 ≤ l → HoldsView l t v → term_end l v ≡ last_view l t
-unfolding term_end
-term_end-one l t v positive holds = sym (ap (last_view l) (term_of-one l t v positive holds))
-
 -- views that one term holds are of one term
 pub same_term : (l t v w : ℕ) → HoldsView l t v → HoldsView l t w → term_of l v ≡ term_of l w
 same_term l t v w at_v at_w = elim (cases_lt 0 l) as (λ _. term_of l v ≡ term_of l w) [

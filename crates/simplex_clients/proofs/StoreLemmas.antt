@@ -1,4 +1,4 @@
--- What a ledger names that began with stored evidence.
+-- Whom a ledger accuses that began with stored evidence.
 use Rattle.std.proofs.Common.{◌≡◌, ℕ, ◌+◌, ◌<◌, ◌≤◌, Bool, true, false, List, length, take, get_or, [], ◌∷◌, ◌++◌, map, sym, ap, subst, ◌∙◌, inl, inr, Result, Ok, Err, IfOk, append_assoc, append-nil}
 use Rattle.std.specs.Prelude.{◌&&◌, All, Contains, IsTrue}
 use Rattle.std.specs.List.{flat_map, filter, list_any}
@@ -38,7 +38,7 @@ and_more : (a b c : Bool) → (b ≡ true → c ≡ true) → (a && b) ≡ true 
 and_more true b c more h = more h
 and_more false b c more h = h
 
--- more votes name more
+-- more votes accuse more
 accused_within : {D G : Type 0} (eq : D → D → Bool) (vs ws : List (SignedVote D G)) (n : Accusation) → Within vs ws → IsTrue (is_accused eq vs n) → IsTrue (is_accused eq ws n)
 accused_within eq vs ws n within h =
     any_within _ _ vs ws within

@@ -41,11 +41,11 @@ pub record IsFollowed {S D C P G : Type 0} (payload : Format D) (fits : ℕ → 
   pub value : IsFinalization payload (fits (bound_of keys committees)) f
   pub final : certified_by certified (committee_of committees f.proposal.round.epoch) (Finalizes f.proposal) f.certificate ≡ true
 
--- evidence names a signer in a round
+-- evidence accuses a signer in a round
 abbrev pub IsBlamed : {D G : Type 0} → Round → List (Equivocation D G) → ℕ → Type 0
 IsBlamed round es signer = (kind : EquivocationKind) × Contains (map accused_by es) (record { round = round; signer = signer; kind = kind })
 
--- in a round whose committee has n participants, evidence names more of them than may lie
+-- in a round whose committee has n participants, evidence accuses more of them than may lie
 pub record BlamesEnough {D G : Type 0} (n : ℕ) (round : Round) (es : List (Equivocation D G)) : Type 0 where
   pub signers : List ℕ
   pub distinct : IsDistinct nat_eq signers
@@ -58,7 +58,7 @@ abbrev pub IsEvidenceOfBoth : {S D C P G : Type 0} → Rules S D C P G → Final
 IsEvidenceOfBoth rules f g es = IsEvidence rules.eq (valid_votes rules (activity.Finalization f ∷ activity.Finalization g ∷ [])) es
 
 -- What becomes of a finalization, by the latest one. One that does not certify its proposal is refused. One that contradicts
--- the latest is a fork, with the evidence of the votes of both, which names more participants than may lie. Of the others one of
+-- the latest is a fork, with the evidence of the votes of both, which accuses more participants than may lie. Of the others one of
 -- a later round is taken, and one of no later round is known.
 abbrev pub Follows : {S D C P G : Type 0} → Rules S D C P G → Option (Finalization S D C P G) → Finalization S D C P G → Followed S D P G → Type 0
 Follows rules latest f followed.Refused = is_final rules f ≡ false

@@ -31,12 +31,13 @@ pub record IsEvidenceOf {S D C P G : Type 0} (basis : Basis S D C P G) (stream :
   pub evidence_is : IsEvidence basis.rules.eq (valid_votes basis.rules messages) (map evidence_value es)
   pub names : AccusesExactly basis.rules.eq (valid_votes basis.rules messages) (map evidence_value es)
 
--- evidence names a signer, in a round, with a kind of contradiction
+-- evidence accuses a signer, in a round, with a kind of contradiction
 abbrev pub Accuses : {S D P G : Type 0} → List (Evidence S D P G) → Accusation → Type 0
 Accuses es n = Contains (map accused_by (map evidence_value es)) n
 
--- What is held after stored evidence and then further messages: it is the evidence of the votes of both. So who is accused by the stored evidence, or by the further messages alone, is accused, and nobody whom the messages before and the further ones do not
--- name.
+-- What is held after stored evidence and then further messages: it is the evidence of the votes of both. So who is accused by
+-- the stored evidence, or by the further messages alone, is accused, and nobody else than whom the messages before and the
+-- further ones accuse.
 pub record HoldsBoth {S D C P G : Type 0} (basis : Basis S D C P G) (before : List (Activity S D C P G)) (stored : List (Evidence S D P G)) (further : List (Activity S D C P G)) (held : List (Evidence S D P G)) : Type 0 where
   pub evidence_is : IsEvidence basis.rules.eq (valid_votes basis.rules (map activity_of stored ++ further)) (map evidence_value held)
   pub names : AccusesExactly basis.rules.eq (valid_votes basis.rules (map activity_of stored ++ further)) (map evidence_value held)

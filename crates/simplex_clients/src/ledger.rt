@@ -33,8 +33,8 @@ impl<'a, S: Listing<D>, D: Digest> Ledger<'a, S, D> {
         }
     }
 
-    /// A ledger that begins with what an earlier one stored: it is the ledger that was fed these bytes. What it then names,
-    /// and what it names after further pieces, the contract of `store` says.
+    /// A ledger that begins with what an earlier one stored: it is the ledger that was fed these bytes. Whom it then
+    /// accuses, and whom after further pieces, the contract of `store` says.
     pub fn resume(
         alloc: Global,
         committees: &'a Committees<S>,
@@ -85,7 +85,7 @@ impl<'a, S: Listing<D>, D: Digest> Ledger<'a, S, D> {
     /// `evidence`, and no bytes where there is none. Votes that contradict nothing yet are not among them.
     pub fn store(&self, alloc: Global) -> Result<Vec<u8>, AllocError>
         // They encode the evidence and have it again. Behind them a piece is read as it is alone, and what is held then is the
-        // evidence of both: who was named stays named, and nobody is accused whom the messages of both do not name.
+        // evidence of both: who was accused stays accused, and nobody is accused whom the messages of both do not accuse.
         ensures { IfOk result (λ stored. (committees : Schedule S) (stream : List ℕ) →
             WasFed ⟦<S as Audited<D>>⟧.basis committees self.now stream →
             IsStored (⟦<S as Audited<D>>⟧.basis committees) stream stored.items) }

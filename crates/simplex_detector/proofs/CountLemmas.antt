@@ -127,7 +127,7 @@ signers_in_order {D} {G} round (e ∷ es) ordered here i j d le lt =
     rise : (n m : Accusation) → n.round ≡ m.round → accused_cmp n m ≡ Less → n.signer ≤ m.signer
     rise n m same less =
         let kinds = nat_cmp (kind_rank n.kind) (kind_rank m.kind) in
-        let signers : ordering_then (nat_cmp n.signer m.signer) kinds ≡ Less = sym (ap (λ o. ordering_then o (ordering_then (nat_cmp n.signer m.signer) kinds)) (ap (λ r. round_cmp r m.round) same ∙ tied_itself round_cmp_total m.round)) ∙ less in
+        let signers : ordering_then (nat_cmp n.signer m.signer) kinds ≡ Less = sym (ap (λ o. ordering_then (ordering_then o (nat_cmp n.signer m.signer)) kinds) (ap (λ r. round_cmp r m.round) same ∙ tied_itself round_cmp_total m.round)) ∙ less in
         le_from_not_gt n.signer m.signer ((elim (nat_cmp n.signer m.signer) as (λ o. ordering_then o kinds ≡ Less → is_gt o ≡ false) [ Less ↦ λ h. refl | Equal ↦ λ h. refl | Greater ↦ λ h. absurd cc ]) signers)
 
 -- ---- the split of a round

@@ -47,7 +47,7 @@ pub use Rattle.simplex_detector.specs.Rounds.{HoldsRound, IsSized, ListsSigners,
 pub use Rattle.simplex_detector.specs.Rules.{AreLawful, HaveCommittees, Rules, is_valid, valid_votes}
 pub use Rattle.simplex_detector.specs.SplitLaws.{EnoughAreAccused, IsAccountable, SignersAreAccountable, shared_signers}
 pub use Rattle.simplex_detector.specs.Splits.{AreSplits, certified_in, if_certified, is_certified_message, is_accused_in, is_split, accused_count, split_of}
-pub use Rattle.simplex_detector.specs.Suspects.{AreSuspect, HasSuspects, JudgeAlike, Suspected, SuspectsSuffice, TellAll, among, claimed, is_suspect, is_suspect_round, judged_by, suspect_of}
+pub use Rattle.simplex_detector.specs.Suspects.{JudgeAlike, Suspected, SuspectsSuffice, claimed, is_suspect, is_suspect_round, judged_by, suspect_of}
 pub use Rattle.simplex_detector.specs.Values.{activity_of, evidence_value}
 pub use Rattle.simplex_detector.specs.declared.certified_subjects.CertifiedSubjects.{CertifiedSubjects}
 pub use Rattle.simplex_detector.specs.declared.detector.Detector.{Detector}

@@ -1,10 +1,33 @@
 -- Which signers and rounds are suspect, and that no other signature has a part in the evidence and the splits.
-use Rattle.simplex_detector.proofs.Prelude.{Activity, All-contains, All-nil, AreLawful, AreSplits, AreSuspect, Attestation, Bool, Claimed, Conflicting_finalize, Conflicting_notarize, Contains, Equivocation, HasSuspects, IsEquivalence, IsEvidence, IsTrue, JudgeAlike, EquivocationKind, List, Accusation, None, Nullify_finalize, Option, Round, Rules, Schedule, SignedVote, Some, Split, SubjectValue, SuspectSigners, Suspected, Suspects, SuspectsSuffice, TellAll, [], among, and-false, and_parts, ap, are_split, arith, subject_and_certificate, certified_by, certified_in, certified_subjects, certified_under, claimed, clash, committee_of, cond, cond-false, cons_option, contains, contradicts, distinct_count, evidence_of, false, false_from_ne_true, false≢true, faults_of, filter, find, first_sort, flat_map, if_certified, is_at, is_accused, is_accused_in, is_of, is_some, is_split, is_suspect, is_suspect_round, is_valid, judged_by, le-ltb, lt-ltb, map, accused_by, accused_count, nat_eq, nat_lt, refl, round_cmp, round_of, rules_of, rules_under, signer_cmp, size_by, split_of, subst, suspect_of, sym, true, valid_by, valid_under, valid_votes, votes_in, with_first, with_second, ℕ, ◌&&◌, ◌+◌, ◌||◌, ◌↔◌, ◌∙◌, ◌∷◌, ◌≡◌, ◌≤◌}
+use Rattle.simplex_detector.proofs.Prelude.{Activity, All-contains, All-nil, AreLawful, AreSplits, Attestation, Bool, Claimed, Conflicting_finalize, Conflicting_notarize, Contains, Equivocation, IsEquivalence, IsEvidence, IsTrue, JudgeAlike, EquivocationKind, List, Accusation, None, Nullify_finalize, Option, Round, Rules, Schedule, SignedVote, Some, Split, SubjectValue, SuspectSigners, Suspected, Suspects, SuspectsSuffice, [], and-false, and_parts, ap, are_split, arith, subject_and_certificate, certified_by, certified_in, certified_subjects, certified_under, claimed, clash, committee_of, cond, cond-false, cons_option, contains, contradicts, distinct_count, evidence_of, false, false_from_ne_true, false≢true, faults_of, filter, find, first_sort, flat_map, if_certified, is_at, is_accused, is_accused_in, is_of, is_some, is_split, is_suspect, is_suspect_round, is_valid, judged_by, le-ltb, lt-ltb, map, accused_by, accused_count, nat_eq, nat_lt, refl, round_cmp, round_of, rules_of, rules_under, signer_cmp, size_by, split_of, subst, suspect_of, sym, true, valid_by, valid_under, valid_votes, votes_in, with_first, with_second, ℕ, ◌&&◌, ◌+◌, ◌||◌, ◌↔◌, ◌∙◌, ◌∷◌, ◌≡◌, ◌≤◌}
 use Rattle.simplex_detector.proofs.AccountLemmas.{certified_parts, counted_signer, distinct_count-same, kind_from_accused_in, accused_in}
 use Rattle.simplex_detector.proofs.EvidenceLemmas.{evidence_exists, first_spot, moved_evidence, accused_by_more, accused_from_votes, valid_from, valid_in, votes_from_accused}
 use Rattle.simplex_detector.proofs.Lists.{Contains-filter, Contains-first, Contains-from_filter, Contains-from_filter_map, Contains-from_list_any, Contains-from_map, Contains-map, Contains-none, any_from_Contains, found, same_bool}
 use Rattle.simplex_detector.proofs.Places.{is_at-true, is_of-true}
 use Rattle.simplex_detector.proofs.SplitLemmas.{enough_in_split, from_subjects, moved_splits, split_more, split_exists, split_opposites}
+
+-- ---- rules among suspects
+
+-- the signers whom the votes claim to contradict are suspect, and so are their rounds
+abbrev pub HasSuspects : {D G : Type 0} → List (Equivocation D G) → Suspected → Type 0
+HasSuspects {D} {G} claims suspected =
+    (e : Equivocation D G) → Contains claims e → IsTrue (suspected.signers (round_of e.first.subject) e.first.signer) × IsTrue (suspected.rounds (round_of e.first.subject))
+
+-- the same, but that no vote is valid of a signer who is not suspect in its round, and nothing is certified in a round that
+-- is not suspect
+abbrev pub among : {S D C P G : Type 0} → Rules S D C P G → Suspected → Rules S D C P G
+among rules suspected = judged_by rules
+    (λ x signer signature. suspected.signers (round_of x) signer && rules.good x signer signature)
+    (λ x certificate. suspected.rounds (round_of x) && rules.certified x certificate)
+
+-- each signer who is accused is suspect in its round, and the round is suspect
+abbrev pub AreSuspect : {S D C P G : Type 0} → Rules S D C P G → List (Activity S D C P G) → Suspected → Type 0
+AreSuspect rules messages suspected = (n : Accusation) → IsTrue (is_accused rules.eq (valid_votes rules messages) n) → IsTrue (suspected.signers n.round n.signer) × IsTrue (suspected.rounds n.round)
+
+-- where each signer who is accused is suspect in its round, the suspects alone have the evidence and the splits of all messages
+pub record TellAll {S D C P G : Type 0} (rules : Rules S D C P G) (messages : List (Activity S D C P G)) (suspected : Suspected) : Type 0 where
+  pub evidence : (es : List (Equivocation D G)) → IsEvidence rules.eq (valid_votes (among rules suspected) messages) es ↔ IsEvidence rules.eq (valid_votes rules messages) es
+  pub splits : (splits : List Split) → AreSplits (among rules suspected) messages splits ↔ AreSplits rules messages splits
 
 -- ---- votes of suspects
 
@@ -64,24 +87,24 @@ and_right_true a = elim a as (λ b. (b && true) ≡ b) [ true ↦ refl | false �
 
 module _ {S D C P G : Type 0} (rules : Rules S D C P G) (l : AreLawful rules) (messages : List (Activity S D C P G)) (s : Suspected) (covers : AreSuspect rules messages s) where
   -- the valid votes among suspects are those of suspects
-  votes_among : valid_votes (among s rules) messages ≡ filter (here s.signers) (valid_votes rules messages)
+  votes_among : valid_votes (among rules s) messages ≡ filter (here s.signers) (valid_votes rules messages)
   votes_among = twice (flat_map (votes_in rules.listed) messages)
     where
-      twice : (vs : List (SignedVote D G)) → filter (is_valid (among s rules)) vs ≡ filter (here s.signers) (filter (is_valid rules) vs)
+      twice : (vs : List (SignedVote D G)) → filter (is_valid (among rules s)) vs ≡ filter (here s.signers) (filter (is_valid rules) vs)
       twice [] = refl
-      twice (v ∷ vs) = elim (is_valid rules v) as (λ b. cond (here s.signers v && b) (v ∷ filter (is_valid (among s rules)) vs) (filter (is_valid (among s rules)) vs) ≡ filter (here s.signers) (cond b (v ∷ filter (is_valid rules) vs) (filter (is_valid rules) vs))) [
+      twice (v ∷ vs) = elim (is_valid rules v) as (λ b. cond (here s.signers v && b) (v ∷ filter (is_valid (among rules s)) vs) (filter (is_valid (among rules s)) vs) ≡ filter (here s.signers) (cond b (v ∷ filter (is_valid rules) vs) (filter (is_valid rules) vs))) [
         | true ↦ λ i. cond (and_right_true (here s.signers v) i) (v ∷ twice vs i) (twice vs i)
         | false ↦ λ i. cond (and-false (here s.signers v) i) (v ∷ twice vs i) (twice vs i)
       ]
 
   -- what is certified among suspects are the subjects of suspect rounds
-  certified_among : (ms : List (Activity S D C P G)) → certified_subjects (among s rules) ms ≡ filter (λ x. s.rounds (round_of x)) (certified_subjects rules ms)
+  certified_among : (ms : List (Activity S D C P G)) → certified_subjects (among rules s) ms ≡ filter (λ x. s.rounds (round_of x)) (certified_subjects rules ms)
   certified_among [] = refl
-  certified_among (m ∷ ms) = elim (subject_and_certificate m) as (λ o. cons_option (if_certified (among s rules) o) (certified_subjects (among s rules) ms) ≡ filter (λ x. s.rounds (round_of x)) (cons_option (if_certified rules o) (certified_subjects rules ms))) [
+  certified_among (m ∷ ms) = elim (subject_and_certificate m) as (λ o. cons_option (if_certified (among rules s) o) (certified_subjects (among rules s) ms) ≡ filter (λ x. s.rounds (round_of x)) (cons_option (if_certified rules o) (certified_subjects rules ms))) [
     | None ↦ certified_among ms
-    | Some c ↦ elim (rules.certified c.0 c.1) as (λ b. cons_option (cond (s.rounds (round_of c.0) && b) (Some c.0) None) (certified_subjects (among s rules) ms) ≡ filter (λ x. s.rounds (round_of x)) (cons_option (cond b (Some c.0) None) (certified_subjects rules ms))) [
-      | true ↦ elim (s.rounds (round_of c.0)) as (λ a. cons_option (cond (a && true) (Some c.0) None) (certified_subjects (among s rules) ms) ≡ cond a (c.0 ∷ filter (λ x. s.rounds (round_of x)) (certified_subjects rules ms)) (filter (λ x. s.rounds (round_of x)) (certified_subjects rules ms))) [ true ↦ ap (λ xs. c.0 ∷ xs) (certified_among ms) | false ↦ certified_among ms ]
-      | false ↦ ap (λ a. cons_option (cond a (Some c.0) None) (certified_subjects (among s rules) ms)) (and-false (s.rounds (round_of c.0))) ∙ certified_among ms
+    | Some c ↦ elim (rules.certified c.0 c.1) as (λ b. cons_option (cond (s.rounds (round_of c.0) && b) (Some c.0) None) (certified_subjects (among rules s) ms) ≡ filter (λ x. s.rounds (round_of x)) (cons_option (cond b (Some c.0) None) (certified_subjects rules ms))) [
+      | true ↦ elim (s.rounds (round_of c.0)) as (λ a. cons_option (cond (a && true) (Some c.0) None) (certified_subjects (among rules s) ms) ≡ cond a (c.0 ∷ filter (λ x. s.rounds (round_of x)) (certified_subjects rules ms)) (filter (λ x. s.rounds (round_of x)) (certified_subjects rules ms))) [ true ↦ ap (λ xs. c.0 ∷ xs) (certified_among ms) | false ↦ certified_among ms ]
+      | false ↦ ap (λ a. cons_option (cond a (Some c.0) None) (certified_subjects (among rules s) ms)) (and-false (s.rounds (round_of c.0))) ∙ certified_among ms
     ]
   ]
 
@@ -94,11 +117,11 @@ module _ {S D C P G : Type 0} (rules : Rules S D C P G) (l : AreLawful rules) (m
       (covers (record { round = round; signer = q; kind = kind }) named).1
 
   -- the same rounds are split
-  same_splits : (round : Round) → is_split (among s rules) messages round ≡ is_split rules messages round
+  same_splits : (round : Round) → is_split (among rules s) messages round ≡ is_split rules messages round
   same_splits round =
       let xs = certified_subjects rules messages in
       let suspect : SubjectValue D → Bool = λ x. s.rounds (round_of x) in
-      from_subjects (among s rules) messages round ∙ ap (λ zs. are_split rules.eq zs round) (certified_among messages) ∙
+      from_subjects (among rules s) messages round ∙ ap (λ zs. are_split rules.eq zs round) (certified_among messages) ∙
       same_bool _ _ (split_more rules.eq (filter suspect xs) xs round (λ x x_in at. (Contains-from_filter suspect xs x x_in).0))
       (λ h. split_more rules.eq xs (filter suspect xs) round (λ x x_in at. Contains-filter suspect xs x x_in (ap s.rounds at ∙ split_is_suspect round (from_subjects rules messages round ∙ h))) h) ∙
       sym (from_subjects rules messages round)
@@ -106,14 +129,14 @@ module _ {S D C P G : Type 0} (rules : Rules S D C P G) (l : AreLawful rules) (m
   pub suspects_tell_all : TellAll rules messages s
   suspects_tell_all =
       let vs = valid_votes rules messages in
-      let us = valid_votes (among s rules) messages in
+      let us = valid_votes (among rules s) messages in
       let shown = λ (n : Accusation) (h : is_accused rules.eq vs n ≡ true). (covers n h).0 in
       let names : (n : Accusation) → is_accused rules.eq us n ≡ is_accused rules.eq vs n = λ n. ap (λ ws. is_accused rules.eq ws n) votes_among ∙ same_accused rules.eq l.payloads vs s.signers shown n in
       let evidence : (n : Accusation) → evidence_of rules.eq us n ≡ evidence_of rules.eq vs n = λ n. ap (λ ws. evidence_of rules.eq ws n) votes_among ∙ same_evidence rules.eq l.payloads vs s.signers shown n in
-      let split : (r : Round) → split_of (among s rules) messages r ≡ split_of rules messages r = λ r i. cond (same_splits r i) (Some (record { round = r; named = same_count rules.eq vs us names r i; least = faults_of (rules.size r.epoch) + 1 })) None in
+      let split : (r : Round) → split_of (among rules s) messages r ≡ split_of rules messages r = λ r i. cond (same_splits r i) (Some (record { round = r; named = same_count rules.eq vs us names r i; least = faults_of (rules.size r.epoch) + 1 })) None in
       record {
         evidence = λ es. (moved_evidence rules.eq l.payloads vs us evidence es, moved_evidence rules.eq l.payloads us vs (λ n. sym (evidence n)) es);
-        splits = λ splits. (moved_splits rules (among s rules) messages split splits, moved_splits (among s rules) rules messages (λ r. sym (split r)) splits);
+        splits = λ splits. (moved_splits rules (among rules s) messages split splits, moved_splits (among rules s) rules messages (λ r. sym (split r)) splits);
       }
 
 -- ---- claims
@@ -167,7 +190,7 @@ module _ {S D C P G : Type 0} (eq : D → D → Bool) (keys : S → List P) (goo
   suspects_in suspects = record { signers = λ round signer. contains signer_cmp suspects.signers (round, signer); rounds = contains round_cmp suspects.rounds }
 
   -- a committee's judgement of suspects, also where there is none
-  pub suspects_are_among : (suspects : SuspectSigners) → rules_under eq keys good certified listed (Suspects suspects) schedule ≡ among (suspects_in suspects) rules
+  pub suspects_are_among : (suspects : SuspectSigners) → rules_under eq keys good certified listed (Suspects suspects) schedule ≡ among rules (suspects_in suspects)
   suspects_are_among suspects = λ i. record {
     eq = eq;
     good = λ x signer signature. (elim (committee_of schedule (round_of x).epoch) as (λ o. valid_by (valid_under keys good (Suspects suspects)) o x signer signature ≡ (contains signer_cmp suspects.signers (round_of x, signer) && valid_by good o x signer signature)) [ None ↦ sym (and-false (contains signer_cmp suspects.signers (round_of x, signer))) | Some s ↦ refl ]) i;
@@ -218,7 +241,7 @@ module _ {S D C P G : Type 0} (rules : Rules S D C P G) (messages : List (Activi
     )
 
 -- rules that judge suspects alike are the same among suspects
-same_among : {S D C P G : Type 0} (rules : Rules S D C P G) (messages : List (Activity S D C P G)) (good : SubjectValue D → ℕ → G → Bool) (certified : SubjectValue D → C → Bool) → JudgeAlike rules messages good certified → among (suspected rules messages) rules ≡ among (suspected rules messages) (judged_by rules good certified)
+same_among : {S D C P G : Type 0} (rules : Rules S D C P G) (messages : List (Activity S D C P G)) (good : SubjectValue D → ℕ → G → Bool) (certified : SubjectValue D → C → Bool) → JudgeAlike rules messages good certified → among rules (suspected rules messages) ≡ among (judged_by rules good certified) (suspected rules messages)
 same_among rules messages good certified alike = λ i. record {
   eq = rules.eq;
   good = λ x signer signature. (elim (is_suspect rules messages (round_of x) signer) as (λ a. (a ≡ true → rules.good x signer signature ≡ good x signer signature) → (a && rules.good x signer signature) ≡ (a && good x signer signature)) [ true ↦ λ h. h refl | false ↦ λ h. refl ]) (λ h. sym (alike.votes x signer signature h)) i;

@@ -1,5 +1,5 @@
 -- What votes claim, before any signature is verified, and rules that judge suspects alone.
-use Rattle.std.specs.Prelude.{◌≡◌, ℕ, ◌&&◌, ◌↔◌, Bool, false, List, [], map, nat_lt, All, Contains, IsTrue}
+use Rattle.std.specs.Prelude.{◌≡◌, ℕ, Bool, false, List, [], map, nat_lt, All, IsTrue}
 use Rattle.std.specs.BTreeSet.{contains}
 use Rattle.std.specs.List.{list_any}
 use Rattle.simplex_base.specs.Positions.{Round}
@@ -7,7 +7,7 @@ use Rattle.simplex_scheme.specs.Subject.{SubjectValue, round_of}
 use Rattle.simplex_evidence.specs.Contradiction.{Equivocation}
 use Rattle.simplex_evidence.specs.declared.types.activity.Activity.{Activity}
 use Rattle.simplex_detector.specs.Evidence.{IsEvidence}
-use Rattle.simplex_detector.specs.Accusation.{Accusation, is_accused, round_cmp, signer_cmp}
+use Rattle.simplex_detector.specs.Accusation.{round_cmp, signer_cmp}
 use Rattle.simplex_detector.specs.Rules.{Rules, AreLawful, valid_votes}
 use Rattle.simplex_detector.specs.Splits.{is_accused_in, AreSplits}
 use Rattle.simplex_detector.specs.declared.judging.Judging.{Judging}
@@ -24,11 +24,6 @@ pub record Suspected : Type 0 where
 abbrev pub suspect_of : {D G : Type 0} → Equivocation D G → Round × ℕ
 suspect_of e = (round_of e.first.subject, e.first.signer)
 
--- the signers whom the votes claim to contradict are suspect, and so are their rounds
-abbrev pub HasSuspects : {D G : Type 0} → List (Equivocation D G) → Suspected → Type 0
-HasSuspects {D} {G} claims suspected =
-    (e : Equivocation D G) → Contains claims e → IsTrue (suspected.signers (round_of e.first.subject) e.first.signer) × IsTrue (suspected.rounds (round_of e.first.subject))
-
 -- ---- other judges of the same messages
 
 module _ {S D C P G : Type 0} (rules : Rules S D C P G) where
@@ -40,25 +35,9 @@ module _ {S D C P G : Type 0} (rules : Rules S D C P G) where
   abbrev pub claimed : Rules S D C P G
   claimed = judged_by (λ x signer signature. nat_lt signer (rules.size (round_of x).epoch)) (λ x certificate. false)
 
-  -- the same, but that no vote is valid of a signer who is not suspect in its round, and nothing is certified in a round that
-  -- is not suspect
-  abbrev pub among : Suspected → Rules S D C P G
-  among suspected = judged_by
-      (λ x signer signature. suspected.signers (round_of x) signer && rules.good x signer signature)
-      (λ x certificate. suspected.rounds (round_of x) && rules.certified x certificate)
-
 -- ---- who is suspect, and what suspects tell
 
 module _ {S D C P G : Type 0} (rules : Rules S D C P G) (messages : List (Activity S D C P G)) where
-  -- each signer who is accused is suspect in its round, and the round is suspect
-  abbrev pub AreSuspect : Suspected → Type 0
-  AreSuspect suspected = (n : Accusation) → IsTrue (is_accused rules.eq (valid_votes rules messages) n) → IsTrue (suspected.signers n.round n.signer) × IsTrue (suspected.rounds n.round)
-
-  -- Where each signer who is accused is suspect in its round, the suspects alone have the evidence and the splits of all messages.
-  pub record TellAll (suspected : Suspected) : Type 0 where
-    pub evidence : (es : List (Equivocation D G)) → IsEvidence rules.eq (valid_votes (among rules suspected) messages) es ↔ IsEvidence rules.eq (valid_votes rules messages) es
-    pub splits : (splits : List Split) → AreSplits (among rules suspected) messages splits ↔ AreSplits rules messages splits
-
   -- whether a signer is suspect in a round: two votes contradict there that claim to be that signer's, and the signer is in the
   -- committee
   abbrev pub is_suspect : Round → ℕ → Bool

@@ -13,7 +13,7 @@ pub trait Judges<D: Digest>: Listing<D> {
     /// Each vote and each certificate is judged by the committee of its round's epoch.
     ghost rules: { Schedule Self → Rules Self D Self.Certificate Self.PublicKey Self.Signature };
 
-    /// The same, where votes and certificates are judged so strictly.
+    /// The same, where votes and certificates are judged as strictly as a `Judging` says.
     ghost rules_under: { Judging → Schedule Self →
         Rules Self D Self.Certificate Self.PublicKey Self.Signature };
 }

@@ -69,12 +69,15 @@ subject_and_certificate _ = None
 -- the votes of a message that are not in a certificate: the vote that it is, or both votes of an evidence
 abbrev pub own_votes : {S D C P G : Type 0} → Activity S D C P G → List (SignedVote D G)
 own_votes (activity.Notarize v) = notarize_vote v ∷ []
+own_votes (activity.Notarization n) = []
+own_votes (activity.Certification n) = []
 own_votes (activity.Nullify v) = nullify_vote v ∷ []
+own_votes (activity.Nullification n) = []
 own_votes (activity.Finalize v) = finalize_vote v ∷ []
+own_votes (activity.Finalization n) = []
 own_votes (activity.ConflictingNotarize c) = notarize_vote c.first ∷ notarize_vote c.second ∷ []
 own_votes (activity.ConflictingFinalize c) = finalize_vote c.first ∷ finalize_vote c.second ∷ []
 own_votes (activity.NullifyFinalize c) = nullify_vote c.first ∷ finalize_vote c.second ∷ []
-own_votes _ = []
 
 -- the votes of a certificate, if there is one: the attestations that it lists, each on its subject
 abbrev pub listed_votes : {S D C P G : Type 0} → (C → List (Attestation S P G)) → Option (SubjectValue D × C) → List (SignedVote D G)

@@ -60,7 +60,7 @@ fn elected(
     Ok(Elector::<Marked>::elect(&elector, round, None).get())
 }
 
-/// The number of the participant who leads a view of an epoch, written to `number`: of so many
+/// The number of the participant who leads a view of an epoch, written to `number`: of this many
 /// participants, in their order by the seed, if there is one, and in terms of this many views. The
 /// status is [`WHOLE`]; [`ARGUMENTS`] where there is no participant or a term has no view; or
 /// [`MEMORY`], as the order of the participants takes 8 bytes of memory for each and with a seed

@@ -33,7 +33,7 @@ fn size_of<S: CertificateScheme>(committee: Option<&S>) -> u32
     }
 }
 
-/// How many of this many participants are a quorum, 0 of none.
+/// The quorum of this many participants, 0 of none.
 fn quorum_among(size: u32) -> usize
     ensures { result ≡ quorum_of size }
 {

@@ -169,7 +169,7 @@ fn ample_chosen_hashes(rt: HostRuntime) -> Result<(), Fail> {
     check_order::<Falling>(&rt, rt.alloc(), &five, [4, 3, 2, 1, 0, 4])
 }
 
-/// The first of the participants, this many, in the order of SHA-256 of the seed followed by their number in four bytes, the most
+/// The numbers below this one in the order of SHA-256 of the seed followed by the number in four bytes, the most
 /// significant first.
 fn by_digest(alloc: Global, seed: &[u8], participants: u32) -> Result<Vec<u32>, AllocError> {
     let mut order = Vec::new(alloc);

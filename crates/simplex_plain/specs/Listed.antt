@@ -50,7 +50,3 @@ attestations_at signature bound least (suc count) bytes =
 abbrev pub listed_at : {S P G : Type 0} → Format G → ℕ → List ℕ → Reading (List (Attestation S P G))
 listed_at signature bound bytes = number_32.reading bytes >>= λ count.
     if count.0 == 0 || nat_lt bound count.0 then Err bad_count else attestations_at signature bound 0 count.0 count.1
-
--- the format of the certificates that are read under a bound
-abbrev pub listed_format : {S P G : Type 0} → Format G → ℕ → Format (List (Attestation S P G))
-listed_format signature bound = record { is_value = ListedFits signature bound; encoding = listed_encoding signature; reading = listed_at signature bound }

@@ -72,7 +72,7 @@ fn sort_by_signers<S: SchemeTypes>(attestations: &mut Vec<Attestation<S>>)
 }
 
 /// The certificate of these attestations, sorted in place without an allocation. The signers have to be distinct and
-/// in the committee, as [`can_assemble`](simplex_scheme::assembly::can_assemble) returns.
+/// in the committee: [`can_assemble`](simplex_scheme::assembly::can_assemble) says so.
 pub fn assembled<S: CertificateScheme>(
     scheme: &S,
     mut attestations: Vec<Attestation<S>>,

@@ -5,8 +5,8 @@
 //! [`scheme::Listing`], and attestations; the keys of a committee ([`scheme::Set`]), the fault bound and the quorum of
 //! the model n = 3f + 1 ([`scheme::max_faults`], [`scheme::quorum`]); what is signed ([`scheme::Proposal`],
 //! [`scheme::Subject`]), the byte strings under which it is signed ([`scheme::Namespace`]), and the trait of hash
-//! functions with SHA-256 ([`scheme::Hasher`]). Each stands in a private module of its name; `message` there compares
-//! bytes with signed messages. [`assembly`] says which attestations can be assembled.
+//! functions with SHA-256 ([`scheme::Hasher`]). What is no trait of schemes stands in private modules: `set`, `faults`, `proposal`,
+//! `subject`, `namespace` and `hash`; `message` compares bytes with signed messages. [`assembly`] says which attestations can be assembled.
 //!
 //! Crates above rest on the laws that each scheme proves: a certificate that a [`scheme::Scheme`] assembles certifies
 //! every subject that its attestations are valid for, and one that a [`scheme::Listing`] certifies lists a quorum of

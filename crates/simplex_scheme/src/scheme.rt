@@ -7,7 +7,7 @@ ghost use Rattle.simplex_scheme.specs.Subject.{SubjectValue, subject_value};
 ghost use Rattle.simplex_scheme.specs.Committee.{IsQuorum, IsInOrder, signers_of, RefusesFew, AssemblesQuorum};
 
 pub use crate::faults::{max_faults, quorum};
-pub use crate::hash::{Hasher, Sha256, Sha256Digest};
+pub use crate::hash::{Hasher, Sha256, Sha256Digest, Sha256Role};
 pub use crate::namespace::{CertificateNamespace, Namespace};
 pub use crate::proposal::Proposal;
 pub use crate::set::{Set, SetError};
@@ -204,8 +204,8 @@ pub trait Scheme<D: Digest>: CertificateVerifier<D> {
         ensures { result ≡ good self.now (subject_value subject.entry) attestation.now.signer
             attestation.now.signature };
 
-    /// Assembles a certificate from attestations whose signers are distinct and in the committee, as
-    /// [`can_assemble`](crate::assembly::can_assemble) returns. `InsufficientAttestations`, with the quorum and the
+    /// Assembles a certificate from attestations whose signers are distinct and in the committee, of which
+    /// [`can_assemble`](crate::assembly::can_assemble) returns true. `InsufficientAttestations`, with the quorum and the
     /// number of attestations, where that number is below the quorum; nothing is then allocated. From a quorum on the
     /// only error is `OutOfMemory`. The certificate certifies every subject that all the attestations are valid for.
     fn assemble(

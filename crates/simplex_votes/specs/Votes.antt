@@ -14,7 +14,7 @@ pub record SignedVote (D G : Type 0) : Type 0 where
   pub signer : ℕ
   pub signature : G
 
--- the vote on a subject that an attestation of it is
+-- an attestation of a subject, as a vote on it
 abbrev pub vote_on : {S D P G : Type 0} → SubjectValue D → Attestation S P G → SignedVote D G
 vote_on x a = record { subject = x; signer = a.signer; signature = a.signature }
 

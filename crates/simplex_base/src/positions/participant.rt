@@ -6,9 +6,8 @@ ghost use Rattle.std.proofs.Common.{lit<};
 ghost use Rattle.simplex_base.specs.Varint.{number_32};
 ghost use Rattle.simplex_base.specs.VarintLaws.{number_32_lawful, longest_32, groups_len};
 
-use crate::codec::error::Error;
 use crate::codec::varint::{read_u32, size_u32, write_u32};
-use crate::codec::{EncodeSize, Encoding, MaxEncodeSize, Read, ReadExt, Write};
+use crate::codec::{EncodeSize, Encoding, Error, MaxEncodeSize, Read, ReadExt, Write};
 use crate::values::{EqByParts, ExactClone, OrdByParts};
 use std::alloc::{AllocError, Global};
 use std::marker::Model;

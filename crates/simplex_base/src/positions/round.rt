@@ -4,9 +4,8 @@ ghost use Rattle.std.specs.Prelude.{◌≡◌, ◌&&◌, false, nat_eq, refl};
 ghost use Rattle.std.specs.Ordering.{nat_cmp, ordering_then};
 ghost use Rattle.simplex_base.specs.Positions.{round_format, round_lawful, round_within, longest_round};
 
-use crate::codec::error::Error;
 use crate::codec::parts::{size_both, write_both};
-use crate::codec::{EncodeSize, Encoding, MaxEncodeSize, Read, ReadExt, Write};
+use crate::codec::{EncodeSize, Encoding, Error, MaxEncodeSize, Read, ReadExt, Write};
 use crate::positions::epoch::{Epoch, Epochable};
 use crate::positions::view::{View, Viewable};
 use crate::values::{EqByParts, ExactClone, OrdByParts};

@@ -6,9 +6,8 @@ ghost use Rattle.std.proofs.Common.{lit<};
 ghost use Rattle.simplex_base.specs.Varint.{number_64};
 ghost use Rattle.simplex_base.specs.VarintLaws.{number_64_lawful, longest_64, groups_len};
 
-use crate::codec::error::Error;
 use crate::codec::varint::{read_u64, size_u64, write_u64};
-use crate::codec::{EncodeSize, Encoding, MaxEncodeSize, Read, ReadExt, Write};
+use crate::codec::{EncodeSize, Encoding, Error, MaxEncodeSize, Read, ReadExt, Write};
 use crate::positions::view_delta::ViewDelta;
 use crate::values::{EqByParts, ExactClone, OrdByParts};
 use std::alloc::{AllocError, Global};

@@ -47,7 +47,7 @@ pub fn verify_notarizations<S: CertificateVerifier<D>, D: Digest>(
         .collect(alloc)
 }
 
-/// Whether each nullification is certified, as [`verify_notarizations`] returns.
+/// Whether each nullification is certified, one by one as [`verify_notarizations`] does.
 pub fn verify_nullifications<S: CertificateVerifier<D>, D: Digest>(
     alloc: Global,
     scheme: &S,
@@ -63,7 +63,7 @@ pub fn verify_nullifications<S: CertificateVerifier<D>, D: Digest>(
         .collect(alloc)
 }
 
-/// Whether each finalization is certified, as [`verify_notarizations`] returns.
+/// Whether each finalization is certified, one by one as [`verify_notarizations`] does.
 pub fn verify_finalizations<S: CertificateVerifier<D>, D: Digest>(
     alloc: Global,
     scheme: &S,

@@ -56,7 +56,7 @@ impl<S: SchemeTypes, D: Digest> ConflictingFinalize<S, D> {
             && first.proposal != second.proposal
     }
 
-    /// The evidence of two finalizes that contradict, as [`conflicts`](ConflictingFinalize::conflicts) returns.
+    /// The evidence of two finalizes for which [`conflicts`](ConflictingFinalize::conflicts) returns true.
     pub fn new(finalize_1: Finalize<S, D>, finalize_2: Finalize<S, D>) -> Self
         requires { IsTrue (contradicts D.eq Conflicting_finalize (finalize_vote finalize_1)
             (finalize_vote finalize_2)) }

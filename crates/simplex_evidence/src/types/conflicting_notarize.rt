@@ -56,7 +56,7 @@ impl<S: SchemeTypes, D: Digest> ConflictingNotarize<S, D> {
             && first.proposal != second.proposal
     }
 
-    /// The evidence of two notarizes that contradict, as [`conflicts`](ConflictingNotarize::conflicts) returns.
+    /// The evidence of two notarizes for which [`conflicts`](ConflictingNotarize::conflicts) returns true.
     pub fn new(notarize_1: Notarize<S, D>, notarize_2: Notarize<S, D>) -> Self
         requires { IsTrue (contradicts D.eq Conflicting_notarize (notarize_vote notarize_1)
             (notarize_vote notarize_2)) }

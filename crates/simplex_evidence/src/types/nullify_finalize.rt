@@ -54,8 +54,7 @@ impl<S: SchemeTypes, D: Digest> NullifyFinalize<S, D> {
             && finalize.attestation.signer == nullify.attestation.signer
     }
 
-    /// The evidence of a nullify and a finalize that contradict, as [`conflicts`](NullifyFinalize::conflicts)
-    /// returns.
+    /// The evidence of a nullify and a finalize for which [`conflicts`](NullifyFinalize::conflicts) returns true.
     pub fn new(nullify: Nullify<S>, finalize: Finalize<S, D>) -> Self
         requires { IsTrue (contradicts D.eq Nullify_finalize (nullify_vote nullify)
             (finalize_vote finalize)) }
