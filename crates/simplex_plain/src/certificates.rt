@@ -2,7 +2,7 @@
 //! by one. A scheme of your own whose certificates are [`Listed`] implements [`AttestationVerifier`] and calls these
 //! functions.
 
-ghost use Rattle.std.specs.Prelude.{◌≡◌, ℕ, Bool, true, length, nat_eq, All, Ok, Err, IsOk, IfOk, ◌<◌, ◌≤◌};
+ghost use Rattle.std.specs.Prelude.{◌≡◌, ℕ, Bool, true, length, nat_eq, All, Ok, IsOk, IfOk, ◌<◌, ◌≤◌};
 ghost use Rattle.std.specs.List.{IsDistinct, list_all};
 ghost use Rattle.simplex_scheme.specs.Subject.{SubjectValue, subject_value};
 ghost use Rattle.simplex_scheme.specs.Committee.{IsInOrder, is_quorum, quorum_of, signers_of, RefusesFew};

@@ -1,6 +1,6 @@
 //! How certificates are assembled from votes.
 
-ghost use Rattle.std.specs.Prelude.{◌≡◌, ◌↔◌, ◌<◌, true, Err, IsTrue, IfOk, All, length, map, nat_eq, refl};
+ghost use Rattle.std.specs.Prelude.{◌≡◌, ◌↔◌, ◌<◌, true, IsTrue, IfOk, All, length, map, nat_eq, refl};
 ghost use Rattle.std.specs.List.{IsDistinct, list_any};
 ghost use Rattle.simplex_scheme.specs.Committee.{signers_of, RefusesFew, AssemblesQuorum};
 ghost use Rattle.simplex_scheme.specs.Subject.{SubjectValue};
