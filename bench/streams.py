@@ -1,13 +1,14 @@
 #!/usr/bin/env python3
-"""streams.py SHAPE PARTICIPANTS ROUNDS: writes a stream of messages to standard output.
+"""streams.py SHAPE PARTICIPANTS ROUNDS [NAMESPACE KEY...]: writes a stream of messages to standard output.
 
 SHAPE is `votes` (a notarize of each participant in each round), `certificates` (a notarization of all participants in each
 round), `fork` (two of them, which contradict) or `all` (messages of every kind: in each round a notarize of each participant
 and a notarization, a certification, a nullify and a finalize of some and a finalization of all). In each tenth round, but for
 `fork`, participant 0 votes for a second payload too, and where all kinds are there the round has a nullification and evidence
 of each kind. `honest` is as `votes` without the second votes, and `forged` has one in each round, with a signature of zeros.
-The base of the namespaces is `bench`, and participant i has the key whose 32 bytes are the number i, the highest byte first.
-With `keys` as the SHAPE the program's arguments are written instead, one a line.
+The base of the namespaces is `bench`, and participant i has the key whose 32 bytes are the number i, the highest byte first,
+unless a NAMESPACE and a KEY for each participant are given, of 64 hexadecimal digits: these are numbered in ascending order, as
+`audit` does. With `keys` as the SHAPE the program's arguments are written instead, one a line.
 
 Floods are SHAPEs too: `member` (participant 0 votes once in each round), `two` (and for a second payload), `five` (and with a
 nullify and two finalizes), `unsigned` (a notarize of participant 0 in each round, whose signature is 32 zeros), `again` (the
@@ -17,9 +18,9 @@ import hashlib
 import random
 import sys
 
-BASE = b"bench"
 SHAPES = ("votes", "honest", "forged", "certificates", "fork", "all")
 FLOODS = ("member", "two", "five", "unsigned", "again", "zeros", "random")
+BASE, KEYS = b"bench", []
 NOTARIZE, NULLIFY, FINALIZE = (BASE + suffix for suffix in (b"_NOTARIZE", b"_NULLIFY", b"_FINALIZE"))
 
 
@@ -32,8 +33,15 @@ def number(n):
     return bytes(groups)
 
 
+def take(namespace, keys):
+    """Has the messages made under this base by participants with these keys."""
+    global BASE, KEYS, NOTARIZE, NULLIFY, FINALIZE
+    BASE, KEYS = namespace.encode(), sorted(bytes.fromhex(key) for key in keys)
+    NOTARIZE, NULLIFY, FINALIZE = (BASE + suffix for suffix in (b"_NOTARIZE", b"_NULLIFY", b"_FINALIZE"))
+
+
 def key(participant):
-    return participant.to_bytes(32, "big")
+    return KEYS[participant] if KEYS else participant.to_bytes(32, "big")
 
 
 def round_of(view):
@@ -113,9 +121,15 @@ def flood(shape, view):
 
 
 def main():
-    if len(sys.argv) != 4 or sys.argv[1] not in ("keys", *SHAPES, *FLOODS):
+    if "--help" in sys.argv:
+        print(__doc__)
+        return
+    given = len(sys.argv) - 5
+    if len(sys.argv) < 4 or sys.argv[1] not in ("keys", *SHAPES, *FLOODS) or given >= 0 and given != int(sys.argv[2]):
         sys.exit(__doc__)
     shape, participants, rounds = sys.argv[1], int(sys.argv[2]), int(sys.argv[3])
+    if given >= 0:
+        take(sys.argv[4], sys.argv[5:])
     if shape == "keys":
         print(BASE.decode(), *(key(participant).hex() for participant in range(participants)), sep="\n")
         return
