@@ -6,19 +6,13 @@ use Rattle.simplex_detector.proofs.Lists.{Contains-filter, Contains-first, Conta
 use Rattle.simplex_detector.proofs.Places.{is_at-true, is_of-true}
 use Rattle.simplex_detector.proofs.SplitLemmas.{enough_in_split, from_subjects, moved_splits, split_more, split_exists, split_opposites}
 
--- ---- rules among suspects
-
 -- the signers whom the votes claim to contradict are suspect, and so are their rounds
 abbrev pub HasSuspects : {D G : Type 0} → List (Equivocation D G) → Suspected → Type 0
-HasSuspects {D} {G} claims suspected =
-    (e : Equivocation D G) → Contains claims e → IsTrue (suspected.signers (round_of e.first.subject) e.first.signer) × IsTrue (suspected.rounds (round_of e.first.subject))
+HasSuspects {D} {G} claims suspected = (e : Equivocation D G) → Contains claims e → IsTrue (suspected.signers (round_of e.first.subject) e.first.signer) × IsTrue (suspected.rounds (round_of e.first.subject))
 
--- the same, but that no vote is valid of a signer who is not suspect in its round, and nothing is certified in a round that
--- is not suspect
+-- the same, but that no vote is valid but of a suspect in its round, and nothing is certified but in a suspect round
 abbrev pub among : {S D C P G : Type 0} → Rules S D C P G → Suspected → Rules S D C P G
-among rules suspected = judged_by rules
-    (λ x signer signature. suspected.signers (round_of x) signer && rules.good x signer signature)
-    (λ x certificate. suspected.rounds (round_of x) && rules.certified x certificate)
+among rules suspected = judged_by rules (λ x signer signature. suspected.signers (round_of x) signer && rules.good x signer signature) (λ x certificate. suspected.rounds (round_of x) && rules.certified x certificate)
 
 -- each signer who is accused is suspect in its round, and the round is suspect
 abbrev pub AreSuspect : {S D C P G : Type 0} → Rules S D C P G → List (Activity S D C P G) → Suspected → Type 0
