@@ -1,4 +1,4 @@
--- What a report says of the messages of its stream.
+-- What a report states of the messages of its stream.
 use Rattle.std.proofs.Common.{ℕ, List, ◌++◌, map, subst, sym, Result, Ok, Err, IfOk}
 use Rattle.std.specs.Prelude.{All, IsTrue}
 use Rattle.simplex_base.specs.Format.{Format, IsLawful}
@@ -26,7 +26,7 @@ pub if_ok : {X E : Type 0} (Given Wanted : X → Type 0) → ((x : X) → Given 
 if_ok Given Wanted f (Ok x) h = f x h
 if_ok Given Wanted f (Err e) h = tt
 
--- what follows from what two clauses say of a result
+-- what follows from two clauses on a result
 pub if_both : {X E : Type 0} (Given Also Wanted : X → Type 0) → ((x : X) → Given x → Also x → Wanted x) → (r : Result X E) → IfOk r Given → IfOk r Also → IfOk r Wanted
 if_both Given Also Wanted f (Ok x) h k = f x h k
 if_both Given Also Wanted f (Err e) h k = tt
@@ -43,14 +43,14 @@ pub report_splits : {S D C P G : Type 0} (basis : Basis S D C P G) → IsLawful 
 report_splits basis law stream report is messages rest are =
     subst (λ ms. AreSplits basis.rules ms report.splits.items) (messages_once basis.format law stream is.rest rest is.messages messages is.are_messages are).0 is.splits_are
 
--- who is accused stays accused in the stream with anything appended
+-- an accused signer stays accused in the stream with anything appended
 pub accused_stay : {S D C P G : Type 0} (format : Format (Activity S D C P G)) (rules : Rules S D C P G) → IsLawful format → (stream more rest left : List ℕ) (messages later : List (Activity S D C P G)) → AccusedStay rules messages → AreMessages format stream messages rest → AreMessages format (stream ++ more) later left →
     (n : Accusation) → IsTrue (is_accused rules.eq (valid_votes rules messages) n) → IsTrue (is_accused rules.eq (valid_votes rules later) n)
 accused_stay format rules law stream more rest left messages later stay are are' n h =
     let c = messages_continue format law stream more rest left messages later are are' in
     subst (λ ms. IsTrue (is_accused rules.eq (valid_votes rules ms) n)) (sym c.same) (stay c.further n h)
 
--- what holds of any messages by these rules
+-- the laws of any messages under these rules
 pub record Laws {S D C P G : Type 0} (rules : Rules S D C P G) : Type 0 where
   pub any_order : (messages : List (Activity S D C P G)) → ReorderingAccusesSame rules messages
   pub later : (messages : List (Activity S D C P G)) → AccusedStay rules messages

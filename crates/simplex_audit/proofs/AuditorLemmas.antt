@@ -32,7 +32,7 @@ recalls_on rules ms ks old mid new keep next before held = subst (λ xs. Recalls
 
 -- ---- from piece to piece
 
--- of the empty stream nothing is read
+-- nothing is read of the empty stream
 pub nothing_read : {M : Type 0} (format : Format M) (Recorded : List M → Type 0) (rest : List ℕ) → rest ≡ [] → IsNeverEmpty format → Recorded [] → IsProgress format Recorded [] rest 0 None
 nothing_read format Recorded rest none some recorded = record {
   messages = [];
@@ -63,7 +63,7 @@ read_at_once format rules stream left more stop old new none after = record {
   recorded = after.recorded [] none;
 }
 
--- what stands for a stream holds it
+-- an auditor that stands for a stream holds it
 pub stands_holds : {S D C P G : Type 0} (basis : Schedule S → Basis S D C P G) (committees : Schedule S) (auditor : Auditor S D P G) (stream : List ℕ) → Stands basis committees auditor stream → Holds basis committees auditor stream
 stands_holds basis committees auditor stream h = record {
   fed = h.fed;
@@ -76,7 +76,7 @@ stands_holds basis committees auditor stream h = record {
   progress = h.progress;
 }
 
--- an auditor that takes a piece and does not look at it holds the stream with the piece behind it
+-- an auditor that takes a piece and does not look at it holds the stream with the piece appended
 pub holds_more : {S D C P G : Type 0} (basis : Schedule S → Basis S D C P G) (old next : Auditor S D P G) (piece : List ℕ) →
     next.committees ≡ old.committees → next.bound ≡ old.bound → next.detector ≡ old.detector → next.taken.fed ≡ old.taken.fed + length piece → next.taken.read ≡ old.taken.read → next.taken.rest.items ≡ old.taken.rest.items ++ piece →
     (committees : Schedule S) (stream : List ℕ) → Holds basis committees old stream → Holds basis committees next (stream ++ piece)
@@ -100,8 +100,8 @@ holds_more {S} {D} {C} {P} {G} basis old next piece same bound detector fed read
           (subst (λ (n : ℕ). IsProgress (basis committees).format (recorded old.detector) h.front h.rest n h.stop) (sym read) h.progress);
     }
 
--- an auditor that looks for messages in the bytes that it holds, with a piece behind them, stands for the stream with the
--- piece behind it
+-- an auditor that looks for messages in the bytes that it holds, with a piece appended, stands for the stream with the piece
+-- appended
 pub stands_after : {S D C P G : Type 0} (basis : Schedule S → Basis S D C P G) (old next : Auditor S D P G) (piece bytes left : List ℕ) (more : ℕ) (stop : Option Error) →
     next.committees ≡ old.committees → next.bound ≡ old.bound → next.taken.fed ≡ old.taken.fed + length piece → next.taken.read ≡ old.taken.read + more → next.taken.stop ≡ stop → next.taken.rest.items ≡ left → bytes ≡ old.taken.rest.items ++ piece →
     (old.bound ≡ (basis old.committees.now).bound → IsProgress (basis old.committees.now).format (λ ms. RecallsMore (basis old.committees.now).rules ms old.detector next.detector) bytes left more stop) →
@@ -127,7 +127,7 @@ stands_after {S} {D} {C} {P} {G} basis old next piece bytes left more stop same 
           (subst (λ (xs : List ℕ). IsProgress (basis committees).format recorded xs left (old.taken.read + more) stop) whole all)));
     }
 
--- the same with no piece behind them
+-- an auditor that stands for a stream with nothing appended stands for the stream
 pub stands_now : {S D C P G : Type 0} (basis : Schedule S → Basis S D C P G) (committees : Schedule S) (auditor : Auditor S D P G) (stream : List ℕ) → Stands basis committees auditor (stream ++ []) → Stands basis committees auditor stream
 stands_now basis committees auditor stream h = subst (λ (xs : List ℕ). Stands basis committees auditor xs) (append-nil stream) h
 
@@ -147,7 +147,7 @@ stands_reported {S} basis auditor place report at is committees stream h =
     let here : reported auditor.committees.now = λ some read. is stream auditor.taken.rest.items some (at ∙ h.fed.fed_is) read in
     subst reported h.fed.committees_are here (record { members = h.fed.lawful.members; someone = h.fed.lawful.someone }) h.progress
 
--- and all that an audit says holds of it, where its evidence can be encoded
+-- and all that an audit states holds of it, where its evidence can be encoded
 pub stands_audited : {S D C P G : Type 0} (basis : Schedule S → Basis S D C P G) (auditor : Auditor S D P G) (report : Report S D P G) →
     ((committees : Schedule S) → IsNeverEmpty (basis committees).format) → ((committees : Schedule S) → Laws (basis committees).rules) →
     ((committees : Schedule S) (stream : List ℕ) → Stands basis committees auditor stream → IsReport (basis committees) stream report) →

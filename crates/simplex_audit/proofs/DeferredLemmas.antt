@@ -21,11 +21,11 @@ no_items [] h = refl
 no_items (x ∷ xs) h = absurd (omega (arith, h))
 
 module _ {S D C P G : Type 0} (bound : ℕ) (format : Format (Activity S D C P G)) where
-  -- what an audit goes by with some rules
+  -- the basis of an audit with some rules
   abbrev pub by : Rules S D C P G → Basis S D C P G
   by rules = record { bound = bound; format = format; rules = rules }
 
-  -- where nobody is claimed to contradict, the report of the claims is that of the stream
+  -- where there is no claimed evidence, the report of the claims is that of the stream
   pub nobody_reported : (rules claims : Rules S D C P G) (stream : List ℕ) (report : Report S D P G) → length report.evidence.items ≡ 0 →
       ((messages : List (Activity S D C P G)) (splits : List Split) → IsEvidence claims.eq (valid_votes claims messages) [] → AreSplits claims messages splits → IsEvidence rules.eq (valid_votes rules messages) [] × AreSplits rules messages splits) →
       IsReport (by claims) stream report → IsReport (by rules) stream report
@@ -58,7 +58,7 @@ module _ {S D C P G : Type 0} (bound : ℕ) (format : Format (Activity S D C P G
         splits_are = both.1;
       }
 
--- a report has no part of what is signed by others than suspects
+-- a report depends on the votes of suspects and the certificates of suspect rounds alone
 pub needs_suspects : {S D C P G : Type 0} (basis : Basis S D C P G) → IsLawful basis.format → ((messages : List (Activity S D C P G)) → SuspectsSuffice basis.rules messages) →
     (stream : List ℕ) (report : Report S D P G) → IsReport basis stream report → NeedsSuspectsAlone basis stream report
 needs_suspects basis law suffice stream report is messages rest are good certified alike =

@@ -19,7 +19,7 @@ fault_told : {M : Type 0} (reading : List ℕ → Reading M) (rest : List ℕ) (
 fault_told reading rest place None h = h
 fault_told reading rest place (Some e) h = (h.0, refl, h.1)
 
--- the fault at the place where the rest begins is the stream's
+-- the fault at the place where the undecoded tail begins is the stream's
 pub fault_is : {M : Type 0} (format : Format M) (stream rest : List ℕ) (messages : List M) (place : ℕ) (stop : Option Error) (fault : Option Fault) → AreMessages format stream messages rest → place + length rest ≡ length stream → IsStop format.reading rest stop → fault ≡ fault_of place stop → IsFault format.reading (length (flat_map format.encoding messages)) rest fault
 fault_is format stream rest messages place stop fault are at h same =
     let len = ap length are.whole in

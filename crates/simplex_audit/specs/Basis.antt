@@ -1,4 +1,4 @@
--- What an audit goes by.
+-- The basis of an audit.
 use Rattle.std.specs.Prelude.{ℕ, Bool, List}
 use Rattle.simplex_base.specs.Format.{Format, Readable, format_under}
 use Rattle.simplex_scheme.specs.Subject.{SubjectValue}
@@ -7,17 +7,17 @@ use Rattle.simplex_evidence.specs.declared.types.activity.Activity.{Activity}
 use Rattle.simplex_detector.specs.Committees.{Schedule, bound_of, rules_of}
 use Rattle.simplex_detector.specs.Rules.{Rules}
 
--- How messages are read, and what they are judged by. S, P and G are the types of the scheme, its keys and its
+-- How messages are read, and the rules by which they are judged. S, P and G are the types of the scheme, its keys and its
 -- signatures, C that of its certificates, and D that of payloads.
 pub record Basis (S D C P G : Type 0) : Type 1 where
   -- the number of participants of the greatest committee, under which certificates are read
   pub bound : ℕ
   -- how messages are encoded and read
   pub format : Format (Activity S D C P G)
-  -- whose votes and which certificates are valid, each by the committee of its round's epoch
+  -- which votes are valid and which certificates certify, each judged by the committee of its round's epoch
   pub rules : Rules S D C P G
 
--- what an audit goes by under committees
+-- the basis of an audit under committees
 abbrev pub basis_of : {S D C P G : Type 0} → Readable ℕ (Activity S D C P G) → (D → D → Bool) → (S → List P) → (S → SubjectValue D → ℕ → G → Bool) → (S → SubjectValue D → C → Bool) → (C → List (Attestation S P G)) → Schedule S → Basis S D C P G
 basis_of message eq keys good certified listed committees = record {
   bound = bound_of keys committees;

@@ -28,21 +28,21 @@ module _ {S D C P G : Type 0} (basis : Basis S D C P G) (stream : List ℕ) wher
       AreMessages basis.format stream messages rest → AreMessages basis.format stream others left → (messages ≡ others) × (rest ≡ left)
 
 module _ {S D C P G : Type 0} (basis : Basis S D C P G) where
-  -- who is accused by messages does not depend on their order
+  -- which signers messages accuse does not depend on the order of the messages
   abbrev pub AccusedInAnyOrder : Type 0
   AccusedInAnyOrder = (messages : List (Activity S D C P G)) → ReorderingAccusesSame basis.rules messages
 
-  -- who is accused by the stream's messages stays accused, with any bytes behind
+  -- a signer whom the stream's messages accuse stays accused when any bytes are appended
   abbrev pub AccusedStayWithMore : List ℕ → Type 0
   AccusedStayWithMore stream = (more : List ℕ) (n : Accusation) → OfMessages basis stream (λ messages. OfMessages basis (stream ++ more) (λ later.
       IsTrue (is_accused basis.rules.eq (valid_votes basis.rules messages) n) → IsTrue (is_accused basis.rules.eq (valid_votes basis.rules later) n)))
 
-  -- two certified messages of a round that contradict accuse at least f + 1 signers there, of whom f may lie in the
+  -- two certified messages of a round that contradict accuse at least f + 1 signers there, f being the fault bound of the
   -- committee of the round's epoch
   abbrev pub ConflictsAccuseEnough : List ℕ → Type 0
   ConflictsAccuseEnough stream = OfMessages basis stream (EnoughAreAccused basis.rules)
 
-  -- who signed in the certificates of both is accused there
+  -- every signer of both certificates is accused there
   abbrev pub SignersOfBothAreAccused : List ℕ → Type 0
   SignersOfBothAreAccused stream = OfMessages basis stream (SignersAreAccountable basis.rules)
 
@@ -62,7 +62,7 @@ module _ {S D C P G : Type 0} (basis : Basis S D C P G) (stream : List ℕ) (rep
   HasNoOtherEvidence = OfMessages basis stream (λ messages. EvidenceIsUnique basis.rules.eq (valid_votes basis.rules messages) (evidence_in report))
 
   -- the splits are the rounds with two certified messages that contradict, in order, each once with the number of signers
-  -- accused there and that f + 1, and no other list is
+  -- accused there and f + 1, which is no more, and the list is unique
   pub record ShowsSplits : Type 0 where
     pub are_splits : OfMessages basis stream (λ messages. AreSplits basis.rules messages report.splits.items)
     pub only : OfMessages basis stream (λ messages. SplitsAreUnique basis.rules messages report.splits.items)
@@ -74,9 +74,8 @@ pub record ReadsAgain {S D C P G : Type 0} (basis : Basis S D C P G) (report : R
   pub stream : AreMessages basis.format (flat_map basis.format.encoding (as_messages report)) (as_messages report) []
   pub evidence : IsEvidence basis.rules.eq (valid_votes basis.rules (as_messages report)) (evidence_in report)
 
--- The report is that of an audit of the stream: all that an audit says of a stream, and of its report. The evidence accuses
--- exactly who cast two valid votes that contradict, each by two such votes, and the splits are the rounds with certified messages
--- that contradict.
+-- All that an audit states of a stream and of its report. The evidence accuses exactly the signers of two valid votes that
+-- contradict, each by two such votes, and the splits are the rounds with certified messages that contradict.
 pub record IsAudit {S D C P G : Type 0} (basis : Basis S D C P G) (stream : List ℕ) (report : Report S D P G) : Type 0 where
   pub report_is : IsReport basis stream report
   pub single : HasOneReading basis stream

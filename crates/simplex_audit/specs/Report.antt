@@ -15,7 +15,7 @@ use Rattle.simplex_audit.specs.declared.audit.Report.{Report}
 abbrev pub evidence_in : {S D P G : Type 0} → Report S D P G → List (Equivocation D G)
 evidence_in report = map evidence_value report.evidence.items
 
--- the same as messages
+-- the evidence of a report as messages
 abbrev pub as_messages : {S D C P G : Type 0} → Report S D P G → List (Activity S D C P G)
 as_messages report = map activity_of report.evidence.items
 

@@ -30,9 +30,9 @@ use std::alloc::{AllocError, Global};
 /// Where a stream stops being messages.
 #[derive(Clone, Copy, Debug, PartialEq, Eq)]
 pub struct Fault {
-    /// The byte at which the first thing that is no message begins.
+    /// The 0-based offset of the first byte after the last whole message, where no message can be read.
     pub place: usize,
-    /// What reading a message there returns; never `OutOfMemory`.
+    /// The error of reading a message there; never `OutOfMemory`.
     pub error: Error,
 }
 
@@ -59,11 +59,11 @@ pub struct Report<S: SchemeTypes, D: Digest> {
     pub fault: Option<Fault>,
 }
 
-/// Reads a stream of messages, one after another, under the bound of the greatest committee until its end or the
-/// first fault, and accuses exactly the signers, rounds and kinds with two contradictory votes that verify
-/// there, each once with the earliest such votes. A vote or a certificate is judged by the committee of its epoch, and
-/// none is valid without one. Beside them it reports the rounds whose certificates contradict. Nothing is assumed of the
-/// bytes. `AllocError` is returned only after an allocation failed, and then there is no report.
+/// Reads a stream of messages, one after another, up to its end or first fault, under the bound of the greatest
+/// committee. The report accuses exactly the signers, rounds and kinds with two valid votes that contradict, each once with
+/// the earliest such votes, and lists the rounds whose certificates verify and contradict. A vote or a certificate is
+/// judged by the committee of its epoch; without a committee none is valid. Nothing is assumed of the bytes.
+/// `AllocError` is returned only after an allocation failed, and then there is no report.
 pub fn audit<S: Listing<D>, D: Digest>(
     alloc: Global,
     committees: &Committees<S>,
@@ -73,9 +73,9 @@ pub fn audit<S: Listing<D>, D: Digest>(
     // splits are theirs.
     ensures report { IfOk result (λ report.
         IsReport (⟦<S as Audited<D>>⟧.basis committees.now) stream.now report) }
-    // A stream has one list of messages.
+    // The stream has exactly one list of messages.
     ensures single { HasOneReading (⟦<S as Audited<D>>⟧.basis committees.now) stream.now }
-    // The evidence accuses exactly the signers, rounds and kinds with two valid votes that contradict, and no other.
+    // The evidence accuses exactly the signers, rounds and kinds with two valid votes that contradict.
     ensures names { IfOk result (λ report.
         AccusesExactlyThem (⟦<S as Audited<D>>⟧.basis committees.now) stream.now report) }
     // Each evidence is two of the stream's valid votes, which contradict.
@@ -86,22 +86,22 @@ pub fn audit<S: Listing<D>, D: Digest>(
         HasNoOtherEvidence (⟦<S as Audited<D>>⟧.basis committees.now) stream.now report) }
     // Who is accused does not depend on the order of the messages.
     ensures any_order { AccusedInAnyOrder (⟦<S as Audited<D>>⟧.basis committees.now) }
-    // Who is accused stays accused, with any bytes behind.
+    // An accused signer stays accused when any bytes are appended.
     ensures stays { AccusedStayWithMore (⟦<S as Audited<D>>⟧.basis committees.now) stream.now }
-    // Two certified messages of a round that contradict accuse at least f + 1 signers there, f of its epoch's committee.
+    // Two certified messages of a round that contradict accuse at least f + 1 signers there, f being the fault bound of the
+    // epoch's committee.
     ensures enough { ConflictsAccuseEnough (⟦<S as Audited<D>>⟧.basis committees.now) stream.now }
-    // The splits are the rounds with such messages, each once with the number of who is accused there and that f + 1,
-    // and no other.
+    // The splits are exactly the rounds with such messages, each once with the number of signers accused there and f + 1.
     ensures splits { IfOk result (λ report.
         ShowsSplits (⟦<S as Audited<D>>⟧.basis committees.now) stream.now report) }
     // Every signer of both certificates is accused.
     ensures accountable { SignersOfBothAreAccused (⟦<S as Audited<D>>⟧.basis committees.now)
         stream.now }
-    // The evidence is enough: encoded as messages and audited again, it gives itself in the same order.
+    // Encoded as messages and audited again, the evidence yields the same evidence in the same order.
     ensures again { IfOk result (λ report.
         ReadsAgain (⟦<S as Audited<D>>⟧.basis committees.now) report) }
 {
-    // What holds of any messages.
+    // Laws of any messages.
     accused_stay::<S, D>();
     evidence_is_determined::<S, D>();
     certificates_are_accountable::<S, D>();
@@ -110,38 +110,39 @@ pub fn audit<S: Listing<D>, D: Digest>(
 }
 
 /// Returns the report that [`audit`] returns, with fewer signatures verified. A signer of a committee is suspect in a round
-/// where two votes contradict that claim to be that signer's. A vote outside certificates is verified only where its signer is
+/// where two votes that claim to be that signer's contradict. A vote outside certificates is verified only where its signer is
 /// suspect in its round, and a certificate only where somebody is suspect in its round; a vote that such a certificate lists is
 /// verified where its signer is suspect and the certificate was not found to certify. Where nobody is suspect, the stream is
 /// read once and nothing is verified; otherwise it is read twice. The first reading records votes with invalid signatures too,
 /// so memory is bounded by the stream and not by the committees alone. That suits a stored stream or a batch of bounded size;
-/// for an endless stream of strangers there is [`Auditor`]. `AllocError` is returned only after an allocation failed, and then
-/// there is no report.
+/// for an endless stream from untrusted senders use [`Auditor`]. `AllocError` is returned only after an allocation failed, and
+/// then there is no report.
 pub fn audit_deferred<S: Listing<D>, D: Digest>(
     alloc: Global,
     committees: &Committees<S>,
     stream: &[u8],
 ) -> Result<Report<S, D>, AllocError>
-    // All that `audit` says of a stream and of its report.
+    // All that `audit` states of a stream and of its report.
     ensures audit { IfOk result (λ report.
         IsAudit (⟦<S as Audited<D>>⟧.basis committees.now) stream.now report) }
-    // No vote of a signer who is not suspect in its round has a part in it, and no certificate outside suspect rounds.
+    // The report depends on no vote of a signer who is not suspect in its round, and on no certificate outside suspect rounds.
     ensures suspects { IfOk result (λ report.
         NeedsSuspectsAlone (⟦<S as Audited<D>>⟧.basis committees.now) stream.now report) }
-    // Each stream has one list of messages.
+    // Each stream has exactly one list of messages.
     ensures single { (other : List ℕ) →
         HasOneReading (⟦<S as Audited<D>>⟧.basis committees.now) other }
     // Who is accused does not depend on the order of the messages.
     ensures any_order { AccusedInAnyOrder (⟦<S as Audited<D>>⟧.basis committees.now) }
-    // Who is accused stays accused, with any bytes behind.
+    // An accused signer stays accused when any bytes are appended.
     ensures stays { AccusedStayWithMore (⟦<S as Audited<D>>⟧.basis committees.now) stream.now }
-    // Two certified messages of a round that contradict accuse at least f + 1 signers there, f of its epoch's committee.
+    // Two certified messages of a round that contradict accuse at least f + 1 signers there, f being the fault bound of the
+    // epoch's committee.
     ensures enough { ConflictsAccuseEnough (⟦<S as Audited<D>>⟧.basis committees.now) stream.now }
     // Every signer of both certificates is accused.
     ensures accountable { SignersOfBothAreAccused (⟦<S as Audited<D>>⟧.basis committees.now)
         stream.now }
 {
-    // What holds of any messages.
+    // Laws of any messages.
     accused_stay::<S, D>();
     evidence_is_determined::<S, D>();
     certificates_are_accountable::<S, D>();
@@ -150,7 +151,7 @@ pub fn audit_deferred<S: Listing<D>, D: Digest>(
     audit_suspects(alloc, committees, stream)
 }
 
-/// The report of a stream, of which only the votes of suspects and the certificates of their rounds are verified.
+/// The report of a stream, verifying only the votes of suspects and the certificates of their rounds.
 fn audit_suspects<S: Listing<D>, D: Digest>(
     alloc: Global,
     committees: &Committees<S>,

@@ -23,9 +23,9 @@ use simplex_detector::laws::{
 use simplex_scheme::scheme::{Digest, Listing, SchemeTypes};
 use std::alloc::{AllocError, Global};
 
-/// Audits a stream that comes in pieces. It holds the bytes after the last whole message, and of each signer in a round at
-/// most the five votes that its evidence can be made of, and of each round the first certified subject of each sort until two
-/// contradict, but not the stream.
+/// Audits a stream that comes in pieces. It holds the bytes after the last whole message, at most five votes of each signer in
+/// a round, those that evidence can consist of, and for each round the first certified subject of each sort until two
+/// contradict. It does not hold the stream.
 #[derive(Drop)]
 pub struct Auditor<'a, S: SchemeTypes, D: Digest> {
     committees: &'a Committees<S>,
@@ -39,13 +39,13 @@ pub struct Auditor<'a, S: SchemeTypes, D: Digest> {
 struct Taken {
     /// The bytes after its last whole message.
     rest: Vec<u8>,
-    /// How many of them were there when messages were last looked for.
+    /// How many such bytes there were after messages were last looked for.
     tried: usize,
-    /// The number of its bytes.
+    /// The number of the stream's bytes.
     fed: usize,
-    /// The number of its messages.
+    /// The number of the stream's messages.
     read: usize,
-    /// What reading a message at the start of the undecoded tail returns, if anything is left.
+    /// The error of reading a message at the start of the undecoded tail, if anything is left.
     stop: Option<Error>,
     ghost room: { read + vec_len rest ≤ fed },
 }
@@ -53,7 +53,7 @@ struct Taken {
 impl<'a, S: Listing<D>, D: Digest> Auditor<'a, S, D> {
     ghost use Rattle.simplex_audit.specs.Auditor.{Stands, Holds, fed_of};
 
-    /// The auditor of these committees that was fed nothing.
+    /// An auditor of these committees that was fed nothing.
     pub fn new(alloc: Global, committees: &'a Committees<S>) -> Self
         ensures fed { fed_of result ≡ 0 }
         ensures stands { Stands ⟦<S as Audited<D>>⟧.basis committees.now result [] }
@@ -72,7 +72,7 @@ impl<'a, S: Listing<D>, D: Digest> Auditor<'a, S, D> {
         }
     }
 
-    /// The auditor of the stream with this piece behind it. `AllocError` is returned only after an allocation failed, and then
+    /// The auditor of the stream with this piece appended. `AllocError` is returned only after an allocation failed, and then
     /// there is no auditor.
     pub fn feed(self, piece: &[u8]) -> Result<Self, AllocError>
         requires { fed_of self + length piece.now < 2 ^ 64 }
@@ -87,8 +87,8 @@ impl<'a, S: Listing<D>, D: Digest> Auditor<'a, S, D> {
         self.hold(piece)?.read_rest()
     }
 
-    /// The same, but that it may put off looking for messages until it holds twice as many bytes as when it last did. So the
-    /// bytes of a long message that comes in short pieces are looked at a bounded number of times.
+    /// As `feed`, except that it may put off looking for messages until it holds twice as many bytes as when it last looked. So
+    /// the bytes of a long message that comes in short pieces are on average looked at a bounded number of times.
     pub(crate) fn take(self, piece: &[u8]) -> Result<Self, AllocError>
         requires { fed_of self + length piece.now < 2 ^ 64 }
         ensures fed { IfOk result (λ next. fed_of next ≡ fed_of self.entry + length piece.now) }
@@ -106,7 +106,7 @@ impl<'a, S: Listing<D>, D: Digest> Auditor<'a, S, D> {
         next.read_rest()
     }
 
-    /// Looks for messages where they stand in the piece, and holds a copy of the bytes after the last.
+    /// Reads the messages of the piece in place, and holds a copy of the bytes after the last.
     fn read_piece(self, piece: &[u8]) -> Result<Self, AllocError>
         requires empty { self.taken.rest.items ≡ [] }
         requires fits { fed_of self + length piece.now < 2 ^ 64 }
@@ -146,7 +146,7 @@ impl<'a, S: Listing<D>, D: Digest> Auditor<'a, S, D> {
         })
     }
 
-    /// Holds the piece behind the undecoded tail, and looks for no messages.
+    /// Appends the piece to the undecoded tail, and looks for no messages.
     fn hold(self, piece: &[u8]) -> Result<Self, AllocError>
         requires { fed_of self + length piece.now < 2 ^ 64 }
         ensures fed { IfOk result (λ next. fed_of next ≡ fed_of self.entry + length piece.now) }
@@ -182,7 +182,7 @@ impl<'a, S: Listing<D>, D: Digest> Auditor<'a, S, D> {
         })
     }
 
-    /// Looks for messages in the bytes that it holds, and drops them.
+    /// Reads the messages in the bytes that it holds, and drops the bytes of these messages.
     pub(crate) fn read_rest(self) -> Result<Self, AllocError>
         ensures fed { IfOk result (λ next. fed_of next ≡ fed_of self.entry) }
         ensures stands { IfOk result (λ next. (committees : Schedule S) (stream : List ℕ) →
@@ -228,13 +228,13 @@ impl<'a, S: Listing<D>, D: Digest> Auditor<'a, S, D> {
         })
     }
 
-    /// What the audit of the stream finds.
+    /// The report of the stream so far. `AllocError` is returned only after an allocation failed.
     pub fn report(&self) -> Result<Report<S, D>, AllocError>
-        // All that `audit` says of a stream and of its report holds of each stream that the auditor stands for.
+        // All that `audit` states of a stream and of its report holds of each stream that the auditor stands for.
         ensures audit { IfOk result (λ report. (committees : Schedule S) (stream : List ℕ) →
             Stands ⟦<S as Audited<D>>⟧.basis committees self.now stream →
             IsAudit (⟦<S as Audited<D>>⟧.basis committees) stream report) }
-        // Each stream has one list of messages.
+        // Each stream has exactly one list of messages.
         ensures single { (committees : Schedule S) (stream other : List ℕ) →
             Stands ⟦<S as Audited<D>>⟧.basis committees self.now stream →
             HasOneReading (⟦<S as Audited<D>>⟧.basis committees) other }
@@ -276,9 +276,9 @@ impl<'a, S: Listing<D>, D: Digest> Auditor<'a, S, D> {
         self.taken.rest.as_slice()
     }
 
-    /// How many votes are recorded, of the valid ones in the stream's messages: of each signer in a round the earliest of each
-    /// sort, and of notarizes and finalizes also the earliest with another proposal, so at most five. The number stops at
-    /// 2^64 - 1, which it can reach only where certificates list more attestations than they have bytes.
+    /// How many valid votes of the stream's messages are recorded: for each signer and round the earliest of each sort, and of
+    /// notarizes and finalizes also the earliest with another proposal, so at most five. The number stops at 2^64 - 1, which it
+    /// can reach only where certificates list more attestations than they have bytes.
     pub fn votes(&self) -> usize
         ensures number { (committees : Schedule S) (stream : List ℕ)
             (messages : List (Activity S D S.Certificate S.PublicKey S.Signature)) (rest : List ℕ) →
@@ -286,7 +286,7 @@ impl<'a, S: Listing<D>, D: Digest> Auditor<'a, S, D> {
             AreMessages (⟦<S as Audited<D>>⟧.basis committees).format stream messages rest →
             result ≡ min (votes_recorded D.eq
             (valid_votes (⟦<S as Audited<D>>⟧.basis committees).rules messages)) (2 ^ 64 - 1) }
-        // It does not stop where no certificate lists more attestations than its encoding has bytes.
+        // It is exact where no certificate lists more attestations than its encoding has bytes.
         ensures exact { ((certificate : S.Certificate) →
             length (S.listed certificate) ≤ length (S.Certificate.encoding certificate)) →
             (committees : Schedule S) (stream : List ℕ)
@@ -295,12 +295,12 @@ impl<'a, S: Listing<D>, D: Digest> Auditor<'a, S, D> {
             AreMessages (⟦<S as Audited<D>>⟧.basis committees).format stream messages rest →
             result ≡ votes_recorded D.eq
             (valid_votes (⟦<S as Audited<D>>⟧.basis committees).rules messages) }
-        // They are the earliest of each sort and the earliest with another proposal,
+        // The recorded votes are the earliest of each sort and the earliest with another proposal,
         ensures slots { (committees : Schedule S)
             (messages : List (Activity S D S.Certificate S.PublicKey S.Signature)) →
             RecordedAreSlots D.eq (valid_votes (⟦<S as Audited<D>>⟧.basis committees).rules
             messages) }
-        // of a signer in a round at most five.
+        // at most five of a signer in a round.
         ensures few { (committees : Schedule S)
             (messages : List (Activity S D S.Certificate S.PublicKey S.Signature)) →
             FewAreRecorded D.eq (valid_votes (⟦<S as Audited<D>>⟧.basis committees).rules
@@ -313,7 +313,7 @@ impl<'a, S: Listing<D>, D: Digest> Auditor<'a, S, D> {
     }
 }
 
-/// A count of bytes is below 2^64.
+/// A `usize` is below 2^64.
 fn counts_are_few(count: usize)
     ensures { count < 2 ^ 64 }
 {}

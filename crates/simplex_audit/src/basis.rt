@@ -1,4 +1,4 @@
-//! What an audit goes by, for contracts alone.
+//! The basis of an audit, for contracts alone.
 
 ghost use Rattle.simplex_audit.specs.Basis.{Basis, basis_of};
 ghost use Rattle.simplex_audit.specs.Deferred.{basis_under};
@@ -12,7 +12,7 @@ use simplex_scheme::scheme::{Digest, Listing};
 /// A scheme whose committees judge the messages of streams. Every scheme that lists attestations is one; there is
 /// nothing to implement or to call.
 pub trait Audited<D: Digest>: Listing<D> {
-    /// How messages are read under committees, and what they are judged by.
+    /// How messages are read under committees, and the rules by which they are judged.
     ghost basis: { Schedule Self → Basis Self D Self.Certificate Self.PublicKey Self.Signature };
 
     /// The same, where votes and certificates are judged as strictly as a `Judging` says.

@@ -15,7 +15,7 @@ use simplex_detector::detector::Detector;
 use simplex_scheme::scheme::{Digest, Listing};
 use std::alloc::{AllocError, Global};
 
-/// The report of a number of messages, of the state that they left, and of why no other follows at a place.
+/// The report, from the number of messages, the state after them, and the reason why no other follows at a place.
 pub fn make_report<S: Listing<D>, D: Digest>(
     alloc: Global,
     committees: &Committees<S>,

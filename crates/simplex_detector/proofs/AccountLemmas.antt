@@ -8,7 +8,7 @@ use Rattle.simplex_evidence.specs.declared.types.activity.Activity.TheVariants a
 
 -- ---- distinct numbers
 
--- a number that a list has not is apart from each of its numbers
+-- a number that is not in a list differs from each number in it
 apart : (x : ℕ) (ys : List ℕ) → is_member nat_eq ys x ≡ false → AllByRecursion (λ y. nat_eq x y ≡ false) ys
 apart x [] h = tt
 apart x (y ∷ ys) h = let p = or_parts (nat_eq x y) (list_any (nat_eq x) ys) h in (p.0, apart x ys p.1)
@@ -25,7 +25,7 @@ IsDistinct-filter p (x ∷ xs) d =
       | false ↦ IsDistinct-filter p xs d.1
     ]
 
--- two lists of distinct numbers, none in both
+-- two lists of distinct numbers, none in both, are distinct when joined
 IsDistinct-append : (xs ys : List ℕ) → IsDistinct nat_eq xs → IsDistinct nat_eq ys → AllByRecursion (λ x. is_member nat_eq ys x ≡ false) xs → IsDistinct nat_eq (xs ++ ys)
 unfolding IsDistinct
 IsDistinct-append [] ys d e none = e
@@ -38,7 +38,7 @@ IsDistinct-append (x ∷ xs) ys d e none = (
 abbrev shared : List ℕ → List ℕ → List ℕ
 shared xs ys = filter (is_member nat_eq ys) xs
 
--- two lists of distinct numbers below n share what they have beyond n
+-- two lists of distinct numbers below n share at least as many as they have beyond n
 shared_count : (n : ℕ) (xs ys : List ℕ) → IsDistinct nat_eq xs → IsDistinct nat_eq ys → All (λ x. x < n) xs → All (λ y. y < n) ys → length xs + length ys ≤ n + length (shared xs ys)
 shared_count n xs ys d e below under =
     let other : ℕ → Bool = λ x. not (is_member nat_eq ys x) in
@@ -74,7 +74,7 @@ distinct_count-same xs ys to from =
     let at_most : (xs ys : List ℕ) → ((q : ℕ) → Contains xs q → Contains ys q) → distinct_count nat_eq xs ≤ distinct_count nat_eq ys = λ xs ys to. distinct_count-at_least (unique_keys nat_eq xs) ys (IsDistinct-unique_keys xs) (λ q h. to q (Contains-from_member xs q (sym (is_member-unique_keys xs q) ∙ list_any-from_Contains nat_eq_equiv q _ h))) in
     omega (arith, at_most xs ys to, at_most ys xs from)
 
--- and no more than a bound that all are below
+-- and at most n where all are below n
 pub distinct_count-below : (n : ℕ) (xs : List ℕ) → ((q : ℕ) → Contains xs q → q < n) → distinct_count nat_eq xs ≤ n
 distinct_count-below n xs below = length-le_from_distinct_below (unique_keys nat_eq xs) n (IsDistinct-unique_keys xs) (λ q h. below q (Contains-from_member xs q (sym (is_member-unique_keys xs q) ∙ h)))
 
@@ -102,7 +102,7 @@ module _ {D G : Type 0} (eq : D → D → Bool) (vs : List (SignedVote D G)) (ro
       let (v, w, v_in, w_in, of_v, against) = votes_from_accused eq vs (record { round = round; signer = signer; kind = kind }) e in
       Contains-filter (is_accused_in eq vs round) _ signer (subst (Contains (map (λ v. v.signer) vs)) ((is_of-true round signer v of_v).1) (Contains-map (λ v. v.signer) vs v v_in)) h
 
--- whose two votes of a round exclude each other is accused there
+-- a signer whose two votes of a round exclude each other is accused there
 accused_from_excludes : {D G : Type 0} (eq : D → D → Bool) (vs : List (SignedVote D G)) (round : Round) (q : ℕ) (v w : SignedVote D G) → Contains vs v → Contains vs w → is_of round q v ≡ true → is_of round q w ≡ true → excludes eq v.subject w.subject ≡ true → is_accused_in eq vs round q ≡ true
 accused_from_excludes {D} {G} eq vs round q v w v_in w_in v_of w_of h =
     let (kind, against) = kind_from_excludes eq v.subject w.subject h in
@@ -115,7 +115,7 @@ accused_from_excludes {D} {G} eq vs round q v w v_in w_in v_of w_of h =
 
 -- ---- what a message certifies
 
--- the subject of its certificate is of its round, and its votes are those that the certificate lists
+-- the subject of a message's certificate is of its round, and its votes are those that the certificate lists
 pub certificate_parts : {S D C P G : Type 0} (listed : C → List (Attestation S P G)) (m : Activity S D C P G) (s : SubjectValue D × C) → subject_and_certificate m ≡ Some s → (activity_round m ≡ round_of s.0) × (votes_in listed m ≡ map (vote_on s.0) (listed s.1))
 certificate_parts listed (activity.Notarization n) s h = let e = same_Some _ s h in (ap (λ x. round_of x.0) e, ap (λ x. map (vote_on x.0) (listed x.1)) e)
 certificate_parts listed (activity.Certification n) s h = let e = same_Some _ s h in (ap (λ x. round_of x.0) e, ap (λ x. map (vote_on x.0) (listed x.1)) e)
@@ -123,7 +123,7 @@ certificate_parts listed (activity.Nullification n) s h = let e = same_Some _ s 
 certificate_parts listed (activity.Finalization n) s h = let e = same_Some _ s h in (ap (λ x. round_of x.0) e, ap (λ x. map (vote_on x.0) (listed x.1)) e)
 certificate_parts listed _ s h = absurd cc
 
--- a message that certifies a subject has a certificate of it that does
+-- a message that certifies a subject has a certificate that certifies it
 pub certified_parts : {S D C P G : Type 0} (rules : Rules S D C P G) (o : Option (SubjectValue D × C)) (x : SubjectValue D) → if_certified rules o ≡ Some x → (c : C) × (o ≡ Some (x, c)) × (rules.certified x c ≡ true)
 certified_parts rules None x h = absurd cc
 certified_parts rules (Some s) x h = let (e, same) = cond_some (rules.certified s.0 s.1) s.0 x h in (s.1, (λ i. Some (same i, s.1)), subst (λ z. rules.certified z s.1 ≡ true) same e)
@@ -149,7 +149,7 @@ record Quorum (n : ℕ) (signers : List ℕ) : Type 0 where
   below : All (λ q. q < n) signers
 
 module _ {S D C P G : Type 0} (rules : Rules S D C P G) (l : AreLawful rules) (messages : List (Activity S D C P G)) where
-  -- who signed its certificate cast a valid vote on the subject
+  -- each signer of its certificate cast a valid vote on the subject
   signer_votes : (x : SubjectValue D) (t : Certifies rules messages x) (q : ℕ) → Contains (signers_of (rules.listed t.certificate)) q → (v : SignedVote D G) × Contains (valid_votes rules messages) v × (v.subject ≡ x) × (is_of (round_of x) q v ≡ true)
   signer_votes x t q h =
       let (a, a_in, a_is) = Contains-from_map (λ a. a.signer) (rules.listed t.certificate) q h in
@@ -164,7 +164,7 @@ module _ {S D C P G : Type 0} (rules : Rules S D C P G) (l : AreLawful rules) (m
       let signers = length-map (rules.listed t.certificate) (λ a. a.signer) in
       record { distinct = q.distinct; enough = omega (arith, q.enough, signers); below = All-map (λ q. q < rules.size (round_of x).epoch) (λ a. a.signer) (rules.listed t.certificate) (λ k a lt. l.members x _ _ (q.each_good k a lt)) }
 
-  -- who signed two certificates of a round whose subjects exclude each other is accountable for it
+  -- where the subjects of two certificates of a round exclude each other, the signers of both are accountable
   pub accountable_for : (round : Round) (x y : SubjectValue D) → (s : Certifies rules messages x) (t : Certifies rules messages y) → round_of x ≡ round → round_of y ≡ round → excludes rules.eq x y ≡ true → IsAccountable rules messages round s.certificate t.certificate
   accountable_for round x y s t x_here y_here h =
       let xs = signers_of (rules.listed s.certificate) in

@@ -1,4 +1,4 @@
--- The votes of a report's evidence have that report.
+-- The votes of a report's evidence have the same evidence.
 use Rattle.simplex_detector.proofs.Prelude.{with_first, with_second, Activity, All-contains, All-from_recursion, Bool, Conflicting_finalize, Conflicting_notarize, Contains, Equivocation, Finalizing, IsEquivalence, IsEvidence, EquivocationKind, List, Accusation, None, Notarizing, Nullify_finalize, Option, Rules, SignedVote, Some, [], and_parts, ap, arith, cond, cond-true, contradicts, evidence_of, evidence_value, excludes, false, false≢true, filter, find, first_sort, flat_map, flat_map-map, inl, inr, is_at, is_accused, is_some, is_valid, map, activity_of, accused_by, refl, round_of, same_Some, subst, sym, true, valid_votes, votes_in, ◌&&◌, ◌∙◌, ◌∷◌, ◌≡◌, ◌⊎◌}
 use Rattle.simplex_detector.proofs.EvidenceLemmas.{EvidenceIs, evidence_exists, evidence_is, first_spot, moved_evidence, accused_from_votes}
 use Rattle.simplex_detector.proofs.Lists.{Contains-cons, Contains-first, Contains-flat_map, Contains-from_filter, Contains-from_flat_map, Contains-from_map, found}
@@ -33,7 +33,7 @@ module _ {D G : Type 0} (eq : D → D → Bool) (l : IsEquivalence eq) (vs : Lis
   first_earliest : (e : Equivocation D G) → Contains es e → find (at (spot e.first)) vs ≡ Some e.first
   first_earliest e e_in = let is = own e e_in in subst (λ (s : Spot). find (at s) vs ≡ Some e.first) (sym (is_at-true (first_spot (accused_by e)) e.first (found _ vs e.first is.first).1)) is.first
 
-  -- so is the second, or it is at the first one's spot and the earliest there that excludes that
+  -- so is its second vote, or it is at the first one's spot and the earliest there that excludes the first
   second_there : (e : Equivocation D G) → Contains es e → (find (at (spot e.second)) vs ≡ Some e.second) ⊎ ((spot e.second ≡ spot e.first) × (find (λ w. at (spot e.first) w && excludes eq e.first.subject w.subject) vs ≡ Some e.second))
   second_there e e_in = by e.kind (is_at-true (first_spot (accused_by e)) e.first (found _ vs e.first (own e e_in).first).1) (own e e_in).second
     where
@@ -47,11 +47,11 @@ module _ {D G : Type 0} (eq : D → D → Bool) (l : IsEquivalence eq) (vs : Lis
           let f : find (is_at Finalizing (round_of e.first.subject) e.first.signer) vs ≡ Some e.second = sym (λ i. find (λ w. second_agrees eq Nullify_finalize _ _ e.first here w i) vs) ∙ is in
           inl (subst (λ (t : Spot). find (at t) vs ≡ Some e.second) (sym (is_at-true (record { sort = Finalizing; round = round_of e.first.subject; signer = e.first.signer }) e.second (found _ vs e.second f).1)) f)
 
-  -- an earliest vote at a spot by another name of it
+  -- a vote at a spot is the earliest there if it is the earliest at its own spot
   here : (s : Spot) (v : SignedVote D G) → at s v ≡ true → find (at (spot v)) vs ≡ Some v → find (at s) vs ≡ Some v
   here s v v_at = subst (λ (t : Spot). find (at t) vs ≡ Some v) (is_at-true s v v_at)
 
-  -- the earliest vote at a spot among them is the earliest of all votes
+  -- the earliest vote at a spot among those of the evidence is the earliest of all votes
   earliest_again : (s : Spot) (x : SignedVote D G) → find (at s) (flat_map pair es) ≡ Some x → find (at s) vs ≡ Some x
   earliest_again s = find_pairs (at s) (λ v. find (at s) vs ≡ Some v) es (λ e e_in. (
     λ first_at. here s e.first first_at (first_earliest e e_in),
@@ -80,7 +80,7 @@ module _ {D G : Type 0} (eq : D → D → Bool) (l : IsEquivalence eq) (vs : Lis
       not_a : (v : SignedVote D G) → test v ≡ true → find (at s) vs ≡ Some v → ⊥
       not_a v passes is_v = false≢true (sym (excludes_itself eq l a.subject) ∙ (λ i. excludes eq a.subject (same_Some a v (sym is_a ∙ is_v) i).subject) ∙ (parts v passes).1)
 
-  -- who is accused by all votes is accused by those of the evidence
+  -- a signer accused by all votes is accused by those of the evidence
   accused_again : (n : Accusation) → is_accused eq vs n ≡ true → is_accused eq (flat_map pair es) n ≡ true
   accused_again n h =
       let (e, e_in, e_is) = Contains-from_map accused_by es n (report.complete n h) in
@@ -88,7 +88,7 @@ module _ {D G : Type 0} (eq : D → D → Bool) (l : IsEquivalence eq) (vs : Lis
       (Contains-flat_map pair es e e.first e_in (0, omega arith, refl)) (Contains-flat_map pair es e e.second e_in (1, omega arith, refl))
       (is_of-from _ _ e.first refl refl) (found _ vs e.second (own e e_in).second).1)
 
-  -- so everyone has the same evidence
+  -- so each accusation has the same evidence
   same_again : (n : Accusation) → evidence_of eq (flat_map pair es) n ≡ evidence_of eq vs n
   same_again n = same (evidence_of eq (flat_map pair es) n) (evidence_of eq vs n) also (λ h. evidence_exists eq (flat_map pair es) l n ∙ accused_again n (sym (evidence_exists eq vs l n) ∙ h))
     where
@@ -110,7 +110,7 @@ module _ {D G : Type 0} (eq : D → D → Bool) (l : IsEquivalence eq) (vs : Lis
           (λ i. with_first eq vs n.kind (first i)) ∙ (λ i. with_second n.kind e.first (((λ j. find (λ w. agrees w j) vs) ∙ second n.kind e.first e.second first (sym (λ j. find (λ w. agrees w j) (flat_map pair es)) ∙ is.second)) i)) ∙
           (λ i. Some (record { kind = (sym is.named i).kind; first = e.first; second = e.second }))
 
--- the messages that are the evidence of some messages have that evidence
+-- the evidence of some messages, as messages of its own, has the same evidence
 pub evidence_again : {S D C P G : Type 0} (rules : Rules S D C P G) → IsEquivalence rules.eq → (ms : List (Activity S D C P G)) (es : List (declared.Evidence S D P G)) → IsEvidence rules.eq (valid_votes rules ms) (map evidence_value es) → IsEvidence rules.eq (valid_votes rules (map activity_of es)) (map evidence_value es)
 evidence_again {S} {D} {C} {P} {G} rules l ms es report =
     subst (λ ws. IsEvidence rules.eq ws (map evidence_value es)) (sym recorded) (moved_evidence rules.eq l (flat_map pair (map evidence_value es)) vs (λ n. sym (same_again rules.eq l vs (map evidence_value es) report n)) (map evidence_value es) report)

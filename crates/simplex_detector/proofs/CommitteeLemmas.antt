@@ -6,7 +6,7 @@ use Rattle.simplex_detector.proofs.Lists.{found_mapped, none_found}
 pub not_le : (a b : ℕ) → is_le (nat_cmp a b) ≡ false → b < a
 not_le a b h = grind (arith, nat_tests)
 
--- entries rise further by one that is above the last
+-- rising entries still rise with one more that is above the last
 pub rising_next : {S : Type 0} (ps : List (ℕ × S)) (i : ℕ) → ((a b : ℕ) (d : ℕ × S) → a < b → b < i → (get_or ps a d).0 < (get_or ps b d).0) → 1 ≤ i → i < length ps → (p q : ℕ × S) → (get_or ps (i - 1) q).0 < (get_or ps i p).0 → (a b : ℕ) (d : ℕ × S) → a < b → b < i + 1 → (get_or ps a d).0 < (get_or ps b d).0
 rising_next ps i rise some lt p q above a b d a_lt b_lt =
     let here = ap (λ e. e.0) (get_or_default ps i p d lt) in
@@ -22,7 +22,7 @@ rising_next ps i rise some lt p q above a b d a_lt b_lt =
 abbrev pub entry_of : {S : Type 0} → List (ℕ × S) → ℕ → Option (ℕ × S)
 entry_of pairs epoch = find (λ p. eqb p.0 epoch) pairs
 
--- an entry is its epoch's
+-- an entry is the one of its epoch
 pub entry_at : {S : Type 0} (ps : List (ℕ × S)) → AreRising ps → (i : ℕ) (d : ℕ × S) → i < length ps → entry_of ps (get_or ps i d).0 ≡ Some (get_or ps i d)
 entry_at [] rising i d lt = absurd (omega arith)
 entry_at (p ∷ ps) rising zero d lt = grind (arith, nat_tests)
@@ -107,7 +107,7 @@ module _ {S D C P G : Type 0} (eq : D → D → Bool) (keys : S → List P) (goo
     quorums = λ x c. elim (committee_of schedule (round_of x).epoch) as (λ o. certified_by certified o x c ≡ true → IsQuorum (size_by keys o) (valid_by good o x) (listed c)) [ None ↦ λ h. absurd (false≢true h) | Some s ↦ λ h. let q = quorums s x c h in record { distinct = q.distinct; enough = q.enough; each_good = q.each_good } ];
   }
 
--- ---- however strictly committees judge, what is valid is in a committee
+-- ---- however strictly committees judge, valid votes are of committees
 
 -- the signer of a valid vote is in the committee
 pub members_under : {S D P G : Type 0} (keys : S → List P) (good : S → SubjectValue D → ℕ → G → Bool) → ((s : S) (x : SubjectValue D) (signer : ℕ) (signature : G) → good s x signer signature ≡ true → signer < length (keys s)) →
@@ -116,7 +116,7 @@ members_under keys good members Verified s x signer signature h = members s x si
 members_under keys good members Claimed s x signer signature h = ltb-true _ _ h
 members_under keys good members (Suspects suspects) s x signer signature h = members s x signer signature (and_parts (contains signer_cmp suspects.signers (round_of x, signer)) (good s x signer signature) h).1
 
--- what certifies is verified
+-- a certificate that certifies under any judging certifies under the scheme
 pub certified_by_scheme : {S D C : Type 0} (certified : S → SubjectValue D → C → Bool) (judging : Judging) (s : S) (x : SubjectValue D) (certificate : C) → certified_under certified judging s x certificate ≡ true → certified s x certificate ≡ true
 certified_by_scheme certified Verified s x certificate h = h
 certified_by_scheme certified Claimed s x certificate h = absurd (false≢true h)

@@ -10,12 +10,12 @@ use Rattle.simplex_detector.proofs.RecordedLemmas.{none_of_round, of_round}
 use Rattle.simplex_detector.proofs.ReportLemmas.{IsEvidenceIn, recalled, recalls_listed}
 use Rattle.simplex_detector.proofs.SplitLemmas.{from_subjects, splits_of_rounds}
 
--- how many of some votes are of each of some rounds
+-- how many of some votes are of some rounds, counted round by round
 abbrev of_rounds : {D G : Type 0} → List Round → List (SignedVote D G) → ℕ
 of_rounds [] vs = 0
 of_rounds (r ∷ rounds) vs = length (filter (of_round r) vs) + of_rounds rounds vs
 
--- a filter by less loses nothing of what passes
+-- filtering by a weaker test first changes nothing
 filter_filtered : {X : Type 0} (p q : X → Bool) → ((x : X) → p x ≡ true → q x ≡ true) → (xs : List X) → filter p (filter q xs) ≡ filter p xs
 filter_filtered p q weaker [] = refl
 filter_filtered p q weaker (x ∷ xs) =
@@ -24,7 +24,7 @@ filter_filtered p q weaker (x ∷ xs) =
       | false ↦ λ d. filter_filtered p q weaker xs ∙ sym (cond-false (p x) (x ∷ filter p xs) (filter p xs) (false_from_ne_true (p x) (λ e. false≢true (sym d ∙ weaker x e))))
     ]) refl
 
--- votes whose rounds are all among rounds that rise are as many as are of those
+-- where the rounds of all votes are among rounds that rise, counting round by round counts all votes
 of_all : {D G : Type 0} (rounds : List Round) (vs : List (SignedVote D G)) → IsStrictlySortedBy round_cmp rounds → ((v : SignedVote D G) → Contains vs v → Contains rounds (round_of v.subject)) → of_rounds rounds vs ≡ length vs
 unfolding IsStrictlySortedBy
 of_all [] [] s h = refl
@@ -50,7 +50,7 @@ rounds_count [] = 0
 rounds_count (e ∷ es) = round_count e.1.votes + rounds_count es
 
 module _ {S D C P G : Type 0} (rules : Rules S D C P G) (messages : List (Activity S D C P G)) (detector : Detector S D P G) (ordered : IsOrdered round_cmp detector.rounds) (holds : Recalls rules messages detector) where
-  -- what is recorded of some messages has as many votes as are to be recorded of them
+  -- the detector has as many votes as are to be recorded of the messages
   pub counted_votes : IsEquivalence rules.eq → rounds_count detector.rounds.entries ≡ votes_recorded rules.eq (valid_votes rules messages)
   counted_votes l =
       counted detector.rounds.entries (recursion_from_All _ _ (recalls_listed rules messages detector ordered holds)) ∙
@@ -80,7 +80,7 @@ splits_next f found more all x xs o more_is o_is so_far =
 
 -- ---- how many are accused in a round
 
--- by its evidence
+-- they are the distinct signers of its evidence
 counted_in : {D G : Type 0} (eq : D → D → Bool) (vs : List (SignedVote D G)) (round : Round) (es : List (Equivocation D G)) → IsEvidenceIn eq vs round es → accused_count eq vs round ≡ distinct_count nat_eq (map (λ e. e.first.signer) es)
 counted_in {D} {G} eq vs round es is =
     distinct_count-same _ _
@@ -132,7 +132,7 @@ signers_in_order {D} {G} round (e ∷ es) ordered here i j d le lt =
 
 -- ---- the split of a round
 
--- one that is has that of its evidence and its committee
+-- the split of a split round, from its evidence and its committee
 pub split_found : {S D C P G : Type 0} (rules : Rules S D C P G) → HaveCommittees rules → (messages : List (Activity S D C P G)) (round : Round) (recorded : CertifiedSubjects D) → RecordsFirsts rules.eq (certified_subjects rules messages) round recorded → recorded.split ≡ true → (es : List (Equivocation D G)) → IsEvidenceIn rules.eq (valid_votes rules messages) round es → (n : ℕ) → rules.size round.epoch ≡ n → n < 2 ^ 32 → (named least : ℕ) → (IsNonDecreasing (map (λ e. e.first.signer) es) → named ≡ min (distinct_count nat_eq (map (λ e. e.first.signer) es)) (2 ^ 32 - 1)) → least ≡ faults_of n + 1 → Some (record { round = round; named = named; least = least }) ≡ split_of rules messages round
 split_found rules l messages round recorded records split es is n size small named least counted least_is =
     let count = counted_in rules.eq (valid_votes rules messages) round es is in
@@ -161,7 +161,7 @@ counted_behind y (x ∷ xs) s = by (nat_eq y x) refl (counted_behind x xs (λ i 
         let more = ap (λ c. length (cond c (unique_keys nat_eq (x ∷ xs)) (y ∷ unique_keys nat_eq (x ∷ xs)))) none in
         omega (arith, rest, more)
 
--- one item more, of which a number is counted, with a count that stops at a greatest
+-- one item more, whose number is counted, with a count that stops at `most`
 pub counted_item : {X : Type 0} (number : X → ℕ) (xs : List X) (i : ℕ) (x : X) → i < length xs → x ≡ get_or xs i x → (count next most : ℕ) (last : Option ℕ) (n : ℕ) → n ≡ number x → next ≡ cond (option_eq nat_eq last (Some n)) count (min (count + 1) most) → min (next + number_changes (Some n) (map number (drop (i + 1) xs))) most ≡ min (count + number_changes last (map number (drop i xs))) most
 counted_item number xs i x lt is count next most last n n_is next_is =
     let more = number_changes (Some n) (map number (drop (i + 1) xs)) in

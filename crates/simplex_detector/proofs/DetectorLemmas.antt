@@ -15,7 +15,7 @@ IsHere round v = round_of v.subject ≡ round
 pub one_round : {D G : Type 0} (eq : D → D → Bool) (kind : EquivocationKind) (v w : SignedVote D G) → IsTrue (contradicts eq kind v w) → round_of w.subject ≡ round_of v.subject
 one_round eq kind v w h = (is_of-true (round_of v.subject) v.signer w (and_parts (is_of (round_of v.subject) v.signer w) (clash eq kind v.subject w.subject) h).0).0
 
--- so are those of a message that is no evidence
+-- so are the votes of a message that is no evidence
 pub votes_of_round : {S D C P G : Type 0} (listed : C → List (Attestation S P G)) (m : Activity S D C P G) → ((c : _) → m ≡ activity.ConflictingNotarize c → ⊥) → ((c : _) → m ≡ activity.ConflictingFinalize c → ⊥) → ((c : _) → m ≡ activity.NullifyFinalize c → ⊥) → All (IsHere (activity_round m)) (votes_in listed m)
 votes_of_round listed (activity.Notarization n) a b d = All-map (IsHere n.proposal.round) (vote_on (Notarizes n.proposal)) (listed n.certificate) (λ k e lt. refl)
 votes_of_round listed (activity.Certification n) a b d = All-map (IsHere n.proposal.round) (vote_on (Notarizes n.proposal)) (listed n.certificate) (λ k e lt. refl)
@@ -28,7 +28,7 @@ votes_of_round listed m a b d = All-from_recursion (IsHere (activity_round m)) (
 
 -- ---- other rounds
 
--- what one more leaves, more leave
+-- what appending one element preserves, appending several preserves
 appended : {X : Type 0} (P : List X → Type 0) (Q : X → Type 0) (keep : X → Bool) → ((xs : List X) (x : X) → Q x → P xs → P (xs ++ x ∷ [])) → (more xs : List X) → AllByRecursion Q more → P xs → P (xs ++ filter keep more)
 appended P Q keep one [] xs q p = subst P (sym (append-nil xs)) p
 appended P Q keep one (x ∷ more) xs q p = elim (keep x) as (λ b. P (xs ++ cond b (x ∷ filter keep more) (filter keep more))) [
@@ -68,7 +68,7 @@ module _ {S D C P G : Type 0} (rules : Rules S D C P G) (l : IsEquivalence rules
         subjects = records_other_message rules l messages m q round_state.certified apart r.subjects;
       }
 
-  -- what is recorded where its round alone is changed
+  -- what is recorded where only the message's round is changed
   pub recalls_changed : (round : Round) → round ≡ activity_round m → (after : Option (RoundState S D P G)) (old new : BTreeMap Round (RoundState S D P G)) → ((q : Round) → get round_cmp new q ≡ cond (is_key (round_cmp round) q) after (get round_cmp old q)) → RecallsNext (activity_round m) after → Recalls rules messages (let detector : Detector S D P G = record { rounds = old } in detector) → (q : Round) → RecallsNext q (get round_cmp new q)
   recalls_changed round at after old new is own holds q =
       subst (RecallsNext q) (sym (is q)) ((elim (is_key (round_cmp round) q) as (λ b. is_key (round_cmp round) q ≡ b → RecallsNext q (cond b after (get round_cmp old q))) [
@@ -76,7 +76,7 @@ module _ {S D C P G : Type 0} (rules : Rules S D C P G) (l : IsEquivalence rules
         | false ↦ λ e. elsewhere q (ap (λ r. same_round r q) (sym at) ∙ other_round round q e) (get round_cmp old q) (holds q)
       ]) refl)
 
-  -- where nothing is recorded of its round, before and after
+  -- what is recorded where nothing is of the message's round, before and after
   pub recalls_still_none : (round : Round) → round ≡ activity_round m → (after : RoundState S D P G) (old : BTreeMap Round (RoundState S D P G)) → get round_cmp old round ≡ None → ((signer : ℕ) (sort : Sort) → slots after.votes signer sort ≡ no_slot) → after.certified ≡ nothing_certified → RecallsRound rules (messages ++ m ∷ []) (activity_round m) after → Recalls rules messages (let detector : Detector S D P G = record { rounds = old } in detector) → (q : Round) → RecallsNext q (get round_cmp old q)
   recalls_still_none round at after old none empty nothing own =
       recalls_changed round at None old old (λ q. (elim (is_key (round_cmp round) q) as (λ b. is_key (round_cmp round) q ≡ b → get round_cmp old q ≡ cond b None (get round_cmp old q)) [ true ↦ λ e. ap (get round_cmp old) (sym (key_tells round q e)) ∙ none | false ↦ λ e. refl ]) refl) (record {
@@ -87,7 +87,7 @@ module _ {S D C P G : Type 0} (rules : Rules S D C P G) (l : IsEquivalence rules
 -- ---- votes and certificates of a round are judged by the committee of its epoch
 
 module _ {S D C P G : Type 0} (eq : D → D → Bool) (keys : S → List P) (good : S → SubjectValue D → ℕ → G → Bool) (certified : S → SubjectValue D → C → Bool) (listed : C → List (Attestation S P G)) where
-  -- what messages are judged by
+  -- the rules by which messages are judged
   abbrev judges : Schedule S → Rules S D C P G
   judges = rules_of eq keys good certified listed
 
@@ -97,7 +97,7 @@ module _ {S D C P G : Type 0} (eq : D → D → Bool) (keys : S → List P) (goo
       (vs : List (SignedVote D G)) → HoldsRound eq (length (keys s)) vs (round_of x) before →
       HoldsRound eq (length (keys s)) (vs ++ filter (λ v. good s v.subject v.signer v.signature) (map (vote_on x) given)) (round_of x) after
 
-  -- they are recorded, for any other committees
+  -- the valid votes are recorded, for any other committees
   cast_by : (s : S) (x : SubjectValue D) (given : List (Attestation S P G)) (before after : RoundVotes S D P G) → RecordsValid s x given before after → (schedule : Schedule S) → committee_of schedule (round_of x).epoch ≡ Some s → (vs : List (SignedVote D G)) → HoldsRound eq ((judges schedule).size (round_of x).epoch) vs (round_of x) before → HoldsRound eq ((judges schedule).size (round_of x).epoch) (vs ++ filter (is_valid (judges schedule)) (map (vote_on x) given)) (round_of x) after
   cast_by s x given before after records schedule is vs holds =
       let size : length (keys s) ≡ (judges schedule).size (round_of x).epoch = ap (size_by keys) (sym is) in
@@ -133,7 +133,7 @@ module _ {S D C P G : Type 0} (eq : D → D → Bool) (keys : S → List P) (goo
       subjects = subst (λ xs. RecordsFirsts eq xs (activity_round m) new.certified) (sym (subjects_push (judges schedule) messages m)) (takes.certified schedule is (certified_subjects (judges schedule) messages) recalls.subjects);
     }
 
-    -- what is recorded of it where its round is not there yet
+    -- what is recorded of the message's round where the detector has no state of it yet
     pub recalls_first : (s : S) → committee_of schedule (activity_round m).epoch ≡ Some s → IsEquivalence eq → (rounds : BTreeMap Round (RoundState S D P G)) (fresh new : RoundState S D P G) → None ≡ get round_cmp rounds (activity_round m) → IsSized (length (keys s)) fresh.votes → ((signer : ℕ) (sort : Sort) → slots fresh.votes signer sort ≡ no_slot) → round_count fresh.votes ≡ 0 → fresh.certified ≡ nothing_certified → TakesMessage judges s listed m fresh new → Recalls (judges schedule) messages (let detector : Detector S D P G = record { rounds = rounds } in detector) → RecallsRound (judges schedule) (messages ++ m ∷ []) (activity_round m) new
     recalls_first s is l rounds fresh new none sized empty no_votes nothing takes holds =
         let at : RecallsNothing (judges schedule) messages (activity_round m) = subst (RecallsAt (judges schedule) messages (activity_round m)) (sym none) (holds (activity_round m)) in

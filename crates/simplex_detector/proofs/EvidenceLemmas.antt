@@ -5,7 +5,7 @@ use Rattle.simplex_detector.proofs.Places.{Spot, clash_parts, clash_with_one, is
 
 -- ---- the valid votes of messages
 
--- a valid vote is one that a message holds
+-- a valid vote of messages is a vote of one of them
 pub valid_from : {S D C P G : Type 0} (rules : Rules S D C P G) (ms : List (Activity S D C P G)) (v : SignedVote D G) → Contains (valid_votes rules ms) v → (m : Activity S D C P G) × Contains ms m × Contains (votes_in rules.listed m) v × (is_valid rules v ≡ true)
 valid_from rules ms v h =
     let (v_in, valid) = Contains-from_filter (is_valid rules) (flat_map (votes_in rules.listed) ms) v h in
@@ -14,17 +14,17 @@ valid_from rules ms v h =
 pub valid_in : {S D C P G : Type 0} (rules : Rules S D C P G) (ms : List (Activity S D C P G)) (v : SignedVote D G) (m : Activity S D C P G) → Contains ms m → Contains (votes_in rules.listed m) v → is_valid rules v ≡ true → Contains (valid_votes rules ms) v
 valid_in rules ms v m m_in own valid = Contains-filter (is_valid rules) _ v (Contains-flat_map (votes_in rules.listed) ms m v m_in own) valid
 
--- those of messages and of those that follow
+-- the valid votes of messages and of those that follow
 pub valid_votes-append : {S D C P G : Type 0} (rules : Rules S D C P G) (ms ks : List (Activity S D C P G)) → valid_votes rules (ms ++ ks) ≡ valid_votes rules ms ++ valid_votes rules ks
 valid_votes-append rules ms ks = ap (filter (is_valid rules)) (flat_map-append (votes_in rules.listed) ms ks) ∙ filter-append (is_valid rules) (flat_map (votes_in rules.listed) ms) (flat_map (votes_in rules.listed) ks)
 
--- those of messages and of one more
+-- the valid votes of messages and of one more
 pub valid_votes-push : {S D C P G : Type 0} (rules : Rules S D C P G) (ms : List (Activity S D C P G)) (m : Activity S D C P G) → valid_votes rules (ms ++ m ∷ []) ≡ valid_votes rules ms ++ filter (is_valid rules) (votes_in rules.listed m)
 valid_votes-push rules ms m = valid_votes-append rules ms (m ∷ []) ∙ ap (λ vs. valid_votes rules ms ++ filter (is_valid rules) vs) (append-nil (votes_in rules.listed m))
 
 -- ---- who is accused
 
--- the spot of the first vote of the evidence of whom is accused
+-- the spot of the first vote of an accusation's evidence
 abbrev pub first_spot : Accusation → Spot
 first_spot n = record { sort = first_sort n.kind; round = n.round; signer = n.signer }
 
@@ -33,7 +33,7 @@ module _ {D G : Type 0} (eq : D → D → Bool) (vs : List (SignedVote D G)) (n 
   pub accused_from_votes : (v w : SignedVote D G) → Contains vs v → Contains vs w → is_of n.round n.signer v ≡ true → contradicts eq n.kind v w ≡ true → is_accused eq vs n ≡ true
   accused_from_votes v w h k a c = any_from_Contains (λ x. is_of n.round n.signer x && list_any (contradicts eq n.kind x) vs) vs v h (and_from _ _ a (any_from_Contains (contradicts eq n.kind v) vs w k c))
 
-  -- who is accused has two such votes
+  -- an accused signer has two votes that contradict
   pub votes_from_accused : is_accused eq vs n ≡ true → (v w : SignedVote D G) × Contains vs v × Contains vs w × (is_of n.round n.signer v ≡ true) × (contradicts eq n.kind v w ≡ true)
   votes_from_accused h =
       let a = Contains-from_list_any (λ x. is_of n.round n.signer x && list_any (contradicts eq n.kind x) vs) vs h in
@@ -47,14 +47,14 @@ accused_by_more eq vs ws more n h =
     let (v, w, in_v, in_w, of_v, against) = votes_from_accused eq ws n h in
     accused_from_votes eq vs n v w (more v in_v) (more w in_w) of_v against
 
--- the same messages in another order accuse the same
+-- the same messages in another order accuse the same signers
 pub accused_in_any_order : {S D C P G : Type 0} (rules : Rules S D C P G) (ms : List (Activity S D C P G)) → ReorderingAccusesSame rules ms
 accused_in_any_order {S} {D} {C} {P} {G} rules ms ks moved n =
     let also : (ms ks : List (Activity S D C P G)) → IsPermutation ms ks → (v : SignedVote D G) → Contains (valid_votes rules ms) v → Contains (valid_votes rules ks) v =
     λ ms ks moved v h. let (m, m_in, own, valid) = valid_from rules ms v h in valid_in rules ks v m (Contains-permutation ms ks m moved m_in) own valid in
     same_bool _ _ (accused_by_more rules.eq _ _ (also ms ks moved) n) (accused_by_more rules.eq _ _ (also ks ms (IsPermutation-sym ms ks moved)) n)
 
--- its first vote is the earliest at its spot, and its second the earliest that contradicts that
+-- an accusation's evidence: its first vote is the earliest at its spot, and its second the earliest that contradicts the first
 pub record EvidenceIs {D G : Type 0} (eq : D → D → Bool) (vs : List (SignedVote D G)) (n : Accusation) (e : Equivocation D G) : Type 0 where
   pub named : accused_by e ≡ n
   pub first : find (is_at (first_sort n.kind) n.round n.signer) vs ≡ Some e.first
@@ -73,7 +73,7 @@ module _ {D G : Type 0} (eq : D → D → Bool) (vs : List (SignedVote D G)) whe
         ]) refl
       ]) refl h
 
-  -- who has evidence is accused
+  -- an accusation that has evidence is one that the votes make
   pub accused-from_evidence : (n : Accusation) → is_some (evidence_of eq vs n) ≡ true → is_accused eq vs n ≡ true
   accused-from_evidence n h =
       let (e, found_e) = some_from_is_some (evidence_of eq vs n) h in
@@ -82,7 +82,7 @@ module _ {D G : Type 0} (eq : D → D → Bool) (vs : List (SignedVote D G)) whe
       let (second_in, against) = found _ vs e.second is.second in
       accused_from_votes eq vs n e.first e.second first_in second_in (and_parts (same_sort (sort_of e.first.subject) (first_sort n.kind)) (is_of n.round n.signer e.first) at).1 against
 
-  -- who is accused has evidence
+  -- an accusation that the votes make has evidence
   pub evidence-from_accused : IsEquivalence eq → (n : Accusation) → is_accused eq vs n ≡ true → is_some (evidence_of eq vs n) ≡ true
   evidence-from_accused l n h =
       let (v, w, v_in, w_in, of_v, against) = votes_from_accused eq vs n h in
@@ -114,6 +114,6 @@ module _ {D G : Type 0} (eq : D → D → Bool) (vs : List (SignedVote D G)) whe
       let (second_in, against) = found _ vs e.second own.second in
       record { first_cast = first_in; second_cast = second_in; contradict = against })
 
--- votes of which everyone has the same evidence have the same report
+-- votes that give each accusation the same evidence have the same report
 pub moved_evidence : {D G : Type 0} (eq : D → D → Bool) → IsEquivalence eq → (vs ws : List (SignedVote D G)) → ((n : Accusation) → evidence_of eq ws n ≡ evidence_of eq vs n) → (es : List (Equivocation D G)) → IsEvidence eq ws es → IsEvidence eq vs es
 moved_evidence eq l vs ws same es is = from_listing eq vs l es (subst (λ f. IsListing accused_by accused_cmp f es) (λ i n. same n i) (as_listing eq ws es is))

@@ -1,8 +1,9 @@
--- Lists that any crate could have: what they contain, what `find` and `list_any` give, and the listing of a partial map in the order of its keys.
+-- Lists in general: what they contain, what `find` and `list_any` give, and the listing of a partial map in the order of
+-- its keys.
 use Rattle.simplex_detector.proofs.Prelude.{All, All-append, All-contains, All-contains_itself, All-filter, All-from_recursion, All-map, AllByRecursion, Any-from_list_any, BTreeSet, Bool, CmpEqualImpliesEq, Contains, Contains-append_cases, Contains-append_left, Contains-append_right, Contains-get_or, IsStrictlySortedBy-filter, IsTotalOrder, Less, List, None, Option, Ordering, Some, [], ap, append-nil, arith, btree_set_contains_iff, btree_set_from_contains, cond, cons_option, false, filter, filter_map, filter_passes, find, find-append, flat_map, get_or, get_or-map, inl, inr, is_some, length, length-map, list_any, list_any-from_Any, map, option_map, option_or, option_to_list, recursion_from_All, refl, same_Some, sorted_head, subst, sym, true, ℕ, ⊎_elim, ◌++◌, ◌<◌, ◌||◌, ◌∙◌, ◌∷◌, ◌≡◌, ◌⊎◌}
 use Rattle.std.specs.List.Sorted.{IsStrictlySortedBy}
 
--- two tests that imply each other are one
+-- two truth values that imply each other are equal
 pub same_bool : (a b : Bool) → (a ≡ true → b ≡ true) → (b ≡ true → a ≡ true) → a ≡ b
 same_bool true b f g = sym (f refl)
 same_bool false true f g = g refl
@@ -13,14 +14,14 @@ pub some_from_is_some : {X : Type 0} (o : Option X) → is_some o ≡ true → (
 some_from_is_some None h = absurd cc
 some_from_is_some (Some x) h = (x, refl)
 
--- what holds of a list, and of it with x where x is appended, holds of it with x under that condition
+-- what holds of a list where b is false, and of it with x appended where b is true, holds of it with x appended if b
 pub if_appended : {X : Type 0} (P : List X → Type 0) (xs : List X) (x : X) (b : Bool) → (b ≡ false → P xs) → (b ≡ true → P (xs ++ x ∷ [])) → P (xs ++ cond b (x ∷ []) [])
 if_appended P xs x true without with_x = with_x refl
 if_appended P xs x false without with_x = subst P (sym (append-nil xs)) (without refl)
 
 -- ---- `Contains`
 
--- what holds of whatever a list contains holds of each of its elements
+-- what holds of all that a list contains holds of each of its elements
 pub each : {X : Type 0} (P : X → Type 0) (xs : List X) → ((x : X) → Contains xs x → P x) → All P xs
 each P xs h = λ k d lt. h (get_or xs k d) (Contains-get_or xs k d lt)
 
@@ -97,7 +98,7 @@ found p (y ∷ xs) x h =
       | false ↦ λ e is. (Contains-cons y xs x (found p xs x is).0, (found p xs x is).1)
     ]) refl h
 
--- so is what it is mapped to
+-- a mapped value that is found is that of an element that passes
 pub found_mapped : {X Y : Type 0} (f : X → Y) (p : X → Bool) (xs : List X) (y : Y) → option_map f (find p xs) ≡ Some y → (x : X) × Contains xs x × (p x ≡ true) × (f x ≡ y)
 found_mapped {X} f p xs y h = (elim (find p xs) as (λ o. find p xs ≡ o → option_map f o ≡ Some y → (x : X) × Contains xs x × (p x ≡ true) × (f x ≡ y)) [ None ↦ λ e is. absurd cc | Some x ↦ λ e is. (x, (found p xs x e).0, (found p xs x e).1, same_Some (f x) y is) ]) refl h
 
@@ -122,11 +123,11 @@ find_push p xs x =
     find-append p xs (x ∷ []) ∙
     elim (p x) as (λ b. option_or (find p xs) (cond b (Some x) None) ≡ cond b (option_or (find p xs) (Some x)) (find p xs)) [ true ↦ refl | false ↦ elim (find p xs) as (λ o. option_or o None ≡ o) [ None ↦ refl | Some y ↦ refl ] ]
 
--- the first key is below each other
+-- the first of sorted keys is below each other one
 pub below_all : {K : Type 0} (cmp : K → K → Ordering) (k : K) (ks : List K) → IsStrictlySortedBy cmp (k ∷ ks) → (q : K) → Contains ks q → cmp k q ≡ Less
 below_all cmp k ks s q h = All-contains (λ y. cmp k y ≡ Less) ks q (All-from_recursion _ ks (sorted_head cmp k ks s)) h
 
--- two sorted lists are one where the first is below the second
+-- two sorted lists joined are sorted where the first is below the second
 sorted_append : {K : Type 0} (cmp : K → K → Ordering) (ks qs : List K) → IsStrictlySortedBy cmp ks → IsStrictlySortedBy cmp qs → ((k q : K) → Contains ks k → Contains qs q → cmp k q ≡ Less) → IsStrictlySortedBy cmp (ks ++ qs)
 unfolding IsStrictlySortedBy
 sorted_append cmp [] qs s t below = t
@@ -135,7 +136,7 @@ sorted_append cmp (k ∷ ks) qs s t below = (
   sorted_append cmp ks qs s.1 t (λ l q l_in q_in. below l q (Contains-cons k ks l l_in) q_in),
 )
 
--- so are sorted lists that are joined in an order of what they are made of
+-- so are the sorted lists of sorted elements, joined, where the list of each element is below those of greater ones
 pub sorted_joined : {X Y K : Type 0} (order : Y → Y → Ordering) (cmp : K → K → Ordering) (key : X → Y) (f : X → List K) → ((x y : X) (k q : K) → order (key x) (key y) ≡ Less → Contains (f x) k → Contains (f y) q → cmp k q ≡ Less) → (xs : List X) → ((x : X) → Contains xs x → IsStrictlySortedBy cmp (f x)) → IsStrictlySortedBy order (map key xs) → IsStrictlySortedBy cmp (flat_map f xs)
 unfolding IsStrictlySortedBy
 sorted_joined order cmp key f rise [] sorted s = tt
@@ -143,7 +144,7 @@ sorted_joined order cmp key f rise (x ∷ xs) sorted s =
     sorted_append cmp (f x) (flat_map f xs) (sorted x (Contains-first x xs)) (sorted_joined order cmp key f rise xs (λ y y_in. sorted y (Contains-cons x xs y y_in)) s.1)
     (λ k q k_in q_in. let (y, y_in, q_at) = Contains-from_flat_map f xs q q_in in rise x y k q (below_all order (key x) (map key xs) s (key y) (Contains-map key xs y y_in)) k_in q_at)
 
--- sorted lists with the same elements are one
+-- sorted lists with the same elements are equal
 same_keys : {K : Type 0} {cmp : K → K → Ordering} → IsTotalOrder cmp → CmpEqualImpliesEq cmp → (ks qs : List K) → IsStrictlySortedBy cmp ks → IsStrictlySortedBy cmp qs → ((k : K) → Contains ks k → Contains qs k) → ((k : K) → Contains qs k → Contains ks k) → ks ≡ qs
 same_keys {K} o exact ks qs s t to from =
     let a : BTreeSet K = record { keys = ks } in
@@ -153,23 +154,23 @@ same_keys {K} o exact ks qs s t to from =
 
 -- ---- what a partial map has, in the order of its keys
 
--- each of xs is what `at` has at its key, in order, and no key of which `at` has something is left out
+-- each of xs is the value of `at` at its key, in the order of keys, and no key at which `at` has a value is left out
 pub record IsListing {X K : Type 0} (key : X → K) (cmp : K → K → Ordering) (at : K → Option X) (xs : List X) : Type 0 where
   pub ordered : IsStrictlySortedBy cmp (map key xs)
   pub sound : All (λ x. at (key x) ≡ Some x) xs
   pub complete : (k : K) → is_some (at k) ≡ true → Contains (map key xs) k
 
 module _ {X K : Type 0} (key : X → K) (cmp : K → K → Ordering) (at : K → Option X) where
-  -- of a key in a listing the map has something
+  -- the map has a value at each key of a listing
   pub listed_is_some : (xs : List X) → All (λ x. at (key x) ≡ Some x) xs → (k : K) → Contains (map key xs) k → is_some (at k) ≡ true
   listed_is_some xs sound k h = All-contains (λ k. is_some (at k) ≡ true) (map key xs) k (All-map (λ k. is_some (at k) ≡ true) key xs (λ i d lt. ap is_some (sound i d lt))) h
 
-  -- a listing is read back from its keys
+  -- a listing is the values at its keys
   read_back : (xs : List X) → AllByRecursion (λ x. at (key x) ≡ Some x) xs → filter_map at (map key xs) ≡ xs
   read_back [] h = refl
   read_back (x ∷ xs) h = λ i. cons_option (h.0 i) (read_back xs h.1 i)
 
-  -- so there is one listing alone
+  -- so the listing is unique
   pub listing_is_unique : IsTotalOrder cmp → CmpEqualImpliesEq cmp → (xs ys : List X) → IsListing key cmp at xs → IsListing key cmp at ys → xs ≡ ys
   listing_is_unique o exact xs ys a b =
       sym (read_back xs (recursion_from_All _ xs a.sound)) ∙

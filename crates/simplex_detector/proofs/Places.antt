@@ -3,7 +3,7 @@ use Rattle.simplex_detector.proofs.Prelude.{Bool, CmpEqualImpliesEq, Conflicting
 
 -- ---- rounds, proposals and sorts
 
--- rounds that pass the test are one
+-- rounds that pass the test are equal
 pub same_round-true : (a b : Round) → same_round a b ≡ true → a ≡ b
 same_round-true a b h =
     let parts = and_parts (eqb a.epoch b.epoch) (eqb a.view b.view) h in
@@ -20,7 +20,7 @@ same_round-from a b e = ap (same_round a) (sym e) ∙ same_round_equiv.refl a
 same_proposal_equiv : {D : Type 0} {eq : D → D → Bool} → IsEquivalence eq → IsEquivalence (same_proposal eq)
 same_proposal_equiv {D} l = and_equiv (on_equiv (λ (p : Proposal D). p.round) same_round_equiv) (and_equiv (on_equiv (λ (p : Proposal D). p.parent) nat_eq_equiv) (on_equiv (λ (p : Proposal D). p.payload) l))
 
--- sorts that pass the test are one
+-- sorts that pass the test are equal
 pub same_sort-true : (a b : Sort) → same_sort a b ≡ true → a ≡ b
 same_sort-true Notarizing Notarizing h = refl
 same_sort-true Nullifying Nullifying h = refl
@@ -50,11 +50,11 @@ pub record Spot : Type 0 where
   pub round : Round
   pub signer : ℕ
 
--- those of a vote
+-- the spot of a vote
 abbrev pub spot : {D G : Type 0} → SignedVote D G → Spot
 spot v = record { sort = sort_of v.subject; round = round_of v.subject; signer = v.signer }
 
--- a vote that is at a spot has it
+-- a vote that is at a spot has that spot
 pub is_at-true : {D G : Type 0} (s : Spot) (v : SignedVote D G) → is_at s.sort s.round s.signer v ≡ true → spot v ≡ s
 is_at-true s v h =
     let p = and_parts (same_sort (sort_of v.subject) s.sort) (is_of s.round s.signer v) h in
@@ -72,18 +72,18 @@ excludes_itself eq l (Notarizes p) = ap not ((same_proposal_equiv l).refl p)
 excludes_itself eq l (Nullifies r) = refl
 excludes_itself eq l (Finalizes p) = ap not ((same_proposal_equiv l).refl p)
 
--- which excludes which does not matter
+-- exclusion is symmetric
 pub excludes-flip : {D : Type 0} (eq : D → D → Bool) → IsEquivalence eq → (x y : SubjectValue D) → excludes eq x y ≡ excludes eq y x
 excludes-flip eq l (Notarizes p) (Notarizes q) = ap not ((same_proposal_equiv l).symm p q)
 excludes-flip eq l (Finalizes p) (Finalizes q) = ap not ((same_proposal_equiv l).symm p q)
 excludes-flip eq l (Nullifies r) (Finalizes q) = refl
 excludes-flip eq l _ _ = refl
 
--- of two values that differ, any value differs from one
+-- any value differs from one of two values that differ
 differs_from_one : {X : Type 0} {same : X → X → Bool} → IsEquivalence same → (x y z : X) → not (same y z) ≡ true → (not (same x y) ≡ true) ⊎ (not (same x z) ≡ true)
 differs_from_one {same = same} l x y z h = elim (cases_Bool (same x y)) [ inl e ↦ inr (ap not (l.congr x y z e) ∙ h) | inr e ↦ inl (ap not e) ]
 
--- so of two subjects that exclude each other any subject of the first one's sort excludes one
+-- so any subject of the first one's sort excludes one of two subjects that exclude each other
 pub excludes_one : {D : Type 0} (eq : D → D → Bool) → IsEquivalence eq → (a x y : SubjectValue D) → sort_of a ≡ sort_of x → excludes eq x y ≡ true → (excludes eq a x ≡ true) ⊎ (excludes eq a y ≡ true)
 excludes_one eq l (Notarizes p) (Notarizes q) (Notarizes r) s h = differs_from_one (same_proposal_equiv l) p q r h
 excludes_one eq l (Finalizes p) (Finalizes q) (Finalizes r) s h = differs_from_one (same_proposal_equiv l) p q r h
@@ -132,7 +132,7 @@ signer_cmp_total = then_total (on_total (λ (s : Round × ℕ). s.0) round_cmp_t
 pub accused_cmp_total : IsTotalOrder accused_cmp
 accused_cmp_total = then_total (on_total (λ (n : Accusation). (n.round, n.signer)) signer_cmp_total) (on_total (λ (n : Accusation). kind_rank n.kind) nat_cmp_total)
 
--- what an order ties is one
+-- rounds that the order ties are equal
 pub exact_rounds : CmpEqualImpliesEq round_cmp
 exact_rounds a b h = ap (λ (p : _). record { epoch = p.0; view = p.1 }) (exact_pairs nat_cmp nat_cmp exact_unsigned exact_unsigned (a.epoch, a.view) (b.epoch, b.view) h)
 

@@ -15,7 +15,7 @@ module _ {D G : Type 0} (eq : D → D → Bool) (l : IsEquivalence eq) (vs : Lis
   other_after sort round signer (Some a) e true at = let test = λ (w : _). is_at sort round signer w && excludes eq a.subject w.subject in find-append test vs (v ∷ []) ∙ ap (λ c. option_or (find test vs) (cond (c && excludes eq a.subject v.subject) (Some v) None)) at
   other_after sort round signer (Some a) e false at = let test = λ (w : _). is_at sort round signer w && excludes eq a.subject w.subject in find_push test vs v ∙ cond-false (test v) _ _ (and_left _ _ at)
 
-  -- one more vote changes its own slot alone
+  -- one more vote changes only its own slot
   pub slot_after_vote : (sort : Sort) (round : Round) (signer : ℕ) → slot_of eq (vs ++ v ∷ []) sort round signer ≡ (if is_at sort round signer v then slot_with eq v (slot_of eq vs sort round signer) else slot_of eq vs sort round signer)
   slot_after_vote sort round signer =
       let first = find_push (is_at sort round signer) vs v in
@@ -23,7 +23,7 @@ module _ {D G : Type 0} (eq : D → D → Bool) (l : IsEquivalence eq) (vs : Lis
       (λ i. record { earliest = first i; other = other i }) ∙
       elim (is_at sort round signer v) as (λ b. record { earliest = cond b (slot_with eq v (slot_of eq vs sort round signer)).earliest (slot_of eq vs sort round signer).earliest; other = cond b (slot_with eq v (slot_of eq vs sort round signer)).other (slot_of eq vs sort round signer).other } ≡ cond b (slot_with eq v (slot_of eq vs sort round signer)) (slot_of eq vs sort round signer)) [ true ↦ refl | false ↦ refl ]
 
-  -- the slot of a vote's own sort, round and signer, by other names of them
+  -- the slot of a vote's own sort, round and signer is that of each spot that it is at
   pub own_slot : (s : Spot) → is_at s.sort s.round s.signer v ≡ true → slot_of eq vs (sort_of v.subject) (round_of v.subject) v.signer ≡ slot_of eq vs s.sort s.round s.signer
   own_slot s at = ap (λ (t : Spot). slot_of eq vs t.sort t.round t.signer) (is_at-true s v at)
 
@@ -59,7 +59,7 @@ module _ {D G : Type 0} (eq : D → D → Bool) where
       regroup true a true e h = refl
       regroup true a false e h = and_right a false refl
 
-  -- so it asks for another vote where the first is, and for any finalize beside a nullify
+  -- so it seeks another vote at the first one's spot, and beside a nullify any finalize
   abbrev pub second_by : EquivocationKind → Round → ℕ → SignedVote D G → SignedVote D G → Bool
   second_by Conflicting_notarize round signer v w = is_at Notarizing round signer w && excludes eq v.subject w.subject
   second_by Conflicting_finalize round signer v w = is_at Finalizing round signer w && excludes eq v.subject w.subject
@@ -77,7 +77,7 @@ module _ {D G : Type 0} (eq : D → D → Bool) where
       any _ y a e = absurd cc
 
 module _ {D G : Type 0} (eq : D → D → Bool) (vs : List (SignedVote D G)) where
-  -- the evidence of whom is accused follows from the slots
+  -- the evidence of an accusation follows from the slots
   pub evidence_of-slots : (n : Accusation) → evidence_of eq vs n ≡ evidence_from (λ sort. slot_of eq vs sort n.round n.signer) n.kind
   evidence_of-slots n = by (find (is_at (first_sort n.kind) n.round n.signer) vs) refl ∙ slots_of n.kind
     where
@@ -117,7 +117,7 @@ news_push eq before (w ∷ vs) v =
     ap (λ ws. if_news eq before w ++ ws) (news_push eq (before ++ w ∷ []) vs v ∙ ap (λ ws. news_after eq (before ++ w ∷ []) vs ++ if_news eq ws v) (append_assoc before (w ∷ []) vs)) ∙
     sym (append_assoc (if_news eq before w) (news_after eq (before ++ w ∷ []) vs) (if_news eq (before ++ w ∷ vs) v))
 
--- of a round as many are recorded as before, and one more if it is news of that round
+-- as many votes of a round are recorded as before, and one more if the vote is news of that round
 pub recorded_in_push : {D G : Type 0} (eq : D → D → Bool) (vs : List (SignedVote D G)) (v : SignedVote D G) (round : Round) → recorded_in eq (vs ++ v ∷ []) round ≡ recorded_in eq vs round + length (cond (of_round round v && is_news eq vs v) (v ∷ []) [])
 recorded_in_push eq vs v round =
     ap (λ ws. length (filter (of_round round) ws)) (news_push eq [] vs v) ∙
@@ -138,7 +138,7 @@ module _ {D G : Type 0} (eq : D → D → Bool) (l : IsEquivalence eq) (s : Spot
   votes_with v (Some a) None h = elim (excludes eq a.subject v.subject) as (λ b. votes_in_slot (record { earliest = Some a; other = cond b (Some v) None }) ≡ (a ∷ []) ++ cond (b && true) (v ∷ []) []) [ true ↦ refl | false ↦ refl ]
   votes_with v (Some a) (Some w) h = elim (excludes eq a.subject v.subject) as (λ b. (a ∷ w ∷ []) ≡ (a ∷ w ∷ []) ++ cond (b && false) (v ∷ []) []) [ true ↦ refl | false ↦ refl ]
 
-  -- those with one more vote
+  -- the votes in the slot after one more vote
   in_slot_push : (vs : List (SignedVote D G)) (v : SignedVote D G) → in_slot (vs ++ v ∷ []) ≡ in_slot vs ++ filter (is_at s.sort s.round s.signer) (if_news eq vs v)
   in_slot_push vs v =
       let k = slot_of eq vs s.sort s.round s.signer in
@@ -150,7 +150,7 @@ module _ {D G : Type 0} (eq : D → D → Bool) (l : IsEquivalence eq) (s : Spot
       ]) refl ∙
       ap (λ ws. in_slot vs ++ ws) (sym (filter_if (is_at s.sort s.round s.signer) (is_news eq vs v) v))
 
-  -- the votes in the slot of a list are those before it and the news that go there
+  -- the votes in the slot after more votes are those before and the news at this spot
   in_slot_after : (before vs : List (SignedVote D G)) → in_slot (before ++ vs) ≡ in_slot before ++ filter (is_at s.sort s.round s.signer) (news_after eq before vs)
   in_slot_after before [] = ap in_slot (append-nil before) ∙ sym (append-nil (in_slot before))
   in_slot_after before (v ∷ vs) =
@@ -160,12 +160,12 @@ module _ {D G : Type 0} (eq : D → D → Bool) (l : IsEquivalence eq) (s : Spot
       append_assoc (in_slot before) (filter at (if_news eq before v)) (filter at (news_after eq (before ++ v ∷ []) vs)) ∙
       ap (λ ws. in_slot before ++ ws) (sym (filter-append at (if_news eq before v) (news_after eq (before ++ v ∷ []) vs)))
 
--- those that are recorded of a sort, round and signer are the votes in its slot
+-- the recorded votes of a sort, round and signer are the votes in their slot
 pub recorded_are_slots : {D G : Type 0} (eq : D → D → Bool) → IsEquivalence eq → (vs : List (SignedVote D G)) → RecordedAreSlots eq vs
 recorded_are_slots eq l vs sort round signer = sym (in_slot_after eq l (record { sort = sort; round = round; signer = signer }) [] vs)
 
 module _ {D G : Type 0} (eq : D → D → Bool) (l : IsEquivalence eq) (vs : List (SignedVote D G)) (round : Round) where
-  -- nullifies differ from none: there is no other one
+  -- nullifies of a round exclude none of each other: there is no other one
   no_other_nullify : (signer : ℕ) (o : Option (SignedVote D G)) → find (is_at Nullifying round signer) vs ≡ o → other_than eq vs Nullifying round signer o ≡ None
   no_other_nullify signer None is = refl
   no_other_nullify signer (Some v) is = none_found (λ w. is_at Nullifying round signer w && excludes eq v.subject w.subject) vs (λ w w_in passes.
@@ -188,7 +188,7 @@ module _ {D G : Type 0} (eq : D → D → Bool) (l : IsEquivalence eq) (vs : Lis
       of_one _ true x all ns us fs h = omega (arith, h)
       of_one _ false x all ns us fs h = h
 
-  -- of one signer in the round at most five votes are recorded
+  -- at most five votes of a signer in the round are recorded
   pub few_are_recorded : (signer : ℕ) → length (filter (is_of round signer) (recorded_of eq vs)) ≤ 5
   few_are_recorded signer =
       let at_most : (o : Option (SignedVote D G)) → length (option_to_list o) ≤ 1 = elim [ None ↦ omega arith | Some x ↦ omega arith ] in
@@ -197,7 +197,7 @@ module _ {D G : Type 0} (eq : D → D → Bool) (l : IsEquivalence eq) (vs : Lis
       let one = ap (λ o. length (option_to_list o)) (no_other_nullify signer (find (is_at Nullifying round signer) vs) refl) in
       omega (arith, by_sorts signer (recorded_of eq vs), has Notarizing, has Nullifying, has Finalizing, at_most (in_slot Notarizing).earliest, at_most (in_slot Notarizing).other, at_most (in_slot Nullifying).earliest, one, at_most (in_slot Finalizing).earliest, at_most (in_slot Finalizing).other)
 
-  -- where its slots are empty none of its votes is recorded
+  -- where the slots of the round are empty none of its votes is recorded
   pub none_of_round : ((signer : ℕ) (sort : Sort) → no_slot ≡ slot_of eq vs sort round signer) → (v : SignedVote D G) → Contains (recorded_of eq vs) v → round_of v.subject ≡ round → ⊥
   none_of_round empty v v_in is =
       let at = is_at-from (record { sort = sort_of v.subject; round = round; signer = v.signer }) v (λ i. record { sort = sort_of v.subject; round = is i; signer = v.signer }) in
@@ -212,7 +212,7 @@ module _ {D G : Type 0} (eq : D → D → Bool) (l : IsEquivalence eq) (vs : Lis
 
 -- ---- what is held of a round
 
--- it is determined by the slots, and by how many votes are recorded
+-- what is held of a round is determined by the slots, and by how many votes are recorded
 pub same_held : {S D P G : Type 0} (eq : D → D → Bool) (n : ℕ) (vs ws : List (SignedVote D G)) (round : Round) (recorded : RoundVotes S D P G) → ((sort : Sort) (signer : ℕ) → slot_of eq ws sort round signer ≡ slot_of eq vs sort round signer) → recorded_in eq ws round ≡ recorded_in eq vs round → HoldsRound eq n vs round recorded → HoldsRound eq n ws round recorded
 same_held eq n vs ws round recorded same many holds = record { sized = holds.sized; held = λ signer sort. holds.held signer sort ∙ sym (same sort signer); counted = holds.counted ∙ sym many }
 
@@ -239,7 +239,7 @@ module _ {S D P G : Type 0} (eq : D → D → Bool) (l : IsEquivalence eq) (n : 
         counted = takes.more n holds.sized lt news ∙ (λ i. holds.counted i + length (cond (sym (and_from _ _ here (sym news_held ∙ news)) i) (v ∷ []) [])) ∙ sym (recorded_in_push eq vs v (round_of v.subject));
       }
 
--- what is held of the valid ones of some more votes on a subject
+-- what is held of a round after the valid ones of some more votes on a subject
 abbrev pub HoldsMore : {S D P G : Type 0} → (D → D → Bool) → ℕ → (SubjectValue D → ℕ → G → Bool) → SubjectValue D → List (Attestation S P G) → RoundVotes S D P G → RoundVotes S D P G → Type 0
 HoldsMore {D = D} {G = G} eq n good x given before after = (vs : List (SignedVote D G)) → HoldsRound eq n vs (round_of x) before → HoldsRound eq n (vs ++ filter (λ v. good v.subject v.signer v.signature) (map (vote_on x) given)) (round_of x) after
 

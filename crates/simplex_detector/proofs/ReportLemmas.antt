@@ -6,7 +6,7 @@ use Rattle.simplex_detector.proofs.Lists.{found_mapped, Contains-flat_map, Conta
 use Rattle.simplex_detector.proofs.Places.{exact_rounds, round_cmp_total, signer_cmp_total}
 use Rattle.simplex_detector.proofs.RecordedLemmas.{equivocation_of-Some, evidence_of-slots}
 
--- es is the evidence of the votes in this round: in order, each that of whom it accuses, and nobody accused there left out
+-- es is the evidence of the votes in this round: in order, each that of its accusation, and nobody accused there left out
 pub record IsEvidenceIn {D G : Type 0} (eq : D → D → Bool) (vs : List (SignedVote D G)) (round : Round) (es : List (Equivocation D G)) : Type 0 where
   pub ordered : IsStrictlySortedBy accused_cmp (map accused_by es)
   pub here : All (λ e. round_of e.first.subject ≡ round) es
@@ -24,7 +24,7 @@ module _ {S D C P G : Type 0} (rules : Rules S D C P G) (messages : List (Activi
   pub recalled : (round : Round) → RecallsNothing rules messages round ⊎ ((round_state : RoundState S D P G) × Contains detector.rounds.entries (round, round_state))
   recalled round = (elim (get round_cmp detector.rounds round) as (λ o. get round_cmp detector.rounds round ≡ o → RecallsAt rules messages round o → RecallsNothing rules messages round ⊎ ((round_state : RoundState S D P G) × Contains detector.rounds.entries (round, round_state))) [ None ↦ λ at r. inl r | Some round_state ↦ λ at r. inr (round_state, (btree_map_get_iff round_cmp_total exact_rounds detector.rounds ordered round round_state).0 at) ]) refl (holds round)
 
--- ---- who may be accused, in order
+-- ---- the accusations of a signer and of a round, in order
 
 abbrev names_at : Round → ℕ → List Accusation
 names_at round signer = record { round = round; signer = signer; kind = Conflicting_notarize } ∷ record { round = round; signer = signer; kind = Conflicting_finalize } ∷ record { round = round; signer = signer; kind = Nullify_finalize } ∷ []
@@ -32,25 +32,25 @@ names_at round signer = record { round = round; signer = signer; kind = Conflict
 abbrev pub names_in : Round → List ℕ → List Accusation
 names_in round signers = flat_map (names_at round) signers
 
--- they are of their signer and round
+-- the accusations of a signer in a round are of that signer and round
 at_name : (round : Round) (signer : ℕ) (n : Accusation) → Contains (names_at round signer) n → (n.round ≡ round) × (n.signer ≡ signer)
 at_name round signer n h = All-contains (λ (m : Accusation). (m.round ≡ round) × (m.signer ≡ signer)) (names_at round signer) n (All-from_recursion (λ (m : Accusation). (m.round ≡ round) × (m.signer ≡ signer)) (names_at round signer) ((refl, refl), ((refl, refl), ((refl, refl), tt)))) h
 
 in_name : (round : Round) (signers : List ℕ) (n : Accusation) → Contains (names_in round signers) n → n.round ≡ round
 in_name round signers n h = let (signer, _, at) = Contains-from_flat_map (names_at round) signers n h in (at_name round signer n at).0
 
--- and everyone is among those of its own signer and round
+-- each accusation is among those of its own signer and round
 own_name : (n : Accusation) → Contains (names_at n.round n.signer) n
 own_name n = elim n.kind as (λ kind. Contains (names_at n.round n.signer) (record { round = n.round; signer = n.signer; kind = kind })) [ Conflicting_notarize ↦ (0, omega arith, refl) | Conflicting_finalize ↦ (1, omega arith, refl) | Nullify_finalize ↦ (2, omega arith, refl) ]
 
--- of one signer they are in the order of kinds
+-- those of a signer are in the order of kinds
 ordered_at : (round : Round) (signer : ℕ) → IsStrictlySortedBy accused_cmp (names_at round signer)
 unfolding IsStrictlySortedBy
 ordered_at round signer =
     let rise : (k l : EquivocationKind) → nat_cmp (kind_rank k) (kind_rank l) ≡ Less → ordering_then (signer_cmp (round, signer) (round, signer)) (nat_cmp (kind_rank k) (kind_rank l)) ≡ Less = λ k l less i. ordering_then (tied_itself signer_cmp_total (round, signer) i) (less i) in
     ((rise Conflicting_notarize Conflicting_finalize refl, (rise Conflicting_notarize Nullify_finalize refl, tt)), ((rise Conflicting_finalize Nullify_finalize refl, tt), (tt, tt)))
 
--- of one round in the order of signers
+-- those of a round are in the order of signers
 ordered_in : (round : Round) (signers : List ℕ) → IsStrictlySortedBy nat_cmp signers → IsStrictlySortedBy accused_cmp (names_in round signers)
 ordered_in round signers sorted =
     sorted_joined nat_cmp accused_cmp (λ s. s) (names_at round)
@@ -64,15 +64,15 @@ ordered_in round signers sorted =
 -- ---- what is found in the slots
 
 module _ {D G : Type 0} (eq : D → D → Bool) (vs : List (SignedVote D G)) where
-  -- the evidence of whom is accused accuses that
+  -- the evidence of an accusation makes that accusation
   pub accuses_own : (n : Accusation) (e : Equivocation D G) → evidence_of eq vs n ≡ Some e → accused_by e ≡ n
   accuses_own n e is = (evidence_is eq vs n e is).named
 
-  -- its votes contradict
+  -- the votes of an evidence contradict
   contradicts-evidence : (n : Accusation) → if_contradicts eq (evidence_of eq vs n) ≡ evidence_of eq vs n
   contradicts-evidence n = (elim (evidence_of eq vs n) as (λ o. evidence_of eq vs n ≡ o → if_contradicts eq o ≡ o) [ None ↦ λ is. refl | Some e ↦ λ is. cond-true (contradicts eq e.kind e.first e.second) (Some e) None (ap (λ (m : Accusation). contradicts eq m.kind e.first e.second) (accuses_own n e is) ∙ (found _ vs e.second (evidence_is eq vs n e is).second).1) ]) refl
 
-  -- so from the slots of the votes the evidence is found, kind by kind
+  -- so the evidence is found in the slots of the votes, kind by kind
   found_at-evidence : (round : Round) (signer : ℕ) (slot : Sort → Slot D G) → ((sort : Sort) → slot sort ≡ slot_of eq vs sort round signer) → found_at eq slot ≡ filter_map (evidence_of eq vs) (names_at round signer)
   found_at-evidence round signer slot is =
       (λ i. option_to_list (of_kind Conflicting_notarize i) ++ (option_to_list (of_kind Conflicting_finalize i) ++ sym (append-nil (option_to_list (of_kind Nullify_finalize i))) i)) ∙
@@ -89,7 +89,7 @@ module _ {D G : Type 0} (eq : D → D → Bool) (vs : List (SignedVote D G)) whe
     found_in_round [] = refl
     found_in_round (s ∷ signers) = (λ i. found_at-evidence round s (slots recorded s) (holds.held s) i ++ found_in_round signers i) ∙ sym (filter_map-append (evidence_of eq vs) (names_at round s) (names_in round signers))
 
-    -- who has evidence in the round is among the listed signers
+    -- a signer with evidence in the round is among the listed signers
     pub listed_in_round : (signers : List ℕ) → ListsSigners recorded signers → (n : Accusation) → n.round ≡ round → is_some (evidence_of eq vs n) ≡ true → Contains (names_in round signers) n
     listed_in_round signers lists n here h =
         let (x, is) = some_from_is_some (evidence_of eq vs n) h in
@@ -193,7 +193,7 @@ report_of_walk {S} {D} {C} {P} {G} rules l detector ordered found walked message
               Contains-flat_map names_of walked.steps step n step_in (listed_in_round rules.eq vs (rules.size step.round.epoch) step.round step.round_state.votes (held step step_in) step.signers (lists step step_in) n (λ i. (sym is i).0) h)
         ]
 
--- signers that were collected, sorted, and rid of what came twice
+-- signers that were collected, sorted and deduplicated
 pub lists_signers : {S D P G : Type 0} (recorded : RoundVotes S D P G) (none notarizers nullifiers finalizers sorted signers : List ℕ) → none ≡ [] → notarizers ≡ none ++ map (λ v. v.attestation.signer) recorded.notarizes.others.items → nullifiers ≡ notarizers ++ map (λ v. v.attestation.signer) recorded.nullifies.items → finalizers ≡ nullifiers ++ map (λ v. v.attestation.signer) recorded.finalizes.others.items → IsPermutation finalizers sorted → IsSorted nat_cmp sorted → signers ≡ dedup eqb sorted → ListsSigners recorded signers
 lists_signers recorded none notarizers nullifiers finalizers sorted signers e0 e1 e2 e3 moved ordered e5 =
     let a = map (λ v. v.attestation.signer) recorded.notarizes.others.items in

@@ -1,4 +1,4 @@
--- Of messages no more votes are recorded than their encodings have bytes.
+-- No more votes of messages are recorded than their encodings have bytes.
 use Rattle.simplex_detector.proofs.Prelude.{Activity, Attestation, Bool, Format, List, Rules, SignedVote, [], activity_encoding, arith, cond, count_by-le-length, false, flat_map, groups_some, is_news, is_valid, length, length-append, length-filter, length-map, map, news_after, suc, true, valid_votes, votes_in, votes_recorded, ℕ, ◌++◌, ◌+◌, ◌∷◌, ◌≤◌, Notarizes, Nullifies, Finalizes, vote_on}
 use Rattle.simplex_evidence.specs.declared.types.activity.Activity.TheVariants as activity
 
@@ -40,7 +40,7 @@ module _ {S D C P G : Type 0} (eq : D → D → Bool) (payload : Format D) (cert
       let others = messages_have_room messages in
       omega (arith, length-append (votes_in listed m) (flat_map (votes_in listed) messages), length-append (activity_encoding eq payload certificate signature m) (flat_map (activity_encoding eq payload certificate signature) messages))
 
--- no more than the bytes of all messages
+-- no more votes are recorded than the encodings of all messages have bytes
 pub recorded_have_room : {S D C P G : Type 0} (rules : Rules S D C P G) (eq : D → D → Bool) (payload : Format D) (certificate : C → List ℕ) (signature : Format G) → ((c : C) → length (rules.listed c) ≤ length (certificate c)) → (messages : List (Activity S D C P G)) →
     votes_recorded eq (valid_votes rules messages) ≤ length (flat_map (activity_encoding eq payload certificate signature) messages)
 recorded_have_room rules eq payload certificate signature room messages =

@@ -1,4 +1,4 @@
--- Which rounds are split, by what is recorded of their certificates, and that the messages determine their splits.
+-- Which rounds are split, from what is recorded of their certificates, and that the messages determine their splits.
 use Rattle.simplex_detector.proofs.Prelude.{Activity, All, AreLawful, AreSplits, Bool, CertifiedSubjects, Contains, Contains-append_left, Contains-push, Contains-push_cases, Finalizing, HaveCommittees, IsEquivalence, IsStrictlySortedBy, List, None, Notarizing, Nullifying, Option, RecordsFirsts, Round, Rules, Some, Sort, Split, SubjectValue, [], activity_round, and_from, and_left, and_parts, and_right, ap, append-nil, are_split, cases_Bool, subject_and_certificate, certificates_contradict, certified_in, certified_subjects, changes_firsts, cond, cond_some, cons_option, excludes, excludes_first, excludes_some, false, false≢true, faults_of, filter_map, filter_map-append, first_certified, first_with, firsts_of, if◌then◌else◌, inl, inr, is_certified_message, is_none, is_some, is_split, list_any, messages_contradict, accused_count, not, option_or, option_to_list, or_cases, or_left, or_parts, or_right, refl, round_cmp, round_of, same_round, same_sort, sort_of, split_of, subjects_contradict, subst, sym, true, valid_votes, ⊎_elim, ◌&&◌, ◌++◌, ◌+◌, ◌||◌, ◌∙◌, ◌∷◌, ◌≡◌, ◌≤◌, ◌⊎◌}
 use Rattle.simplex_detector.proofs.AccountLemmas.{accountable_for, certificate_parts, certified_parts, certifies_from, enough_for}
 use Rattle.simplex_detector.proofs.Lists.{Contains-from_filter_map, Contains-from_list_any, IsListing, any_from_Contains, find_from_Contains, find_push, found, made_complete, made_ordered, made_sound, same_bool}
@@ -16,13 +16,13 @@ pub record Opposites {D : Type 0} (eq : D → D → Bool) (xs : List (SubjectVal
   pub y_here : round_of y ≡ round
   pub against : excludes eq x y ≡ true
 
--- such two split it
+-- two such subjects split the round
 pub split_by : {D : Type 0} (eq : D → D → Bool) (xs : List (SubjectValue D)) (round : Round) → Opposites eq xs round → are_split eq xs round ≡ true
 split_by eq xs round o =
     any_from_Contains (λ a. same_round (round_of a) round && list_any (subjects_contradict eq a) xs) xs o.x o.x_in
     (and_from _ _ (same_round-from _ _ o.x_here) (any_from_Contains (subjects_contradict eq o.x) xs o.y o.y_in (and_from _ _ (same_round-from _ _ (o.x_here ∙ sym o.y_here)) o.against)))
 
--- a split round has such two
+-- a split round has two such subjects
 pub opposites : {D : Type 0} (eq : D → D → Bool) (xs : List (SubjectValue D)) (round : Round) → are_split eq xs round ≡ true → Opposites eq xs round
 opposites eq xs round h =
     let (x, x_in, e) = Contains-from_list_any (λ a. same_round (round_of a) round && list_any (subjects_contradict eq a) xs) xs h in
@@ -32,7 +32,7 @@ opposites eq xs round h =
     let here = same_round-true _ _ p.0 in
     record { x = x; y = y; x_in = x_in; y_in = y_in; x_here = here; y_here = sym (same_round-true _ _ q.0) ∙ here; against = q.1 }
 
--- so subjects among which are those of the round split it too
+-- so subjects that include those of the round split it too
 pub split_more : {D : Type 0} (eq : D → D → Bool) (xs ys : List (SubjectValue D)) (round : Round) → ((x : SubjectValue D) → Contains xs x → round_of x ≡ round → Contains ys x) → are_split eq xs round ≡ true → are_split eq ys round ≡ true
 split_more eq xs ys round all h =
     let o = opposites eq xs round h in
@@ -45,13 +45,13 @@ module _ {D : Type 0} (eq : D → D → Bool) (first : Sort → Option (SubjectV
   some_from_first Nullifying a is h = or_right _ _ (or_left _ _ (ap (λ o. excludes_first eq o y) is ∙ h))
   some_from_first Finalizing a is h = or_right _ _ (or_right _ _ (ap (λ o. excludes_first eq o y) is ∙ h))
 
-  -- what excludes the first of some sort excludes such a one
+  -- a subject that excludes some first one excludes the first of a sort
   first_from_some : excludes_some eq first y ≡ true → (sort : Sort) × (a : SubjectValue D) × (first sort ≡ Some a) × (excludes eq a y ≡ true)
   first_from_some h =
       let at = λ (sort : Sort). (elim (first sort) as (λ o. first sort ≡ o → excludes_first eq o y ≡ true → (s : Sort) × (a : SubjectValue D) × (first s ≡ Some a) × (excludes eq a y ≡ true)) [ None ↦ λ is e. absurd (false≢true e) | Some a ↦ λ is e. (sort, a, is, e) ]) refl in
       ⊎_elim (at Notarizing) (λ e. ⊎_elim (at Nullifying) (at Finalizing) (or_cases (excludes_first eq (first Nullifying) y) (excludes_first eq (first Finalizing) y) e)) (or_cases (excludes_first eq (first Notarizing) y) _ h)
 
--- it is the first of its round and sort, if there is none yet, and changes no other
+-- one more subject is the first of its round and sort if there is none yet, and changes no other first
 first_after : {D : Type 0} (xs : List (SubjectValue D)) (y : SubjectValue D) (round : Round) (sort : Sort) → first_certified (xs ++ y ∷ []) round sort ≡ (if same_round (round_of y) round then first_with y sort (first_certified xs round sort) else first_certified xs round sort)
 first_after xs y round sort =
     find_push (λ x. same_sort (sort_of x) sort && same_round (round_of x) round) xs y ∙
@@ -99,7 +99,7 @@ module _ {D : Type 0} (eq : D → D → Bool) (laws : IsEquivalence eq) (xs : Li
       split_by eq (xs ++ y ∷ []) round (record { x = a; y = y; x_in = Contains-append_left xs (y ∷ []) a a_in; y_in = Contains-push xs y; x_here = same_round-true _ _ (and_parts (same_sort (sort_of a) sort) (same_round (round_of a) round) passes).1; y_here = same_round-true _ _ p.0; against = against }))
       (or_cases (are_split eq xs round) _ h)
 
-  -- what is recorded after one more subject, in the words of what was recorded; b is whether it is of the round
+  -- what is recorded after one more subject, from what was recorded; b is whether the subject is of the round
   pub records_push : (old new : CertifiedSubjects D) (b : Bool) → same_round (round_of y) round ≡ b → (old.split ≡ false → (sort : Sort) → firsts_of new sort ≡ cond b (first_with y sort (firsts_of old sort)) (firsts_of old sort)) → new.split ≡ (old.split || (b && excludes_some eq (firsts_of old) y)) → RecordsFirsts eq xs round old → RecordsFirsts eq (xs ++ y ∷ []) round new
   records_push old new b is firsts split records = record {
     split = split ∙ by_split (cases_Bool old.split) ∙ sym (same_bool _ _ split_to split_from);
@@ -116,21 +116,21 @@ module _ {D : Type 0} (eq : D → D → Bool) (laws : IsEquivalence eq) (xs : Li
   pub records_elsewhere : (recorded : CertifiedSubjects D) → same_round (round_of y) round ≡ false → RecordsFirsts eq xs round recorded → RecordsFirsts eq (xs ++ y ∷ []) round recorded
   records_elsewhere recorded away = records_push recorded recorded false away (λ whole sort. refl) (elim recorded.split as (λ b. b ≡ (b || false)) [ true ↦ refl | false ↦ refl ])
 
-  -- what changes nothing is recorded without a change
+  -- a subject that would change nothing leaves the record as it is
   pub records_no_news : (recorded : CertifiedSubjects D) → same_round (round_of y) round ≡ true → changes_firsts eq (firsts_of recorded) recorded.split y ≡ false → RecordsFirsts eq xs round recorded → RecordsFirsts eq (xs ++ y ∷ []) round recorded
   records_no_news recorded here same =
       records_push recorded recorded true here
       (λ whole sort. stays sort (same_sort (sort_of y) sort) refl (or_parts (is_none (firsts_of recorded (sort_of y))) (excludes_some eq (firsts_of recorded) y) (sym (ap (λ b. not b && (is_none (firsts_of recorded (sort_of y)) || excludes_some eq (firsts_of recorded) y)) whole) ∙ same)).0)
       ((elim recorded.split as (λ b. (not b && (is_none (firsts_of recorded (sort_of y)) || excludes_some eq (firsts_of recorded) y)) ≡ false → b ≡ (b || excludes_some eq (firsts_of recorded) y)) [ true ↦ λ h. refl | false ↦ λ h. sym (or_parts (is_none (firsts_of recorded (sort_of y))) (excludes_some eq (firsts_of recorded) y) h).1 ]) same)
     where
-      -- a first that is there stays
+      -- a recorded first subject stays
       stays : (sort : Sort) (b : Bool) → same_sort (sort_of y) sort ≡ b → is_none (firsts_of recorded (sort_of y)) ≡ false → firsts_of recorded sort ≡ cond b (option_or (firsts_of recorded sort) (Some y)) (firsts_of recorded sort)
       stays sort true is h = (elim (firsts_of recorded sort) as (λ o. is_none o ≡ false → o ≡ option_or o (Some y)) [ None ↦ λ e. absurd (false≢true (sym e)) | Some a ↦ λ e. refl ]) (subst (λ s. is_none (firsts_of recorded s) ≡ false) (same_sort-true (sort_of y) sort is) h)
       stays sort false is h = refl
 
 -- ---- from messages to what they certify
 
--- whether what is there passes
+-- whether there is a value and it passes
 abbrev passes : {X : Type 0} → (X → Bool) → Option X → Bool
 passes p None = false
 passes p (Some x) = p x
@@ -151,7 +151,7 @@ module _ {S D C P G : Type 0} (rules : Rules S D C P G) where
       let (d, k_has, _) = certified_parts rules (subject_and_certificate k) y k_is in
       λ i. certificates_contradict rules.eq (m_has i) (k_has i)
 
-  -- what messages split follows from what they certify
+  -- which rounds messages split follows from the subjects that they certify
   pub from_subjects : (messages : List (Activity S D C P G)) (round : Round) → is_split rules messages round ≡ are_split rules.eq (certified_subjects rules messages) round
   from_subjects messages round =
       (λ i. list_any (λ m. of_message m (certified_in rules m) refl i) messages) ∙ sym (list_any-filter_map (λ x. same_round (round_of x) round && list_any (subjects_contradict rules.eq x) (certified_subjects rules messages)) (certified_in rules) messages)
@@ -185,7 +185,7 @@ module _ {S D C P G : Type 0} (rules : Rules S D C P G) (messages : List (Activi
   pub split_opposites : (round : Round) → is_split rules messages round ≡ true → Opposites rules.eq (certified_subjects rules messages) round
   split_opposites round h = opposites rules.eq _ round (sym (from_subjects rules messages round) ∙ h)
 
-  -- the split of a round is there where it is split, and of that round
+  -- a round has a split exactly where it is split
   pub split_exists : (round : Round) → is_some (split_of rules messages round) ≡ is_split rules messages round
   split_exists round =
       let s : Split = record { round = round; named = accused_count rules.eq (valid_votes rules messages) round; least = faults_of (rules.size round.epoch) + 1 } in
@@ -225,7 +225,7 @@ module _ {S D C P G : Type 0} (rules : Rules S D C P G) (messages : List (Activi
       let (c, has, certifies) = certified_parts rules (subject_and_certificate m) o.x m_is in
       subst (λ r. 1 ≤ rules.size r.epoch) o.x_here (l.someone o.x c certifies)
 
-  -- so its split says
+  -- so each split of messages has at least f + 1 accused
   pub have_accused : AreLawful rules → (ss : List Split) → AreSplits rules messages ss → All (λ s. s.least ≤ s.named) ss
   have_accused l ss are = λ k d lt.
       let (is, made) = cond_some (is_split rules messages _) _ _ (are.sound k d lt) in

@@ -6,11 +6,11 @@ use Rattle.simplex_detector.proofs.Lists.{Contains-filter, Contains-first, Conta
 use Rattle.simplex_detector.proofs.Places.{is_at-true, is_of-true}
 use Rattle.simplex_detector.proofs.SplitLemmas.{enough_in_split, from_subjects, moved_splits, split_more, split_exists, split_opposites}
 
--- the signers whom the votes claim to contradict are suspect, and so are their rounds
+-- the signers of the claimed evidence are suspect, and so are their rounds
 abbrev pub HasSuspects : {D G : Type 0} → List (Equivocation D G) → Suspected → Type 0
 HasSuspects {D} {G} claims suspected = (e : Equivocation D G) → Contains claims e → IsTrue (suspected.signers (round_of e.first.subject) e.first.signer) × IsTrue (suspected.rounds (round_of e.first.subject))
 
--- the same, but that no vote is valid but of a suspect in its round, and nothing is certified but in a suspect round
+-- the same rules, except that only votes of suspects in their rounds are valid, and only suspect rounds have certified subjects
 abbrev pub among : {S D C P G : Type 0} → Rules S D C P G → Suspected → Rules S D C P G
 among rules suspected = judged_by rules (λ x signer signature. suspected.signers (round_of x) signer && rules.good x signer signature) (λ x certificate. suspected.rounds (round_of x) && rules.certified x certificate)
 
@@ -18,14 +18,14 @@ among rules suspected = judged_by rules (λ x signer signature. suspected.signer
 abbrev pub AreSuspect : {S D C P G : Type 0} → Rules S D C P G → List (Activity S D C P G) → Suspected → Type 0
 AreSuspect rules messages suspected = (n : Accusation) → IsTrue (is_accused rules.eq (valid_votes rules messages) n) → IsTrue (suspected.signers n.round n.signer) × IsTrue (suspected.rounds n.round)
 
--- where each signer who is accused is suspect in its round, the suspects alone have the evidence and the splits of all messages
+-- where each accused signer is suspect in its round, judging suspects alone yields the evidence and the splits of all messages
 pub record TellAll {S D C P G : Type 0} (rules : Rules S D C P G) (messages : List (Activity S D C P G)) (suspected : Suspected) : Type 0 where
   pub evidence : (es : List (Equivocation D G)) → IsEvidence rules.eq (valid_votes (among rules suspected) messages) es ↔ IsEvidence rules.eq (valid_votes rules messages) es
   pub splits : (splits : List Split) → AreSplits (among rules suspected) messages splits ↔ AreSplits rules messages splits
 
 -- ---- votes of suspects
 
--- what is found passes: a filter by less loses nothing of it
+-- filtering by a weaker test first does not change what is found
 find_filtered : {X : Type 0} (p q : X → Bool) → ((x : X) → p x ≡ true → q x ≡ true) → (xs : List X) → find p (filter q xs) ≡ find p xs
 find_filtered p q weaker [] = refl
 find_filtered p q weaker (x ∷ xs) =
@@ -43,11 +43,11 @@ module _ {D G : Type 0} (eq : D → D → Bool) (l : IsEquivalence eq) (vs : Lis
   abbrev ws : List (SignedVote D G)
   ws = filter (here f) vs
 
-  -- of two votes that contradict both are of suspects where one is
+  -- if one of two votes that contradict is of a suspect, so is the other
   here_both : (kind : EquivocationKind) (v w : SignedVote D G) → contradicts eq kind v w ≡ true → here f w ≡ here f v
   here_both kind v w h = let at = is_of-true _ _ w (and_parts (is_of (round_of v.subject) v.signer w) (clash eq kind v.subject w.subject) h).0 in λ i. f (at.0 i) (at.1 i)
 
-  -- the same are accused
+  -- the votes of suspects make the same accusations
   same_accused : (n : Accusation) → is_accused eq ws n ≡ is_accused eq vs n
   same_accused n = same_bool _ _ (accused_by_more eq vs ws (λ v h. (Contains-from_filter (here f) vs v h).0) n) (λ h.
       let (v, w, in_v, in_w, of_v, against) = votes_from_accused eq vs n h in
@@ -55,7 +55,7 @@ module _ {D G : Type 0} (eq : D → D → Bool) (l : IsEquivalence eq) (vs : Lis
       let v_here : here f v ≡ true = (λ i. f (at.0 i) (at.1 i)) ∙ covers n h in
       accused_from_votes eq ws n v w (Contains-filter (here f) vs v in_v v_here) (Contains-filter (here f) vs w in_w (here_both n.kind v w against ∙ v_here)) of_v against)
 
-  -- with the same evidence
+  -- and give them the same evidence
   same_evidence : (n : Accusation) → evidence_of eq ws n ≡ evidence_of eq vs n
   same_evidence n =
       let at : SignedVote D G → Bool = is_at (first_sort n.kind) n.round n.signer in
@@ -68,7 +68,7 @@ module _ {D G : Type 0} (eq : D → D → Bool) (l : IsEquivalence eq) (vs : Lis
         | false ↦ λ h. none _ (evidence_exists eq ws l n ∙ same_accused n ∙ h) ∙ sym (none _ (evidence_exists eq vs l n ∙ h))
       ]) refl
 
--- as many are accused in a round by votes that accuse the same
+-- votes that make the same accusations accuse as many in a round
 same_count : {D G : Type 0} (eq : D → D → Bool) (vs ws : List (SignedVote D G)) → ((n : Accusation) → is_accused eq ws n ≡ is_accused eq vs n) → (round : Round) → accused_count eq ws round ≡ accused_count eq vs round
 same_count eq vs ws names round =
     let same : (q : ℕ) → is_accused_in eq ws round q ≡ is_accused_in eq vs round q = λ q i. names (record { round = round; signer = q; kind = Conflicting_notarize }) i || (names (record { round = round; signer = q; kind = Conflicting_finalize }) i || names (record { round = round; signer = q; kind = Nullify_finalize }) i) in
@@ -91,7 +91,7 @@ module _ {S D C P G : Type 0} (rules : Rules S D C P G) (l : AreLawful rules) (m
         | false ↦ λ i. cond (and-false (here s.signers v) i) (v ∷ twice vs i) (twice vs i)
       ]
 
-  -- what is certified among suspects are the subjects of suspect rounds
+  -- the certified subjects among suspects are those of suspect rounds
   certified_among : (ms : List (Activity S D C P G)) → certified_subjects (among rules s) ms ≡ filter (λ x. s.rounds (round_of x)) (certified_subjects rules ms)
   certified_among [] = refl
   certified_among (m ∷ ms) = elim (subject_and_certificate m) as (λ o. cons_option (if_certified (among rules s) o) (certified_subjects (among rules s) ms) ≡ filter (λ x. s.rounds (round_of x)) (cons_option (if_certified rules o) (certified_subjects rules ms))) [
@@ -136,20 +136,20 @@ module _ {S D C P G : Type 0} (rules : Rules S D C P G) (l : AreLawful rules) (m
 -- ---- claims
 
 module _ {S D C P G : Type 0} (rules : Rules S D C P G) (l : AreLawful rules) (messages : List (Activity S D C P G)) where
-  -- each signer who is accused is claimed to be
+  -- each accused signer is accused by the claims too
   pub accused_is_claimed : (n : Accusation) → is_accused rules.eq (valid_votes rules messages) n ≡ true → is_accused rules.eq (valid_votes (claimed rules) messages) n ≡ true
   accused_is_claimed n h = accused_by_more rules.eq (valid_votes (claimed rules) messages) (valid_votes rules messages) (λ v v_in.
       let (m, m_in, own, valid) = valid_from rules messages v v_in in
       valid_in (claimed rules) messages v m m_in own (lt-ltb _ _ (l.members v.subject v.signer v.signature valid))) n h
 
-  -- the signers of the evidence that the votes claim are suspect
+  -- where the signers of the claimed evidence are suspect, each accused signer is
   pub claims_are_suspect : (claims : List (Equivocation D G)) (s : Suspected) → IsEvidence rules.eq (valid_votes (claimed rules) messages) claims → HasSuspects claims s → AreSuspect rules messages s
   claims_are_suspect claims s is has n h =
       let (e, e_in, e_is) = Contains-from_map accused_by claims n (is.complete n (accused_is_claimed n h)) in
       let (signer, round) = has e e_in in
       (ap (λ (m : Accusation). s.signers m.round m.signer) (sym e_is) ∙ signer, ap (λ (m : Accusation). s.rounds m.round) (sym e_is) ∙ round)
 
-  -- where nobody is claimed to contradict there is no evidence and no split
+  -- where there is no claimed evidence, there is no evidence and no split
   pub nothing_claimed : (splits : List Split) → IsEvidence rules.eq (valid_votes (claimed rules) messages) [] → AreSplits (claimed rules) messages splits → IsEvidence rules.eq (valid_votes rules messages) [] × AreSplits rules messages splits
   nothing_claimed splits is are =
       let nobody : Suspected = record { signers = λ _ _. false; rounds = λ _. false } in
@@ -163,13 +163,13 @@ module _ {S D C P G : Type 0} (rules : Rules S D C P G) (l : AreLawful rules) (m
         record { ordered = are.ordered; sound = λ k d lt. absurd (no_split _ (sym (split_exists (claimed rules) messages _) ∙ ap is_some (are.sound k d lt))); complete = λ r h. absurd (false≢true (split_is_suspect rules l messages nobody suspect r h)) },
       )
 
--- ---- committees that judge so
+-- ---- committees that judge claims, or suspects alone
 
 module _ {S D C P G : Type 0} (eq : D → D → Bool) (keys : S → List P) (good : S → SubjectValue D → ℕ → G → Bool) (certified : S → SubjectValue D → C → Bool) (listed : C → List (Attestation S P G)) (schedule : Schedule S) where
   abbrev rules : Rules S D C P G
   rules = rules_of eq keys good certified listed schedule
 
-  -- a committee's claims, also where there is none
+  -- what is judged as `Claimed` is what the votes claim, also without a committee
   pub claims_are_claimed : rules_under eq keys good certified listed Claimed schedule ≡ claimed rules
   claims_are_claimed = λ i. record {
     eq = eq;
@@ -183,7 +183,7 @@ module _ {S D C P G : Type 0} (eq : D → D → Bool) (keys : S → List P) (goo
   abbrev pub suspects_in : SuspectSigners → Suspected
   suspects_in suspects = record { signers = λ round signer. contains signer_cmp suspects.signers (round, signer); rounds = contains round_cmp suspects.rounds }
 
-  -- a committee's judgement of suspects, also where there is none
+  -- what is judged as `Suspects` is judged among these suspects, also without a committee
   pub suspects_are_among : (suspects : SuspectSigners) → rules_under eq keys good certified listed (Suspects suspects) schedule ≡ among rules (suspects_in suspects)
   suspects_are_among suspects = λ i. record {
     eq = eq;
@@ -199,7 +199,7 @@ module _ {S D C P G : Type 0} (rules : Rules S D C P G) (messages : List (Activi
   abbrev suspected : Suspected
   suspected = record { signers = is_suspect rules messages; rounds = is_suspect_round rules messages }
 
-  -- a signer who is claimed to contradict is suspect, and so is the round
+  -- a signer whom the claims accuse is suspect, and so is the round
   claimed_is_suspect : (n : Accusation) → is_accused rules.eq (valid_votes (claimed rules) messages) n ≡ true → (is_suspect rules messages n.round n.signer ≡ true) × (is_suspect_round rules messages n.round ≡ true)
   claimed_is_suspect n h =
       let vs = valid_votes (claimed rules) messages in
@@ -208,13 +208,13 @@ module _ {S D C P G : Type 0} (rules : Rules S D C P G) (messages : List (Activi
       (suspect, any_from_Contains (λ v. is_suspect rules messages n.round v.signer) vs v v_in (ap (is_suspect rules messages n.round) (is_of-true n.round n.signer v of_v).1 ∙ suspect))
 
   module _ (payloads : IsEquivalence rules.eq) (claims : List (Equivocation D G)) (is : IsEvidence rules.eq (valid_votes (claimed rules) messages) claims) where
-    -- whom the claims accuse is suspect
+    -- the signer of a claimed evidence is suspect
     claim_is_suspect : (e : Equivocation D G) → Contains claims e → (is_suspect rules messages (round_of e.first.subject) e.first.signer ≡ true) × (is_suspect_round rules messages (round_of e.first.subject) ≡ true)
     claim_is_suspect e e_in =
         let vs = valid_votes (claimed rules) messages in
         claimed_is_suspect (accused_by e) (sym (evidence_exists rules.eq vs payloads (accused_by e)) ∙ ap is_some (All-contains (λ e. evidence_of rules.eq vs (accused_by e) ≡ Some e) claims e is.sound e_in))
 
-    -- the signers of what is claimed are those that are suspect
+    -- the signers of the claimed evidence are the suspects
     pub signers_are_suspect : (round : Round) (signer : ℕ) → Contains (map suspect_of claims) (round, signer) ↔ IsTrue (is_suspect rules messages round signer)
     signers_are_suspect round signer = (
       λ h. let (e, e_in, e_is) = Contains-from_map suspect_of claims (round, signer) h in subst (λ (s : Round × ℕ). is_suspect rules messages s.0 s.1 ≡ true) e_is (claim_is_suspect e e_in).0,
@@ -224,7 +224,7 @@ module _ {S D C P G : Type 0} (rules : Rules S D C P G) (messages : List (Activi
           subst (Contains (map suspect_of claims)) (ap (λ (n : Accusation). (n.round, n.signer)) e_is) (Contains-map suspect_of claims e e_in),
     )
 
-    -- the rounds of what is claimed are those that are suspect
+    -- the rounds of the claimed evidence are the suspect ones
     pub rounds_are_suspect : (round : Round) → Contains (map (λ e. round_of e.first.subject) claims) round ↔ IsTrue (is_suspect_round rules messages round)
     rounds_are_suspect round = (
       λ h. let (e, e_in, e_is) = Contains-from_map (λ (e : Equivocation D G). round_of e.first.subject) claims round h in subst (λ r. is_suspect_round rules messages r ≡ true) e_is (claim_is_suspect e e_in).1,

@@ -14,7 +14,7 @@ pub record Accusation : Type 0 where
   pub signer : ℕ
   pub kind : EquivocationKind
 
--- whether some two of the votes contradict with this kind, both of this signer and round. `eq` compares payloads
+-- whether two of the votes, both of this signer and round, contradict with this kind. `eq` compares payloads
 abbrev pub is_accused : {D G : Type 0} → (D → D → Bool) → List (SignedVote D G) → Accusation → Bool
 is_accused eq vs n = list_any (λ v. is_of n.round n.signer v && list_any (contradicts eq n.kind v) vs) vs
 
@@ -28,7 +28,7 @@ accused_by e = record { round = round_of e.first.subject; signer = e.first.signe
 abbrev pub round_cmp : Round → Round → Ordering
 round_cmp a b = ordering_then (nat_cmp a.epoch b.epoch) (nat_cmp a.view b.view)
 
--- signers of rounds are ordered by round, and then by signer
+-- signers, each with a round, are ordered by round and then by signer
 abbrev pub signer_cmp : Round × ℕ → Round × ℕ → Ordering
 signer_cmp a b = ordering_then (round_cmp a.0 b.0) (nat_cmp a.1 b.1)
 
@@ -38,6 +38,6 @@ kind_rank Conflicting_notarize = 0
 kind_rank Conflicting_finalize = 1
 kind_rank Nullify_finalize = 2
 
--- who is accused is ordered by the signer of the round, and then by kind
+-- accusations are ordered by round, signer and kind
 abbrev pub accused_cmp : Accusation → Accusation → Ordering
 accused_cmp a b = ordering_then (signer_cmp (a.round, a.signer) (b.round, b.signer)) (nat_cmp (kind_rank a.kind) (kind_rank b.kind))

@@ -1,4 +1,4 @@
--- Which two certificates no honest quorum makes both.
+-- Which certificates and messages contradict.
 use Rattle.std.specs.Prelude.{Bool, false, ◌&&◌, Option, Some}
 use Rattle.simplex_base.specs.Positions.{same_round}
 use Rattle.simplex_scheme.specs.Subject.{SubjectValue, round_of}

@@ -9,7 +9,7 @@ use Rattle.simplex_detector.specs.declared.committees.Entries.TheVariants as ent
 use Rattle.simplex_detector.specs.declared.committees.CommitteesError.{CommitteesError}
 use Rattle.simplex_detector.specs.declared.committees.CommitteesError.TheVariants.{Empty, Unordered}
 
--- one committee for every epoch, or each its own for the listed epochs
+-- one committee for every epoch, or one for each listed epoch
 pub data Schedule (S : Type 0) : Type 0 where
   Every : S → Schedule S
   Listed : List (ℕ × S) → Schedule S
@@ -28,7 +28,7 @@ abbrev pub committee_of : {S : Type 0} → Schedule S → ℕ → Option S
 committee_of (Every committee) epoch = Some committee
 committee_of (Listed pairs) epoch = option_map (λ p. p.1) (find (λ p. p.0 == epoch) pairs)
 
--- the size of a committee, none where there is no committee
+-- the size of a committee, 0 where there is none
 abbrev pub size_by : {S P : Type 0} → (S → List P) → Option S → ℕ
 size_by keys None = 0
 size_by keys (Some committee) = length (keys committee)
@@ -42,12 +42,12 @@ abbrev pub bound_of : {S P : Type 0} → (S → List P) → Schedule S → ℕ
 bound_of keys (Every committee) = length (keys committee)
 bound_of keys (Listed pairs) = greatest keys pairs
 
--- whether a signature is valid by a committee. Without one nothing is valid
+-- whether a signature is valid under a committee. Without a committee none is
 abbrev pub valid_by : {S D G : Type 0} → (S → SubjectValue D → ℕ → G → Bool) → Option S → SubjectValue D → ℕ → G → Bool
 valid_by good None x signer signature = false
 valid_by good (Some committee) x signer signature = good committee x signer signature
 
--- whether a certificate is one of a committee. Without one nothing is certified
+-- whether a certificate certifies under a committee. Without a committee none does
 abbrev pub certified_by : {S D C : Type 0} → (S → SubjectValue D → C → Bool) → Option S → SubjectValue D → C → Bool
 certified_by certified None x certificate = false
 certified_by certified (Some committee) x certificate = certified committee x certificate

@@ -23,7 +23,7 @@ use Rattle.simplex_detector.specs.declared.round_state.RoundState.{RoundState}
 use Rattle.simplex_detector.specs.declared.detector.Detector.{Detector}
 
 module _ {S D C P G : Type 0} (rules : Rules S D C P G) (messages : List (Activity S D C P G)) where
-  -- the state of a round holds the recorded ones of the messages' valid votes, and what they certify
+  -- the state of a round is that of the messages' valid votes and certified subjects
   pub record RecallsRound (round : Round) (round_state : RoundState S D P G) : Type 0 where
     pub votes : HoldsRound rules.eq (rules.size round.epoch) (valid_votes rules messages) round round_state.votes
     pub subjects : RecordsFirsts rules.eq (certified_subjects rules messages) round round_state.certified
@@ -38,7 +38,7 @@ module _ {S D C P G : Type 0} (rules : Rules S D C P G) (messages : List (Activi
   RecallsAt round None = RecallsNothing round
   RecallsAt round (Some round_state) = RecallsRound round round_state
 
-  -- the state is that of the messages, round by round
+  -- the detector's state is that of the messages, round by round
   abbrev pub Recalls : Detector S D P G → Type 0
   Recalls detector = (round : Round) → RecallsAt round (get round_cmp detector.rounds round)
 
@@ -49,7 +49,7 @@ module _ {S D C P G : Type 0} (rules : Judging → Schedule S → Rules S D C P 
   abbrev pub RecallsNone : Detector S D P G → Type 0
   RecallsNone detector = (judging : Judging) (schedule : Schedule S) → Recalls (rules judging schedule) [] detector
 
-  -- the evidence in the valid votes of the messages that the state is of
+  -- the evidence in the valid votes of any messages whose state this is
   abbrev pub GivesEvidence : Detector S D P G → List (Equivocation D G) → Type 0
   GivesEvidence detector es = (judging : Judging) (schedule : Schedule S) (messages : List (Activity S D C P G)) →
       Recalls (rules judging schedule) messages detector →
@@ -73,7 +73,7 @@ module _ {S D C P G : Type 0} (rules : Judging → Schedule S → Rules S D C P 
       HaveCommittees (rules judging schedule) → RecallsRound (rules judging schedule) messages round round_state →
       split ≡ split_of (rules judging schedule) messages round
 
--- the state of some messages becomes that of them and of more
+-- the state of some messages becomes the state of these and more messages
 abbrev pub RecallsMore : {S D C P G : Type 0} → Rules S D C P G → List (Activity S D C P G) → Detector S D P G → Detector S D P G → Type 0
 RecallsMore {S} {D} {C} {P} {G} rules more old new = (messages : List (Activity S D C P G)) → Recalls rules messages old → Recalls rules (messages ++ more) new
 
@@ -81,7 +81,7 @@ RecallsMore {S} {D} {C} {P} {G} rules more old new = (messages : List (Activity 
 
 module _ {S D C P G : Type 0} (rules : Schedule S → Rules S D C P G) (committee : S) where
   -- Some votes of a round and a certificate, if there is one, are taken in. The committee of the round's epoch judges them,
-  -- for any messages before it and any other committees.
+  -- for any earlier messages and any other committees.
   pub record TakesIn (round : Round) (votes : List (SignedVote D G)) (certificate : Option (SubjectValue D × C)) (old new : RoundState S D P G) : Type 0 where
     pub cast : (schedule : Schedule S) → committee_of schedule round.epoch ≡ Some committee → (vs : List (SignedVote D G)) →
         HoldsRound (rules schedule).eq ((rules schedule).size round.epoch) vs round old.votes →

@@ -1,4 +1,4 @@
--- The evidence of a report as messages: which can be encoded, and which are the same.
+-- The evidence of a report as messages: which can be encoded, and which are equal.
 use Rattle.std.specs.Prelude.{Bool, false, ⊤}
 use Rattle.simplex_base.specs.Format.{Format}
 use Rattle.simplex_votes.specs.declared.types.notarize.Notarize.{Notarize}

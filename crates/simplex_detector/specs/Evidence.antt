@@ -16,11 +16,11 @@ abbrev pub with_first : {D G : Type 0} → (D → D → Bool) → List (SignedVo
 with_first eq vs kind None = None
 with_first eq vs kind (Some v) = with_second kind v (find (contradicts eq kind v) vs)
 
--- the evidence of whom is accused: the earliest vote of the kind's first sort, and the earliest that contradicts it
+-- the evidence of an accusation: the signer's earliest vote of the kind's first sort, and the earliest that contradicts it
 abbrev pub evidence_of : {D G : Type 0} → (D → D → Bool) → List (SignedVote D G) → Accusation → Option (Equivocation D G)
 evidence_of eq vs n = with_first eq vs n.kind (find (is_at (first_sort n.kind) n.round n.signer) vs)
 
--- es is the evidence of the votes: in order, each the evidence of whom it accuses, and nobody left out
+-- es is the evidence of the votes: in order, each the evidence of its accusation, and nobody accused left out
 pub record IsEvidence {D G : Type 0} (eq : D → D → Bool) (vs : List (SignedVote D G)) (es : List (Equivocation D G)) : Type 0 where
   pub ordered : IsStrictlySortedBy accused_cmp (map accused_by es)
   pub sound : All (λ e. evidence_of eq vs (accused_by e) ≡ Some e) es

@@ -38,13 +38,13 @@ excludes_some eq first y = excludes_first eq (first Notarizing) y || (excludes_f
 abbrev pub nothing_certified : {D : Type 0} → CertifiedSubjects D
 nothing_certified = record { notarized = None; nullified = None; finalized = None; split = false }
 
--- what is recorded as the first certified subject of each sort
+-- the recorded first certified subject of each sort
 abbrev pub firsts_of : {D : Type 0} → CertifiedSubjects D → Sort → Option (SubjectValue D)
 firsts_of recorded Notarizing = option_map Notarizes recorded.notarized
 firsts_of recorded Nullifying = option_map Nullifies recorded.nullified
 firsts_of recorded Finalizing = option_map Finalizes recorded.finalized
 
--- the record of a round is determined by the subjects certified so far: whether they split it, and before they do, the first
+-- the record of a round is determined by the subjects certified so far: whether they split it, and until they do, the first
 -- of each sort
 pub record RecordsFirsts {D : Type 0} (eq : D → D → Bool) (subjects : List (SubjectValue D)) (round : Round) (recorded : CertifiedSubjects D) : Type 0 where
   pub split : recorded.split ≡ are_split eq subjects round
@@ -54,7 +54,7 @@ pub record RecordsFirsts {D : Type 0} (eq : D → D → Bool) (subjects : List (
 abbrev pub first_with : {D : Type 0} → SubjectValue D → Sort → Option (SubjectValue D) → Option (SubjectValue D)
 first_with y sort first = if same_sort (sort_of y) sort then option_or first (Some y) else first
 
--- whether one more certified subject changes what is recorded of its round: the round is not split, and it is the first of
--- its sort or splits it
+-- whether one more certified subject changes what is recorded of its round: the round is not split, and the subject is the
+-- first of its sort or splits it
 abbrev pub changes_firsts : {D : Type 0} → (D → D → Bool) → (Sort → Option (SubjectValue D)) → Bool → SubjectValue D → Bool
 changes_firsts eq first split y = not split && (is_none (first (sort_of y)) || excludes_some eq first y)

@@ -22,13 +22,13 @@ are_verified Verified round = true
 are_verified Claimed round = false
 are_verified (Suspects suspects) round = contains round_cmp suspects.rounds round
 
--- whose signatures are valid by a committee that judges so
+-- which signatures are valid under a committee that judges so
 abbrev pub valid_under : {S D P G : Type 0} → (S → List P) → (S → SubjectValue D → ℕ → G → Bool) → Judging → S → SubjectValue D → ℕ → G → Bool
 valid_under keys good Verified = good
 valid_under keys good Claimed = λ committee x signer signature. nat_lt signer (length (keys committee))
 valid_under keys good (Suspects suspects) = λ committee x signer signature. contains signer_cmp suspects.signers (round_of x, signer) && good committee x signer signature
 
--- which certificates certify by it
+-- which certificates certify under a committee that judges so
 abbrev pub certified_under : {S D C : Type 0} → (S → SubjectValue D → C → Bool) → Judging → S → SubjectValue D → C → Bool
 certified_under certified Verified = certified
 certified_under certified Claimed = λ committee x certificate. false

@@ -1,4 +1,4 @@
--- What holds of the evidence in votes, and of who is accused by messages.
+-- Laws of the evidence in votes, and of the signers whom messages accuse.
 use Rattle.std.specs.Prelude.{◌≡◌, ◌↔◌, Bool, List, ◌++◌, map, Contains, IsPermutation, IsTrue}
 use Rattle.simplex_votes.specs.Votes.{SignedVote}
 use Rattle.simplex_evidence.specs.Contradiction.{Equivocation}
@@ -19,12 +19,12 @@ module _ {D G : Type 0} (eq : D → D → Bool) (vs : List (SignedVote D G)) (es
   AccusesExactly = (n : Accusation) → Contains (map accused_by es) n ↔ IsTrue (is_accused eq vs n)
 
 module _ {S D C P G : Type 0} (rules : Rules S D C P G) where
-  -- the same messages in another order accuse the same
+  -- the same messages in another order accuse the same signers
   abbrev pub ReorderingAccusesSame : List (Activity S D C P G) → Type 0
   ReorderingAccusesSame ms =
       (ks : List (Activity S D C P G)) → IsPermutation ms ks → (n : Accusation) → is_accused rules.eq (valid_votes rules ms) n ≡ is_accused rules.eq (valid_votes rules ks) n
 
-  -- who is accused stays accused, with any messages behind
+  -- an accused signer stays accused when any messages follow
   abbrev pub AccusedStay : List (Activity S D C P G) → Type 0
   AccusedStay ms =
       (more : List (Activity S D C P G)) (n : Accusation) → IsTrue (is_accused rules.eq (valid_votes rules ms) n) → IsTrue (is_accused rules.eq (valid_votes rules (ms ++ more)) n)

@@ -38,7 +38,7 @@ abbrev pub changes : {D G : Type 0} → (D → D → Bool) → Option (SignedVot
 changes eq None other subject = true
 changes eq (Some first) other subject = excludes eq first.subject subject && is_none other
 
--- whether a vote is news to the votes before it
+-- whether a vote is news after some votes: it changes its slot
 abbrev pub is_news : {D G : Type 0} → (D → D → Bool) → List (SignedVote D G) → SignedVote D G → Bool
 is_news eq vs v =
     let slot = slot_of eq vs (sort_of v.subject) (round_of v.subject) v.signer in
@@ -55,7 +55,7 @@ evidence_from slot Conflicting_notarize = equivocation_of Conflicting_notarize (
 evidence_from slot Conflicting_finalize = equivocation_of Conflicting_finalize (slot Finalizing).earliest (slot Finalizing).other
 evidence_from slot Nullify_finalize = equivocation_of Nullify_finalize (slot Nullifying).earliest (slot Finalizing).earliest
 
--- the votes that are news, each to all votes before it
+-- the votes that are news, each after all votes before it
 abbrev pub news_after : {D G : Type 0} → (D → D → Bool) → List (SignedVote D G) → List (SignedVote D G) → List (SignedVote D G)
 news_after eq before [] = []
 news_after eq before (v ∷ vs) = (if is_news eq before v then v ∷ [] else []) ++ news_after eq (before ++ v ∷ []) vs
@@ -72,16 +72,16 @@ votes_recorded eq vs = length (recorded_of eq vs)
 abbrev pub recorded_in : {D G : Type 0} → (D → D → Bool) → List (SignedVote D G) → Round → ℕ
 recorded_in eq vs round = length (filter (λ v. same_round (round_of v.subject) round) (recorded_of eq vs))
 
--- ---- what holds of them
+-- ---- laws of the recorded votes
 
 -- the votes in a slot
 abbrev pub votes_in_slot : {D G : Type 0} → Slot D G → List (SignedVote D G)
 votes_in_slot slot = option_to_list slot.earliest ++ option_to_list slot.other
 
--- those of a round, signer and sort are the earliest and the earliest with another proposal
+-- the recorded votes of a round, signer and sort are the earliest and the earliest with another proposal
 abbrev pub RecordedAreSlots : {D G : Type 0} → (D → D → Bool) → List (SignedVote D G) → Type 0
 RecordedAreSlots eq vs = (sort : Sort) (round : Round) (signer : ℕ) → filter (is_at sort round signer) (recorded_of eq vs) ≡ votes_in_slot (slot_of eq vs sort round signer)
 
--- of one signer in a round they are at most five
+-- at most five votes of a signer in a round are recorded
 abbrev pub FewAreRecorded : {D G : Type 0} → (D → D → Bool) → List (SignedVote D G) → Type 0
 FewAreRecorded eq vs = (round : Round) (signer : ℕ) → length (filter (is_of round signer) (recorded_of eq vs)) ≤ 5

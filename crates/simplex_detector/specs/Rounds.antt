@@ -16,7 +16,7 @@ use Rattle.simplex_detector.specs.declared.round_votes.RoundVotes.{RoundVotes}
 abbrev pub no_slot : {D G : Type 0} → Slot D G
 no_slot = record { earliest = None; other = None }
 
--- the slot that two votes of a signer are
+-- the slot of a signer, from its first and its other vote
 abbrev pub slot_in : {V D G : Type 0} → (V → ℕ) → (V → SignedVote D G) → VotePairs V → ℕ → Slot D G
 slot_in signer_of vote_of pairs signer = record {
   earliest = option_map vote_of (item_of signer_of pairs.firsts.items signer);
@@ -45,7 +45,7 @@ pub record IsSized {S D P G : Type 0} (n : ℕ) (recorded : RoundVotes S D P G) 
 abbrev pub is_for : {D G : Type 0} → SignedVote D G → ℕ → Sort → Bool
 is_for v signer sort = same_sort (sort_of v.subject) sort && (v.signer == signer)
 
--- a participant's vote that is news changes its slot, and is one vote more
+-- a participant's vote that is news changes its slot, and there is one vote more
 pub record TakesVote {S D P G : Type 0} (eq : D → D → Bool) (v : SignedVote D G) (before after : RoundVotes S D P G) : Type 0 where
   pub sized : (n : ℕ) → IsSized n before → IsSized n after
   pub taken : (n : ℕ) → IsSized n before → v.signer < n → IsTrue (changes eq (slots before v.signer (sort_of v.subject)).earliest (slots before v.signer (sort_of v.subject)).other v.subject) →
@@ -53,7 +53,7 @@ pub record TakesVote {S D P G : Type 0} (eq : D → D → Bool) (v : SignedVote 
   pub more : (n : ℕ) → IsSized n before → v.signer < n → IsTrue (changes eq (slots before v.signer (sort_of v.subject)).earliest (slots before v.signer (sort_of v.subject)).other v.subject) →
       round_count after ≡ round_count before + 1
 
--- the recorded votes are those that are to be recorded of a round, whose committee has n participants
+-- the recorded votes are those that vs gives for a round, whose committee has n participants
 pub record HoldsRound {S D P G : Type 0} (eq : D → D → Bool) (n : ℕ) (vs : List (SignedVote D G)) (round : Round) (recorded : RoundVotes S D P G) : Type 0 where
   pub sized : IsSized n recorded
   pub held : (signer : ℕ) (sort : Sort) → slots recorded signer sort ≡ slot_of eq vs sort round signer
@@ -77,7 +77,7 @@ found_at eq slot =
     (option_to_list (found_of_kind eq slot Conflicting_finalize) ++
     option_to_list (found_of_kind eq slot Nullify_finalize))
 
--- the signers ascend, and every signer that has another notarize, a nullify or another finalize is among them
+-- the signers ascend, and every signer with another notarize, a nullify or another finalize is among them
 pub record ListsSigners {S D P G : Type 0} (recorded : RoundVotes S D P G) (signers : List ℕ) : Type 0 where
   pub ascending : IsStrictlySortedBy nat_cmp signers
   pub notarizers : (v : _) → Contains recorded.notarizes.others.items v → Contains signers v.attestation.signer

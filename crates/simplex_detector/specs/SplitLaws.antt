@@ -1,4 +1,4 @@
--- What holds of the splits of messages.
+-- Laws of the splits of messages.
 use Rattle.std.specs.Prelude.{◌≡◌, ℕ, ◌+◌, ◌-◌, ◌*◌, ◌≤◌, List, length, filter, nat_eq, Some, All, Contains, IsTrue}
 use Rattle.std.specs.List.{IsDistinct}
 use Rattle.std.specs.Set.{is_member}
@@ -12,11 +12,11 @@ use Rattle.simplex_detector.specs.Certificates.{messages_contradict}
 use Rattle.simplex_detector.specs.Splits.{is_certified_message, is_accused_in, accused_count, AreSplits}
 use Rattle.simplex_detector.specs.declared.split.Split.{Split}
 
--- who signed both of two certificates
+-- the signers of both of two certificates
 abbrev pub shared_signers : {S D C P G : Type 0} → Rules S D C P G → C → C → List ℕ
 shared_signers rules c d = filter (is_member nat_eq (signers_of (rules.listed d))) (signers_of (rules.listed c))
 
--- each split has at least as many accused as it must have
+-- in each split at least f + 1 are accused
 abbrev pub SplitsHaveAccused : List Split → Type 0
 SplitsHaveAccused splits = All (λ s. s.least ≤ s.named) splits
 
@@ -29,8 +29,8 @@ module _ {S D C P G : Type 0} (rules : Rules S D C P G) (messages : List (Activi
       IsTrue (messages_contradict rules.eq m k) → IsTrue (is_certified_message rules m) → IsTrue (is_certified_message rules k) →
       faults_of (rules.size (activity_round m).epoch) + 1 ≤ accused_count rules.eq (valid_votes rules messages) (activity_round m)
 
-  -- Two of the messages that contradict and are both certified share, each once, at least all signers but twice as many
-  -- as may lie, which is more than may lie, and each of them is accused in their round.
+  -- The signers of both certificates are distinct, at least n - 2f of them and so at least f + 1, and each is accused in the
+  -- round, whose committee has n participants and the fault bound f.
   pub record IsAccountable (round : Round) (c d : C) : Type 0 where
     pub distinct : IsDistinct nat_eq (shared_signers rules c d)
     pub many : rules.size round.epoch - 2 * faults_of (rules.size round.epoch) ≤ length (shared_signers rules c d)

@@ -70,6 +70,6 @@ module _ {S D C P G : Type 0} (rules : Rules S D C P G) (messages : List (Activi
 
 -- ---- the line of a split
 
--- epoch, view, the word `split`, how many are accused, and how many must be
+-- epoch, view, the word `split`, how many are accused, and one more than may lie
 abbrev pub split_line : Split → List ℕ
 split_line s = parted (decimal s.round.epoch ∷ decimal s.round.view ∷ codes "split" ∷ decimal s.named ∷ decimal s.least ∷ [])

@@ -15,7 +15,7 @@ use Rattle.simplex_detector.specs.declared.judging.Judging.TheVariants as judgin
 use Rattle.simplex_detector.specs.declared.judging.SuspectSigners.{SuspectSigners}
 use Rattle.simplex_detector.specs.declared.split.Split.{Split}
 
--- which signers are suspect in a round, and which rounds are
+-- which signers are suspect in a round, and which rounds are suspect
 pub record Suspected : Type 0 where
   pub signers : Round → ℕ → Bool
   pub rounds : Round → Bool
@@ -27,19 +27,19 @@ suspect_of e = (round_of e.first.subject, e.first.signer)
 -- ---- other judges of the same messages
 
 module _ {S D C P G : Type 0} (rules : Rules S D C P G) where
-  -- the same, but that these judge which votes are valid and which certificates certify
+  -- the same rules, except that these tests decide which votes are valid and which certificates certify
   abbrev pub judged_by : (SubjectValue D → ℕ → G → Bool) → (SubjectValue D → C → Bool) → Rules S D C P G
   judged_by good certified = record { eq = rules.eq; good = good; certified = certified; listed = rules.listed; size = rules.size }
 
-  -- the same, but that every vote of a signer in the committee is taken as valid, and no certificate certifies
+  -- the same rules, except that every vote of a signer in the committee is valid, and no certificate certifies
   abbrev pub claimed : Rules S D C P G
   claimed = judged_by (λ x signer signature. nat_lt signer (rules.size (round_of x).epoch)) (λ x certificate. false)
 
--- ---- who is suspect, and what suspects tell
+-- ---- who is suspect, and that judging suspects suffices
 
 module _ {S D C P G : Type 0} (rules : Rules S D C P G) (messages : List (Activity S D C P G)) where
-  -- whether a signer is suspect in a round: two votes contradict there that claim to be that signer's, and the signer is in the
-  -- committee
+  -- whether a signer is suspect in a round: the signer is in the committee, and two votes that claim to be that signer's
+  -- contradict there
   abbrev pub is_suspect : Round → ℕ → Bool
   is_suspect round signer = is_accused_in rules.eq (valid_votes (claimed rules) messages) round signer
 
@@ -47,7 +47,7 @@ module _ {S D C P G : Type 0} (rules : Rules S D C P G) (messages : List (Activi
   abbrev pub is_suspect_round : Round → Bool
   is_suspect_round round = list_any (λ v. is_suspect round v.signer) (valid_votes (claimed rules) messages)
 
-  -- these judge the votes of suspects and the certificates of suspect rounds as the rules do, and lawfully
+  -- these tests judge the votes of suspects and the certificates of suspect rounds as the rules do, and are lawful
   pub record JudgeAlike (good : SubjectValue D → ℕ → G → Bool) (certified : SubjectValue D → C → Bool) : Type 0 where
     pub lawful : AreLawful (judged_by rules good certified)
     pub votes : (x : SubjectValue D) (signer : ℕ) (signature : G) → IsTrue (is_suspect (round_of x) signer) → good x signer signature ≡ rules.good x signer signature
@@ -63,7 +63,7 @@ module _ {S D C P G : Type 0} (rules : Rules S D C P G) (messages : List (Activi
 
 -- ---- what the two readings of a deferred audit give
 
--- `rules` judges in earnest, and `under` as strictly as it is told
+-- `rules` verifies all, and `under` judges as strictly as its argument says
 module _ {S D C P G : Type 0} (rules : Rules S D C P G) (under : Judging → Rules S D C P G) where
   -- where no votes are claimed to contradict, there is no evidence, and the splits are those without verification
   abbrev pub NobodyIsSuspect : Type 0
@@ -72,7 +72,7 @@ module _ {S D C P G : Type 0} (rules : Rules S D C P G) (under : Judging → Rul
       IsEvidence rules.eq (valid_votes (under judging.Claimed) messages) [] → AreSplits (under judging.Claimed) messages splits →
       IsEvidence rules.eq (valid_votes rules messages) [] × AreSplits rules messages splits
 
-  -- where all signers of the claims and their rounds are suspect, suspects alone have the evidence and the splits
+  -- where all signers of the claims and their rounds are suspect, judging suspects alone yields the evidence and the splits
   abbrev pub SuspectsTellAll : Type 0
   SuspectsTellAll =
       (messages : List (Activity S D C P G)) (claims : List (Equivocation D G)) (suspects : SuspectSigners) → AreLawful rules →

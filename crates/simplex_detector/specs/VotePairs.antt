@@ -4,15 +4,15 @@ use Rattle.std.specs.Option.{option_or, is_some, is_none}
 use Rattle.simplex_evidence.specs.VoteMap.{item_of}
 use Rattle.simplex_detector.specs.declared.vote_pairs.VotePairs.{VotePairs}
 
--- how many votes there are of each signer the first and another
+-- how many votes there are, first and other ones
 abbrev pub pairs_count : {V : Type 0} → VotePairs V → ℕ
 pairs_count pairs = length pairs.firsts.items + length pairs.others.items
 
--- a vote is put, under a condition, where its signer has none: `old` and `new` give what a signer has
+-- under a condition, a vote is inserted if its signer has none: `old` and `new` give a signer's vote before and after
 abbrev pub Puts : {V : Type 0} → (V → ℕ) → V → Bool → (ℕ → Option V) → (ℕ → Option V) → Type 0
 Puts signer vote test old new = (s : ℕ) → new s ≡ (if (signer vote == s) && test then option_or (old s) (Some vote) else old s)
 
--- A participant's vote is its first if it has none, and else its other if it has none. Then there is one vote more.
+-- A participant's vote becomes its first if it has none, else its other if it has none. Then there is one vote more.
 pub record PutsVote {V : Type 0} (signer : V → ℕ) (vote : V) (old new : VotePairs V) : Type 0 where
   pub firsts_sized : new.firsts.participants ≡ old.firsts.participants
   pub others_sized : new.others.participants ≡ old.others.participants

@@ -1,4 +1,4 @@
-//! The first vote of each participant, on the heap: a participant without a vote takes the room of a pointer.
+//! The first vote of each participant, each vote on the heap, so that a participant without one costs a pointer only.
 
 ghost use Rattle.std.specs.Prelude.{◌≡◌, ◌==◌, ◌<◌, ◌≤◌, ◌⊎◌, [], length, true, false, Ok, None, IsSome, IfOk, OnErr};
 ghost use Rattle.std.specs.Option.{option_copied};
@@ -25,7 +25,7 @@ impl<V: Attributable> Model for Boxed<V> {
 }
 
 impl<V: Attributable> Boxed<V> {
-    /// Puts a vote on the heap. It is dropped where its room is refused.
+    /// Puts a vote on the heap. Where the allocation fails the vote is dropped.
     fn new(alloc: Global, vote: V) -> Result<Self, AllocError>
     where
         V: Drop,
@@ -52,8 +52,8 @@ impl<V: Attributable> Attributable for Boxed<V> {
     }
 }
 
-/// A map from participants to the first vote of each, as `AttributableMap` is, with its votes on the heap. Its first
-/// vote takes a pointer's room, 8 bytes, for each participant, and each vote takes its own.
+/// A map from participants to the first vote of each, as `AttributableMap` is, with its votes on the heap. The first
+/// vote allocates a pointer, 8 bytes, for each participant, and each vote is allocated by itself.
 #[derive(Drop)]
 pub struct BoxedMap<V: Attributable> {
     alloc: Global,
@@ -69,7 +69,7 @@ impl<V: Attributable> Model for BoxedMap<V> {
 }
 
 impl<V: Attributable> BoxedMap<V> {
-    /// No vote, for this many participants. It takes no memory yet.
+    /// An empty map for this many participants. It allocates nothing yet.
     pub fn new(alloc: Global, participants: usize) -> Self
         ensures { result ≡ record { participants = participants; items = [] } }
     {
@@ -79,8 +79,8 @@ impl<V: Attributable> BoxedMap<V> {
         }
     }
 
-    /// Inserts a vote, if its signer is a participant and has none yet, and returns whether it did. The map is as it was
-    /// where an allocation fails.
+    /// Inserts a vote, if its signer is a participant and has none yet, and returns whether it did. Where an allocation
+    /// fails the map is as before.
     pub fn insert(&mut self, vote: V) -> Result<bool, AllocError>
     where
         V: Drop,

@@ -11,7 +11,7 @@ use crate::judging::Judging;
 use simplex_base::positions::Round;
 use simplex_scheme::scheme::{CertificateVerifier, Digest, Proposal, Subject};
 
-/// Whether two certified subjects of a round contradict, and the first certified subject of each sort before they do.
+/// The first certified subject of each sort in a round, until two contradict, and whether two do.
 #[derive(Drop)]
 pub struct CertifiedSubjects<D> {
     notarized: Option<Proposal<D>>,
@@ -42,8 +42,8 @@ impl<D: Digest> CertifiedSubjects<D> {
     }
 
     /// Takes in a certificate of a subject of the round, and returns whether it was found to certify the subject. It is
-    /// verified only where that can change what is recorded: in a round that is not known to be split, and there not where a
-    /// subject of its sort is recorded already, unless the two contradict.
+    /// verified only where that can change what is recorded: the round is not known to be split, and the subject is the
+    /// first of its sort or contradicts a recorded one.
     pub fn observe<S: CertificateVerifier<D>>(
         &mut self,
         scheme: &S,
@@ -58,7 +58,7 @@ impl<D: Digest> CertifiedSubjects<D> {
             (subject_value subject.now) certificate.now
             then subject_value subject.now ∷ [] else []))
             (round_of (subject_value subject.now)) self.new }
-        // It was found to certify exactly where it was asked, which is where it can change what is recorded, and certifies.
+        // True exactly where the subject would change what is recorded and the certificate certifies it.
         ensures verified { result ≡
             (changes_firsts D.eq (firsts_of self.old) self.old.split (subject_value subject.now) &&
             certified_under S.certified judging.now scheme.now
@@ -93,7 +93,7 @@ impl<D: Digest> CertifiedSubjects<D> {
         }
     }
 
-    /// Whether a subject that is recorded and this one exclude each other.
+    /// Whether a recorded subject and this one exclude each other.
     fn excludes(&self, subject: &Subject<'_, D>) -> bool
         ensures { result ≡ excludes_some D.eq (firsts_of self.now) (subject_value subject.now) }
     {
@@ -106,8 +106,7 @@ impl<D: Digest> CertifiedSubjects<D> {
         }
     }
 
-    /// Records a certified subject of the round if it is the first of its sort, and that the round is split if it is
-    /// now.
+    /// Records a certified subject of the round if it is the first of its sort, and whether the round is split now.
     fn set_first(&mut self, subject: &Subject<'_, D>)
         ensures firsts { (sort : Sort) →
             firsts_of self.new sort ≡
@@ -135,7 +134,7 @@ impl<D: Digest> CertifiedSubjects<D> {
     }
 }
 
-/// Whether a proposal is another than the first, if there is one.
+/// Whether there is a first proposal and this one differs from it.
 fn differs<D: Digest>(first: &Option<Proposal<D>>, proposal: &Proposal<D>) -> bool
     ensures { result ≡
         excludes_first D.eq (option_map Notarizes first.now) (Notarizes proposal.now) }

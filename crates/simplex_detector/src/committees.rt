@@ -9,7 +9,7 @@ use simplex_base::values::{EqByParts, ExactClone};
 use simplex_scheme::scheme::CertificateScheme;
 use std::marker::Model;
 
-/// Why a list of committees is none.
+/// Why `Committees::try_from_vec` refuses a list.
 #[derive(Clone, Copy, Debug, PartialEq, Eq, thiserror::Error)]
 pub enum CommitteesError {
     /// No epoch is listed.
@@ -37,15 +37,15 @@ impl EqByParts for CommitteesError {
     ] };
 }
 
-/// One committee for every epoch, or for each of some epochs its own.
+/// One committee for every epoch, or one for each listed epoch.
 #[derive(Drop)]
 enum Entries<S> {
     Every(S),
     Listed(Vec<(Epoch, S)>),
 }
 
-/// Which committee judges the messages of an epoch, if one does: one for every epoch, or each its own for
-/// the listed ones. No call takes memory.
+/// Which committee judges the messages of an epoch, if one does: one for every epoch, or one for each listed
+/// epoch. No call allocates.
 #[derive(Drop)]
 pub struct Committees<S> {
     entries: Entries<S>,
@@ -71,8 +71,8 @@ impl<S> Committees<S> {
         }
     }
 
-    /// For each listed epoch its own committee, and none for any other epoch. The epochs have to rise strictly. A
-    /// refused list is dropped.
+    /// One committee for each listed epoch, and none for any other. `Empty` where no epoch is listed, `Unordered`
+    /// where the epochs do not rise strictly; a refused list is dropped.
     pub fn try_from_vec(pairs: Vec<(Epoch, S)>) -> Result<Self, CommitteesError>
     where
         S: Drop,
@@ -92,7 +92,7 @@ impl<S> Committees<S> {
         })
     }
 
-    /// The committee of an epoch, if it has one. It is found by halving.
+    /// The committee of an epoch, if it has one. It is found by binary search.
     pub fn get(&self, epoch: Epoch) -> Option<&S>
         ensures { option_copied result ≡ committee_of self.now epoch }
     {
@@ -104,8 +104,8 @@ impl<S> Committees<S> {
 }
 
 impl<S: CertificateScheme> Committees<S> {
-    /// The bound under which certificates are read: the number of participants of the greatest committee. Each
-    /// committee is asked once.
+    /// The bound under which certificates are read: the number of participants of the greatest committee. It calls
+    /// `participants` once for each committee.
     pub fn bound(&self) -> u32
         ensures value { result ≡ bound_of S.keys self.now }
         // No committee is greater, and one is as great.

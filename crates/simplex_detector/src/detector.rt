@@ -22,14 +22,14 @@ use simplex_scheme::scheme::{Digest, Listing, SchemeTypes};
 use std::alloc::{AllocError, Global};
 use std::collections::BTreeMap;
 
-/// The state of every round so far. A round has one as soon as something of it is recorded.
+/// The state of every round so far. A round has a state as soon as something of it is recorded.
 #[derive(Drop)]
 pub struct Detector<S: SchemeTypes, D: Digest> {
     rounds: BTreeMap<Round, RoundState<S, D>>,
 }
 
 impl<S: Listing<D>, D: Digest> Detector<S, D> {
-    /// No message was seen yet.
+    /// A detector that has seen no message.
     pub fn new(alloc: Global) -> Self
         ensures { RecallsNone ⟦<S as Judges<D>>⟧.rules_under result }
     {
@@ -53,7 +53,7 @@ impl<S: Listing<D>, D: Digest> Detector<S, D> {
         self.record(alloc, committees, judging, &message)
     }
 
-    /// The same of a message that is lent: no path through this has a message to drop.
+    /// `observe` of a borrowed message: no path through this body has a message to drop.
     fn record(
         &mut self,
         alloc: Global,
@@ -80,7 +80,7 @@ impl<S: Listing<D>, D: Digest> Detector<S, D> {
         Ok(())
     }
 
-    /// The evidence in the votes so far: one for each round, signer and kind, in that order.
+    /// The evidence in the valid votes so far: at most one for each round, signer and kind, in that order.
     pub fn evidence(&self, alloc: Global) -> Result<Vec<Evidence<S, D>>, AllocError>
         ensures evidence { IfOk result (λ found. GivesEvidence ⟦<S as Judges<D>>⟧.rules_under
             self.now (map evidence_value found.items)) }
@@ -122,8 +122,8 @@ impl<S: Listing<D>, D: Digest> Detector<S, D> {
         Ok(splits)
     }
 
-    /// How many votes are recorded, of the valid ones of the messages so far: of each signer in a round the earliest of each
-    /// sort, and of notarizes and finalizes also the earliest with another proposal. The number stops at 2^64 - 1.
+    /// How many valid votes of the messages so far are recorded: for each signer and round the earliest of each sort, and of
+    /// notarizes and finalizes also the earliest with another proposal. The number stops at 2^64 - 1.
     pub fn votes(&self) -> usize
         ensures { CountsVotes ⟦<S as Judges<D>>⟧.rules_under self.now result }
     {
@@ -135,7 +135,7 @@ impl<S: Listing<D>, D: Digest> Detector<S, D> {
     }
 }
 
-/// The round of a message, which is that of each of its votes.
+/// The round of a message and of each of its votes.
 fn message_round<S: Listing<D>, D: Digest>(message: &Activity<S, D>) -> Round
     ensures message { result ≡ activity_round message.now }
     ensures votes { All (λ v.

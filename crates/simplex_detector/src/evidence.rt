@@ -1,4 +1,4 @@
-//! The evidence of a report, and the line that it prints.
+//! The evidence of a report, and the line that reports one.
 
 ghost use Rattle.std.specs.Prelude.{◌≡◌, ⊤, ◌∷◌, [], All, IfOk, length, string_bytes, decimal};
 ghost use Rattle.simplex_base.specs.Format.{format_of};
@@ -69,8 +69,8 @@ impl<S: SchemeTypes, D: Digest> Evidence<S, D> {
         }
     }
 
-    /// The line that reports it, without its end: epoch, view, signer, kind, and the parent and payload of
-    /// each proposal, parted by single blanks. Numbers are decimal, payloads in lower-case hexadecimal.
+    /// The line that reports it, without the newline: epoch, view, signer, kind, and the parent and payload of each
+    /// proposal, separated by single blanks. Numbers are decimal, payloads in lower-case hexadecimal.
     pub fn line(&self, alloc: Global) -> Result<String, AllocError>
         ensures { IfOk result (λ line.
             string_bytes line ≡ line_of D.bytes_of (evidence_value self.now)) }
@@ -100,7 +100,7 @@ impl<S: SchemeTypes, D: Digest> EqByParts for Evidence<S, D> {
     ] };
 }
 
-/// Each of these can be encoded as a message: the walk gives callers that fact, and its size is what shows it.
+/// Shows that each of these can be encoded as a message, which `encode_size` ensures of one.
 pub(crate) fn are_encoded<S: SchemeTypes, D: Digest>(evidence: &[Evidence<S, D>])
     ensures { All (IsEncoded D.eq (format_of ⟦<D as Read>⟧) (format_of ⟦<S::Signature as Read>⟧))
         evidence.now }
@@ -198,7 +198,7 @@ fn line_of_two<D: Digest>(
     format!(in alloc; "{epoch} {view} {signer} {kind} {first} {second}")
 }
 
-/// The line of two votes of which one is for a proposal, at an epoch, a view and a signer.
+/// The line of two votes, one of them for a proposal, at an epoch, a view and a signer.
 fn line_of_one<D: Digest>(
     alloc: Global,
     place: (u64, u64, u32),

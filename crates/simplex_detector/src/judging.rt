@@ -17,16 +17,16 @@ use simplex_scheme::scheme::{
 use std::alloc::{AllocError, Global};
 use std::collections::BTreeSet;
 
-/// The signers that are claimed to contradict, and the rounds in which they are.
+/// The signers whose claimed votes contradict, and the rounds in which they do.
 #[derive(Drop)]
 pub struct SuspectSigners {
-    /// The rounds, whose certificates are verified.
+    /// The rounds whose certificates are verified.
     pub rounds: BTreeSet<Round>,
-    /// Each signer with its round, in which its votes are verified.
+    /// Each signer, with the round in which its votes are verified.
     pub signers: BTreeSet<(Round, Participant)>,
 }
 
-/// How strictly votes and certificates are judged. The scheme is asked to verify only what this says is verified.
+/// How strictly votes and certificates are judged. The scheme verifies only what this says is verified.
 #[derive(Drop)]
 pub enum Judging {
     /// Every vote and every certificate is verified.
@@ -61,7 +61,7 @@ impl Judging {
         }
     }
 
-    /// Whether an attestation is valid whose signature is known to be, so that nothing is verified.
+    /// `accepts` of an attestation whose signature is known to be valid: nothing is verified.
     pub fn accepts_known<S: Scheme<D>, D: Digest>(
         &self,
         committee: &S,
@@ -102,8 +102,7 @@ impl Judging {
         }
     }
 
-    /// Has the scheme verify an attestation, of a signer whose votes in the round are verified. Nothing else here has it verify
-    /// one.
+    /// Has the scheme verify an attestation, of a signer whose votes in the round are verified. No other function here does.
     fn verify_attestation<S: Scheme<D>, D: Digest>(
         &self,
         committee: &S,
@@ -118,7 +117,7 @@ impl Judging {
         committee.verify_attestation(subject.reborrow(), attestation)
     }
 
-    /// Has the scheme verify a certificate, of a round whose certificates are verified. Nothing else here has it verify one.
+    /// Has the scheme verify a certificate, of a round whose certificates are verified. No other function here does.
     fn verify_certificate<S: CertificateVerifier<D>, D: Digest>(
         &self,
         committee: &S,
@@ -142,7 +141,7 @@ impl SuspectSigners {
     }
 }
 
-/// The signers and rounds of some evidence.
+/// The signers of some evidence, each with its round, and the rounds.
 pub fn suspects_of<S: SchemeTypes, D: Digest>(
     alloc: Global,
     evidence: &[Evidence<S, D>],
@@ -165,7 +164,7 @@ pub fn suspects_of<S: SchemeTypes, D: Digest>(
     Ok(SuspectSigners { rounds, signers })
 }
 
-/// The set of their rounds.
+/// The set of the rounds of some evidence.
 fn rounds_of<S: SchemeTypes, D: Digest>(
     alloc: Global,
     evidence: &[Evidence<S, D>],
@@ -176,7 +175,7 @@ fn rounds_of<S: SchemeTypes, D: Digest>(
     evidence.iter().map(|item| item.round()).collect(alloc)
 }
 
-/// The set of their signers, each with its round.
+/// The set of the signers of some evidence, each with its round.
 fn signers_of<S: SchemeTypes, D: Digest>(
     alloc: Global,
     evidence: &[Evidence<S, D>],

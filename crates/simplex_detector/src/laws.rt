@@ -1,5 +1,5 @@
-//! What holds of any messages, and of what is reported of them. The functions have no code: a call gives its caller, in
-//! another crate, what the clauses state.
+//! Laws of any messages and of the reports of them. The functions have no code: a call gives its caller, in another crate,
+//! what the clauses state.
 
 ghost use Rattle.std.specs.Prelude.{◌≡◌, ◌≤◌, ◌↔◌, ℕ, List, Some, All, Contains, length, map, IsTrue};
 ghost use Rattle.std.specs.List.{flat_map};
@@ -27,8 +27,9 @@ use crate::rules::Judges;
 use simplex_base::codec::Read;
 use simplex_scheme::scheme::{CertificateScheme, Digest, Listing};
 
-/// Committees with participants judge lawfully: whose signature is valid is in the committee of the epoch, and what
-/// certifies a subject lists a quorum of it. Of an epoch without a committee nothing is valid, however strictly it is judged.
+/// Committees with participants judge lawfully: the signer of a valid signature is in the committee of the epoch, and a
+/// certificate that certifies a subject lists a quorum of that committee. An epoch without a committee has no valid vote and
+/// no certified subject, however strictly it is judged.
 pub fn committees_are_lawful<S: Listing<D>, D: Digest>()
     ensures lawful { (schedule : Schedule S) →
         ((epoch : ℕ) (committee : S) → committee_of schedule epoch ≡ Some committee →
@@ -40,7 +41,7 @@ pub fn committees_are_lawful<S: Listing<D>, D: Digest>()
         HaveCommittees (⟦<S as Judges<D>>⟧.rules_under judging schedule) }
 {}
 
-/// Who is accused does not depend on the order of the messages, and stays accused.
+/// Which signers are accused does not depend on the order of the messages, and further messages leave them accused.
 pub fn accused_stay<S: CertificateScheme, D: Digest>()
     ensures any_order { (rules : Rules S D S.Certificate S.PublicKey S.Signature)
         (messages : List (Activity S D S.Certificate S.PublicKey S.Signature)) →
@@ -50,8 +51,8 @@ pub fn accused_stay<S: CertificateScheme, D: Digest>()
         AccusedStay rules messages }
 {}
 
-/// The evidence of votes accuses exactly those whom the votes accuse, each by two of the votes that contradict, and could
-/// be no other. Read again as messages it has the same evidence.
+/// The evidence of votes accuses exactly those whom the votes accuse, each by two of the votes that contradict, and is
+/// unique. As messages of its own it has the same evidence.
 pub fn evidence_is_determined<S: CertificateScheme, D: Digest>()
     ensures names { (vs : List (SignedVote D S.Signature))
         (es : List (contradiction.Equivocation D S.Signature)) → IsEvidence D.eq vs es →
@@ -80,7 +81,7 @@ pub fn certificates_are_accountable<S: CertificateScheme, D: Digest>()
         AreLawful rules → SignersAreAccountable rules messages }
 {}
 
-/// Messages have one list of splits, and each split has enough accused.
+/// Messages have exactly one list of splits, and in each split at least f + 1 participants are accused.
 pub fn splits_are_determined<S: CertificateScheme, D: Digest>()
     ensures only { (rules : Rules S D S.Certificate S.PublicKey S.Signature)
         (messages : List (Activity S D S.Certificate S.PublicKey S.Signature))
@@ -92,15 +93,15 @@ pub fn splits_are_determined<S: CertificateScheme, D: Digest>()
         AreLawful rules → AreSplits rules messages splits → SplitsHaveAccused splits }
 {}
 
-/// Of any votes those that are recorded are, for each round, signer and sort, the earliest and, nullifies aside, the
-/// earliest with another proposal: of one signer in a round at most five.
+/// The recorded votes are, for each round, signer and sort, the earliest and, nullifies aside, the earliest with another
+/// proposal: at most five of a signer in a round.
 pub fn few_votes_are_recorded<S: CertificateScheme, D: Digest>()
     ensures slots { (vs : List (SignedVote D S.Signature)) → RecordedAreSlots D.eq vs }
     ensures few { (vs : List (SignedVote D S.Signature)) → FewAreRecorded D.eq vs }
 {}
 
-/// Of messages no more votes are recorded than their encodings have bytes, where no certificate lists more
-/// attestations than its encoding has bytes.
+/// No more votes of messages are recorded than their encodings have bytes, if no certificate lists more attestations
+/// than its encoding has bytes.
 pub fn recorded_votes_have_room<S: Listing<D>, D: Digest>()
     ensures { ((certificate : S.Certificate) →
         length (S.listed certificate) ≤ length (S.Certificate.encoding certificate)) →
@@ -112,9 +113,9 @@ pub fn recorded_votes_have_room<S: Listing<D>, D: Digest>()
         (format_of ⟦<S::Signature as Read>⟧)) messages) }
 {}
 
-/// What votes claim, before any signature is verified, decides which signers are suspect in a round: those of whom two votes
-/// contradict there. The votes of suspects and the certificates of their rounds have the evidence and the splits of all
-/// messages. Where nobody is suspect there are none.
+/// A signer is suspect in a round where two votes that claim to be that signer's contradict, verified or not. Verifying only
+/// the votes of suspects and the certificates of their rounds yields the evidence and the splits of all messages. Where
+/// nobody is suspect there are none.
 pub fn suspects_tell_all<S: Listing<D>, D: Digest>()
     ensures nobody { (schedule : Schedule S) → NobodyIsSuspect (⟦<S as Judges<D>>⟧.rules schedule)
         (λ judging. ⟦<S as Judges<D>>⟧.rules_under judging schedule) }
@@ -124,7 +125,7 @@ pub fn suspects_tell_all<S: Listing<D>, D: Digest>()
 {}
 
 /// The evidence and the splits of messages depend on no signature but those of suspects in their rounds and of the
-/// certificates of these rounds. The suspects are the signers of what votes claim, each in its round.
+/// certificates of these rounds. The suspects are the signers of the claimed evidence, each in its round.
 pub fn suspects_suffice<S: CertificateScheme, D: Digest>()
     ensures suffice { (rules : Rules S D S.Certificate S.PublicKey S.Signature)
         (messages : List (Activity S D S.Certificate S.PublicKey S.Signature)) →

@@ -1,10 +1,10 @@
-//! The detector of equivocation. Of the messages of a stream it records, round by round, the votes of each signer that may
-//! contradict others and the subjects that were certified, and it reports the evidence and the splits.
+//! The detector of equivocation. From the messages of a stream it records, round by round, the votes that may contradict
+//! others of their signer and the certified subjects, and it reports the evidence and the splits.
 //!
 //! Crates above rest on [`detector::Detector`], which records messages and reports; on [`committees::Committees`], which
-//! says who judges an epoch; on [`judging::Judging`], which says how strictly; on what is reported, [`evidence::Evidence`]
-//! and [`split::Split`]; and on [`laws`], which hold of every stream. [`rules::Judges`] names in contracts what messages
-//! are judged by.
+//! says who judges an epoch; on [`judging::Judging`], which says how strictly; on the reported [`evidence::Evidence`] and
+//! [`split::Split`]; and on [`laws`], which hold of all messages. [`rules::Judges`] gives contracts the rules by which
+//! messages are judged.
 #![tactic(auto)]
 
 mod boxed_map;

@@ -27,9 +27,9 @@ use std::alloc::{AllocError, Global};
 /// The state of one round.
 #[derive(Drop)]
 pub struct RoundState<S: SchemeTypes, D: Digest> {
-    /// Of their valid votes.
+    /// The recorded valid votes.
     pub votes: RoundVotes<S, D>,
-    /// Of what they certify.
+    /// The recorded certified subjects.
     certified: CertifiedSubjects<D>,
 }
 
@@ -186,8 +186,8 @@ impl<S: Listing<D>, D: Digest> RoundState<S, D> {
             .observe(committee, subject, attestation, judging, false)
     }
 
-    /// Takes in a certificate of the round and the votes that it lists. Where it is found to certify the subject all of
-    /// their signatures are valid; else each is verified by itself.
+    /// Takes in a certificate of the round and the votes that it lists. If it is found to certify the subject, the listed
+    /// signatures are known to be valid; else each is verified by itself.
     fn observe_certificate(
         &mut self,
         committee: &S,
@@ -253,7 +253,7 @@ fn count_signers<S: SchemeTypes, D: Digest>(evidence: &[Evidence<S, D>]) -> u32
     count
 }
 
-/// One more than the count, unless the signer is the last one.
+/// One more than the count, unless this signer was counted last. The count stops at 2^32 - 1.
 fn count_one(count: u32, last: Option<Participant>, signer: Participant) -> u32
     ensures { result ≡ (if option_eq nat_eq last (Some signer) then count else min (count +
         1) (2 ^ 32 - 1)) }

@@ -1,4 +1,4 @@
-//! The recorded votes of one round: enough to report every signer that contradicts, and no more.
+//! The recorded votes of one round: enough to report every accused signer, and no more.
 
 ghost use Rattle.std.specs.Prelude.{◌≡◌, ◌↔◌, ◌-◌, ◌^◌, min, List, [], ◌∷◌, ◌++◌, ℕ, true, map, filter, length, option_map, All, IfOk, OnOk, IsTrue};
 ghost use Rattle.std.specs.List.{flat_map};
@@ -111,8 +111,8 @@ impl<S: SchemeTypes, D: Digest> RoundVotes<S, D> {
         }
     }
 
-    /// Records a vote if it is valid and news. One that would change nothing is not verified, nor one whose signature is
-    /// known to be valid, and only what is recorded is copied.
+    /// Records a vote if it is valid and news. It is verified only if it is news and its signature is not known to be
+    /// valid, and copied only if it is recorded.
     pub fn observe(
         &mut self,
         scheme: &S,
@@ -144,8 +144,8 @@ impl<S: SchemeTypes, D: Digest> RoundVotes<S, D> {
         self.add(subject, Attestation { signer, signature })
     }
 
-    /// Records those that are valid and news among votes on one subject. Each is verified by itself, unless the signatures of
-    /// all are known to be valid.
+    /// Records, of some votes on one subject, each that is valid and news, as `observe` does. `known` says that all their
+    /// signatures are known to be valid.
     pub fn observe_all(
         &mut self,
         scheme: &S,
@@ -173,7 +173,7 @@ impl<S: SchemeTypes, D: Digest> RoundVotes<S, D> {
         Ok(())
     }
 
-    /// Appends the evidence in what is recorded, by signer and kind.
+    /// Appends the evidence in the recorded votes, in the order of signers and kinds.
     pub fn report_to(
         &self,
         alloc: Global,
@@ -190,7 +190,7 @@ impl<S: SchemeTypes, D: Digest> RoundVotes<S, D> {
         Ok(())
     }
 
-    /// The signers with another notarize, a nullify or another finalize, ascending: every signer that contradicts is among them.
+    /// The signers with another notarize, a nullify or another finalize, ascending. Every accused signer is among them.
     fn signers(&self, alloc: Global) -> Result<Vec<u32>, AllocError>
         ensures { IfOk result (λ signers. ListsSigners self.now signers.items) }
     {
@@ -203,7 +203,7 @@ impl<S: SchemeTypes, D: Digest> RoundVotes<S, D> {
         Ok(signers)
     }
 
-    /// Appends the evidence of a signer, by kind.
+    /// Appends the evidence against a signer, in the order of kinds.
     fn report_signer(
         &self,
         signer: Participant,
@@ -224,7 +224,7 @@ impl<S: SchemeTypes, D: Digest> RoundVotes<S, D> {
     {
         let first = self.notarizes.first(signer)?;
         let other = self.notarizes.other(signer)?;
-        // Two that are recorded always conflict: this is what `new` asks for.
+        // Two recorded ones always conflict; the test gives `new` what it requires.
         if !ConflictingNotarize::conflicts(first, other) {
             return None;
         }
@@ -258,7 +258,7 @@ impl<S: SchemeTypes, D: Digest> RoundVotes<S, D> {
     }
 }
 
-/// Whether an attestation is valid. One whose signature is known to be is not verified.
+/// Whether an attestation is valid. It is not verified if its signature is known to be valid.
 fn is_valid<S: Scheme<D>, D: Digest>(
     scheme: &S,
     subject: &Subject<'_, D>,

@@ -1,4 +1,4 @@
-//! What messages are judged by, for contracts alone.
+//! The rules by which messages are judged, for contracts alone.
 
 ghost use Rattle.simplex_detector.specs.Committees.{Schedule, rules_of};
 ghost use Rattle.simplex_detector.specs.Judging.{rules_under};

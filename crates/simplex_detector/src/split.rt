@@ -7,15 +7,15 @@ use simplex_base::positions::Round;
 use simplex_base::values::{EqByParts, ExactClone};
 use std::alloc::{AllocError, Global};
 
-/// A round of which two messages with verifying certificates contradict: two notarizations or two finalizations of
+/// A round in which two messages whose certificates verify contradict: two notarizations or two finalizations of
 /// different proposals, or a nullification and a finalization.
 #[derive(Clone, Copy, Debug, PartialEq, Eq)]
 pub struct Split {
     pub round: Round,
     /// How many participants are accused in the round, each counted once, for any number of kinds.
     pub named: u32,
-    /// One more than may lie in the round's committee. At least as many signed both certificates: two quorums of n
-    /// participants, f of whom may lie, share n - 2f or more, which is f + 1 or more.
+    /// f + 1, f being how many of the round's committee may lie. At least this many signed both certificates: two quorums
+    /// of n participants share at least n - 2f, which is at least f + 1.
     pub least: u32,
 }
 
@@ -31,8 +31,8 @@ impl EqByParts for Split {
 }
 
 impl Split {
-    /// The line that reports it, without its end: epoch, view, the word `split`, how many participants are accused
-    /// and one more than may lie, parted by single blanks. Numbers are decimal.
+    /// The line that reports it, without the newline: epoch, view, the word `split`, `named` and `least`, separated by
+    /// single blanks. Numbers are decimal.
     pub fn line(&self, alloc: Global) -> Result<String, AllocError>
         ensures { IfOk result (λ line. string_bytes line ≡ split_line self.now) }
     {

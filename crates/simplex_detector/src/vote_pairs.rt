@@ -1,4 +1,4 @@
-//! Of each signer two votes at most.
+//! At most two votes of each signer.
 
 ghost use Rattle.std.specs.Prelude.{◌≡◌, ◌↔◌, ◌-◌, ◌^◌, min, ◌++◌, [], OnOk, IsTrue, map};
 ghost use Rattle.std.specs.Option.{option_copied};
@@ -10,7 +10,7 @@ use simplex_base::positions::Participant;
 use simplex_votes::types::Attributable;
 use std::alloc::{AllocError, Global};
 
-/// Of each signer the first vote, and another.
+/// The first vote of each signer, and another.
 #[derive(Drop)]
 pub struct VotePairs<V: Attributable> {
     firsts: BoxedMap<V>,
@@ -18,7 +18,7 @@ pub struct VotePairs<V: Attributable> {
 }
 
 impl<V: Attributable> VotePairs<V> {
-    /// No vote, for this many participants.
+    /// No votes yet, for this many participants.
     pub fn new(alloc: Global, participants: usize) -> Self
         ensures { result ≡ record {
           firsts = record { participants = participants; items = [] };
@@ -61,7 +61,7 @@ impl<V: Attributable> VotePairs<V> {
         self.others.get(signer)
     }
 
-    /// Inserts a vote of a participant: as its first, or else as its other, where it has none yet.
+    /// Inserts a vote of a participant: as its first if it has none, else as its other if it has none.
     pub fn insert(&mut self, vote: V) -> Result<(), AllocError>
     where
         V: Drop,
@@ -75,7 +75,7 @@ impl<V: Attributable> VotePairs<V> {
         Ok(())
     }
 
-    /// Appends the signers with another vote, in their order.
+    /// Appends the signers that have another vote, ascending.
     pub fn add_others(&self, signers: &mut Vec<u32>) -> Result<(), AllocError>
         ensures { OnOk result (signers.new.items ≡ signers.old.items ++
             map V.signer_of self.now.others.items) }
@@ -84,7 +84,7 @@ impl<V: Attributable> VotePairs<V> {
     }
 }
 
-/// Appends the signers of the items, in their order.
+/// Appends the signers of the items, ascending.
 pub fn add_signers<V: Attributable>(
     items: &BoxedMap<V>,
     signers: &mut Vec<u32>,

@@ -11,7 +11,7 @@ use Rattle.simplex_audit.specs.Report.{evidence_in}
 use Rattle.simplex_audit.proofs.DeferredLemmas.{nobody_reported, suspects_reported}
 use Rattle.simplex_audit.proofs.audit.audit_suspects.Goals as goal
 
--- nobody is claimed to contradict
+-- there is no claimed evidence
 pub returns-then-is_empty-clause-report : goal.returns-then-is_empty-clause-report
 returns-then-is_empty-clause-report g c =
     let claims = c.in_ok-claims.claims in
@@ -21,7 +21,7 @@ returns-then-is_empty-clause-report g c =
     (λ messages splits. c.suspects_tell_all.ensures.nobody c.args.committees.now messages splits c.in_ok-claims.ensures.lawful)
     c.in_ok-claims.ensures.report
 
--- the suspects tell all
+-- judging the suspects suffices
 pub returns-clause-report : goal.returns-clause-report
 returns-clause-report g c =
     let claims = c.in_ok-claims.claims in

@@ -24,11 +24,11 @@ format g bound = activity_format g.D.PartialEq.eq (fixed g.D.FixedSize.SIZE g.D.
 law : (g : given.Over) (bound : ℕ) → IsLawful (format g bound)
 law g bound = activity_lawful g.D.PartialEq.eq _ _ _ g.met.D.Fixed.lawful (g.met.S.Certificate.Read.lawful bound) g.met.S.Signature.Fixed.lawful
 
--- what messages are judged by
+-- the rules by which messages are judged
 abbrev rules : (g : given.Over) → Judging → Schedule g.row.S.Denot → Rules g.row.S.Denot g.row.D.Denot g.row.S-Certificate.Denot g.row.S-PublicKey.Denot g.row.S-Signature.Denot
 rules g judging schedule = rules_under g.D.PartialEq.eq g.S.CertificateScheme.keys g.S.Scheme.good g.S.CertificateVerifier.certified g.S.Listing.listed judging schedule
 
--- the state is that of messages
+-- the new state has recorded these messages after the old one's
 abbrev recorded : (g : given.Over) → Judging → Schedule g.row.S.Denot → (old new : Detector g.row.S.Denot g.row.D.Denot g.row.S-PublicKey.Denot g.row.S-Signature.Denot) → List (Activity g.row.S.Denot g.row.D.Denot g.row.S-Certificate.Denot g.row.S-PublicKey.Denot g.row.S-Signature.Denot) → Type 0
 recorded g judging schedule old new messages = RecallsMore (rules g judging schedule) messages old new
 

@@ -1,7 +1,7 @@
 use Rattle.simplex_detector.proofs.DetectorLemmas.{votes_of_round}
 use Rattle.simplex_detector.proofs.detector.message_round.Goals as goal
 
--- it is no evidence
+-- the message is no evidence
 pub returns-in_default : goal.returns-in_default
 returns-in_default g c = record {
   message = c.round-in_default.ensures;

@@ -8,7 +8,7 @@ use Rattle.simplex_audit.proofs.StreamLemmas.{messages_once}
 use Rattle.simplex_audit.proofs.auditor.Auditor.report.Given as given
 use Rattle.simplex_audit.proofs.auditor.Auditor.report.Goals as goal
 
--- what messages are judged by
+-- the rules by which messages are judged
 abbrev rules : (g : given.Over) → Schedule g.row.S.Denot → Rules g.row.S.Denot g.row.D.Denot g.row.S-Certificate.Denot g.row.S-PublicKey.Denot g.row.S-Signature.Denot
 rules g schedule = rules_of g.D.PartialEq.eq g.S.CertificateScheme.keys g.S.Scheme.good g.S.CertificateVerifier.certified g.S.Listing.listed schedule
 

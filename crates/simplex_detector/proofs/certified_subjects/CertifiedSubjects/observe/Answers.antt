@@ -4,21 +4,21 @@ use Rattle.simplex_detector.proofs.SplitLemmas.{records_push, records_no_news}
 use Rattle.simplex_detector.proofs.Places.{same_round-from}
 use Rattle.simplex_detector.proofs.certified_subjects.CertifiedSubjects.observe.Goals as goal
 
--- it would change nothing
+-- the subject would change nothing
 pub returns-then-not-is_news-clause-records : goal.returns-then-not-is_news-clause-records
 returns-then-not-is_news-clause-records g c subjects records =
     let y = subject_value c.args.subject.now in
     if_appended (λ xs. RecordsFirsts g.D.PartialEq.eq xs (round_of y) c.args.self.now) subjects y _ (λ no. records)
     (λ certifies. records_no_news g.D.PartialEq.eq g.met.D.Eq.laws subjects y (round_of y) c.args.self.now (same_round-from (round_of y) (round_of y) refl) (sym c.is_news.ensures ∙ c.if-not-is_news.true) records)
 
--- it does not verify
+-- the certificate does not certify it
 pub returns-then-not-certifies-clause-records : goal.returns-then-not-certifies-clause-records
 returns-then-not-certifies-clause-records g c subjects records =
     let y = subject_value c.args.subject.now in
     if_appended (λ xs. RecordsFirsts g.D.PartialEq.eq xs (round_of y) c.args.self.now) subjects y _ (λ no. records)
     (λ certifies. absurd (false≢true (sym c.if-not-certifies.true ∙ c.certifies.ensures ∙ certifies)))
 
--- it is recorded
+-- the subject is recorded
 pub returns-clause-records : goal.returns-clause-records
 returns-clause-records g c subjects records =
     let y = subject_value c.args.subject.now in

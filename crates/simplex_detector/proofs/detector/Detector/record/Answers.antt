@@ -6,7 +6,7 @@ use Rattle.simplex_detector.proofs.detector.Detector.record.Goals as goal
 abbrev rules : (g : given.Over) → Judging → Schedule g.row.S.Denot → Rules g.row.S.Denot g.row.D.Denot g.row.S-Certificate.Denot g.row.S-PublicKey.Denot g.row.S-Signature.Denot
 rules g = rules_under g.D.PartialEq.eq g.S.CertificateScheme.keys g.S.Scheme.good g.S.CertificateVerifier.certified g.S.Listing.listed
 
--- its epoch has no committee
+-- the message's epoch has no committee
 pub returns-in_default : goal.returns-in_default
 returns-in_default g c messages holds round =
     let none = c.in_default.ensures ∙ ap (committee_of c.args.committees.now) (c.epoch.ensures ∙ ap (λ r. r.epoch) c.message_round-round.ensures.message) in
@@ -41,7 +41,7 @@ returns-in_ok-insert g c messages holds =
     recalls_changed all g.met.D.Eq.laws messages m c.message_round-round.ensures.votes c.message_round-round.result at (Some after) c.args.self.now.rounds c.insert.new.self
     (subst (λ rounds. (q : Round) → get round_cmp c.insert.new.self q ≡ cond (is_key (round_cmp c.message_round-round.result) q) (Some after) (get round_cmp rounds q)) c.get_mut.follows.holds-at-none c.in_ok-insert.ensures.updates.0) own holds
 
--- nothing is recorded of it still
+-- nothing is recorded of its round now either
 pub returns-else-not-is_empty : goal.returns-else-not-is_empty
 returns-else-not-is_empty g c messages holds =
     let all = rules g c.args.judging.now c.args.committees.now in

@@ -8,20 +8,20 @@ use Rattle.simplex_detector.proofs.round_state.RoundState.split.Goals as goal
 abbrev rules : (g : given.Over) → Judging → Schedule g.row.S.Denot → Rules g.row.S.Denot g.row.D.Denot g.row.S-Certificate.Denot g.row.S-PublicKey.Denot g.row.S-Signature.Denot
 rules g = rules_under g.D.PartialEq.eq g.S.CertificateScheme.keys g.S.Scheme.good g.S.CertificateVerifier.certified g.S.Listing.listed
 
--- it is not split
+-- the round is not split
 pub returns-then-not-is_split : goal.returns-then-not-is_split
 returns-then-not-is_split g c judging messages l recalls =
     let all = rules g judging c.args.committees.now in
     sym (cond-false (is_split all messages c.args.round) _ None (from_subjects all messages c.args.round ∙ sym recalls.subjects.split ∙ sym c.is_split.ensures ∙ c.if-not-is_split.true))
 
--- it has no committee
+-- the round has no committee
 pub returns-in_default : goal.returns-in_default
 returns-in_default g c judging messages l recalls =
     let size = ap (λ epoch. size_by g.S.CertificateScheme.keys (committee_of c.args.committees.now epoch)) (sym c.epoch.ensures) ∙ sym (ap (size_by g.S.CertificateScheme.keys) c.in_default.ensures) in
     let all = rules g judging c.args.committees.now in
     sym (cond-false (is_split all messages c.args.round) _ None (false_from_ne_true _ (λ e. absurd (omega (arith, size, someone_in_split all messages l c.args.round e)))))
 
--- it is split
+-- the round is split
 pub returns : goal.returns
 returns g c judging messages l recalls =
     let all = rules g judging c.args.committees.now in

@@ -11,7 +11,7 @@ returns-then-not-is_news g c vs holds =
     if_appended (λ ws. HoldsRound g.D.PartialEq.eq (length (g.S.CertificateScheme.keys c.args.scheme.now)) ws (round_of x) c.args.self.now) vs (vote_on x c.args.attestation.now) _ (λ bad. holds)
     (λ good. held_no_news g.D.PartialEq.eq g.met.D.Eq.laws _ vs (vote_on x c.args.attestation.now) c.args.self.now holds (sym c.is_news.ensures ∙ c.if-not-is_news.true))
 
--- nor one that is not valid
+-- nor does one that is not valid
 pub returns-then-not-is_valid : goal.returns-then-not-is_valid
 returns-then-not-is_valid g c vs holds =
     let x = subject_value c.args.subject.now in
