@@ -38,7 +38,7 @@ pub extern "C" fn simplex_version() -> u32
     1
 }
 
-/// Audits a stream whose signatures have 48 bytes, as those of BLS12-381 in G1, each with the
+/// Audits a stream whose signatures have 48 bytes, such as those of BLS12-381 in G1, each with the
 /// caller's verdict behind it, under the committees of these sizes.
 #[unsafe(no_mangle)]
 pub extern "C" fn simplex_audit_vouched_48(
@@ -111,8 +111,8 @@ pub extern "C" fn simplex_store_vouched_48(
     store_vouched::<Role48, 49>(alloc, epochs, sizes, stored, batch, evidence, size)
 }
 
-/// Lists the attestations of a stream that the caller has to verify before it audits the stream, whose
-/// signatures have 48 bytes and a verdict that may yet be any, under the committees of these sizes.
+/// Lists the attestations that the caller has to verify before it audits a stream whose signatures
+/// have 48 bytes and a verdict, which may still be any byte, under the committees of these sizes.
 #[unsafe(no_mangle)]
 pub extern "C" fn simplex_suspects_vouched_48(
     alloc: Global,
@@ -135,7 +135,7 @@ pub extern "C" fn simplex_suspects_vouched_48(
     suspects_vouched::<Role48, 49>(alloc, epochs, sizes, stream, records, needed)
 }
 
-/// Audits a stream whose signatures have 64 bytes, as those of Ed25519, each with the caller's
+/// Audits a stream whose signatures have 64 bytes, such as those of Ed25519, each with the caller's
 /// verdict behind it, under the committees of these sizes.
 #[unsafe(no_mangle)]
 pub extern "C" fn simplex_audit_vouched_64(
@@ -208,8 +208,8 @@ pub extern "C" fn simplex_store_vouched_64(
     store_vouched::<Role64, 65>(alloc, epochs, sizes, stored, batch, evidence, size)
 }
 
-/// Lists the attestations of a stream that the caller has to verify before it audits the stream, whose
-/// signatures have 64 bytes and a verdict that may yet be any, under the committees of these sizes.
+/// Lists the attestations that the caller has to verify before it audits a stream whose signatures
+/// have 64 bytes and a verdict, which may still be any byte, under the committees of these sizes.
 #[unsafe(no_mangle)]
 pub extern "C" fn simplex_suspects_vouched_64(
     alloc: Global,
@@ -232,7 +232,7 @@ pub extern "C" fn simplex_suspects_vouched_64(
     suspects_vouched::<Role64, 65>(alloc, epochs, sizes, stream, records, needed)
 }
 
-/// Audits a stream whose signatures have 96 bytes, as those of BLS12-381 in G2, each with the
+/// Audits a stream whose signatures have 96 bytes, such as those of BLS12-381 in G2, each with the
 /// caller's verdict behind it, under the committees of these sizes.
 #[unsafe(no_mangle)]
 pub extern "C" fn simplex_audit_vouched_96(
@@ -305,8 +305,8 @@ pub extern "C" fn simplex_store_vouched_96(
     store_vouched::<Role96, 97>(alloc, epochs, sizes, stored, batch, evidence, size)
 }
 
-/// Lists the attestations of a stream that the caller has to verify before it audits the stream, whose
-/// signatures have 96 bytes and a verdict that may yet be any, under the committees of these sizes.
+/// Lists the attestations that the caller has to verify before it audits a stream whose signatures
+/// have 96 bytes and a verdict, which may still be any byte, under the committees of these sizes.
 #[unsafe(no_mangle)]
 pub extern "C" fn simplex_suspects_vouched_96(
     alloc: Global,
@@ -488,7 +488,7 @@ pub extern "C" fn simplex_leader(
     leaders::leader(alloc, None, participants, term_length, epoch, view, number)
 }
 
-/// The participant who leads a view of an epoch, in the order by the seed.
+/// The participant who leads a view of an epoch, in the order that the seed determines.
 #[unsafe(no_mangle)]
 pub extern "C" fn simplex_leader_shuffled(
     alloc: Global,

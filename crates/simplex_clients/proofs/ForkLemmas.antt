@@ -40,7 +40,7 @@ kind_of_accused eq vs round q h =
     third : (a b c : Bool) → a ≡ false → b ≡ false → (a || (b || c)) ≡ true → c ≡ true
     third a b c first second h = sym (ap (λ x. x || (b || c)) first ∙ ap (λ x. x || c) second) ∙ h
 
--- evidence that names exactly who is accused blames every signer of both of two certificates
+-- evidence that accuses exactly whom the votes accuse accuses every signer of both of two certificates
 pub blames : {S D C P G : Type 0} (rules : Rules S D C P G) (messages : List (Activity S D C P G)) (round : Round) (c d : C) (es : List (Equivocation D G)) →
     AccusesExactly rules.eq (valid_votes rules messages) es → IsAccountable rules messages round c d → BlamesEnough (rules.size round.epoch) round es
 blames rules messages round c d es names accountable = record {
@@ -57,7 +57,7 @@ pub evidence_of_same : {S D C P G : Type 0} (rules : Rules S D C P G) (given wan
     IsEvidence rules.eq (valid_votes rules given) es → IsEvidence rules.eq (valid_votes rules wanted) es
 evidence_of_same {S} {D} {C} {P} {G} rules given wanted es same is = subst (λ (ms : List (Activity S D C P G)). IsEvidence rules.eq (valid_votes rules ms) es) same is
 
--- a finalization that is read under the bound of the committees inside is under that of the client's
+-- a finalization under the bound of the committees inside is one under that of the client's committees
 pub value_outside : {S D C P G : Type 0} (payload : Format D) (fits : ℕ → C → Type 0) (keys : S → List P) (inside before : Following S D C P G) (f : Finalization S D C P G) → inside ≡ before →
     IsFinalization payload (fits (bound_of keys inside.committees)) f → IsFinalization payload (fits (bound_of keys before.committees)) f
 value_outside {S} {D} {C} {P} {G} payload fits keys inside before f is value = subst (λ (b : Following S D C P G). IsFinalization payload (fits (bound_of keys b.committees)) f) is value
@@ -73,7 +73,7 @@ second_of_two x y = (1, omega arith, refl)
 pub both_of_two : {X : Type 0} (P : X → Type 0) (x y : X) → P x → P y → All P (x ∷ y ∷ [])
 both_of_two P x y a b = All-cons P x (y ∷ []) a (All-cons P y [] b (All-nil P))
 
--- nothing is no list with an element
+-- the empty list has no first element
 pub nothing_first : {X : Type 0} (x : X) (xs : List X) → [] ≡ x ∷ xs → ⊥
 nothing_first x xs is = absurd cc
 

@@ -60,7 +60,7 @@ within_both {S} {D} {C} {P} {G} rules ms ls ks within v h =
       | inr b ↦ within_right rules ls ks v b
     ]
 
--- the votes of evidence are among those that it is the evidence of
+-- the votes of an evidence are among the votes that it was found in
 both_votes : {D G : Type 0} (eq : D → D → Bool) (vs : List (SignedVote D G)) (e : contradiction.Equivocation D G) → IsEquivocation eq vs e → All (Contains vs) (e.first ∷ e.second ∷ [])
 both_votes eq vs e h = both_of_two (Contains vs) e.first e.second h.first_cast h.second_cast
 
@@ -88,7 +88,7 @@ joined format bytes piece rest messages further are are' = record {
   stuck = are'.stuck;
 }
 
--- what holds of the evidence of any votes
+-- the laws of the evidence of any votes
 pub record Laws (D G : Type 0) (eq : D → D → Bool) : Type 0 where
   pub names : (vs : List (SignedVote D G)) (es : List (contradiction.Equivocation D G)) → IsEvidence eq vs es → AccusesExactly eq vs es
   pub sound : (vs : List (SignedVote D G)) (es : List (contradiction.Equivocation D G)) → IsEvidence eq vs es → All (IsEquivocation eq vs) es
@@ -139,6 +139,6 @@ pub if_ok : {X E : Type 0} (Given Wanted : X → Type 0) → ((x : X) → Given 
 if_ok Given Wanted f (Ok x) h = f x h
 if_ok Given Wanted f (Err e) h = tt
 
--- what is stored of a stream is stored of the same stream
+-- what is stored of a stream is stored of an equal stream
 pub stored_same : {S D C P G : Type 0} (basis : Basis S D C P G) (stream same bytes : List ℕ) → stream ≡ same → IsStored basis stream bytes → IsStored basis same bytes
 stored_same basis stream same bytes e is = subst (λ (xs : List ℕ). IsStored basis xs bytes) e is

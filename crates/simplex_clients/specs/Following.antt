@@ -1,4 +1,4 @@
--- What a light client follows, and what it finds of a finalization that comes.
+-- What a light client holds, and what becomes of a finalization.
 use Rattle.std.specs.Prelude.{◌≡◌, ⊤, ℕ, ◌+◌, ◌≤◌, ◌==◌, ◌&&◌, ◌||◌, Bool, true, false, List, [], ◌∷◌, length, map, nat_eq, nat_lt, All, Contains, Option, Some, MatchOption}
 use Rattle.std.specs.List.{IsDistinct}
 use Rattle.simplex_base.specs.Format.{Format}
@@ -18,7 +18,7 @@ use Rattle.simplex_detector.specs.Values.{evidence_value}
 use Rattle.simplex_clients.specs.declared.light_client.Followed.{Followed}
 use Rattle.simplex_clients.specs.declared.light_client.Followed.TheVariants as followed
 
--- whose committees judge, and the finalization of the latest round so far
+-- the committees that judge, and the finalization of the latest round so far
 pub record Following (S D C P G : Type 0) : Type 0 where
   pub committees : Schedule S
   pub latest : Option (Finalization S D C P G)
@@ -27,7 +27,7 @@ pub record Following (S D C P G : Type 0) : Type 0 where
 abbrev pub is_later : Round → Round → Bool
 is_later a b = nat_lt b.epoch a.epoch || ((b.epoch == a.epoch) && nat_lt b.view a.view)
 
--- whether a finalization certifies its proposal, by the committee of its epoch
+-- whether a finalization certifies its proposal, under the committee of its epoch
 abbrev pub is_final : {S D C P G : Type 0} → Rules S D C P G → Finalization S D C P G → Bool
 is_final rules f = rules.certified (Finalizes f.proposal) f.certificate
 
@@ -35,8 +35,7 @@ is_final rules f = rules.certified (Finalizes f.proposal) f.certificate
 abbrev pub is_fork : {S D C P G : Type 0} → (D → D → Bool) → Finalization S D C P G → Finalization S D C P G → Bool
 is_fork eq f g = subjects_contradict eq (Finalizes f.proposal) (Finalizes g.proposal)
 
--- a finalization of at most as many participants as the greatest committee has, which certifies its proposal by the
--- committee of its epoch
+-- a finalization under the bound of the greatest committee, which certifies its proposal under the committee of its epoch
 pub record IsFollowed {S D C P G : Type 0} (payload : Format D) (fits : ℕ → C → Type 0) (keys : S → List P) (certified : S → SubjectValue D → C → Bool) (committees : Schedule S) (f : Finalization S D C P G) : Type 0 where
   pub value : IsFinalization payload (fits (bound_of keys committees)) f
   pub final : certified_by certified (committee_of committees f.proposal.round.epoch) (Finalizes f.proposal) f.certificate ≡ true
@@ -52,21 +51,20 @@ pub record BlamesEnough {D G : Type 0} (n : ℕ) (round : Round) (es : List (Equ
   pub enough : faults_of n + 1 ≤ length signers
   pub blamed : All (IsBlamed round es) signers
 
--- the evidence of the valid votes that the certificates of two finalizations list: one for each signer, in order, and nobody
--- left out
+-- the evidence of the valid votes that the certificates of two finalizations list: one for each accused signer, in order
 abbrev pub IsEvidenceOfBoth : {S D C P G : Type 0} → Rules S D C P G → Finalization S D C P G → Finalization S D C P G → List (Equivocation D G) → Type 0
 IsEvidenceOfBoth rules f g es = IsEvidence rules.eq (valid_votes rules (activity.Finalization f ∷ activity.Finalization g ∷ [])) es
 
--- What becomes of a finalization, by the latest one. One that does not certify its proposal is refused. One that contradicts
--- the latest is a fork, with the evidence of the votes of both, which accuses more participants than may lie. Of the others one of
--- a later round is taken, and one of no later round is known.
+-- What becomes of a finalization, given the latest one. One that does not certify its proposal is refused. One that contradicts
+-- the latest is a fork, with the evidence of the votes of both, which accuses more participants than may lie. Any other is
+-- taken if its round is later, or if there is no latest one, and else known.
 abbrev pub Follows : {S D C P G : Type 0} → Rules S D C P G → Option (Finalization S D C P G) → Finalization S D C P G → Followed S D P G → Type 0
 Follows rules latest f followed.Refused = is_final rules f ≡ false
 Follows rules latest f followed.Taken = (is_final rules f ≡ true) × MatchOption latest ⊤ (λ l. (is_fork rules.eq l f ≡ false) × (is_later f.proposal.round l.proposal.round ≡ true))
 Follows rules latest f followed.Known = (is_final rules f ≡ true) × MatchOption latest ⊥ (λ l. (is_fork rules.eq l f ≡ false) × (is_later f.proposal.round l.proposal.round ≡ false))
 Follows rules latest f (followed.Fork evidence) = (is_final rules f ≡ true) × MatchOption latest ⊥ (λ l. (is_fork rules.eq l f ≡ true) × BlamesEnough (rules.size l.proposal.round.epoch) l.proposal.round (map evidence_value evidence.items) × IsEvidenceOfBoth rules l f (map evidence_value evidence.items))
 
--- the latest one afterwards
+-- the latest finalization afterwards
 abbrev pub latest_after : {S D C P G : Type 0} → Option (Finalization S D C P G) → Finalization S D C P G → Followed S D P G → Option (Finalization S D C P G)
 latest_after latest f followed.Taken = Some f
 latest_after latest f _ = latest

@@ -18,12 +18,12 @@ use Rattle.simplex_clients.specs.declared.ledger.Ledger.{Ledger}
 abbrev pub bytes_fed : {S D P G : Type 0} → Ledger S D P G → ℕ
 bytes_fed ledger = fed_of ledger.auditor
 
--- a ledger of these committees was fed this, and nothing else
+-- a ledger of these committees was fed this stream
 abbrev pub WasFed : {S D C P G : Type 0} → (Schedule S → Basis S D C P G) → Schedule S → Ledger S D P G → List ℕ → Type 0
 WasFed basis committees ledger stream = Stands basis committees ledger.auditor stream
 
--- The messages of the stream, up to its end or first fault, and the evidence of their valid votes: in the order of rounds,
--- signers and kinds, each once, and nobody who is accused left out.
+-- es is the evidence of the valid votes of the stream's messages, up to its end or first fault: in the order of rounds, signers
+-- and kinds, each once, and nobody accused left out.
 pub record IsEvidenceOf {S D C P G : Type 0} (basis : Basis S D C P G) (stream : List ℕ) (es : List (Evidence S D P G)) : Type 0 where
   pub messages : List (Activity S D C P G)
   pub rest : List ℕ
@@ -35,9 +35,9 @@ pub record IsEvidenceOf {S D C P G : Type 0} (basis : Basis S D C P G) (stream :
 abbrev pub Accuses : {S D P G : Type 0} → List (Evidence S D P G) → Accusation → Type 0
 Accuses es n = Contains (map accused_by (map evidence_value es)) n
 
--- What is held after stored evidence and then further messages: it is the evidence of the votes of both. So who is accused by
--- the stored evidence, or by the further messages alone, is accused, and nobody else than whom the messages before and the
--- further ones accuse.
+-- What is held after stored evidence and then further messages: the evidence of the votes of both. So it accuses everyone whom
+-- the stored evidence or the further messages alone accuse, and nobody whom the messages before and the further ones together
+-- do not accuse.
 pub record HoldsBoth {S D C P G : Type 0} (basis : Basis S D C P G) (before : List (Activity S D C P G)) (stored : List (Evidence S D P G)) (further : List (Activity S D C P G)) (held : List (Evidence S D P G)) : Type 0 where
   pub evidence_is : IsEvidence basis.rules.eq (valid_votes basis.rules (map activity_of stored ++ further)) (map evidence_value held)
   pub names : AccusesExactly basis.rules.eq (valid_votes basis.rules (map activity_of stored ++ further)) (map evidence_value held)
@@ -45,8 +45,8 @@ pub record HoldsBoth {S D C P G : Type 0} (basis : Basis S D C P G) (before : Li
   pub more : (n : Accusation) → IsTrue (is_accused basis.rules.eq (valid_votes basis.rules further) n) → Accuses held n
   pub only : (n : Accusation) → Accuses held n → IsTrue (is_accused basis.rules.eq (valid_votes basis.rules (before ++ further)) n)
 
--- The bytes encode the evidence of the stream as messages, in order. That evidence is the evidence of the bytes, and there is no
--- other. Behind the bytes a piece is read as it is alone, and what is held then is the evidence of both.
+-- The bytes encode the evidence of the stream as messages, in order. That evidence is also the evidence of the bytes, and the
+-- only one. A piece behind the bytes is read as it is alone, and what is held then is the evidence of both.
 pub record IsStored {S D C P G : Type 0} (basis : Basis S D C P G) (stream bytes : List ℕ) : Type 0 where
   pub evidence : List (Evidence S D P G)
   pub evidence_is : IsEvidenceOf basis stream evidence

@@ -15,8 +15,8 @@ use simplex_evidence::types::Activity;
 use simplex_scheme::scheme::{Digest, Listing, SchemeTypes};
 use std::alloc::{AllocError, Global};
 
-/// Holds the evidence of all messages that it is fed, in pieces of any length, each once. It records the votes that
-/// evidence can be made of, and not the messages.
+/// Holds the evidence of all messages that it is fed in pieces of any length. It records the votes that evidence can
+/// consist of, and not the messages.
 #[derive(Drop)]
 pub struct Ledger<'a, S: SchemeTypes, D: Digest> {
     auditor: Auditor<'a, S, D>,
@@ -33,8 +33,8 @@ impl<'a, S: Listing<D>, D: Digest> Ledger<'a, S, D> {
         }
     }
 
-    /// A ledger that begins with what an earlier one stored: it is the ledger that was fed these bytes. Whom it then
-    /// accuses, and whom after further pieces, the contract of `store` says.
+    /// A ledger that begins with what an earlier one stored: it is the ledger that was fed these bytes. The contract of
+    /// `store` states whom it then accuses, and whom after further pieces.
     pub fn resume(
         alloc: Global,
         committees: &'a Committees<S>,
@@ -49,7 +49,7 @@ impl<'a, S: Listing<D>, D: Digest> Ledger<'a, S, D> {
         Ok(ledger)
     }
 
-    /// The ledger that was fed this piece too. Where an allocation fails there is none.
+    /// The ledger that was fed this piece, too. Where an allocation fails there is no ledger.
     pub fn feed(self, piece: &[u8]) -> Result<Self, AllocError>
         requires { bytes_fed self + length piece.now < 2 ^ 64 }
         ensures bytes { IfOk result (λ next.
@@ -70,8 +70,8 @@ impl<'a, S: Listing<D>, D: Digest> Ledger<'a, S, D> {
         self.auditor.fed()
     }
 
-    /// The evidence of all that it was fed: for each round, signer and kind with two votes that contradict one, in this
-    /// order.
+    /// The evidence of all that it was fed: one for each round, signer and kind with two valid votes that contradict, in
+    /// this order.
     pub fn evidence(&self) -> Result<Vec<Evidence<S, D>>, AllocError>
         ensures { IfOk result (λ held. (committees : Schedule S) (stream : List ℕ) →
             WasFed ⟦<S as Audited<D>>⟧.basis committees self.now stream →
@@ -81,11 +81,12 @@ impl<'a, S: Listing<D>, D: Digest> Ledger<'a, S, D> {
         Ok(report.evidence)
     }
 
-    /// The evidence as bytes that `resume` takes: each a message, an `Activity`, one after the other in the order of
-    /// `evidence`, and no bytes where there is none. Votes that contradict nothing yet are not among them.
+    /// The evidence as bytes for `resume`: each a message, an `Activity`, one after the other in the order of `evidence`; no
+    /// bytes where there is no evidence. Votes that contradict nothing yet are not stored.
     pub fn store(&self, alloc: Global) -> Result<Vec<u8>, AllocError>
-        // They encode the evidence and have it again. Behind them a piece is read as it is alone, and what is held then is the
-        // evidence of both: who was accused stays accused, and nobody is accused whom the messages of both do not accuse.
+        // The bytes encode the evidence, and it is their evidence, too. A piece behind them is read as it is alone, and what is
+        // held then is the evidence of both: accused signers stay accused, and nobody is accused whom the messages of both do
+        // not accuse.
         ensures { IfOk result (λ stored. (committees : Schedule S) (stream : List ℕ) →
             WasFed ⟦<S as Audited<D>>⟧.basis committees self.now stream →
             IsStored (⟦<S as Audited<D>>⟧.basis committees) stream stored.items) }
@@ -96,8 +97,8 @@ impl<'a, S: Listing<D>, D: Digest> Ledger<'a, S, D> {
     }
 }
 
-/// What a ledger stores that was fed what an earlier one stored, or nothing, and then a batch of messages. Only the votes of
-/// suspects and the certificates of their rounds are verified, as by [`audit_deferred`], and the memory taken is bounded by the
+/// What a ledger stores that was fed the bytes that an earlier one stored, or none, and then a batch of messages. Only the
+/// votes of suspects and the certificates of their rounds are verified, as by [`audit_deferred`], and memory is bounded by the
 /// stored bytes and the batch.
 pub fn store_batch<S: Listing<D>, D: Digest>(
     alloc: Global,
@@ -105,7 +106,7 @@ pub fn store_batch<S: Listing<D>, D: Digest>(
     stored: &[u8],
     batch: &[u8],
 ) -> Result<Vec<u8>, AllocError>
-    // All that `Ledger::store` says of what was fed.
+    // All that `Ledger::store` states of what was fed.
     ensures { IfOk result (λ bytes. IsStored (⟦<S as Audited<D>>⟧.basis committees.now)
         (stored.now ++ batch.now) bytes.items) }
 {

@@ -1,4 +1,4 @@
-//! Follows what is finalized, and hands out who is to blame where two proposals of a round are.
+//! Follows finalizations, and returns the evidence where two proposals of a round are final.
 
 ghost use Rattle.std.specs.Prelude.{◌≡◌, ◌++◌, ◌⊎◌, ⊤, None, true, IfOk, IfErr, OnErr, MatchOption, map};
 ghost use Rattle.std.specs.Option.{option_copied};
@@ -29,9 +29,9 @@ pub enum Followed<S: SchemeTypes, D: Digest> {
     Taken,
     /// It is of no later round than the latest, and does not contradict it.
     Known,
-    /// It does not certify its proposal by the committee of its epoch.
+    /// It does not certify its proposal under the committee of its epoch.
     Refused,
-    /// It contradicts the latest: evidence of more participants of their committee than may lie.
+    /// It contradicts the latest: the evidence, which accuses more participants of the committee than may lie.
     Fork(Vec<Evidence<S, D>>),
 }
 
@@ -58,7 +58,7 @@ impl<'a, S: Listing<D>, D: Digest> Model for LightClient<'a, S, D> {
 }
 
 impl<'a, S: Listing<D>, D: Digest> LightClient<'a, S, D> {
-    /// It has followed nothing yet.
+    /// A client that has followed nothing yet.
     pub fn new(committees: &'a Committees<S>) -> Self
         ensures { result ≡ record { committees = committees.now; latest = None } }
     {
@@ -71,15 +71,15 @@ impl<'a, S: Listing<D>, D: Digest> LightClient<'a, S, D> {
     /// The finalization of the latest round so far.
     pub fn latest(&self) -> Option<&Finalization<S, D>>
         ensures latest { option_copied result ≡ self.now.latest }
-        // It certifies its proposal, by the committee of its epoch.
+        // It certifies its proposal under the committee of its epoch.
         ensures certified { MatchOption self.now.latest ⊤ (λ f.
             is_final (⟦<S as Audited<D>>⟧.basis self.now.committees).rules f ≡ true) }
     {
         self.latest.as_ref()
     }
 
-    /// Follows a finalization that comes as bytes. Where they are none under the bound of the greatest committee, which the
-    /// codec's error states, or where an allocation fails, all is as before.
+    /// Follows a finalization that comes as bytes. Returns the codec's error where they are no finalization under the bound of
+    /// the greatest committee, and `OutOfMemory` where an allocation fails; then the client is as before.
     pub fn follow(&mut self, alloc: Global, bytes: &[u8]) -> Result<Followed<S, D>, Error>
         ensures follows { IfOk result (λ answer.
             (f : finalizations.Finalization S D S.Certificate S.PublicKey S.Signature) ×
@@ -121,7 +121,7 @@ fn read<S: Listing<D>, D: Digest>(
     decode_cfg(alloc, bytes, &committees.bound())
 }
 
-/// What becomes of a finalization, by the latest one.
+/// What becomes of a finalization, given the latest one.
 fn judge<S: Listing<D>, D: Digest>(
     alloc: Global,
     committees: &Committees<S>,
@@ -164,7 +164,7 @@ fn is_later(round: Round, other: Round) -> bool
     other.epoch() < round.epoch() || other.epoch() == round.epoch() && other.view() < round.view()
 }
 
-/// Whether a finalization certifies its proposal by the committee of its epoch.
+/// Whether a finalization certifies its proposal under the committee of its epoch.
 fn is_final<S: Listing<D>, D: Digest>(
     committees: &Committees<S>,
     finalization: &Finalization<S, D>,
@@ -200,7 +200,7 @@ fn stream_of<S: Listing<D>, D: Digest>(
     Ok(stream)
 }
 
-/// Who is to blame for two finalizations that contradict: evidence of more participants than may lie.
+/// The evidence of two finalizations that contradict, which accuses more participants than may lie.
 fn blame<S: Listing<D>, D: Digest>(
     alloc: Global,
     committees: &Committees<S>,

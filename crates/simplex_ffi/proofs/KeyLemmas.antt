@@ -13,7 +13,7 @@ use Rattle.simplex_ffi.specs.Keys.{AreKeys, key_at, keys_in}
 pub one_more : (bytes : List ℕ) (place : ℕ) → map (key_at bytes) (range_with_len 0 (place + 1)) ≡ map (key_at bytes) (range_with_len 0 place) ++ key_at bytes place ∷ []
 one_more bytes place = map-range_with_len_more (key_at bytes) 0 place place (omega arith)
 
--- how many there are
+-- how many keys there are
 pub size : (bytes : List ℕ) (set : List (List ℕ)) → IsPermutation (keys_in bytes) set → 1 ≤ length bytes / 32 → length bytes / 32 < 2 ^ 32 → (1 ≤ length set) × (length set < 2 ^ 32)
 size bytes set same some few =
     let many = length-map-range_with_len (key_at bytes) 0 (length bytes / 32) in
@@ -29,6 +29,6 @@ are_keys bytes (whole, some, few) distinct = record {
   distinct = AllPairs-from_IsDistinct bytes_eq-Decides (keys_in bytes) distinct;
 }
 
--- and those of a committee are distinct by their bytes
+-- keys of a committee are distinct by their bytes
 pub distinct_keys : (bytes : List ℕ) → AreKeys bytes → IsDistinct bytes_eq (keys_in bytes)
 distinct_keys bytes are = IsDistinct-from_AllPairs bytes_eq-Decides (keys_in bytes) are.distinct

@@ -32,7 +32,7 @@ no_pairs [] sizes same none = refl
 no_pairs (e ∷ es) [] same none = absurd cc
 no_pairs (e ∷ es) (n ∷ ns) same none = absurd cc
 
--- the pairs are no list of committees, so the sizes are none either
+-- the pairs are refused as committees, so the sizes give no committees
 pub refused : (epochs sizes : List ℕ) (pairs : List (ℕ × VouchedScheme)) (e : CommitteesError) → pairs ≡ pairs_of epochs sizes → (epochs ≡ [] → ⊥) →
     (e ≡ errors.Empty → pairs ≡ []) → (e ≡ errors.Unordered → AreRising pairs → ⊥) → (committees : Schedule VouchedScheme) → AreSizes epochs sizes committees → ⊥
 refused epochs sizes pairs e is some empty unordered (Every committee) are = some are.0
@@ -40,6 +40,6 @@ refused epochs sizes pairs errors.Empty is some empty unordered (Listed others) 
 refused epochs sizes pairs errors.Unordered is some empty unordered (Listed others) are =
     unordered refl (subst (λ (ps : List (ℕ × VouchedScheme)). AreRising ps) (are.4 ∙ sym is) are.3)
 
--- there are some
+-- there are epochs
 pub some_epochs : (epochs : List ℕ) → false ≡ (length epochs == 0) → epochs ≡ [] → ⊥
 some_epochs epochs is e = eqb-false (length epochs) 0 (sym is) (ap length e)

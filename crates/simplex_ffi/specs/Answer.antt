@@ -15,12 +15,12 @@ use Rattle.simplex_places.specs.declared.places.Suspect.{Suspect}
 use Rattle.simplex_places.specs.declared.records.Record.{Record}
 use Rattle.simplex_ffi.specs.declared.answer.ReportSummary.{ReportSummary}
 
--- the number of a stream that was read whole, or that has a fault
+-- the status of a stream that was read whole, or that has a fault
 abbrev pub ended_of : Option Fault → ℕ
 ended_of None = 0
 ended_of (Some fault) = 1
 
--- where the fault is
+-- the offset of the fault, or 0 if there is none
 abbrev pub place_of_fault : Option Fault → ℕ
 place_of_fault None = 0
 place_of_fault (Some fault) = fault.place
@@ -34,8 +34,8 @@ pub record IsSummary {S D P G : Type 0} (bytes_of : D → List ℕ) (report : Re
   pub place_is : summary.fault_place ≡ place_of_fault report.fault
   pub length_is : summary.length ≡ length (report_text bytes_of report)
 
--- A text, or other items, is put at the start of a buffer, and what is behind it stays; or it has no room there, and the buffer is
--- as before.
+-- A text, or other items, is put at the start of a buffer, and what is behind it stays; or the buffer is too short and as
+-- before, and the status is 4.
 abbrev pub IsPut : {A : Type 0} → List A → List A → List A → ℕ → ℕ → Type 0
 IsPut text before after status ended =
     ((length text ≤ length before) × (status ≡ ended) × (after ≡ text ++ drop (length text) before))

@@ -12,7 +12,7 @@ use Rattle.simplex_detector.specs.Committees.{Schedule, Every, Listed}
 abbrev pub key_at : List ℕ → ℕ → List ℕ
 key_at bytes place = take 32 (drop (32 * place) bytes)
 
--- as many keys as there are 32 bytes for
+-- the keys, one for each 32 bytes
 abbrev pub keys_in : List ℕ → List (List ℕ)
 keys_in bytes = map (key_at bytes) (range_with_len 0 (length bytes / 32))
 
@@ -23,8 +23,8 @@ pub record AreKeys (bytes : List ℕ) : Type 0 where
   pub few : length bytes / 32 < 2 ^ 32
   pub distinct : AllPairs (λ a b. a ≢ b) (keys_in bytes)
 
--- The scheme verifies for the committee of the keys. In any order of them, a participant's number is the place of its key among
--- them in ascending order.
+-- The scheme verifies for the committee of the keys, which may stand in any order: a participant's number is the place of its
+-- key among them in ascending order.
 pub record IsCommitteeOf (namespace bytes : List ℕ) (scheme : PlainScheme) : Type 0 where
   pub keys : AreKeys bytes
   pub participants : List (List ℕ)

@@ -14,8 +14,8 @@ pairs_of [] sizes = []
 pairs_of (epoch ∷ epochs) [] = []
 pairs_of (epoch ∷ epochs) (size ∷ sizes) = (epoch, of_size size) ∷ pairs_of epochs sizes
 
--- The committees are those of the sizes: with no epochs one of the one size for every epoch, else for each epoch, which rise
--- strictly, one of the size at its place. Each has a participant.
+-- The committees are those of the sizes: without epochs one for every epoch, of the one size; else for each epoch one of the
+-- size at its place, and the epochs rise strictly. Each has a participant.
 abbrev pub AreSizes : List ℕ → List ℕ → Schedule VouchedScheme → Type 0
 AreSizes epochs sizes (Every committee) = (epochs ≡ []) × ((n : ℕ) × (sizes ≡ n ∷ []) × (1 ≤ n) × (committee ≡ of_size n))
 AreSizes epochs sizes (Listed pairs) = (epochs ≢ []) × (length epochs ≡ length sizes) × All (λ n. 1 ≤ n) sizes × AreRising pairs × (pairs ≡ pairs_of epochs sizes)

@@ -12,7 +12,7 @@ use simplex_base::codec::Fixed;
 use simplex_scheme::scheme::{Digest, Listing, SchemeTypes};
 use std::alloc::{AllocError, Global};
 
-/// All was read as messages, and the buffer is written.
+/// The whole stream was read as messages, and the buffer is written.
 pub const WHOLE: u32 = 0;
 
 /// The stream has a fault, a byte that starts no message. The messages before it were audited, and
@@ -25,7 +25,7 @@ pub const ARGUMENTS: u32 = 2;
 /// An allocation failed. Nothing is written.
 pub const MEMORY: u32 = 3;
 
-/// The buffer is too short and as before. How many bytes are needed is written.
+/// The buffer is too short and as before. The length that is needed is written.
 pub const SHORT: u32 = 4;
 
 /// The numbers of a report.
@@ -46,7 +46,7 @@ pub struct ReportSummary {
     pub length: usize,
 }
 
-/// The number of a stream that was read whole, or that has a fault.
+/// The status of a stream that was read whole, or that has a fault.
 pub(crate) fn ended(fault: Option<Fault>) -> u32
     ensures { result ≡ ended_of fault }
 {
@@ -56,7 +56,7 @@ pub(crate) fn ended(fault: Option<Fault>) -> u32
     }
 }
 
-/// Where the fault is, or 0.
+/// The 0-based offset of the fault, or 0 if there is none.
 fn place(fault: Option<Fault>) -> usize
     ensures { result ≡ place_of_fault fault }
 {

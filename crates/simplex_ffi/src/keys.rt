@@ -10,7 +10,7 @@ use simplex_plain::plain::{Plain, PlainKey};
 use simplex_scheme::scheme::Set;
 use std::alloc::{AllocError, Global};
 
-/// How many keys a committee has at most.
+/// The greatest number of keys of a committee.
 const MOST_KEYS: usize = 4_294_967_295;
 
 /// The key at a place.
@@ -22,14 +22,14 @@ fn key_at(bytes: &[u8], place: usize) -> PlainKey
     PlainKey::from_bytes(&bytes[start..start + 32])
 }
 
-/// Whether this many bytes are those of keys of a committee: of at least one, and of fewer than 2^32.
+/// Whether this many bytes can be the keys of a committee, 32 bytes each: at least one, and fewer than 2^32.
 fn have_keys(size: usize) -> bool
     ensures { IsTrue result ↔ ((size % 32 ≡ 0) × (1 ≤ size / 32) × (size / 32 < 2 ^ 32)) }
 {
     size % 32 == 0 && size >= 32 && size / 32 <= MOST_KEYS
 }
 
-/// As many keys as there are 32 bytes for.
+/// The keys, one for each 32 bytes.
 fn read_keys(alloc: Global, bytes: &[u8]) -> Result<Vec<PlainKey>, AllocError>
     ensures { IfOk result (λ keys. keys.items ≡ keys_in bytes.now) }
 {
@@ -41,7 +41,7 @@ fn read_keys(alloc: Global, bytes: &[u8]) -> Result<Vec<PlainKey>, AllocError>
     Ok(keys)
 }
 
-/// The keys as a set. `None` comes where they are no keys of a committee.
+/// The keys as a set, or `None` where they are not the keys of a committee.
 fn read_set(alloc: Global, bytes: &[u8]) -> Result<Option<Set<PlainKey>>, AllocError>
     ensures keys { IfOk result (λ answer. IfSome answer (λ set. AreKeys bytes.now)) }
     ensures same { IfOk result (λ answer. IfSome answer (λ set.
@@ -63,7 +63,7 @@ fn read_set(alloc: Global, bytes: &[u8]) -> Result<Option<Set<PlainKey>>, AllocE
 }
 
 /// The committee of these keys, of 32 bytes each and in any order, under this namespace, for every
-/// epoch. `None` comes where they are no keys of a committee: a committee has a key, and no key
+/// epoch. `None` where they are not the keys of a committee: at least one, fewer than 2^32, and none
 /// twice.
 pub fn committees(
     alloc: Global,

@@ -12,7 +12,7 @@ use simplex_scheme::scheme::{CertificateScheme, Hasher, Sha256, Sha256Digest};
 use std::alloc::{AllocError, Global};
 use std::time::Duration;
 
-/// The rotation by a seed, if there is one.
+/// The rotation in the order that the seed determines, if there is one.
 fn rotation(alloc: Global, seed: Option<&[u8]>) -> Result<RoundRobin<Sha256>, AllocError>
     ensures seed { IfOk result (λ rotation. rotation.seed ≡ option_copied seed.entry) }
     ensures terms { IfOk result (λ rotation. rotation.terms.term_length ≡ 1) }
@@ -23,7 +23,7 @@ fn rotation(alloc: Global, seed: Option<&[u8]>) -> Result<RoundRobin<Sha256>, Al
     }
 }
 
-/// The rotation by a seed, if there is one, in terms of this many views.
+/// The same in terms of this many views.
 fn rotation_of(
     alloc: Global,
     seed: Option<&[u8]>,
@@ -33,7 +33,7 @@ fn rotation_of(
     ensures terms { IfOk result (λ rotation. rotation.terms.term_length ≡ length) }
 {
     let rotation = rotation(alloc, seed)?;
-    // How long a view may stall, and how far ahead nodes look, say nothing of who leads.
+    // The timeout and the lookahead have no part in who leads.
     let timeout = Duration::from_secs(1);
     if can_be_stable(length, timeout) {
         return Ok(rotation.with_term(length, timeout, ViewDelta::new(0)));
@@ -60,11 +60,11 @@ fn elected(
     Ok(Elector::<Marked>::elect(&elector, round, None).get())
 }
 
-/// The number of the participant who leads a view of an epoch, written to `number`: of this many
-/// participants, in their order by the seed, if there is one, and in terms of this many views. The
-/// status is [`WHOLE`]; [`ARGUMENTS`] where there is no participant or a term has no view; or
-/// [`MEMORY`], as the order of the participants takes 8 bytes of memory for each and with a seed
-/// more. Where it is not [`WHOLE`] nothing is written.
+/// Writes to `number` the participant who leads a view of an epoch: of this many participants, in the
+/// order that the seed determines, if there is one, and in terms of this many views. The status is
+/// [`WHOLE`]; [`ARGUMENTS`] where `participants` or `term_length` is 0; or [`MEMORY`] where an
+/// allocation failed: the order of the participants takes 8 bytes for each, and more with a seed.
+/// Where it is not [`WHOLE`] nothing is written.
 pub fn leader(
     alloc: Global,
     seed: Option<&[u8]>,

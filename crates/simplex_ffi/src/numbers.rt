@@ -15,25 +15,25 @@ pub const NO: u32 = 0;
 /// The answer is yes.
 pub const YES: u32 = 1;
 
-/// There is no answer: terms have no views, or what is counted from the current view is no 64-bit
-/// number.
+/// There is no answer: terms have no views, or a view counted from the current one is more than
+/// 2^64 - 1.
 pub const NONE: u32 = 2;
 
-/// How many of `n` participants may lie: the greatest f with 3f + 1 ≤ n. Of none none may.
+/// How many of `n` participants may lie: the greatest f with 3f + 1 ≤ n, and 0 where n is 0.
 pub fn max_faults(n: u32) -> u32
     ensures { result ≡ faults_of n }
 {
     if n == 0 { 0 } else { scheme::max_faults(n) }
 }
 
-/// How many of `n` participants are a quorum: all but as many as may lie. Of none none are.
+/// How many of `n` participants are a quorum: n - f, where f may lie, and 0 where n is 0.
 pub fn quorum(n: u32) -> u32
     ensures { result ≡ quorum_of n }
 {
     if n == 0 { 0 } else { scheme::quorum(n) }
 }
 
-/// The lookahead of terms of this many views, which are not none.
+/// The lookahead of terms of this many views, at least one.
 fn lookahead(term_length: u32, optimistic_views: u64) -> Lookahead
     requires { 1 ≤ term_length }
     ensures { result ≡ record { term_length = term_length; optimistic_views = optimistic_views } }

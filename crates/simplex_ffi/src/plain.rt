@@ -16,7 +16,8 @@ use simplex_scheme::scheme::Sha256Digest;
 use std::alloc::Global;
 
 /// Audits a stream under the committee of these keys, for every epoch. The status is that of
-/// [`answer`], or [`ARGUMENTS`] where they are no keys of a committee, and then nothing is written.
+/// [`answer`], or [`ARGUMENTS`] where they are not the keys of a committee, and then nothing is
+/// written.
 pub fn answer_plain(
     alloc: Global,
     namespace: &[u8],
@@ -43,7 +44,7 @@ pub fn answer_plain(
 }
 
 /// Stores the evidence of what was stored and of a batch behind it, under the committee of these
-/// keys. The status is that of [`store`], or [`ARGUMENTS`] where they are no keys of a committee,
+/// keys. The status is that of [`store`], or [`ARGUMENTS`] where they are not the keys of a committee,
 /// and then nothing is written.
 pub fn store_plain(
     alloc: Global,

@@ -103,8 +103,8 @@ pub fn records_vouched<R: Role<N>, const N: usize>(
     }
 }
 
-/// The same under the committee of these keys, for every epoch, of the plain scheme. The status is [`ARGUMENTS`] where they are
-/// no keys of a committee, and then nothing is written.
+/// As [`records_vouched`], of a stream of the plain scheme, under the committee of these keys, for every epoch. The status is
+/// [`ARGUMENTS`] where they are not the keys of a committee, and then nothing is written.
 pub fn records_plain(
     alloc: Global,
     namespace: &[u8],

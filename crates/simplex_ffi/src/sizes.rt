@@ -10,9 +10,9 @@ use simplex_detector::committees::Committees;
 use simplex_vouched::vouched::Vouched;
 use std::alloc::{AllocError, Global};
 
-/// The committees of these sizes: with no epochs the one committee for every epoch, else that of
-/// each epoch, at the same place. `None` comes where there are no such committees: a committee has
-/// a participant, and epochs rise strictly.
+/// The committees of these sizes: without epochs one committee for every epoch, of the one size; else
+/// for each epoch one of the size at the same place. `None` where there are no such committees: there
+/// are more or fewer sizes, a size is 0, or epochs do not rise strictly.
 pub fn committees<R, const N: usize>(
     alloc: Global,
     epochs: &[u64],
@@ -56,7 +56,7 @@ fn every<R, const N: usize>(
     Ok(Some(Committees::every(Vouched::new(alloc, size)?)))
 }
 
-/// Each epoch with the committee of its size. `None` comes where a size is 0.
+/// Each epoch with the committee of its size, or `None` where a size is 0.
 fn pairs<R, const N: usize>(
     alloc: Global,
     epochs: &[u64],

@@ -27,7 +27,7 @@ fn stored_after<S: Listing<D>, D: Digest>(
     Ok(bytes)
 }
 
-/// Puts the evidence of what was stored and of a batch behind it, as messages, at the front of a
+/// Puts the evidence of what was stored and of a batch behind it, as messages, at the start of a
 /// buffer. The status is [`WHOLE`], [`MEMORY`] or [`SHORT`]. Where an allocation failed nothing is
 /// written; where the buffer is too short it is as before, and the length that is needed is
 /// written.

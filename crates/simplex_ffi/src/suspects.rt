@@ -41,8 +41,8 @@ fn give<S: Counted<D>, D: Digest>(
 }
 
 /// Puts the attestations that have to be verified at the start of a buffer: those of a stream whose
-/// signatures have `N` bytes, the last of which is the caller's verdict and may yet be any, under
-/// the committees of these sizes. The status is [`WHOLE`], [`MEMORY`] or [`SHORT`], or
+/// signatures have `N` bytes, the last of which is the caller's verdict and may still be any byte,
+/// under the committees of these sizes. The status is [`WHOLE`], [`MEMORY`] or [`SHORT`], or
 /// [`ARGUMENTS`] where there are no such committees, and then nothing is written.
 pub fn suspects_vouched<R: Role<N>, const N: usize>(
     alloc: Global,

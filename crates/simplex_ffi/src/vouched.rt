@@ -17,21 +17,21 @@ use simplex_scheme::scheme::Sha256Digest;
 use simplex_vouched::vouched::Vouched;
 use std::alloc::Global;
 
-/// The role of a signature of 64 bytes, as one of Ed25519, with its verdict.
+/// The role of a signature of 64 bytes, such as one of Ed25519, with its verdict.
 pub enum Role64 {}
 
 impl Role<65> for Role64 {
     ghost sized = { (lit< tt, lit≤ tt) };
 }
 
-/// The role of a signature of 48 bytes, as one of BLS12-381 in G1, with its verdict.
+/// The role of a signature of 48 bytes, such as one of BLS12-381 in G1, with its verdict.
 pub enum Role48 {}
 
 impl Role<49> for Role48 {
     ghost sized = { (lit< tt, lit≤ tt) };
 }
 
-/// The role of a signature of 96 bytes, as one of BLS12-381 in G2, with its verdict.
+/// The role of a signature of 96 bytes, such as one of BLS12-381 in G2, with its verdict.
 pub enum Role96 {}
 
 impl Role<97> for Role96 {

@@ -22,14 +22,14 @@ held_more lines input offset offset' held start now piece held' same is far = re
 pub nothing_left : {M : Type 0} (lines : Lines M) (offset : ℕ) (held : List ℕ) (start : Option (List ℕ)) → offset ≡ 0 → held ≡ [] → IsWritten lines [] offset held start start
 nothing_left lines offset held start at none = record { messages = []; whole = sym none; each = All-nil lines.format.is_value; offset_is = at; written = Appends-nil start }
 
--- the input has the bytes before those that are held, and these
+-- the input consists of the bytes before the held ones, and of these
 pub input_length : {M : Type 0} (lines : Lines M) (input : List ℕ) (offset : ℕ) (held : List ℕ) (start now : Option (List ℕ)) → IsWritten lines input offset held start now → length input ≡ offset + length held
 input_length lines input offset held start now far =
     let len = ap length far.whole in
     let at = far.offset_is in
     omega (arith, at, len, length-append (flat_map lines.format.encoding far.messages) held)
 
--- what begins an input begins it with more behind it
+-- what was written of the first messages of an input was written of the input with more behind it
 pub begun_of_more : {M : Type 0} (lines : Lines M) (input more : List ℕ) (old new : Option (List ℕ)) → AppendsBegun lines input old new → AppendsBegun lines (input ++ more) old new
 begun_of_more lines input more old new (text, is, some) = (
   text,

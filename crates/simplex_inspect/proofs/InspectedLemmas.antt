@@ -14,7 +14,7 @@ use Rattle.simplex_audit.specs.Run.{AppendsBeginning}
 use Rattle.simplex_inspect.specs.Inspected.{Lines, lines_from, fault_text, AreShown, IsWritten, IsPartShown, IsInspected}
 use Rattle.simplex_inspect.proofs.LinesLemmas.{lines_append}
 
--- what holds whatever the error is
+-- what holds for any error
 pub if_err : {X E : Type 0} (r : Result X E) (Q : Type 0) → Q → IfErr r (λ e. Q)
 if_err (Ok x) Q q = tt
 if_err (Err e) Q q = q
@@ -76,11 +76,11 @@ module _ {M : Type 0} (lines : Lines M) (input : List ℕ) (offset : ℕ) (held 
       written = subst (Appends start w1) all_lines (Appends-trans start w0 w1 before text far.written more);
     }
 
-    -- a beginning of a text was written behind the lines so far
+    -- a prefix of a text was written behind the lines so far
     pub begun_behind : (w1 : Option (List ℕ)) (more : List ℕ) → AppendsBeginning w0 w1 more → AppendsBeginning start w1 (before ++ more)
     begun_behind w1 more (count, grown) = (length before + count, subst (Appends start w1) (sym (take-append-add before more count)) (Appends-trans start w0 w1 before (take count more) far.written grown))
 
-    -- a beginning of the further lines was written
+    -- a prefix of the further lines was written
     pub begun_more : (w1 : Option (List ℕ)) → AppendsBeginning w0 w1 text → (whole : List ℕ) × IsPartShown lines input whole × AppendsBeginning start w1 whole
     begun_more w1 some = (
       before ++ text,

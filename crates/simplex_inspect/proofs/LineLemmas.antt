@@ -3,7 +3,7 @@ use Rattle.std.proofs.Common.{◌≡◌, ℕ, suc, ◌+◌, ◌<◌, List, ◌�
 use Rattle.std.specs.Prelude.{codes}
 use Rattle.simplex_inspect.specs.Json.{each_behind}
 
--- two texts, each of which is another
+-- equal texts, joined, are equal
 pub joined_is : (a b x y : List ℕ) → a ≡ x → b ≡ y → a ++ (codes "," ++ b) ≡ x ++ (codes "," ++ y)
 joined_is a b x y p q = ap (λ (t : List ℕ). t ++ (codes "," ++ b)) p ∙ ap (λ (t : List ℕ). x ++ (codes "," ++ t)) q
 

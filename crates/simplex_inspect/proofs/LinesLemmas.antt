@@ -49,7 +49,7 @@ text_of_more {M} line encoding offset place place' len text one text' m size mov
           omega arith;
     }
 
--- how many bytes the message had that was read
+-- the length of the message that was read
 pub read_length : {M : Type 0} (format : Format M) (Recorded : List M → Type 0) (stream rest rest' : List ℕ) (read : ℕ) (m : M) →
     IsLawful format → IsBytes stream → SoFar format Recorded stream rest read → format.reading rest ≡ Ok (m, rest') →
     length rest ≡ length (format.encoding m) + length rest'

@@ -8,7 +8,7 @@ printed_alone : (text : List ℕ) → print (string text ∷ []) ≡ quoted text
 unfolding print_from
 printed_alone text = append-nil (quoted text)
 
--- what a writer gives that was given a string
+-- what a JSON writer gives after one string
 pub printed : (before : List ℕ) (old tokens : List Token) (text : List ℕ) → before ≡ [] → old ≡ [] → tokens ≡ old ++ string text ∷ [] → before ++ print tokens ≡ quoted text
 printed before old tokens text nothing none is =
     ap (λ (b : List ℕ). b ++ print tokens) nothing ∙ (ap print (is ∙ ap (λ (ts : List Token). ts ++ string text ∷ []) none) ∙ printed_alone text)

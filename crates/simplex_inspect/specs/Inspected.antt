@@ -21,12 +21,12 @@ abbrev pub bound_under : {S P : Type 0} → (S → List P) → Option (Schedule 
 bound_under keys None = 2 ^ 32 - 1
 bound_under keys (Some committees) = bound_of keys committees
 
--- How the messages of a stream are read, and the line of each: from the byte at which it begins and the number of its bytes.
+-- How the messages of a stream are read, and the line of each, given its offset and its length in bytes.
 pub record Lines (M : Type 0) : Type 1 where
   pub format : Format M
   pub line : ℕ → ℕ → M → List ℕ
 
--- how messages are read under committees or without any, and the line of what is shown by these
+-- how messages are read under committees or without any, and the line of each
 abbrev pub lines_of : {S D C P G : Type 0} → Readable ℕ (Activity S D C P G) → (S → List P) → (Option (Schedule S) → Shown S D C P G) → Option (Schedule S) → Lines (Activity S D C P G)
 lines_of message keys shown committees = record { format = format_under message (bound_under keys committees); line = line_json (shown committees) }
 
@@ -36,7 +36,7 @@ abbrev pub lines_from : {M : Type 0} → (ℕ → ℕ → M → List ℕ) → (M
 lines_from line encoding offset [] = []
 lines_from line encoding offset (m ∷ rest) = line offset (length (encoding m)) m ++ lines_from line encoding (offset + length (encoding m)) rest
 
--- the name of a refusal, and what it says of the value
+-- the name of a refusal, and for `Invalid` its subject and its reason
 abbrev pub refusal_name : Error → List ℕ
 refusal_name errors.EndOfBuffer = codes "EndOfBuffer"
 refusal_name errors.InvalidVarint = codes "InvalidVarint"
@@ -45,12 +45,12 @@ refusal_name (errors.Invalid subject reason) = codes "Invalid " ++ (subject.now 
 refusal_name errors.ExtraData = codes "ExtraData"
 refusal_name errors.OutOfMemory = codes "OutOfMemory"
 
--- the line of a fault: its offset, the refusal as a JSON string, and the first 16 of the bytes there
+-- the line of a fault: its offset, the refusal as a JSON string, and up to 16 bytes from there on
 abbrev pub fault_line : Fault → List ℕ → List ℕ
 fault_line fault rest =
     codes "{\"offset\":" ++ (decimal fault.place ++ (codes ",\"fault\":" ++ (quoted (refusal_name fault.error) ++ (codes ",\"next\":\"" ++ (encode_lower (take 16 rest) ++ codes "\"}\n")))))
 
--- the same, where there is a fault
+-- the line of a fault, if there is one
 abbrev pub fault_text : Option Fault → List ℕ → List ℕ
 fault_text None rest = []
 fault_text (Some fault) rest = fault_line fault rest
@@ -64,7 +64,7 @@ pub record IsInspected {M : Type 0} (lines : Lines M) (input : List ℕ) (fault 
   pub fault_is : IsFault lines.format.reading (length (flat_map lines.format.encoding messages)) rest fault
   pub text_is : text ≡ lines_from lines.line lines.format.encoding 0 messages ++ fault_text fault rest
 
--- The text is that of the first messages of the input.
+-- The text is the lines of the first messages of the input.
 pub record IsPartShown {M : Type 0} (lines : Lines M) (input : List ℕ) (text : List ℕ) : Type 0 where
   pub messages : List M
   pub rest : List ℕ
@@ -72,12 +72,12 @@ pub record IsPartShown {M : Type 0} (lines : Lines M) (input : List ℕ) (text :
   pub each : All lines.format.is_value messages
   pub text_is : text ≡ lines_from lines.line lines.format.encoding 0 messages
 
--- The text is that of the first messages of the input, or of all of it.
+-- The text is the lines of the first messages of the input, or the text of the whole input.
 abbrev pub IsPart : {M : Type 0} → Lines M → List ℕ → List ℕ → Type 0
 IsPart lines input text = IsPartShown lines input text ⊎ ((fault : Option Fault) × IsInspected lines input fault text)
 
--- The bytes that are held are what is left of the input behind its first messages, the offset is that of the first of them,
--- and the lines of those messages were written.
+-- `held` is what is left of the input behind its first messages, `offset` is where it begins, and the lines of these messages
+-- were written.
 pub record IsWritten {M : Type 0} (lines : Lines M) (input : List ℕ) (offset : ℕ) (held : List ℕ) (old new : Option (List ℕ)) : Type 0 where
   pub messages : List M
   pub whole : input ≡ flat_map lines.format.encoding messages ++ held
@@ -85,8 +85,8 @@ pub record IsWritten {M : Type 0} (lines : Lines M) (input : List ℕ) (offset :
   pub offset_is : offset ≡ length (flat_map lines.format.encoding messages)
   pub written : Appends old new (lines_from lines.line lines.format.encoding 0 messages)
 
--- Some messages begin the bytes, the offset is that behind them, no message begins what is left, for which the stop is the
--- reason, and the text has grown by their lines.
+-- The bytes are messages and then `rest`, where no message begins and `stop` says why; `behind` is the offset of `rest`, and
+-- the text is the lines of these messages.
 pub record AreShown {M : Type 0} (lines : Lines M) (bytes rest : List ℕ) (offset behind : ℕ) (stop : Option Error) (text : List ℕ) : Type 0 where
   pub messages : List M
   pub are_messages : AreMessages lines.format bytes messages rest
@@ -98,11 +98,11 @@ pub record AreShown {M : Type 0} (lines : Lines M) (bytes rest : List ℕ) (offs
 abbrev pub AppendsText : {M : Type 0} → Lines M → List ℕ → Option Fault → Option (List ℕ) → Option (List ℕ) → Type 0
 AppendsText lines input fault old new = (text : List ℕ) × IsInspected lines input fault text × Appends old new text
 
--- a beginning of the lines of the first messages of the input was written
+-- a prefix of the lines of the first messages of the input was written
 abbrev pub AppendsBegun : {M : Type 0} → Lines M → List ℕ → Option (List ℕ) → Option (List ℕ) → Type 0
 AppendsBegun lines input old new = (text : List ℕ) × IsPartShown lines input text × AppendsBeginning old new text
 
--- the same, or a beginning of the text of the whole input was
+-- a prefix of these lines, or of the text of the whole input, was written
 abbrev pub AppendsPart : {M : Type 0} → Lines M → List ℕ → Option (List ℕ) → Option (List ℕ) → Type 0
 AppendsPart lines input old new = (text : List ℕ) × IsPart lines input text × AppendsBeginning old new text
 

@@ -14,7 +14,7 @@ abbrev pub listed_texts : List (List ℕ) → List ℕ
 listed_texts [] = []
 listed_texts (text ∷ rest) = text ++ each_behind rest
 
--- the fields that say what is valid; there are none where nobody judges
+-- the fields of a validity; there are none without committees
 abbrev pub validity_json : Option Validity → List ℕ
 validity_json None = []
 validity_json (Some Valid) = codes ",\"valid\":true"
@@ -34,7 +34,7 @@ abbrev pub proposal_json : List ℕ → ℕ → List ℕ → List ℕ
 proposal_json vote parent payload =
     codes "{\"vote\":\"" ++ (vote ++ (codes "\",\"parent\":" ++ (decimal parent ++ (codes ",\"payload\":\"" ++ (encode_lower payload ++ codes "\",\"signatures\":[")))))
 
--- the fields in front of a message's statements: where it begins, how many bytes it has, its kind and its round
+-- the fields before a message's statements: its offset, its length in bytes, its kind and its round
 abbrev pub head_json : ℕ → ℕ → List ℕ → ℕ → ℕ → List ℕ
 head_json offset len kind epoch view =
     codes "{\"offset\":" ++ (decimal offset ++ (codes ",\"length\":" ++ (decimal len ++ (codes ",\"kind\":\"" ++ (kind ++ (codes "\",\"epoch\":" ++ (decimal epoch ++ (codes ",\"view\":" ++ (decimal view ++ codes ",\"statements\":[")))))))))

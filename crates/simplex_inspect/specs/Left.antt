@@ -1,4 +1,4 @@
--- What is left of a stream when the lines of its first messages are written.
+-- What is left of a stream when the lines of its first messages were written.
 use Rattle.std.specs.Prelude.{ℕ, ◌+◌, List, Option, vec_len}
 use Rattle.simplex_inspect.specs.Inspected.{Lines, IsWritten}
 use Rattle.simplex_inspect.specs.declared.left.Left.{Left}

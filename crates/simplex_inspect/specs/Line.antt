@@ -9,7 +9,7 @@ use Rattle.simplex_votes.specs.Votes.{vote_on}
 use Rattle.simplex_inspect.specs.Json.{listed_texts, validity_json, signature_json, proposal_json, nullify_json, head_json}
 use Rattle.simplex_inspect.specs.Shown.{Shown, signature_validity, certificate_validity}
 
--- the fields of a subject, up to the signatures of it
+-- the fields of a subject, up to its signatures
 abbrev pub subject_json : {D : Type 0} → (D → List ℕ) → SubjectValue D → List ℕ
 subject_json bytes_of (Notarizes p) = proposal_json (codes "notarize") p.parent (bytes_of p.payload)
 subject_json bytes_of (Nullifies r) = nullify_json
@@ -59,7 +59,7 @@ message_word (activity.ConflictingNotarize c) = codes "conflicting-notarize"
 message_word (activity.ConflictingFinalize c) = codes "conflicting-finalize"
 message_word (activity.NullifyFinalize c) = codes "nullify-finalize"
 
--- the line of a message of some bytes that begins at an offset, with the line's end
+-- the line of a message with this offset and length in bytes, with its newline
 abbrev pub line_json : {S D C P G : Type 0} → Shown S D C P G → ℕ → ℕ → Activity S D C P G → List ℕ
 line_json shown offset len m =
     head_json offset len (message_word m) (activity_round m).epoch (activity_round m).view ++ (statements_json shown m ++ codes "]}\n")

@@ -1,4 +1,4 @@
--- What messages are shown by, and the validity of what they hold.
+-- How messages are shown, and the validity of their signatures and certificates.
 use Rattle.std.specs.Prelude.{ℕ, Bool, List, length, Option, option_map}
 use Rattle.simplex_scheme.specs.Committee.{quorum_of}
 use Rattle.simplex_scheme.specs.Subject.{SubjectValue, round_of}
@@ -9,15 +9,15 @@ use Rattle.simplex_detector.specs.Rules.{Rules, is_valid}
 use Rattle.simplex_inspect.specs.Validity.{validity_of_signature, validity_of_certificate}
 use Rattle.simplex_inspect.specs.declared.validity.Validity.{Validity}
 
--- What messages are shown by: the rules by which an audit judges them, where committees are given, what a certificate
--- lists, and the bytes of payloads and of signatures.
+-- How messages are shown: the rules by which an audit judges them, where committees are given, what a certificate lists,
+-- and the bytes of payloads and of signatures.
 pub record Shown (S D C P G : Type 0) : Type 0 where
   pub rules : Option (Rules S D C P G)
   pub listed : C → List (Attestation S P G)
   pub payload_bytes : D → List ℕ
   pub signature_bytes : G → List ℕ
 
--- what messages are shown by under committees, or without any
+-- how messages are shown under committees, or without any
 abbrev pub shown_of : {S D C P G : Type 0} → (D → List ℕ) → (G → List ℕ) → (D → D → Bool) → (S → List P) → (S → SubjectValue D → ℕ → G → Bool) → (S → SubjectValue D → C → Bool) → (C → List (Attestation S P G)) → Option (Schedule S) → Shown S D C P G
 shown_of payload_bytes signature_bytes eq keys good certified listed committees = record {
   rules = option_map (rules_of eq keys good certified listed) committees;

@@ -1,4 +1,4 @@
-//! What messages are read and shown by, for contracts alone.
+//! How messages are read and shown, for contracts alone.
 
 ghost use Rattle.std.specs.Prelude.{Option};
 ghost use Rattle.simplex_evidence.specs.declared.types.activity.Activity.{Activity};
@@ -13,7 +13,7 @@ use simplex_scheme::scheme::{Digest, Listing};
 /// A scheme whose messages can be shown. Every scheme that lists attestations is one; there is nothing to implement or to
 /// call.
 pub trait Inspected<D: Digest>: Listing<D> {
-    /// What messages are shown by, under committees or without any.
+    /// How messages are shown, under committees or without any.
     ghost shown: { Option (Schedule Self) →
         Shown Self D Self.Certificate Self.PublicKey Self.Signature };
 

@@ -10,10 +10,10 @@ use simplex_base::codec::Error;
 use std::alloc::{AllocError, Global};
 use std::str;
 
-/// How many bytes behind a fault are shown.
+/// At most this many bytes are shown from a fault on.
 const SHOWN: usize = 16;
 
-/// The name of a refusal, and what it says of the value.
+/// The name of a refusal, and for `Invalid` its subject and its reason.
 fn refusal_name(alloc: Global, error: &Error) -> Result<String, AllocError>
     ensures { IfOk result (λ text. string_bytes text ≡ refusal_name error.now) }
 {
@@ -40,7 +40,7 @@ fn quoted(alloc: Global, text: &str) -> Result<String, AllocError>
     }
 }
 
-/// The first bytes of some, as many as are shown.
+/// The first bytes, as many as are shown.
 fn first_bytes(rest: &[u8]) -> &[u8]
     ensures { result.now ≡ take 16 rest.now }
 {
@@ -51,8 +51,7 @@ fn first_bytes(rest: &[u8]) -> &[u8]
     }
 }
 
-/// The line of a fault, with its end: the byte at which it is, the refusal as a JSON string, and the first 16 of the bytes
-/// there.
+/// The line of a fault, with its newline: its 0-based offset, the refusal as a JSON string, and up to 16 bytes from there on.
 pub fn fault_line(alloc: Global, fault: &Fault, rest: &[u8]) -> Result<String, AllocError>
     ensures { IfOk result (λ text. string_bytes text ≡ fault_line fault.now rest.now) }
 {

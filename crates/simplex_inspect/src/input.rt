@@ -19,10 +19,10 @@ use std::io::{Read, Write};
 /// The number of bytes that a read asks for.
 const PIECE: usize = 65536;
 
-/// Fewer bytes than this are looked through after each read.
+/// Fewer held bytes than this are looked through after each read.
 const FEW: usize = 4096;
 
-/// Nothing of a stream, whose first byte comes next.
+/// What is held before the first byte of a stream.
 fn nothing(alloc: Global) -> Left
     ensures offset { result.offset ≡ 0 }
     ensures held { result.held.items ≡ [] }
@@ -49,7 +49,7 @@ fn drop_front(bytes: &mut Vec<u8>, count: usize)
     bytes.drain(..count);
 }
 
-/// Reads once. Returns how many bytes came; none came only at the end.
+/// Reads once. Returns how many bytes were read, 0 only at the end.
 fn read_some<R: Read>(reader: &mut Watched<R>, piece: &mut [u8]) -> Result<usize, RunError>
     requires well { has_failed reader.old ≡ false }
     requires room { 0 < length piece.old }
@@ -69,7 +69,7 @@ fn read_some<R: Read>(reader: &mut Watched<R>, piece: &mut [u8]) -> Result<usize
     }
 }
 
-/// Holds a piece behind what is left. `TooLong` comes where they are more bytes than are counted.
+/// Appends a piece to what is left. `TooLong` where the stream then has more than 2^64 - 1 bytes.
 fn hold(left: Left, piece: &[u8]) -> Result<Left, RunError>
     ensures offset { IfOk result (λ next. next.offset ≡ left.offset) }
     ensures held { IfOk result (λ next. next.held.items ≡ left.held.items ++ piece.now) }
@@ -93,7 +93,7 @@ fn hold(left: Left, piece: &[u8]) -> Result<Left, RunError>
     })
 }
 
-/// Writes the lines of the messages that begin what is left, and drops these.
+/// Writes the lines of the messages at the start of what is left, and drops the bytes of these messages.
 fn advance<S: Listing<D>, D: Digest, W: Write>(
     alloc: Global,
     committees: &Option<Committees<S>>,
@@ -137,8 +137,8 @@ fn advance<S: Listing<D>, D: Digest, W: Write>(
     })
 }
 
-/// Takes a piece behind what is left. It may put off looking for messages until it holds twice as many bytes as when it last
-/// did, so that the bytes of a long message are looked at a bounded number of times.
+/// Appends a piece to what is left. From 4,096 held bytes on it may put off looking for messages until it holds twice as many
+/// bytes as after the last look, so that the bytes of a long message are on average looked at a bounded number of times.
 fn take_piece<S: Listing<D>, D: Digest, W: Write>(
     alloc: Global,
     committees: &Option<Committees<S>>,
@@ -174,13 +174,13 @@ fn take_piece<S: Listing<D>, D: Digest, W: Write>(
 /// Writes the lines of all that a reader gives: one for each message of the stream, in order, as soon as the message is read,
 /// and one for its fault, if there is one. Returns the fault. The messages and the fault are those of an audit of the stream.
 ///
-/// The input is read in pieces of up to 65,536 bytes, each written and flushed before the next is read. Nothing is held but the
-/// bytes behind the last whole message, which are all that comes behind a fault. Of a message of more than 4,096 bytes that
-/// comes in several pieces the line may come a piece later, when twice as many bytes are held as at the last look.
+/// The input is read in pieces of up to 65,536 bytes, and lines are written and flushed before the next piece is read. Nothing
+/// is held but the bytes behind the last whole message, after a fault all that follow. From 4,096 held bytes on lines may come
+/// later: once twice as many bytes are held as after the last look for messages, or at the end of the input.
 ///
-/// `Read` comes from the reader alone and `Write` from the writer alone; an interrupted call counts as failed. `OutOfMemory`
-/// comes where an allocation failed, and `TooLong` where the reader gave more than 2^64 - 1 bytes. After each of them a
-/// beginning of the text was written.
+/// `Read` exactly where a read failed, `Write` exactly where a write or a flush failed; an interrupted call counts as failed.
+/// `OutOfMemory` where an allocation failed, and `TooLong` where the reader gave more than 2^64 - 1 bytes. After each of them
+/// a prefix of the text was written, perhaps empty or the whole.
 pub fn inspect_input<S: Listing<D>, D: Digest, R: Read, W: Write>(
     alloc: Global,
     committees: &Option<Committees<S>>,
@@ -196,7 +196,7 @@ pub fn inspect_input<S: Listing<D>, D: Digest, R: Read, W: Write>(
         (W.contents (inner_of writer.old)) (W.contents (inner_of writer.new))) }
     ensures end { OnOk result (IsAtEnd (R.remaining (inner_of reader.new))) }
     ensures flushed { OnOk result (IsTrue (is_flushed writer.new)) }
-    // After an error a beginning of the text of the input was.
+    // After an error a prefix of the text of the input was written.
     ensures begun { IfErr result (λ e. (input : List ℕ)
         × IsInput (R.remaining (inner_of reader.old)) input
         × AppendsPart (⟦<S as Inspected<D>>⟧.lines committees.now) input

@@ -62,8 +62,8 @@ fn fault_text(alloc: Global, fault: &Option<Fault>, rest: &[u8]) -> Result<Strin
     }
 }
 
-/// Writes the lines of the messages that begin the held bytes, behind which no bytes come, and that of the fault, if there
-/// is one. Returns the fault.
+/// Writes the lines of the messages in the last bytes of a stream, and that of the fault, if there is one. Returns the
+/// fault.
 pub(crate) fn finish<S: Listing<D>, D: Digest, W: Write>(
     alloc: Global,
     committees: &Option<Committees<S>>,
@@ -100,8 +100,8 @@ pub(crate) fn finish<S: Listing<D>, D: Digest, W: Write>(
 }
 
 /// Writes the lines of a whole stream: one for each of its messages, in order, and one for its fault, if there is one.
-/// Returns the fault. The messages and the fault are those of an audit of the stream. After `Write`, which comes from the
-/// writer alone, a beginning of the text was written, and after `OutOfMemory`, where an allocation failed, nothing.
+/// Returns the fault. The messages and the fault are those of an audit of the stream. `Write` exactly where a write or a
+/// flush failed: then a prefix of the text was written. `OutOfMemory` where an allocation failed: then nothing was.
 pub fn inspect<S: Listing<D>, D: Digest, W: Write>(
     alloc: Global,
     committees: &Option<Committees<S>>,
@@ -114,7 +114,7 @@ pub fn inspect<S: Listing<D>, D: Digest, W: Write>(
         AppendsText (⟦<S as Inspected<D>>⟧.lines committees.now) stream.now fault
         (W.contents (inner_of writer.old)) (W.contents (inner_of writer.new))) }
     ensures flushed { OnOk result (IsTrue (is_flushed writer.new)) }
-    // After an error a beginning of the text was.
+    // After an error a prefix of the text was written.
     ensures begun { IfErr result (λ e.
         AppendsPart (⟦<S as Inspected<D>>⟧.lines committees.now) stream.now
         (W.contents (inner_of writer.old)) (W.contents (inner_of writer.new))) }

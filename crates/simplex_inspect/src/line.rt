@@ -33,7 +33,7 @@ fn size_of<S: CertificateScheme>(committee: Option<&S>) -> u32
     }
 }
 
-/// The quorum of this many participants, 0 of none.
+/// The quorum of this many participants, 0 if there are none.
 fn quorum_among(size: u32) -> usize
     ensures { result ≡ quorum_of size }
 {
@@ -43,7 +43,7 @@ fn quorum_among(size: u32) -> usize
     quorum(size) as usize
 }
 
-/// Whether a signature is valid by a committee. Without one none is.
+/// Whether a signature is valid under a committee. Without a committee none is.
 fn is_valid<S: Scheme<D>, D: Digest>(
     committee: Option<&S>,
     subject: &Subject<'_, D>,
@@ -58,7 +58,7 @@ fn is_valid<S: Scheme<D>, D: Digest>(
     }
 }
 
-/// Whether a certificate is one of a committee. Without one none is.
+/// Whether a certificate certifies a subject under a committee. Without a committee none does.
 fn is_certified<S: Listing<D>, D: Digest>(
     committee: Option<&S>,
     subject: &Subject<'_, D>,
@@ -113,7 +113,7 @@ fn certificate_validity<S: Listing<D>, D: Digest>(
     Some(validity_of_certificate(valid, size as usize, quorum_among(size), count))
 }
 
-/// The fields of a subject, up to the signatures of it.
+/// The fields of a subject, up to its signatures.
 fn subject_json<D: Digest>(alloc: Global, subject: &Subject<'_, D>) -> Result<String, AllocError>
     ensures { IfOk result (λ text.
         string_bytes text ≡ subject_json D.bytes_of (subject_value subject.now)) }
@@ -276,7 +276,7 @@ fn both(alloc: Global, first: &str, second: &str) -> Result<String, AllocError>
     format!(in alloc; "{first},{second}")
 }
 
-/// The certificate of a message that certifies a proposal to be notarized.
+/// The certificate of a notarization or a certification.
 fn notarization_json<S: Listing<D>, D: Digest>(
     alloc: Global,
     committees: &Option<Committees<S>>,
@@ -355,8 +355,8 @@ fn message_word<S: CertificateScheme, D: Digest>(message: &Activity<S, D>) -> &'
     }
 }
 
-/// The line of a message, with its end: the byte at which it begins, the number of its bytes, its kind, its round, and its
-/// statements. Without committees nothing is said of what is valid.
+/// The line of a message, with its newline: its 0-based offset in the stream, its length in bytes, its kind, its round, and
+/// its statements. Without committees it has no validities.
 pub fn line<S: Listing<D>, D: Digest>(
     alloc: Global,
     committees: &Option<Committees<S>>,

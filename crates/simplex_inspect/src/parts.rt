@@ -6,7 +6,7 @@ ghost use Rattle.simplex_inspect.specs.Json.{validity_json, signature_json, prop
 use crate::validity::Validity;
 use std::alloc::{AllocError, Global};
 
-/// The fields that say what is valid, each behind a comma; none where nobody judges.
+/// The fields of a validity, each behind a comma; none without committees.
 pub fn validity_json(validity: Option<Validity>) -> &'static str
     ensures { result.now ≡ validity_json validity }
 {
@@ -57,8 +57,8 @@ pub fn proposal_json(
     )
 }
 
-/// The fields in front of a message's statements: the byte at which it begins, how many bytes it has, its kind, and the
-/// epoch and the view of its round.
+/// The fields before a message's statements: its 0-based offset, its length in bytes, its kind, and the epoch and the view
+/// of its round.
 pub fn head_json(
     alloc: Global,
     offset: usize,

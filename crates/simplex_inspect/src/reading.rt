@@ -18,9 +18,9 @@ pub struct ReadLines<'a> {
     pub text: String,
     /// The offset of the bytes after the last message.
     pub offset: usize,
-    /// These bytes.
+    /// The bytes after the last message.
     pub rest: &'a [u8],
-    /// What reading a message there returns, if anything is left.
+    /// The error of reading a message there, if anything is left.
     pub stop: Option<Error>,
 }
 
@@ -35,7 +35,7 @@ fn reading_bound<S: CertificateScheme>(committees: &Option<Committees<S>>) -> u3
     }
 }
 
-/// The error of a reading that failed, where it is no allocation failure.
+/// The error of a reading that failed, unless an allocation failed.
 fn refusal(error: Error) -> Result<Error, AllocError>
     ensures { IfOk result (λ e. (e ≡ error) × (e ≢ Error.OutOfMemory)) }
 {
@@ -45,7 +45,7 @@ fn refusal(error: Error) -> Result<Error, AllocError>
     }
 }
 
-/// Reads the messages that begin some bytes, as many as there are, and makes the line of each. The offset is that of the
+/// Reads the messages at the start of some bytes, as many as there are, and makes the line of each. `offset` is that of the
 /// first byte.
 pub fn read_lines<'a, S: Listing<D>, D: Digest>(
     alloc: Global,

@@ -1,4 +1,4 @@
-//! What is said of a signature and of a certificate.
+//! The validity of a signature and of a certificate.
 
 ghost use Rattle.std.specs.Prelude.{◌≡◌, refl};
 ghost use Rattle.simplex_inspect.specs.Validity.{validity_of_signature, validity_of_certificate};
@@ -14,7 +14,7 @@ pub enum Validity {
     NoCommittee,
     /// Of a signature: its signer is no participant of the epoch's committee.
     OutsideSigner,
-    /// Of a signature: it is not one of its signer for what is signed.
+    /// Of a signature: its signer is a participant, and it does not verify.
     WrongSignature,
     /// Of a certificate: it lists fewer attestations than a quorum.
     TooFew,
@@ -42,7 +42,7 @@ impl EqByParts for Validity {
     ] };
 }
 
-/// The validity of a signature, by whether it is valid, how many participants the epoch's committee has (0 where there is
+/// The validity of a signature, from whether it is valid, how many participants the epoch's committee has (0 where there is
 /// none), and the number of its signer.
 pub(crate) fn validity_of_signature(valid: bool, size: usize, signer: u32) -> Validity
     ensures { result ≡ validity_of_signature valid size signer }
@@ -58,8 +58,8 @@ pub(crate) fn validity_of_signature(valid: bool, size: usize, signer: u32) -> Va
     }
 }
 
-/// The validity of a certificate, by whether it is valid, how many participants the epoch's committee has (0 where there is
-/// none), how many of them are a quorum, and how many attestations it lists.
+/// The validity of a certificate, from whether it is valid, how many participants the epoch's committee has (0 where there
+/// is none), how many of them are a quorum, and how many attestations it lists.
 pub(crate) fn validity_of_certificate(
     valid: bool,
     size: usize,

@@ -13,7 +13,7 @@ use Rattle.simplex_votes.specs.declared.types.notarize.Notarize.{Notarize}
 use Rattle.simplex_evidence.specs.VoteMap.{IsBySigner, AreParticipants}
 use Rattle.simplex_node.specs.Batch.{AreForProposal, signer_of}
 
--- two proposals that all of some votes are for are the same
+-- all of some votes are for at most one proposal
 pub one_proposal : {S D P G : Type 0} (votes : List (Notarize S D P G)) (p q : Proposal D) → 1 ≤ length votes → All (λ v. v.proposal ≡ p) votes → All (λ v. v.proposal ≡ q) votes → p ≡ q
 one_proposal [] p q some one other = absurd (omega arith)
 one_proposal (v ∷ vs) p q some one other = sym (All-head (λ w. w.proposal ≡ p) v vs one) ∙ All-head (λ w. w.proposal ≡ q) v vs other

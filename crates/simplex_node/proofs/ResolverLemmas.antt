@@ -9,7 +9,7 @@ pub one_more : {X : Type 0} (p : X → Bool) (xs : List X) (i : ℕ) (e : Bool) 
 one_more p xs i e d lt so =
     filter_more p xs i d lt ∙ ap (λ b. filter p (take i xs) ++ cond b (get_or xs i d ∷ []) []) (sym (get_or-map p xs i d e lt) ∙ so)
 
--- it does not
+-- the item at the place does not pass
 pub none_more : {X : Type 0} (p : X → Bool) (xs : List X) (i : ℕ) (e : Bool) → i < length xs → get_or (map p xs) i e ≡ false → filter p (take (i + 1) xs) ≡ filter p (take i xs)
 none_more p [] i e lt so = absurd (omega arith)
 none_more p (x ∷ xs) i e lt so =

@@ -7,7 +7,7 @@ use Rattle.simplex_votes.specs.Votes.{same_proposal}
 use Rattle.simplex_votes.specs.declared.types.notarize.Notarize.{Notarize}
 use Rattle.simplex_evidence.specs.VoteMap.{IsFirsts, signers_among}
 
--- who verifies, which proposal the votes are for, and the votes that are recorded. S, P and G are the types of the
+-- the scheme that verifies, the proposal that the votes are for, and the recorded votes. S, P and G are the types of the
 -- scheme, its keys and its signatures, D that of payloads
 pub record Batch (S D P G : Type 0) : Type 0 where
   pub scheme : S
@@ -34,10 +34,10 @@ module _ {S D P G : Type 0} (eq : D → D → Bool) (keys : S → List P) (good 
   abbrev pub HasTaken : Batch S D P G → List (Notarize S D P G) → Type 0
   HasTaken batch came = IsFirsts signer_of (length (keys batch.scheme)) (filter (is_wanted batch) came) batch.votes
 
-  -- how many participants signed wanted ones
+  -- how many participants signed wanted votes
   abbrev pub signers_in : Batch S D P G → List (Notarize S D P G) → ℕ
   signers_in batch came = signers_among signer_of (length (keys batch.scheme)) (filter (is_wanted batch) came)
 
-  -- they are a quorum
+  -- the participants that signed wanted votes are a quorum
   abbrev pub HasQuorum : Batch S D P G → List (Notarize S D P G) → Type 0
   HasQuorum batch came = quorum_of (length (keys batch.scheme)) ≤ signers_in batch came

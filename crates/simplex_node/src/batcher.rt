@@ -37,7 +37,7 @@ impl<'a, S: Scheme<D>, D: Digest> Model for Batcher<'a, S, D> {
 }
 
 impl<'a, S: Scheme<D>, D: Digest> Batcher<'a, S, D> {
-    /// No votes yet for this proposal.
+    /// A batcher for this proposal, without votes.
     pub fn new(alloc: Global, scheme: &'a S, proposal: Proposal<D>) -> Self
         ensures value { result ≡ record { scheme = scheme.now; proposal = proposal; votes = [] } }
         ensures taken { HasTaken D.eq S.keys S.good result [] }
@@ -51,9 +51,9 @@ impl<'a, S: Scheme<D>, D: Digest> Batcher<'a, S, D> {
     }
 
     /// Takes a vote of any signer for any proposal. It is recorded if it is valid, for the proposal, and its signer's
-    /// first such vote; so an invalid vote never takes the place of a valid one. Returns a notarization, assembled
-    /// from all recorded votes, once a quorum of participants has signed such votes, and `None` before. After an
-    /// error the vote may have been recorded or not.
+    /// first such vote; so an invalid vote never takes the place of a valid one. Returns `None` until a quorum of
+    /// participants has signed such votes; from then on every call assembles a notarization from all recorded votes.
+    /// After an error the vote may have been recorded or not.
     pub fn take(
         &mut self,
         alloc: Global,
@@ -120,7 +120,7 @@ impl<'a, S: Scheme<D>, D: Digest> Batcher<'a, S, D> {
         self.votes.len()
     }
 
-    /// The notarization of all votes that are recorded, if they are a quorum.
+    /// The notarization of all recorded votes, if they are a quorum.
     pub fn notarization(&self, alloc: Global) -> Result<Option<Notarization<S, D>>, AllocError>
         ensures certifies { IfOk result (λ answer.
             IfSome answer (λ n. (n.proposal ≡ self.now.proposal) ×

@@ -1,4 +1,4 @@
-//! What a node does with messages, each caller proved from the contracts of what it calls.
+//! What a node does with messages, each function proved from the contracts of what it calls.
 //!
 //! [`resolver`] selects the certificates that certify their subjects, [`batcher`] collects votes until a quorum makes
 //! a notarization, and [`voter`] returns which votes a node takes and casts, and who leads. No library rests

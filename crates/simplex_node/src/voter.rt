@@ -19,7 +19,7 @@ pub fn takes(viewport: &Viewport, view: View) -> bool
         (IsRetained viewport.now.finalized viewport.now.view_retention view ×
         IsAdmitted viewport.now.lookahead.term_length viewport.now.lookahead.optimistic_views
         viewport.now.current view) }
-    // Of the views later than its own it takes votes of this many at most, no matter how many are sent.
+    // It takes votes of at most this many views later than its own, no matter how many are sent.
     ensures held { NumberExactly
         (λ q. (viewport.now.current < q) ×
         IsAdmitted viewport.now.lookahead.term_length viewport.now.lookahead.optimistic_views
@@ -30,8 +30,8 @@ pub fn takes(viewport: &Viewport, view: View) -> bool
     viewport.lookahead.admits(viewport.current, view) && viewport.retains(view)
 }
 
-/// Whether a node that has certified view `certified` casts votes of the view: it is then in the view after that one,
-/// and the view is in reach of it.
+/// Whether a node that has certified view `certified` casts votes of view `view`: it is then in view `certified + 1`,
+/// and `view` is in reach.
 pub fn casts(lookahead: &Lookahead, certified: View, view: View) -> bool
     requires { certified + 1 < 2 ^ 64 }
     ensures { IsTrue result ↔
@@ -40,9 +40,9 @@ pub fn casts(lookahead: &Lookahead, certified: View, view: View) -> bool
     lookahead.reaches(certified.saturating_add(ViewDelta::new(1)), view)
 }
 
-/// Whether a vote of a view is heard, by a node with this viewport, from a node with the same lookahead that has
-/// certified view `certified`: it is not cast or it is taken. It is heard wherever that view is in reach of this node's
-/// own, and of its term, and this node retains what is voted on.
+/// Whether a node with this viewport hears a vote of view `view` from a node with the same lookahead that has certified
+/// view `certified`: the vote is not cast or it is taken. It is heard wherever `certified` is in reach of this node's
+/// view and not behind its term, unless terms have one view, and this node retains `view`.
 pub fn is_heard(viewport: &Viewport, certified: View, view: View) -> bool
     requires current { FitsWindow viewport.now.lookahead.term_length viewport.now.current }
     requires certified { certified + 1 < 2 ^ 64 }

@@ -29,7 +29,7 @@ module _ {S D C P G : Type 0} (eq : D → D → Bool) (payload : Format D) (cert
   abbrev pub bytes_of : Attestation S P G → List ℕ
   bytes_of a = (attestation_format signature).encoding a
 
-  -- it is such a vote, as it stands in the stream
+  -- `s` is such a vote, as it stands in the stream
   abbrev pub IsCast : Suspect → Type 0
   IsCast s = (v : SignedVote D G) × Cast v × IsVoteAt payload signature stream v s
 
@@ -120,7 +120,7 @@ module _ {S D C P G : Type 0} (eq : D → D → Bool) (payload : Format D) (cert
       (vote_stands front (second ++ tail) place x a at here cast)
       (vote_stands (front ++ first) tail (place + length first) y b next (here ∙ sym (append_assoc front first (second ++ tail))) others)
 
-  -- the same of evidence, all of whose votes are such
+  -- the two votes of an evidence, behind its tag
   both_stand : (front tail : List ℕ) (place : ℕ) (x : SubjectValue D) (a : Attestation S P G) (y : SubjectValue D) (b : Attestation S P G) → place + 1 ≡ length front →
       stream ≡ front ++ (((message_of payload x ++ bytes_of a) ++ (message_of payload y ++ bytes_of b)) ++ tail) →
       ((v : SignedVote D G) → Contains (vote_on x a ∷ vote_on y b ∷ []) v → Cast v) → All IsPlaced (pair_places payload signature (place + 1) x a y b)
@@ -148,7 +148,7 @@ module _ {S D C P G : Type 0} (eq : D → D → Bool) (payload : Format D) (cert
   abbrev pub bytes_in : Activity S D C P G → List ℕ
   bytes_in m = activity_encoding eq payload certificate signature m
 
-  -- what stands behind the tag of a message
+  -- the attestations behind the tag of a message
   body_stands : (front tail : List ℕ) (place : ℕ) (m : Activity S D C P G) → place + 1 ≡ length front →
       stream ≡ front ++ (activity_body eq payload certificate signature m ++ tail) →
       ((v : SignedVote D G) → Contains (votes_in listed m) v → Cast v) → All IsPlaced (message_places payload signature listed place m)
@@ -186,7 +186,7 @@ module _ {S D C P G : Type 0} (eq : D → D → Bool) (payload : Format D) (cert
       (body_stands (front ++ tag) others place m inside (here ∙ sym (append_assoc front tag (body ++ others))) (λ v c. cast v (Contains-append_left votes further v c)))
       (along_stands (front ++ bytes_in m) tail (place + length (bytes_in m)) ms next (here ∙ sym (append_assoc front (bytes_in m) others)) (λ v c. cast v (Contains-append_right votes further v c)))
 
-  -- those of them that are sought
+  -- the attestations that are sought
   pub sought_stand : (suspected : Suspected) (size : ℕ → ℕ) (ms : List (Activity S D C P G)) (tail : List ℕ) → stream ≡ flat_map bytes_in ms ++ tail →
       ((v : SignedVote D G) → Contains (flat_map (votes_in listed) ms) v → Cast v) →
       All IsCast (sought_of suspected size (places_along (message_places payload signature listed) bytes_in 0 ms))

@@ -1,4 +1,4 @@
--- Where the first message stands that passes a test, and what was found of keys that are sought.
+-- The place of the first message that passes a test, and what was found of sought keys.
 use Rattle.std.proofs.Common.{◌≡◌, ℕ, ◌+◌, ◌-◌, ◌||◌, Bool, true, false, Option, Some, None, List, [], ◌∷◌, ◌++◌, length, BTreeMap, Ordering, true≢false, refl, sym, ap, ◌∙◌, arith, append-nil, length-append}
 use Rattle.std.specs.Prelude.{Contains, filter}
 use Rattle.std.specs.BTreeMap.{get}
@@ -15,19 +15,19 @@ use Rattle.simplex_places.specs.Records.{IsFirstPlace}
 
 -- ---- what was found of a key
 
--- twice, one after the other
+-- found twice, one after the other
 found_twice : (known : Option (Option ℕ)) (a b : Option ℕ) → or_found (or_found known a) b ≡ or_found known (option_or a b)
 found_twice None a b = refl
 found_twice (Some None) a b = refl
 found_twice (Some (Some place)) a b = refl
 
--- nothing more
+-- nothing more is found
 found_nothing : (known : Option (Option ℕ)) → or_found known None ≡ known
 found_nothing None = refl
 found_nothing (Some None) = refl
 found_nothing (Some (Some place)) = refl
 
--- at one place, where one of two tests passes
+-- found at one place, where one of two tests passes
 one_place : (place : ℕ) (a b : Bool) → option_or (place_if place a) (place_if place b) ≡ place_if place (a || b)
 one_place place true b = refl
 one_place place false b = refl
@@ -69,7 +69,7 @@ or_none : (a : Option ℕ) → option_or a None ≡ a
 or_none None = refl
 or_none (Some x) = refl
 
--- among messages and further ones
+-- the first place among messages and further ones
 first_append : {M : Type 0} (test : M → Bool) (encoding : M → List ℕ) (place : ℕ) (ms ks : List M) →
     first_place test encoding place (ms ++ ks) ≡ option_or (first_place test encoding place ms) (first_place test encoding (place + length (flat_map encoding ms)) ks)
 first_append test encoding place [] ks = ap (λ (n : ℕ). first_place test encoding n ks) (omega arith)
@@ -173,7 +173,7 @@ any_flat : {A B : Type 0} (p : B → Bool) (f : A → List B) (xs : List A) → 
 any_flat p f [] = refl
 any_flat p f (x ∷ xs) = list_any-append p (f x) (flat_map f xs) ∙ ap (λ (b : Bool). list_any p (f x) || b) (any_flat p f xs)
 
--- an item that was kept of some list, and passes the test
+-- an item of some list that a filter passes, and that passes the test
 pub any_kept : {A B : Type 0} (p keep : B → Bool) (f : A → List B) (xs : List A) (y : B) → Contains (filter keep (flat_map f xs)) y → p y ≡ true → list_any (λ x. list_any p (f x)) xs ≡ true
 any_kept p keep f xs y kept passes =
     let all = flat_map f xs in

@@ -17,7 +17,7 @@ use Rattle.simplex_places.specs.Places.{places_along}
 use Rattle.simplex_places.specs.Suspects.{AreRead}
 use Rattle.simplex_places.specs.declared.places.Placed.{Placed}
 
--- along messages and further ones
+-- the places along messages and further ones
 pub along_append : {M : Type 0} (places_in : ℕ → M → List Placed) (encoding : M → List ℕ) (place : ℕ) (ms ks : List M) →
     places_along places_in encoding place (ms ++ ks) ≡ places_along places_in encoding place ms ++ places_along places_in encoding (place + length (flat_map encoding ms)) ks
 along_append places_in encoding place [] ks = ap (λ (n : ℕ). places_along places_in encoding n ks) (omega arith)
@@ -59,7 +59,7 @@ noted_more {M} Recorded Recorded' places_in encoding stream rest rest' places pl
       reached = omega (arith, all, reached, size);
     }
 
--- how many bytes the message had that was read
+-- the length of the message that was read
 pub read_length : {M : Type 0} (format : Format M) (Recorded : List M → Type 0) (stream rest rest' : List ℕ) (read : ℕ) (m : M) →
     IsLawful format → IsBytes stream → SoFar format Recorded stream rest read → format.reading rest ≡ Ok (m, rest') →
     length rest ≡ length (format.encoding m) + length rest'

@@ -53,6 +53,6 @@ module _ {M D G K : Type 0} (cmp : K → K → Ordering) (eq : K → K → Bool)
     records_stand value payload_eq es (All-tail (IsEquivocation payload_eq (filter keep (flat_map votes messages))) (value e) (map value es) casts) (All-tail (λ e. AreSought cmp key_of before (value e)) e es sought),
   )
 
--- of no evidence there are none
+-- without evidence there are no records
 pub no_records : {A B E : Type 0} (R : A → B → Type 0) (value : E → A) (es : List E) (found : List B) → es ≡ [] → found ≡ [] → AllZip R (map value es) found
 no_records R value es found none nothing = subst (AllZip R (map value es)) (sym nothing) (subst (λ xs. AllZip R (map value xs) []) (sym none) tt)

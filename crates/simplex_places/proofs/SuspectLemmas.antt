@@ -9,13 +9,13 @@ use Rattle.simplex_places.specs.Suspects.{is_sought, round_at, sought_of}
 use Rattle.simplex_places.specs.declared.places.Placed.{Placed}
 use Rattle.simplex_places.specs.declared.places.Suspect.{Suspect}
 
--- two tests of which each follows from the other
+-- two truth values that imply each other are equal
 same_bool : (a b : Bool) → (a ≡ true → b ≡ true) → (b ≡ true → a ≡ true) → a ≡ b
 same_bool true b f g = sym (f refl)
 same_bool false true f g = g refl
 same_bool false false f g = refl
 
--- a set holds what a list does, and that is what passes a test
+-- a set that holds exactly the items of a list, which are those that pass a test, decides the test
 pub holds_alike : {A : Type 0} (holds test : A → Bool) (xs ys : List A) (x : A) → xs ≡ ys → All (λ y. IsTrue (holds y)) xs → (IsTrue (holds x) → Contains xs x) → (Contains ys x ↔ IsTrue (test x)) → holds x ≡ test x
 holds_alike holds test xs ys x same all only law =
     same_bool (holds x) (test x) (λ h. law.0 (subst (λ l. Contains l x) same (only h))) (λ h. All-contains (λ y. IsTrue (holds y)) ys x (subst (All (λ y. IsTrue (holds y))) same all) (law.1 h))
@@ -37,7 +37,7 @@ one_alike s t size same p =
     ap (λ (b : Bool). if p.is_listed then b && nat_lt p.suspect.signer (size p.suspect.epoch) else s.signers round p.suspect.signer) (same.rounds round)
     ∙ ap (λ (b : Bool). if p.is_listed then t.rounds round && nat_lt p.suspect.signer (size p.suspect.epoch) else b) (same.signers round p.suspect.signer)
 
--- and so are the same of many
+-- so the same attestations of a list are sought
 pub sought_alike : (s t : Suspected) (size : ℕ → ℕ) → AreAlike s t → (places : List Placed) → sought_of s size places ≡ sought_of t size places
 sought_alike s t size same places = ap (map (λ (p : Placed). p.suspect)) (filter_alike (is_sought s size) (is_sought t size) (one_alike s t size same) places)
 

@@ -1,4 +1,4 @@
--- Which bytes of a stream the attestations are that have to be verified.
+-- Which bytes of a stream are the attestations that have to be verified.
 use Rattle.std.specs.Prelude.{◌≡◌, ℕ, ◌+◌, ◌<◌, List, ◌++◌, length, take, drop, All, Contains}
 use Rattle.std.specs.List.{flat_map}
 use Rattle.simplex_base.specs.Format.{Format}
@@ -11,8 +11,8 @@ use Rattle.simplex_audit.specs.Messages.{AreMessages}
 use Rattle.simplex_places.specs.Places.{kind_of}
 use Rattle.simplex_places.specs.declared.places.Suspect.{Suspect}
 
--- It is this vote, as it stands in the stream: the bytes of its subject are those that are signed, the proposal or the round, and
--- the bytes up to its verdict end with the signature.
+-- `s` is this vote, as it stands in the stream: the bytes of its subject are those that are signed, the proposal or the round,
+-- and the bytes up to its verdict end with the signature.
 pub record IsVoteAt {D G : Type 0} (payload : Format D) (signature : Format G) (stream : List ℕ) (v : SignedVote D G) (s : Suspect) : Type 0 where
   pub epoch_is : s.epoch ≡ (round_of v.subject).epoch
   pub view_is : s.view ≡ (round_of v.subject).view

@@ -10,7 +10,7 @@ use Rattle.simplex_evidence.specs.declared.types.activity.Activity.TheVariants a
 use Rattle.simplex_places.specs.declared.places.Placed.{Placed}
 use Rattle.simplex_places.specs.declared.places.Signed.{Signed}
 
--- the number of the kind of a vote: 0 of a notarize, 1 of a nullify, 2 of a finalize
+-- the number of the kind of a vote: 0 for a notarize, 1 for a nullify, 2 for a finalize
 abbrev pub kind_of : {D : Type 0} → SubjectValue D → ℕ
 kind_of (Notarizes p) = 0
 kind_of (Nullifies r) = 1
@@ -20,7 +20,7 @@ kind_of (Finalizes p) = 2
 abbrev pub signed_at : {D : Type 0} → Format D → ℕ → SubjectValue D → Bool → Signed
 signed_at payload place x is_listed = record { round = round_of x; kind = kind_of x; place = place; size = length (message_of payload x); is_listed = is_listed }
 
--- its attestation by a signer, whose verdict stands at a place
+-- the attestation of what was signed by a signer, with its verdict at a place
 abbrev pub placed_at : Signed → ℕ → ℕ → Placed
 placed_at signed signer verdict = record {
   suspect = record {
@@ -39,26 +39,26 @@ placed_at signed signer verdict = record {
 abbrev pub behind : {S P G : Type 0} → Format G → ℕ → Attestation S P G → ℕ
 behind signature place a = place + length ((attestation_format signature).encoding a)
 
--- the attestations of it that stand one after another from a place on: the verdict is the last byte of each
+-- the attestations of what was signed, one after another from a place on: the verdict is the last byte of each
 abbrev pub places_from : {S P G : Type 0} → Format G → Signed → ℕ → List (Attestation S P G) → List Placed
 places_from signature signed place [] = []
 places_from signature signed place (a ∷ others) = placed_at signed a.signer (behind signature place a - 1) ∷ places_from signature signed (behind signature place a) others
 
--- that of a vote from a place on: its subject, and then its attestation
+-- the attestation of a vote from a place on: its subject, and then its attestation
 abbrev pub vote_places : {S D P G : Type 0} → Format D → Format G → ℕ → SubjectValue D → Attestation S P G → List Placed
 vote_places payload signature place x a = places_from signature (signed_at payload place x false) (place + length (message_of payload x)) (a ∷ [])
 
--- those of two votes one after the other
+-- the attestations of two votes one after the other
 abbrev pub pair_places : {S D P G : Type 0} → Format D → Format G → ℕ → SubjectValue D → Attestation S P G → SubjectValue D → Attestation S P G → List Placed
 pair_places payload signature place x a y b =
     vote_places payload signature place x a ++ vote_places payload signature (place + length (message_of payload x ++ (attestation_format signature).encoding a)) y b
 
--- those that a certificate lists: its subject, how many they are, and then they
+-- the attestations that a certificate lists, from a place on: its subject, their count, and then each
 abbrev pub certificate_places : {S D P G : Type 0} → Format D → Format G → ℕ → SubjectValue D → List (Attestation S P G) → List Placed
 certificate_places payload signature place x attestations =
     places_from signature (signed_at payload place x true) (place + length (message_of payload x) + length (number_32.encoding (length attestations))) attestations
 
--- those of a message that begins at a place, behind its tag: `listed` gives the attestations that a certificate lists
+-- the attestations of a message that begins at a place with its tag: `listed` gives those that a certificate lists
 abbrev pub message_places : {S D C P G : Type 0} → Format D → Format G → (C → List (Attestation S P G)) → ℕ → Activity S D C P G → List Placed
 message_places payload signature listed place (activity.Notarize v) = vote_places payload signature (place + 1) (Notarizes v.proposal) v.attestation
 message_places payload signature listed place (activity.Notarization n) = certificate_places payload signature (place + 1) (Notarizes n.proposal) (listed n.certificate)
@@ -71,7 +71,7 @@ message_places payload signature listed place (activity.ConflictingNotarize c) =
 message_places payload signature listed place (activity.ConflictingFinalize c) = pair_places payload signature (place + 1) (Finalizes c.first.proposal) c.first.attestation (Finalizes c.second.proposal) c.second.attestation
 message_places payload signature listed place (activity.NullifyFinalize c) = pair_places payload signature (place + 1) (Nullifies c.first.round) c.first.attestation (Finalizes c.second.proposal) c.second.attestation
 
--- those of messages one after another, the first of which begins at a place
+-- the attestations of messages one after another from a place on
 abbrev pub places_along : {M : Type 0} → (ℕ → M → List Placed) → (M → List ℕ) → ℕ → List M → List Placed
 places_along places_in encoding place [] = []
 places_along places_in encoding place (m ∷ others) = places_in place m ++ places_along places_in encoding (place + length (encoding m)) others

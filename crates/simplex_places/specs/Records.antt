@@ -14,7 +14,7 @@ use Rattle.simplex_audit.specs.Report.{evidence_in}
 use Rattle.simplex_audit.specs.declared.audit.Report.{Report}
 use Rattle.simplex_places.specs.declared.records.Record.{Record}
 
--- The place is where the first of the messages begins that passes a test: behind all bytes of the messages before it.
+-- The place is that of the first message that passes a test: the number of bytes of all messages before it.
 pub record IsFirstPlace {M : Type 0} (test : M → Bool) (encoding : M → List ℕ) (messages : List M) (place : ℕ) : Type 0 where
   pub before : List M
   pub message : M
@@ -24,7 +24,7 @@ pub record IsFirstPlace {M : Type 0} (test : M → Bool) (encoding : M → List 
   pub first : All (λ m. test m ≡ false) before
   pub place_is : place ≡ length (flat_map encoding before)
 
--- The record is that of an evidence: whom it accuses, of what, and where the first messages begin that carry its votes.
+-- The record is that of an evidence: whom it accuses, of what, and the places of the first messages that carry its votes.
 pub record IsRecord {M D G : Type 0} (carries : SignedVote D G → M → Bool) (encoding : M → List ℕ) (messages : List M) (e : Equivocation D G) (found : Record) : Type 0 where
   pub epoch_is : found.epoch ≡ (round_of e.first.subject).epoch
   pub view_is : found.view ≡ (round_of e.first.subject).view
@@ -37,12 +37,12 @@ pub record IsRecord {M D G : Type 0} (carries : SignedVote D G → M → Bool) (
 abbrev pub AreRecords : {S D C P G : Type 0} → Basis S D C P G → (SignedVote D G → Activity S D C P G → Bool) → List ℕ → Report S D P G → List Record → Type 0
 AreRecords basis carries stream report records = OfMessages basis stream (λ messages. AllZip (IsRecord carries basis.format.encoding messages) (evidence_in report) records)
 
--- the place that was found of a key
+-- the place found for a key, or 0 if none was
 abbrev pub found_place : Option (Option ℕ) → ℕ
 found_place (Some (Some place)) = place
 found_place _ = 0
 
--- the record of an evidence, by what was found of its votes
+-- the record of an evidence, from the places found for its votes
 abbrev pub record_by : {D G K : Type 0} → (K → K → Ordering) → (SignedVote D G → K) → BTreeMap K (Option ℕ) → Equivocation D G → Record
 record_by cmp key_of places e = record {
   epoch = (round_of e.first.subject).epoch;

@@ -27,25 +27,25 @@ suspected_by suspects = record { signers = λ round signer. contains signer_cmp 
 abbrev pub round_at : Suspect → Round
 round_at p = record { epoch = p.epoch; view = p.view }
 
--- Whether an attestation has to be verified. One that a certificate lists has to be where its round is suspect, and its signer is in
--- the committee of the round's epoch; another where its signer is suspect in its round.
+-- Whether an attestation has to be verified: one that a certificate lists if its round is suspect and its signer is in the
+-- committee of the round's epoch, any other if its signer is suspect in its round.
 abbrev pub is_sought : Suspected → (ℕ → ℕ) → Placed → Bool
 is_sought suspected size p =
     if p.is_listed then suspected.rounds (round_at p.suspect) && nat_lt p.suspect.signer (size p.suspect.epoch) else suspected.signers (round_at p.suspect) p.suspect.signer
 
--- those that have to be verified, of these
+-- those of these attestations that have to be verified
 abbrev pub sought_of : Suspected → (ℕ → ℕ) → List Placed → List Suspect
 sought_of suspected size places = map (λ p. p.suspect) (filter (is_sought suspected size) places)
 
--- They are the attestations of the stream's messages that have to be verified, in the order of the stream. `places_in` gives
--- those of a message that begins at a place.
+-- `found` are the attestations of the stream's messages that have to be verified, in the order of the stream. `places_in`
+-- gives all attestations of a message that begins at a place.
 pub record AreSuspects {S D C P G : Type 0} (basis : Basis S D C P G) (places_in : ℕ → Activity S D C P G → List Placed) (stream : List ℕ) (found : List Suspect) : Type 0 where
   pub messages : List (Activity S D C P G)
   pub rest : List ℕ
   pub are_messages : AreMessages basis.format stream messages rest
   pub found_are : found ≡ sought_of (suspected_in basis.rules messages) basis.rules.size (places_along places_in basis.format.encoding 0 messages)
 
--- The stream's messages were read: the state is that of them by these rules, and the places are those of all their
+-- The stream's messages were read: the detector's state is that of the messages under these rules, and `places` are all their
 -- attestations.
 pub record AreRead {S D C P G : Type 0} (basis : Basis S D C P G) (rules : Rules S D C P G) (places_in : ℕ → Activity S D C P G → List Placed) (stream : List ℕ) (detector : Detector S D P G) (places : List Placed) : Type 0 where
   pub messages : List (Activity S D C P G)

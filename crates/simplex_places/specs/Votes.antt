@@ -1,4 +1,4 @@
--- Votes by their values: what one says, its signer and its signature.
+-- Votes by their values: subject, signer and signature.
 use Rattle.std.specs.Prelude.{Bool, false, ◌==◌, ◌&&◌, List}
 use Rattle.std.specs.List.{list_any}
 use Rattle.simplex_base.specs.Positions.{same_round}
@@ -11,14 +11,14 @@ use Rattle.simplex_places.specs.declared.votes.Said.{Said}
 use Rattle.simplex_places.specs.declared.votes.Said.TheVariants as said
 use Rattle.simplex_places.specs.declared.votes.VoteKey.{VoteKey}
 
--- whether two votes say the same: their kind, and their proposals or rounds. `payload_eq` compares payloads
+-- whether two subjects are the same: of one sort, with the same proposal or round. `payload_eq` compares payloads
 abbrev pub same_subject : {D : Type 0} → (D → D → Bool) → SubjectValue D → SubjectValue D → Bool
 same_subject payload_eq (Notarizes p) (Notarizes q) = same_proposal payload_eq p q
 same_subject payload_eq (Nullifies r) (Nullifies s) = same_round r s
 same_subject payload_eq (Finalizes p) (Finalizes q) = same_proposal payload_eq p q
 same_subject _ _ _ = false
 
--- whether two votes are the same: in what they say, their signer and their signature. `signature_eq` compares signatures
+-- whether two votes are the same: in subject, signer and signature. `signature_eq` compares signatures
 abbrev pub same_signed_vote : {D G : Type 0} → (D → D → Bool) → (G → G → Bool) → SignedVote D G → SignedVote D G → Bool
 same_signed_vote payload_eq signature_eq v w = same_subject payload_eq v.subject w.subject && ((v.signer == w.signer) && signature_eq v.signature w.signature)
 
@@ -26,7 +26,7 @@ same_signed_vote payload_eq signature_eq v w = same_subject payload_eq v.subject
 abbrev pub carries : {S D C P G : Type 0} → (D → D → Bool) → (G → G → Bool) → (C → List (Attestation S P G)) → SignedVote D G → Activity S D C P G → Bool
 carries payload_eq signature_eq listed v m = list_any (same_signed_vote payload_eq signature_eq v) (votes_in listed m)
 
--- what a vote says, as a key
+-- the subject of a vote, as a part of its key
 abbrev pub said_value : {D : Type 0} → SubjectValue D → Said D
 said_value (Notarizes p) = said.Notarizes p
 said_value (Nullifies r) = said.Nullifies r

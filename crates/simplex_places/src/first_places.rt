@@ -1,4 +1,4 @@
-//! Where votes that are sought stand first in a stream. Nothing is verified.
+//! The first places of sought votes in a stream. Nothing is verified.
 
 ghost use Rattle.std.specs.Prelude.{◌≡◌, All, IfOk, OnOk, Some, None, map};
 ghost use Rattle.std.specs.BTreeMap.{get};
@@ -18,7 +18,7 @@ use simplex_scheme::scheme::{Attestation, Digest, Listing, SchemeTypes, Subject}
 use std::alloc::{AllocError, Global};
 use std::collections::BTreeMap;
 
-/// Seeks a key. It is not found yet.
+/// Adds a key that is sought and not found yet.
 fn seek<K: Ord + Drop>(places: &mut BTreeMap<K, Option<usize>>, key: K) -> Result<(), AllocError>
     ensures sought { OnOk result (get K.cmp places.new key ≡ Some None) }
     ensures others { OnOk result ((other : K) → get K.cmp places.old other ≡ Some None →
@@ -28,7 +28,7 @@ fn seek<K: Ord + Drop>(places: &mut BTreeMap<K, Option<usize>>, key: K) -> Resul
     Ok(())
 }
 
-/// Seeks the votes of evidence.
+/// The keys of the votes of some evidence, none found yet.
 pub fn sought<K: Key<D, S::Signature>, S: SchemeTypes, D: Digest>(
     alloc: Global,
     evidence: &[Evidence<S, D>],
@@ -54,7 +54,7 @@ fn note<K: Ord>(places: &mut BTreeMap<K, Option<usize>>, key: &K, place: usize)
     }
 }
 
-/// Notes where the attestations of a certificate were found.
+/// Notes the attestations of a certificate at a place.
 fn note_all<K: Key<D, S::Signature>, S: SchemeTypes, D: Digest>(
     places: &mut BTreeMap<K, Option<usize>>,
     place: usize,
@@ -69,7 +69,7 @@ fn note_all<K: Key<D, S::Signature>, S: SchemeTypes, D: Digest>(
     }
 }
 
-/// Notes where the votes of a message were found, which begins at a place.
+/// Notes the votes of a message at the place where it begins.
 fn note_message<K: Key<D, S::Signature>, S: Listing<D>, D: Digest>(
     places: &mut BTreeMap<K, Option<usize>>,
     place: usize,
@@ -130,7 +130,7 @@ fn note_message<K: Key<D, S::Signature>, S: Listing<D>, D: Digest>(
     }
 }
 
-/// The same of a message that is given away, so that no path of the caller has one to drop.
+/// `note_message` of an owned message, so that no path of the caller has one to drop.
 fn note_taken<K: Key<D, S::Signature>, S: Listing<D>, D: Digest>(
     places: &mut BTreeMap<K, Option<usize>>,
     place: usize,
@@ -141,7 +141,7 @@ fn note_taken<K: Key<D, S::Signature>, S: Listing<D>, D: Digest>(
     note_message(places, place, &message);
 }
 
-/// Reads the messages of a stream under a bound, as many as there are, and notes where their votes were found.
+/// Reads the messages of a stream under a bound, as many as there are, and notes the votes of each.
 pub fn find<K: Key<D, S::Signature>, S: Listing<D>, D: Digest>(
     alloc: Global,
     bound: u32,

@@ -1,12 +1,12 @@
-//! Which attestations of a stream have to be verified, for a caller that defers this, and where each stands in the stream; and
+//! Which attestations of a stream a caller has to verify before a deferred audit, and where each stands in the stream; and
 //! where the votes of a report's evidence stand.
 //!
 //! [`suspects::suspects`] gives the attestations, each as a [`places::Suspect`], and [`records::records`] the evidence, each as
-//! a [`records::Record`]. A place is the number of the byte at which something begins in the stream. [`located`] has the schemes
-//! for which this can be said: those whose certificates tell where their attestations stand.
+//! a [`records::Record`]. A place is a 0-based offset in the stream. [`located`] has the schemes for which places are known:
+//! those whose certificates are encoded as the attestations that they list.
 //!
-//! The static library rests on all four. The private modules read a stream without verifying anything, and find where votes
-//! that are sought come first.
+//! The static library rests on all four. The private modules read a stream without verifying anything, and find the first
+//! places of sought votes.
 #![tactic(auto)]
 
 mod first_places;

@@ -63,7 +63,7 @@ impl EqByParts for Suspect {
 pub struct Placed {
     /// Where it stands, whether it has to be verified or not.
     pub suspect: Suspect,
-    /// Whether a certificate lists it. It is a standalone vote if not, or one in evidence.
+    /// Whether a certificate lists it. If not, it is a standalone vote or one in evidence.
     pub is_listed: bool,
 }
 
@@ -88,7 +88,7 @@ struct Signed {
     is_listed: bool,
 }
 
-/// Appends the place of an attestation that begins at a place, and returns that behind it.
+/// Appends an attestation that begins at `place`, and returns the place behind it.
 fn push_attestation<S: SchemeTypes>(
     signed: &Signed,
     place: usize,
@@ -118,7 +118,7 @@ fn push_attestation<S: SchemeTypes>(
     Ok(end)
 }
 
-/// Appends the places of attestations that stand one after another from a place on.
+/// Appends attestations that stand one after another from `place` on.
 fn push_attestations<S: SchemeTypes>(
     signed: &Signed,
     place: usize,
@@ -137,7 +137,7 @@ fn push_attestations<S: SchemeTypes>(
     Ok(())
 }
 
-/// Appends the place of a vote, whose subject begins at a place and has its attestation behind it.
+/// Appends the attestation of a vote, whose subject begins at `place` and is followed by the attestation.
 fn push_vote<M: EncodeSize + Roundable, S: SchemeTypes>(
     kind: u32,
     place: usize,
@@ -169,7 +169,7 @@ fn push_vote<M: EncodeSize + Roundable, S: SchemeTypes>(
     Ok(())
 }
 
-/// Appends the places of a certificate, whose subject begins at a place and has the certificate behind it.
+/// Appends the attestations of a certificate, whose subject begins at `place` and is followed by the certificate.
 fn push_certificate<M: EncodeSize + Roundable, S: Counted<D>, D: Digest>(
     kind: u32,
     place: usize,
@@ -204,7 +204,7 @@ fn push_certificate<M: EncodeSize + Roundable, S: Counted<D>, D: Digest>(
     push_attestations(&signed, first, S::attestations(certificate), places)
 }
 
-/// Appends the places of a message that begins at a place, in the order in which they stand.
+/// Appends the attestations of a message that begins at `place`, in the order of the stream.
 pub(crate) fn push_message<S: Counted<D>, D: Digest>(
     place: usize,
     message: &Activity<S, D>,

@@ -20,13 +20,13 @@ use std::alloc::{AllocError, Global};
 /// What was read of a stream.
 #[derive(Drop)]
 pub struct Claims<S: SchemeTypes, D: Digest> {
-    /// The state of what the votes claim.
+    /// The state of the messages, judged as `Claimed`.
     pub detector: Detector<S, D>,
     /// The attestations, in the order of the stream.
     pub places: Vec<Placed>,
 }
 
-/// The bound under which messages are read. The committees judge lawfully.
+/// The bound under which messages are read. The clause `lawful` states that the committees judge lawfully.
 pub fn reading_bound<S: Counted<D>, D: Digest>(committees: &Committees<S>) -> u32
     ensures value { result ≡ (⟦<S as Audited<D>>⟧.basis committees.now).bound }
     ensures lawful { AreLawful (⟦<S as Audited<D>>⟧.basis committees.now).rules }
@@ -35,7 +35,7 @@ pub fn reading_bound<S: Counted<D>, D: Digest>(committees: &Committees<S>) -> u3
     committees.bound()
 }
 
-/// Whether the error of a reading is an allocation failure.
+/// Returns `AllocError` if the error of a reading is an allocation failure.
 pub(crate) fn ended(error: Error) -> Result<(), AllocError>
     ensures { IfOk result (λ _. error ≢ Error.OutOfMemory) }
 {

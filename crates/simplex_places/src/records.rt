@@ -28,8 +28,8 @@ pub const CONFLICTING_FINALIZE: u32 = 1;
 /// The number of a nullify and a finalize that contradict.
 pub const NULLIFY_FINALIZE: u32 = 2;
 
-/// An evidence of a report, and where its votes stand in the stream. A vote stands where the first message begins that carries
-/// it: a standalone vote, a certificate that lists it, or evidence with it.
+/// An evidence of a report, and where its votes stand in the stream. The place of a vote is that of the first message that
+/// carries it: the vote on its own, a certificate that lists it, or evidence with it.
 #[repr(C)]
 #[derive(Clone, Copy, Debug, PartialEq, Eq)]
 pub struct Record {
@@ -70,7 +70,7 @@ fn kind<S: SchemeTypes, D: Digest>(evidence: &Evidence<S, D>) -> u32
     }
 }
 
-/// The place that was found of a key, or 0.
+/// The place found for a key, or 0 if none was.
 fn place<K: Ord>(places: &BTreeMap<K, Option<usize>>, key: &K) -> usize
     ensures { result ≡ found_place (get K.cmp places.now key.now) }
 {
@@ -80,7 +80,7 @@ fn place<K: Ord>(places: &BTreeMap<K, Option<usize>>, key: &K) -> usize
     }
 }
 
-/// The record of an evidence, by what was found of its votes.
+/// The record of an evidence, from the places found for its votes.
 fn record_of<K: Key<D, S::Signature>, S: SchemeTypes, D: Digest>(
     places: &BTreeMap<K, Option<usize>>,
     evidence: &Evidence<S, D>,
@@ -98,7 +98,7 @@ fn record_of<K: Key<D, S::Signature>, S: SchemeTypes, D: Digest>(
     }
 }
 
-/// The records of evidence, by what was found of its votes.
+/// The records of evidence, from the places found for its votes.
 fn listed<K: Key<D, S::Signature>, S: SchemeTypes, D: Digest>(
     alloc: Global,
     places: &BTreeMap<K, Option<usize>>,
@@ -133,9 +133,10 @@ fn records_by<K: Key<D, S::Signature>, S: Listing<D>, D: Digest>(
     Ok(found)
 }
 
-/// The evidence of the report of a stream as records, in the order of the report, each with the places of its two votes in the
-/// stream. Where there is evidence the stream is read a second time, and nothing is verified: each vote is looked up among those
-/// of the evidence, by its value. Memory is bounded by the report. `AllocError` comes only after an allocation failed.
+/// The evidence of the report of a stream as records, in the order of the report, each with the places of its two votes in
+/// the stream. Where there is evidence the stream is read a second time, and nothing is verified: each vote is looked up among
+/// those of the evidence, by its value. Memory is bounded by the report. `AllocError` is returned only after an allocation
+/// failed.
 pub fn records<S: Listing<D>, D: Digest>(
     alloc: Global,
     committees: &Committees<S>,

@@ -28,7 +28,7 @@ use simplex_detector::laws::suspects_suffice;
 use simplex_scheme::scheme::{CertificateScheme, Digest};
 use std::alloc::{AllocError, Global};
 
-/// The suspects, and the suspect rounds: those of what the votes claim.
+/// The suspects and the suspect rounds, from the claimed evidence.
 fn claimed_suspects<S: Counted<D>, D: Digest>(
     alloc: Global,
     detector: &Detector<S, D>,
@@ -63,8 +63,8 @@ fn is_member<S: CertificateScheme>(committees: &Committees<S>, epoch: u64, signe
     }
 }
 
-/// Whether an attestation has to be verified. One that a certificate lists has to be where its round is suspect, and its
-/// signer is in the committee of the epoch; another where its signer is suspect in its round.
+/// Whether an attestation has to be verified: one that a certificate lists if its round is suspect and its signer is in the
+/// committee of the epoch, any other if its signer is suspect in its round.
 fn is_sought<S: CertificateScheme>(
     committees: &Committees<S>,
     suspects: &SuspectSigners,
@@ -83,7 +83,7 @@ fn is_sought<S: CertificateScheme>(
     }
 }
 
-/// The attestations that have to be verified, of these.
+/// Those of these attestations that have to be verified.
 fn sought<S: CertificateScheme>(
     alloc: Global,
     committees: &Committees<S>,
@@ -113,11 +113,11 @@ pub fn suspects_are_votes<S: Counted<D>, D: Digest>()
 {}
 
 /// The attestations of a stream that have to be verified before it is audited, in the order of the stream. A signer of a
-/// committee is suspect in a round where two votes contradict that claim to be that signer's, and the round is, too. Listed are
-/// the votes of suspects in their rounds, standalone and in evidence, and of each certificate of a suspect round all
-/// attestations whose signers are in the committee of the epoch. No signature of another attestation has a part in the report.
-/// Nothing is verified here, so the stream may hold any verdicts. It is read once, in memory that is bounded by the stream and
-/// the sizes of the committees. `AllocError` comes only after an allocation failed.
+/// committee is suspect in a round where two votes that claim to be that signer's contradict, and then the round is suspect,
+/// too. Listed are the votes of suspects in their rounds, standalone and in evidence, and, for each certificate of a suspect
+/// round, all attestations whose signers are in the committee of the epoch. The report depends on no other attestation's
+/// signature. Nothing is verified here, so the stream may hold any verdicts. It is read once, in memory that is bounded by the
+/// stream and the sizes of the committees. `AllocError` is returned only after an allocation failed.
 pub fn suspects<S: Counted<D>, D: Digest>(
     alloc: Global,
     committees: &Committees<S>,

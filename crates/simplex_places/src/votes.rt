@@ -12,7 +12,7 @@ use simplex_detector::evidence::Evidence;
 use simplex_scheme::scheme::{Attestation, Digest, Proposal, SchemeTypes, Signature, Subject};
 use simplex_votes::types::{Finalize, Notarize, Nullify};
 
-/// What a vote says.
+/// The subject of a vote, as a part of its key.
 #[derive(PartialEq, Eq, PartialOrd, Ord, Drop)]
 pub enum Said<D> {
     Notarizes(Proposal<D>),
@@ -20,7 +20,7 @@ pub enum Said<D> {
     Finalizes(Proposal<D>),
 }
 
-/// A vote by its value: what it says, its signer and its signature. Votes are ordered only so that they can be looked up.
+/// A vote by its value: its subject, its signer and its signature. Keys are ordered only so that they can be looked up.
 #[derive(PartialEq, Eq, PartialOrd, Ord, Drop)]
 pub struct VoteKey<D, G> {
     said: Said<D>,
@@ -28,12 +28,12 @@ pub struct VoteKey<D, G> {
     signature: G,
 }
 
-/// A key of votes, by its value.
+/// A type of keys, which identify votes by their values.
 pub trait Key<D: Digest, G: Signature>: Ord + Drop {
     /// The key of a vote.
     ghost key_of: { SignedVote D G → Self };
 
-    /// The key of the vote on a subject, by its signer and its signature.
+    /// The key of the vote on a subject by this signer, with this signature.
     fn of(subject: &Subject<'_, D>, signer: Participant, signature: G) -> Self
     where
         Self: Sized,
@@ -66,7 +66,7 @@ impl<D: Digest, G: Signature> Key<D, G> for VoteKey<D, G> {
     ]) };
 }
 
-/// What a subject says.
+/// A subject, as a part of a key.
 fn said_in<D: Digest>(subject: &Subject<'_, D>) -> Said<D>
     ensures { result ≡ said_value (subject_value subject.now) }
 {
@@ -77,7 +77,7 @@ fn said_in<D: Digest>(subject: &Subject<'_, D>) -> Said<D>
     }
 }
 
-/// The key of the vote on a subject that an attestation of it is.
+/// The key of the vote that an attestation of a subject is.
 pub fn attested<K: Key<D, S::Signature>, S: SchemeTypes, D: Digest>(
     subject: &Subject<'_, D>,
     attestation: &Attestation<S>,

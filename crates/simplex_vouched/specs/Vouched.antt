@@ -10,7 +10,7 @@ use Rattle.simplex_scheme.specs.Subject.{SubjectValue}
 pub record VouchedScheme : Type 0 where
   pub keys : List (List ℕ)
 
--- who signs here
+-- the participant that signs here: none
 abbrev pub nobody : Option ℕ
 nobody = None
 

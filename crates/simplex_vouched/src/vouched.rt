@@ -1,5 +1,5 @@
-//! A committee whose signatures the caller verified. In a message a signature is that of another library, as Ed25519 or
-//! BLS, and one byte more, the verdict of the caller: `01` where it verified the signature as one of this signer over
+//! A committee whose signatures the caller verified. In a message a signature is that of another library, such as
+//! Ed25519 or BLS, and one byte more, the caller's verdict: `01` where it found the signature valid for this signer and
 //! this vote, and `00` where it did not. With any other byte the signature is not valid either.
 //!
 //! The verdict has to be the caller's own, written once it has verified the signature, and never one that came with a
@@ -45,7 +45,7 @@ impl<R, const N: usize> Model for Vouched<R, N> {
 }
 
 impl<R, const N: usize> Vouched<R, N> {
-    /// The committee of `participants` participants, in 4 bytes of memory for each. The key of a participant is its
+    /// The committee of `participants` participants. It allocates 4 bytes for each. The key of a participant is its
     /// number.
     pub fn new(alloc: Global, participants: u32) -> Result<Self, AllocError>
         requires { 1 ≤ participants }
@@ -134,7 +134,7 @@ impl<D: Digest, R: Role<N>, const N: usize> CertificateVerifier<D> for Vouched<R
         ensures { result ≡ is_quorum (length self.now.keys)
             (vouched_valid self.now.keys (subject_value subject.entry)) certificate.now }
     {
-        // The prover knows a subject that came by value only by its kinds.
+        // The prover knows a subject passed by value only by its variants.
         let subject = match subject {
             Subject::Notarize { proposal } => Subject::Notarize { proposal },
             Subject::Nullify { round } => Subject::Nullify { round },

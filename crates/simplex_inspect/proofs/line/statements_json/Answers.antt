@@ -7,7 +7,7 @@ use Rattle.simplex_inspect.proofs.LineLemmas.{joined_is}
 use Rattle.simplex_inspect.proofs.line.statements_json.Given as given
 use Rattle.simplex_inspect.proofs.line.statements_json.Goals as goal
 
--- what messages are shown by
+-- how messages are shown
 abbrev shown : (g : given.Over) → Option (Schedule g.row.S.Denot) → Shown g.row.S.Denot g.row.D.Denot g.row.S-Certificate.Denot g.row.S-PublicKey.Denot g.row.S-Signature.Denot
 shown g committees = shown_of g.D.Fixed.bytes_of g.S.Signature.Fixed.bytes_of g.D.PartialEq.eq g.S.CertificateScheme.keys g.S.Scheme.good g.S.CertificateVerifier.certified g.S.Listing.listed committees
 

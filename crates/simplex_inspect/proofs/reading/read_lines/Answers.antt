@@ -17,7 +17,7 @@ use Rattle.simplex_inspect.proofs.reading.read_lines.Goals as goal
 abbrev format : (g : given.Over) → ℕ → Format (Activity g.row.S.Denot g.row.D.Denot g.row.S-Certificate.Denot g.row.S-PublicKey.Denot g.row.S-Signature.Denot)
 format g bound = activity_format g.D.PartialEq.eq (fixed g.D.FixedSize.SIZE g.D.Fixed.bytes_of g.D.Fixed.of_bytes) (record { is_value = g.S.Certificate.Read.fits bound; encoding = g.S.Certificate.Encoding.encoding; reading = g.S.Certificate.Read.reading bound }) (fixed g.S.Signature.FixedSize.SIZE g.S.Signature.Fixed.bytes_of g.S.Signature.Fixed.of_bytes)
 
--- it is lawful
+-- that format is lawful
 law : (g : given.Over) (bound : ℕ) → IsLawful (format g bound)
 law g bound = activity_lawful g.D.PartialEq.eq _ _ _ g.met.D.Fixed.lawful (g.met.S.Certificate.Read.lawful bound) g.met.S.Signature.Fixed.lawful
 
@@ -25,7 +25,7 @@ law g bound = activity_lawful g.D.PartialEq.eq _ _ _ g.met.D.Fixed.lawful (g.met
 abbrev line : (g : given.Over) → Option (Schedule g.row.S.Denot) → ℕ → ℕ → Activity g.row.S.Denot g.row.D.Denot g.row.S-Certificate.Denot g.row.S-PublicKey.Denot g.row.S-Signature.Denot → List ℕ
 line g committees = line_json (shown_of g.D.Fixed.bytes_of g.S.Signature.Fixed.bytes_of g.D.PartialEq.eq g.S.CertificateScheme.keys g.S.Scheme.good g.S.CertificateVerifier.certified g.S.Listing.listed committees)
 
--- both
+-- how messages are read under a bound, and the line of each
 abbrev lines : (g : given.Over) → ℕ → Option (Schedule g.row.S.Denot) → Lines (Activity g.row.S.Denot g.row.D.Denot g.row.S-Certificate.Denot g.row.S-PublicKey.Denot g.row.S-Signature.Denot)
 lines g bound committees = record { format = format g bound; line = line g committees }
 

@@ -20,7 +20,7 @@ format g bound =
     (record { is_value = g.S.Certificate.Read.fits bound; encoding = g.S.Certificate.Encoding.encoding; reading = g.S.Certificate.Read.reading bound })
     (fixed g.S.Signature.FixedSize.SIZE g.S.Signature.Fixed.bytes_of g.S.Signature.Fixed.of_bytes)
 
--- it is lawful
+-- that format is lawful
 law : (g : given.Over) (bound : ℕ) → IsLawful (format g bound)
 law g bound = activity_lawful g.D.PartialEq.eq _ _ _ g.met.D.Fixed.lawful (g.met.S.Certificate.Read.lawful bound) g.met.S.Signature.Fixed.lawful
 

@@ -30,7 +30,7 @@ signature g = fixed g.S.Signature.FixedSize.SIZE g.S.Signature.Fixed.bytes_of g.
 abbrev format : (g : given.Over) → ℕ → Format (Message g)
 format g bound = activity_format g.D.PartialEq.eq (payload g) (record { is_value = g.S.Certificate.Read.fits bound; encoding = g.S.Certificate.Encoding.encoding; reading = g.S.Certificate.Read.reading bound }) (signature g)
 
--- it is lawful
+-- that format is lawful
 law : (g : given.Over) (bound : ℕ) → IsLawful (format g bound)
 law g bound = activity_lawful g.D.PartialEq.eq _ _ _ g.met.D.Fixed.lawful (g.met.S.Certificate.Read.lawful bound) g.met.S.Signature.Fixed.lawful
 
@@ -38,11 +38,11 @@ law g bound = activity_lawful g.D.PartialEq.eq _ _ _ g.met.D.Fixed.lawful (g.met
 abbrev places_in : (g : given.Over) → ℕ → Message g → List Placed
 places_in g = message_places (payload g) (signature g) g.S.Listing.listed
 
--- what votes claim
+-- the rules by which claims are judged
 abbrev claims : (g : given.Over) → Schedule g.row.S.Denot → Rules g.row.S.Denot g.row.D.Denot g.row.S-Certificate.Denot g.row.S-PublicKey.Denot g.row.S-Signature.Denot
 claims g committees = rules_under g.D.PartialEq.eq g.S.CertificateScheme.keys g.S.Scheme.good g.S.CertificateVerifier.certified g.S.Listing.listed Claimed committees
 
--- what an audit goes by under a bound
+-- the basis of an audit under a bound
 abbrev basis : (g : given.Over) → ℕ → Schedule g.row.S.Denot → Basis g.row.S.Denot g.row.D.Denot g.row.S-Certificate.Denot g.row.S-PublicKey.Denot g.row.S-Signature.Denot
 basis g bound committees = record {
   bound = bound;
