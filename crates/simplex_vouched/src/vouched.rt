@@ -5,11 +5,11 @@
 //! The verdict has to be the caller's own, written once it has verified the signature, and never one that came with a
 //! message.
 
-ghost use Rattle.std.specs.Prelude.{◌≡◌, ◌+◌, ◌*◌, ◌<◌, ◌≤◌, None, Some, Ok, IsOk, IfOk, MatchOption, All, length, nat_eq, nat_lt, ◌&&◌, true};
+ghost use Rattle.std.specs.Prelude.{◌≡◌, ◌↔◌, ◌+◌, ◌*◌, ◌<◌, ◌≤◌, None, Some, Ok, IsOk, IsTrue, IfOk, MatchOption, All, length, nat_eq, nat_lt, ◌&&◌, true};
 ghost use Rattle.std.specs.List.{IsDistinct};
 ghost use Rattle.std.proofs.Common.{lit≤};
 ghost use Rattle.simplex_scheme.specs.Subject.{SubjectValue, subject_value};
-ghost use Rattle.simplex_scheme.specs.Committee.{IsInOrder, is_quorum, quorum_of, signers_of, RefusesFew, AssemblesQuorum};
+ghost use Rattle.simplex_scheme.specs.Committee.{IsInOrder, IsQuorum, is_quorum, quorum_of, signers_of, RefusesFew, AssemblesQuorum};
 ghost use Rattle.simplex_plain.specs.CommitteeLaws.{quorum_meaning, listed_size};
 ghost use Rattle.simplex_plain.specs.Marked.{numbered};
 ghost use Rattle.simplex_vouched.specs.Vouched.{nobody, is_vouched, vouched_valid, vouched_members};
@@ -131,7 +131,10 @@ impl<D: Digest, R: Role<N>, const N: usize> CertificateVerifier<D> for Vouched<R
         subject: Subject<'_, D>,
         certificate: &Listed<Vouched<R, N>>,
     ) -> bool
-        ensures { result ≡ is_quorum (length self.now.keys)
+        ensures certified { result ≡ is_quorum (length self.now.keys)
+            (vouched_valid self.now.keys (subject_value subject.entry)) certificate.now }
+        // True exactly where the certificate's attestations are a quorum.
+        ensures exactly { IsTrue result ↔ IsQuorum (length self.now.keys)
             (vouched_valid self.now.keys (subject_value subject.entry)) certificate.now }
     {
         // The prover knows a subject passed by value only by its variants.
