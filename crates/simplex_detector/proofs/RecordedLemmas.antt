@@ -165,7 +165,7 @@ pub recorded_are_slots : {D G : Type 0} (eq : D → D → Bool) → IsEquivalenc
 recorded_are_slots eq l vs sort round signer = sym (in_slot_after eq l (record { sort = sort; round = round; signer = signer }) [] vs)
 
 module _ {D G : Type 0} (eq : D → D → Bool) (l : IsEquivalence eq) (vs : List (SignedVote D G)) (round : Round) where
-  -- nullifies of a round exclude none of each other: there is no other one
+  -- nullifies of one round do not exclude each other: there is no other one
   no_other_nullify : (signer : ℕ) (o : Option (SignedVote D G)) → find (is_at Nullifying round signer) vs ≡ o → other_than eq vs Nullifying round signer o ≡ None
   no_other_nullify signer None is = refl
   no_other_nullify signer (Some v) is = none_found (λ w. is_at Nullifying round signer w && excludes eq v.subject w.subject) vs (λ w w_in passes.
