@@ -43,9 +43,9 @@ extern "C" {
 uint32_t simplex_version(void);
 
 /* How an audit, or a call that stores evidence, ended. */
-#define SIMPLEX_WHOLE 0u     /* All was read as messages, and the buffer is written. */
-#define SIMPLEX_FAULT 1u     /* The byte at `fault_place` starts no message. Those before it were
-                                audited, and the buffer is written. */
+#define SIMPLEX_WHOLE 0u     /* Success. The buffer is written, and an audit found no fault. */
+#define SIMPLEX_FAULT 1u     /* The byte at `fault_place` starts no message. The messages before it
+                                were audited, and the buffer is written. */
 #define SIMPLEX_ARGUMENTS 2u /* The arguments are no committees. Nothing was written. */
 #define SIMPLEX_MEMORY 3u    /* An allocation failed. Nothing was written. */
 #define SIMPLEX_SHORT 4u     /* The buffer is too short, and as before. The length that is needed is
@@ -64,11 +64,11 @@ struct simplex_summary {
 /*
  * Audits a stream whose signatures the caller verified (docs/SIGNATURES.md). In the stream each
  * signature has 48, 64 or 96 bytes (BLS12-381 in G1, Ed25519, BLS12-381 in G2) and one byte more,
- * the caller's verdict: 01 where the caller verified the signature as one of this signer over this
+ * the caller's verdict: 01 where the caller found the signature valid for this signer and this
  * vote, and 00 where it did not. With any other byte the signature is not valid. Payloads have 32
  * bytes.
  *
- * `sizes` are the numbers of participants of the committees, each at least 1. With no epochs there
+ * `sizes` are the numbers of participants of the committees, each at least 1. Without epochs there
  * is one size, that of the committee for every epoch; else the epochs rise strictly, and each has
  * the size at its place. Other epochs have no committee, and nothing is valid in them.
  *
@@ -107,17 +107,18 @@ struct simplex_record {
 
 /*
  * Audits a stream as simplex_audit_vouched_.. does, and writes the evidence of the report as
- * records, one for each line of evidence and in the same order. A message carries a vote that it
- * is, that its certificate lists, or that it holds as evidence; a place is where the message begins,
- * at its tag. It is the first of all messages that carry the vote, by its proposal or round, its
- * signer and its signature. The second place may be before the first, and both may be one: evidence
- * carries two votes.
+ * records, one for each line of evidence and in the same order. A message carries a vote if it is
+ * the vote, if its certificate lists the vote, or if it is evidence with the vote; votes are the
+ * same with the same proposal or round, signer and signature. The place of a vote is the offset of
+ * the tag of the first message that carries it. The second place may be before the first, and both
+ * may be the same: evidence carries two votes.
  *
  * `summary` is that of the audit: `evidence` is the number of records, `length` the bytes of the
  * text that simplex_audit_vouched_.. writes. The first `summary->evidence` records are written;
  * those behind them are as before. Where `records` is too short the status is SIMPLEX_SHORT: the
  * summary is written and the records are as before. After SIMPLEX_ARGUMENTS and SIMPLEX_MEMORY both
- * are. Where there is evidence the stream is read twice; the second reading verifies nothing.
+ * are as before. Where there is evidence the stream is read twice; the second reading verifies
+ * nothing.
  */
 SIMPLEX_NONNULL
 uint32_t simplex_records_vouched_48(const uint64_t *epochs, size_t epochs_len,
@@ -153,25 +154,25 @@ struct simplex_suspect {
 
 /*
  * The first of two steps of deferred verification: lists the attestations of a stream that have to
- * be verified before the stream is audited. It is as simplex_audit_vouched_.. reads it, but its
- * verdicts may yet be any bytes, as zeros. Of an honest stream nothing is listed.
+ * be verified before the stream is audited. The stream is as simplex_audit_vouched_.. reads it,
+ * but its verdicts may still be any bytes, such as zeros. For an honest stream nothing is listed.
  *
- * A signer of a committee is suspect in a round where two votes contradict that claim to be that
- * signer's, and the round is, too. Listed are, in the order of the stream, the votes of suspects in
- * their rounds, also those in evidence; and of each certificate of a suspect round all attestations
- * whose signer is in the committee of the epoch. With n = 48, 64 or 96 the signature is the n bytes
- * before `verdict_place`, and what was signed is the namespace of the kind behind its length, and
- * then the bytes of the subject.
+ * A signer of a committee is suspect in a round where two votes that claim to be that signer's
+ * contradict, and then the round is suspect, too. Listed are, in the order of the stream, the votes
+ * of suspects in their rounds, also those in evidence; and for each certificate of a suspect round
+ * all attestations whose signer is in the committee of the epoch. With n = 48, 64 or 96 the
+ * signature is the n bytes before `verdict_place`, and what was signed is the length of the kind's
+ * namespace, the namespace, and the bytes of the subject.
  *
  * The caller writes 01 to each `verdict_place` where it verified the signature, else 00, and
- * audits. No verdict of another attestation has a part in the report (tested over streams, not
- * proved: docs/BINDINGS.md, "What is proved").
+ * audits. The report depends on no verdict of another attestation (tested over streams, not proved:
+ * docs/BINDINGS.md, "What is proved").
  *
  * The first `*needed` records are written; those behind them are as before. The status is
  * SIMPLEX_WHOLE, SIMPLEX_ARGUMENTS, SIMPLEX_MEMORY or SIMPLEX_SHORT; where `records` is too short
  * `*needed` is written, and nothing else. What is behind a fault of the stream is ignored; the
- * audit reports the fault. Votes are held before they are verified, so a stream of strangers is to
- * be of bounded size: a vote of a round of its own takes some 900 bytes and 8 for each participant.
+ * audit reports the fault. Votes are held before they are verified, so bound the size of a stream
+ * from untrusted senders: the only vote of a round takes some 900 bytes and 8 for each participant.
  */
 SIMPLEX_NONNULL
 uint32_t simplex_suspects_vouched_48(const uint64_t *epochs, size_t epochs_len,
@@ -193,22 +194,22 @@ uint32_t simplex_suspects_vouched_96(const uint64_t *epochs, size_t epochs_len,
                                      size_t *needed);
 
 /*
- * The evidence of `stored` and of the messages of `batch` behind it, as messages: with nothing
- * stored that of the batch. `stored` is what an earlier call wrote, or empty; so a stream is audited
- * batch by batch, and no handle is held meanwhile. The signers whom `stored` accuses stay accused.
- * Votes of earlier batches that contradict nothing in their batch are not stored: a batch has to
- * hold every vote of its rounds. What is behind a fault of the batch is ignored, so audit the batch
- * to learn of a fault. Nothing checks `stored`: behind a fault in it no message of the batch is read,
- * and the status is SIMPLEX_WHOLE. What an earlier call wrote has no fault, so audit it first to find
- * one. Bytes that were changed or cut off may leave no fault, as where a signature is not valid any
- * more, and what they accused is lost then: guard what you store by a checksum.
+ * Writes the evidence of `stored` and of the messages of `batch` behind it, as messages. `stored`
+ * is what an earlier call wrote, or empty; so a stream is audited batch by batch, and no handle is
+ * held meanwhile. The signers whom `stored` accuses stay accused. Votes of earlier batches that
+ * contradict nothing in their batch are not stored: a batch has to hold every vote of its rounds.
+ * What is behind a fault of the batch is ignored, so audit the batch to learn of a fault. Nothing
+ * checks `stored`: behind a fault in it no message of the batch is read, and the status is
+ * SIMPLEX_WHOLE. What an earlier call wrote has no fault, so audit it first to find one. Changed or
+ * truncated bytes may have no fault, as where a signature is no longer valid; what they accused is
+ * then lost: guard what you store by a checksum.
  *
  * The first `*size` bytes of `evidence` are then the messages; the bytes behind them are as before.
  * The status is SIMPLEX_WHOLE, SIMPLEX_ARGUMENTS, SIMPLEX_MEMORY or SIMPLEX_SHORT. `evidence` may
  * not overlap `stored`.
  *
- * To learn what is new, call simplex_records_.. on `stored` with `batch` behind it: a record of
- * which at least one place is `stored_len` or more is new, and any other was stored before.
+ * To learn what is new, call simplex_records_.. on `stored` with `batch` behind it: a record with
+ * at least one place of `stored_len` or more is new, and any other was stored before.
  */
 SIMPLEX_NONNULL
 uint32_t simplex_store_vouched_48(const uint64_t *epochs, size_t epochs_len, const uint32_t *sizes,
@@ -227,10 +228,11 @@ uint32_t simplex_store_vouched_96(const uint64_t *epochs, size_t epochs_len, con
                                   size_t evidence_len, size_t *size);
 
 /*
- * The same for the plain scheme, whose signatures are hashes that anyone can compute, under one
- * committee for every epoch. `keys` are its keys one after another, of 32 bytes each, in any order,
- * none twice; `keys_len` counts bytes. A participant's number is the place of its key in ascending
- * order. `name` is the base of the namespaces of votes.
+ * Audits, lists records and stores evidence, as the calls above, for the plain scheme, whose
+ * signatures are hashes that anyone can compute, under one committee for every epoch. `keys` are
+ * its keys one after another, of 32 bytes each, in any order, none twice; `keys_len` counts bytes.
+ * A participant's number is the place of its key in ascending order. `name` is the base of the
+ * namespaces of votes.
  */
 SIMPLEX_NONNULL
 uint32_t simplex_audit_plain(const uint8_t *name, size_t name_len, const uint8_t *keys,
@@ -249,16 +251,16 @@ uint32_t simplex_store_plain(const uint8_t *name, size_t name_len, const uint8_t
 
 /*
  * How many of n participants may lie, the greatest f with 3f + 1 <= n, and how many are a quorum,
- * n - f. Both are 0 for none.
+ * n - f. Both are 0 where n is 0.
  */
 uint32_t simplex_max_faults(uint32_t n);
 uint32_t simplex_quorum(uint32_t n);
 
-/* How a question about views is answered. */
+/* The answers to questions about views. */
 #define SIMPLEX_NO 0u
 #define SIMPLEX_YES 1u
-#define SIMPLEX_NONE 2u /* Terms have no views; or, where a call says so, views are no 64-bit
-                           numbers. */
+#define SIMPLEX_NONE 2u /* Terms have no views; or, where a call says so, views are above
+                           2^64 - 1. */
 
 /*
  * Whether a node in view `current` takes votes of the view `pending`, and whether it sends messages

@@ -4,7 +4,7 @@
  *     audit NAMESPACE KEY... < STREAM
  *
  * Each key has 64 hexadecimal digits. The status is 0, 1 where the stream has a fault, 2 where the
- * arguments are no namespace and keys, and 3 where memory or a read or write failed.
+ * arguments are no namespace and keys, and 3 where an allocation, a read or a write failed.
  */
 #include "../simplex_audit.h"
 #include <stdio.h>
@@ -38,7 +38,7 @@ static int read_key(const char *text, uint8_t *key)
     return 1;
 }
 
-/* Reads standard input to its end. NULL where memory or a read failed. */
+/* Reads standard input to its end. NULL where an allocation or a read failed. */
 static uint8_t *read_all(size_t *len)
 {
     size_t room = 1 << 16;
@@ -63,7 +63,8 @@ static uint8_t *read_all(size_t *len)
     return bytes;
 }
 
-/* Audits with a buffer that is as long as the text. NULL where memory failed, or for no keys. */
+/* Audits with a buffer that the text fits into. NULL where an allocation failed, or with keys that
+* are refused. */
 static uint8_t *report(const char *name, const uint8_t *keys, size_t keys_len,
                        const uint8_t *stream, size_t len, uint32_t *status,
                        struct simplex_summary *summary)

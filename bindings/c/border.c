@@ -89,7 +89,7 @@ static int all(const uint8_t *p, size_t n, uint8_t filler)
     return 1;
 }
 
-/* The arguments of a call but for its buffer. The three sizes of signatures have one interface. */
+/* The arguments of a call except its buffer. The three sizes of signatures have one interface. */
 struct input {
     const uint8_t *name, *keys;
     size_t name_len, keys_len;
@@ -312,8 +312,8 @@ static void stores(const struct input *in)
     free(evidence);
 }
 
-/* The attestations that have to be verified, with buffers as above. Their verdicts alone are in the
- * report: with every verdict of the stream another, but these, it is the same. Returns how many. */
+/* The attestations that have to be verified, with buffers as above. The report depends on no other
+* verdict: with every other verdict flipped it is the same. Returns how many they are. */
 static size_t defers(const struct input *in, const size_t *verdicts, size_t verdicts_len)
 {
     size_t n = 99, needed = 99, spare = 2;
@@ -356,8 +356,8 @@ static size_t defers(const struct input *in, const size_t *verdicts, size_t verd
     return n;
 }
 
-/* With its k-th allocation and all later ones refused a call ends with SIMPLEX_MEMORY, writes
- * nothing and frees what it had, until k is more than it makes. */
+/* With its k-th allocation and all later ones made to fail a call ends with SIMPLEX_MEMORY, writes
+* nothing and frees what it allocated, until k is more than the allocations that it makes. */
 static void without_memory(const struct input *in)
 {
     long before = blocks;
@@ -512,7 +512,7 @@ static void vouched(int signature)
     CHECK(accused(&in, epochs, 2, high_low, 2) == 0);
     CHECK(accused(&in, epochs, 1, four, 1) == 0);
     CHECK(accused(&in, no_epochs, 0, low_high, 1) == 0);
-    /* what is no committees */
+    /* arguments that are no committees */
     refuses_sizes(in, no_epochs, 0, four, 0);
     refuses_sizes(in, no_epochs, 0, four, 2);
     refuses_sizes(in, no_epochs, 0, zero + 1, 1);
@@ -578,8 +578,8 @@ static void deferred(int signature)
     free(none);
 }
 
-/* Where a record says that the votes of the one evidence stand, with this committee of four for
- * every epoch. */
+/* Whether the only record of a stream has this kind and these places, under a committee of four for
+* every epoch. */
 static int stands_at(const uint8_t *stream, size_t len, size_t signature, uint32_t kind,
                      size_t first, size_t second)
 {
@@ -639,8 +639,8 @@ static void placed(size_t signature)
     CHECK(stands_at(room, (size_t)(end - room), signature, SIMPLEX_NULLIFY_FINALIZE, vote, 0));
 }
 
-/* Of what was stored with the stream behind it, as a batch, the records with at least one place in
- * the batch are those whom what was stored does not accuse. Returns how many they are. */
+/* The records of what was stored with the stream behind it, as a batch: those with at least one
+* place in the batch are those that what was stored does not have. Returns how many they are. */
 static size_t renewed(const struct input *in)
 {
     struct input both = *in, before = *in;
@@ -671,8 +671,8 @@ static size_t renewed(const struct input *in)
     return fresh;
 }
 
-/* What is new of a batch: evidence of which one vote was stored and the other is in the batch, and
- * evidence with both votes in the batch. */
+/* What a batch adds: evidence with one vote stored and the other in the batch, and evidence with
+* both votes in the batch. */
 static void renews(size_t signature)
 {
     static const uint32_t four[] = {4};

@@ -1,8 +1,8 @@
 /*
  * Four participants sign votes by Ed25519. One notarizes two payloads, one nullifies a round and
  * finalizes in it, and one forges a vote of another. The caller verifies each vote by libcrypto,
- * writes the stream with its verdicts, and asks who equivocated. Then it defers: of the same votes
- * with an honest round before them it verifies those of suspects alone. With an argument the
+ * writes the stream with its verdicts, and asks who equivocated. Then it defers verification: of
+ * the same votes behind an honest round it verifies only those of suspects. With an argument the
  * program prints the first stream, and nothing else.
  */
 #include "../simplex_audit.h"
@@ -62,7 +62,7 @@ static void put_subject(struct bytes *b, const struct vote *v)
     }
 }
 
-/* What is signed: the length of the namespace, the namespace, the subject. */
+/* The namespace of a kind, behind its length. What is signed is this, and then the subject. */
 static void put_name(struct bytes *b, uint32_t kind)
 {
     put_number(b, strlen(names[kind]));
@@ -123,7 +123,7 @@ static struct vote vote(EVP_PKEY **keys, uint32_t kind, uint64_t view, uint32_t 
     return v;
 }
 
-/* Of epoch 3 the committee has four participants. */
+/* The committee of epoch 3 has four participants. */
 static const uint64_t epochs[] = {3};
 static const uint32_t sizes[] = {MEMBERS};
 
@@ -152,8 +152,8 @@ static void print_places(const struct bytes *stream)
                records[i].first_place, records[i].second_place);
 }
 
-/* Verifies what has to be verified of a stream, and writes the verdicts into it. Returns how many
- * signatures that were. */
+/* Verifies the signatures of a stream that have to be verified, and writes the verdicts into it.
+* Returns how many there are. */
 static size_t verify_suspects(EVP_PKEY **keys, struct bytes *stream)
 {
     struct simplex_suspect records[100];

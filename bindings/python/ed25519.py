@@ -1,7 +1,7 @@
-"""Four participants sign votes by Ed25519 of OpenSSL's libcrypto. One notarizes two payloads, one nullifies a round and finalizes in
-it, and one forges a vote of another. The caller verifies each vote, writes the stream with its verdicts, and asks who equivocated. Then
-it defers: of the same votes with an honest round before them it verifies those of suspects alone. With an argument the program
-prints the first stream, and nothing else."""
+"""Four participants sign votes by Ed25519 of OpenSSL's libcrypto. One notarizes two payloads, one nullifies a round and
+finalizes in it, and one forges a vote of another. The caller verifies each vote, writes the stream with its verdicts, and asks
+who equivocated. Then it defers verification: of the same votes behind an honest round it verifies only those of suspects. With
+an argument the program prints the first stream, and nothing else."""
 import ctypes
 import ctypes.util
 import sys

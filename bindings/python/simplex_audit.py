@@ -44,7 +44,7 @@ _KINDS_OF_EVIDENCE = ("conflicting-notarize", "conflicting-finalize", "nullify-f
 
 
 def _declare():
-    """Gives each call of the library the types that the header gives it."""
+    """Declares the types of each call of the library, as the header has them."""
     u32, u64, size, out = ctypes.c_uint32, ctypes.c_uint64, ctypes.c_size_t, ctypes.POINTER
     data, numbers = [ctypes.c_char_p, size], [out(u64), size, out(u32), size]
     buffer = [ctypes.c_char_p, size]
@@ -89,7 +89,7 @@ def _refused(status):
 
 
 class Committees:
-    """Who judges which epoch."""
+    """Which committee judges the messages of an epoch."""
 
     def __init__(self, suffix, arguments, size=None):
         self._suffix, self._arguments, self._size = suffix, arguments, size
@@ -130,7 +130,7 @@ class Committees:
         return self._list("suspects", _Suspect, stream, ctypes.c_size_t(), lambda it: it.value)
 
     def _list(self, call, of, stream, written, needed):
-        """Makes a call that lists records of a stream, again with more room if there was too little."""
+        """Makes a call that lists records of a stream, again with a longer buffer if the first is too short."""
         function, room = getattr(_library, f"simplex_{call}_{self._suffix}"), 64
         while True:
             records = (of * room)()
@@ -178,9 +178,9 @@ Record.__doc__ = "An evidence, and the offsets of the first messages that carry 
 
 
 def records(committees, stream):
-    """The evidence of the stream's report as records, in the same order, with the places of its votes in the stream. A vote stands
-    where the first message begins that carries it: the vote on its own, a certificate that lists it, or evidence with it. Of a
-    nullify and a finalize the nullify is the first.
+    """The evidence of the stream's report as records, in the same order, with the places of its votes in the stream. The place
+    of a vote is the offset of the first message that carries it: the vote on its own, a certificate that lists it, or evidence
+    with it. Of a nullify and a finalize the nullify is the first.
 
     >>> stream = Encoder(64)
     >>> for signer, payload in ((1, 6), (2, 6), (2, 7)):
@@ -193,9 +193,10 @@ def records(committees, stream):
 
 
 def audit_deferred(committees, stream, verify):
-    """The report of a stream whose signatures are not verified yet; its verdicts may be any. Verified are only the
-    votes of suspects, signers of the committee of whom two votes contradict in a round that claim to be theirs, and the certificates
-    of these rounds: of an honest stream none. The report is that of `audit` with every signature verified. `verify` is as of an `Encoder`.
+    """The report of a stream whose signatures are not verified yet; its verdicts may be any bytes. Only the votes of suspects
+    and the certificates of their rounds are verified. A suspect is a signer of the committee, in a round where two votes that
+    claim to be that signer's contradict; an honest stream has none. The report is that of `audit` with every signature
+    verified. `verify` is as for an `Encoder`.
 
     >>> stream = Encoder(64)
     >>> for view, signer, payload in ((9, 0, 6), (9, 1, 6), (10, 2, 6), (10, 2, 7)):
@@ -216,7 +217,7 @@ def audit_deferred(committees, stream, verify):
 
 
 def _vote(kind, subject):
-    """The vote of a kind that has this subject."""
+    """The vote of this kind with this subject."""
     numbers, at = [], 0
     while len(numbers) < (2 if kind == "nullify" else 3):
         number, shift = 0, 0
@@ -247,8 +248,8 @@ def store(committees, stored, batch):
 
 
 def new_records(committees, stored, batch):
-    """The records of what was stored with a batch behind it that are new: those with at least one place in the batch, at the length
-    of what was stored or behind. All other evidence was stored before. `ValueError` as of `store`.
+    """The new ones of the records of what was stored with a batch behind it: those with at least one place in the batch, at
+    `len(stored)` or above. All other evidence was stored before. `ValueError` as for `store`.
 
     >>> committees, stored = Committees.every(64, 4), b""
     >>> for view in (10, 11):
@@ -292,8 +293,8 @@ class Vote(collections.namedtuple("Vote", "kind epoch view parent payload", defa
 
 class Encoder:
     """Writes messages as a stream. Each signature is verified, and the verdict is written behind it. `verify(vote, signer,
-    signature)` says whether the signature is one of this signer, by its key in the committee of the vote's epoch, over the vote.
-    Without it nothing is verified, for `audit_deferred`."""
+    signature)` returns whether the signature on the vote is valid under this signer's key in the committee of the vote's epoch.
+    Without `verify` nothing is verified, for `audit_deferred`."""
 
     _VOTES = {"notarize": 0, "nullify": 3, "finalize": 5}
 
@@ -311,7 +312,7 @@ class Encoder:
         self._bytes += bytes([self._VOTES[vote.kind] + 1]) + message
 
     def certification(self, vote, listed, verify=None):
-        """Appends a certification, a notarization that a node accepted: the same as `certificate` writes of a notarize, with a tag of
+        """Appends a certification, a notarization that a node accepted: what `certificate` writes for a notarize, with a tag of
         its own. An audit counts it as a notarization.
 
         >>> stream = Encoder(64)
@@ -362,12 +363,12 @@ def version():
 
 
 def max_faults(n):
-    """How many of n participants may lie: the greatest f with 3f + 1 <= n, and 0 for none."""
+    """How many of n participants may lie: the greatest f with 3f + 1 <= n, and 0 where n is 0."""
     return _library.simplex_max_faults(_checked(n, 32, "a number of participants"))
 
 
 def quorum(n):
-    """How many of n participants are a quorum: n - f, and 0 for none."""
+    """How many of n participants are a quorum: n - f, and 0 where n is 0."""
     return _library.simplex_quorum(_checked(n, 32, "a number of participants"))
 
 
@@ -399,7 +400,7 @@ def issuance_floor(term_length, optimistic_views, view):
 
 
 def leader(participants, term_length, epoch, view, seed=None):
-    """The number of the participant who leads a view of an epoch, in the order of the numbers or in the one that a seed gives."""
+    """The number of the participant who leads a view, in the order of the numbers or in the one that a seed determines."""
     number = ctypes.c_uint32()
     terms = _checked(participants, 32, "a number of participants"), _checked(term_length, 32, "a term length")
     place = _checked(epoch, 64, "an epoch"), _checked(view, 64, "a view")

@@ -3,11 +3,11 @@ use crate::Error;
 /// The bytes of a signature, without the verdict.
 #[derive(Clone, Copy, Debug, PartialEq, Eq)]
 pub enum Size {
-    /// 48 bytes, as those of BLS12-381 in G1.
+    /// 48 bytes, such as those of BLS12-381 in G1.
     Bytes48,
-    /// 64 bytes, as those of Ed25519.
+    /// 64 bytes, such as those of Ed25519.
     Bytes64,
-    /// 96 bytes, as those of BLS12-381 in G2.
+    /// 96 bytes, such as those of BLS12-381 in G2.
     Bytes96,
 }
 
@@ -37,7 +37,7 @@ pub(crate) enum Members {
 }
 
 impl Committees {
-    /// One committee of so many participants for every epoch, whose signatures have this size and the caller's verdict.
+    /// One committee of this many participants for every epoch, whose signatures have this size and the caller's verdict.
     /// `Error::Arguments` where there is no participant.
     pub fn every(size: Size, participants: u32) -> Result<Self, Error> {
         if participants == 0 {
@@ -47,8 +47,8 @@ impl Committees {
         Ok(Committees { members })
     }
 
-    /// For each epoch a committee of so many participants, and none for any other epoch. `Error::Arguments` where there is no
-    /// epoch, the epochs do not rise strictly, or a committee has no participant.
+    /// For each listed epoch a committee of this many participants, and none for any other epoch. `Error::Arguments` where
+    /// there is no epoch, the epochs do not rise strictly, or a committee has no participant.
     pub fn listed(size: Size, committees: &[(u64, u32)]) -> Result<Self, Error> {
         let rising = committees.windows(2).all(|pair| pair[0].0 < pair[1].0);
         if committees.is_empty() || !rising || committees.iter().any(|one| one.1 == 0) {

@@ -1,7 +1,7 @@
 use crate::committees::Members;
 use crate::{audit, ffi, Committees, Error, Report, Verifier, Vote};
 
-/// Verifies nothing: an [`Encoder`](crate::Encoder) writes a stream with it whose signatures [`audit_deferred`] verifies.
+/// Verifies nothing: with it an [`Encoder`](crate::Encoder) writes a stream whose signatures [`audit_deferred`] verifies.
 #[derive(Clone, Copy, Debug)]
 pub struct Deferred;
 
@@ -11,9 +11,9 @@ impl Verifier for Deferred {
     }
 }
 
-/// Audits a stream whose signatures are not verified yet; its verdicts may be any. Verified are only the votes of suspects, signers
-/// of the committee of whom two votes contradict in a round that claim to be theirs, and the certificates of these rounds: of an
-/// honest stream none. The report is that of [`audit`] with every signature verified.
+/// Audits a stream whose signatures are not verified yet; its verdicts may be any bytes. Only the votes of suspects and the
+/// certificates of their rounds are verified. A suspect is a signer of the committee, in a round where two votes that claim to
+/// be that signer's contradict; an honest stream has none. The report is that of [`audit`] with every signature verified.
 ///
 /// ```
 /// use simplex_audit::{audit_deferred, Committees, Deferred, Encoder, Size, Vote};
@@ -47,7 +47,7 @@ pub fn audit_deferred(committees: &Committees, stream: &[u8], verifier: &dyn Ver
     audit(committees, &verified)
 }
 
-/// The vote of a kind that has this subject.
+/// The vote of this kind with this subject.
 fn vote_of(kind: u32, mut subject: &[u8]) -> Option<Vote> {
     let bytes = &mut subject;
     let (epoch, view) = (take_number(bytes)?, take_number(bytes)?);
@@ -63,7 +63,7 @@ fn vote_of(kind: u32, mut subject: &[u8]) -> Option<Vote> {
     }
 }
 
-/// Takes a number from the front of some bytes: seven bits a byte, the least significant first.
+/// Takes a number from the start of some bytes: seven bits a byte, the least significant first.
 fn take_number(bytes: &mut &[u8]) -> Option<u64> {
     let mut number = 0;
     for shift in (0..64).step_by(7) {

@@ -54,9 +54,9 @@ impl Vote {
     }
 }
 
-/// Verifies signatures. A closure is one.
+/// Verifies signatures. A closure is a verifier.
 pub trait Verifier {
-    /// Whether the signature is one of this signer, by its key in the committee of the vote's epoch, over the vote.
+    /// Whether the signature on the vote is valid under this signer's key in the committee of the vote's epoch.
     fn verify(&self, vote: &Vote, signer: u32, signature: &[u8]) -> bool;
 }
 
@@ -95,7 +95,7 @@ impl Encoder {
         self.put_certificate(certificate_tag(vote), vote, listed, verifier)
     }
 
-    /// Appends a certification, a notarization that a node accepted: the same as [`certificate`](Self::certificate) writes of a
+    /// Appends a certification, a notarization that a node accepted: what [`certificate`](Self::certificate) writes for a
     /// notarize, with a tag of its own. An audit counts it as a notarization. `Error::Arguments` also where the vote is no
     /// notarize.
     ///

@@ -3,7 +3,7 @@ use std::fmt;
 /// Why a call has no result.
 #[derive(Clone, Copy, Debug, PartialEq, Eq)]
 pub enum Error {
-    /// What was passed is no committee, no term, or no signature of the encoder's size.
+    /// The arguments are invalid. Each call states which it refuses.
     Arguments,
     /// An allocation failed.
     OutOfMemory,

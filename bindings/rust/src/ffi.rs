@@ -169,8 +169,8 @@ extern "C" {
     ) -> u32;
 }
 
-/// Calls with a buffer, and once more with a longer one where the call asks for it. What the call returns beside its status is how
-/// many items it wrote, or needs.
+/// Calls with a buffer, and again with a longer one while the call asks for it. Beside its status the call returns how many
+/// items it wrote, or needs.
 fn filled<T: Clone + Default>(first: usize, mut call: impl FnMut(&mut [T]) -> (u32, usize)) -> Result<Vec<T>, Error> {
     let mut buffer = vec![T::default(); first];
     loop {
@@ -191,7 +191,7 @@ fn filled<T: Clone + Default>(first: usize, mut call: impl FnMut(&mut [T]) -> (u
     }
 }
 
-/// A call over a stream: that of each size of signatures.
+/// The calls over a stream, one for each size of signatures.
 struct BySize<T, W> {
     bytes48: ByNumbers<T, W>,
     bytes64: ByNumbers<T, W>,
@@ -222,7 +222,7 @@ impl<T, W> BySize<T, W> {
     }
 }
 
-/// The same, and that of the plain scheme.
+/// These calls, and that of the plain scheme.
 struct ByScheme<T, W> {
     vouched: BySize<T, W>,
     plain: ByKeys<T, W>,

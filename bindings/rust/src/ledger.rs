@@ -36,8 +36,8 @@ impl Ledger {
         }
     }
 
-    /// Adds the evidence of a batch. What is behind a fault of the batch is ignored. After an error all is as before. To learn what
-    /// a batch adds, call [`new_records`](crate::new_records) with what is stored before.
+    /// Adds the evidence of a batch. What is behind a fault of the batch is ignored. After an error the ledger is as before. To
+    /// learn what a batch adds, call [`new_records`](crate::new_records) with what is stored before.
     pub fn feed(&mut self, batch: &[u8]) -> Result<(), Error> {
         self.stored = ffi::store(&self.committees, &self.stored, batch)?;
         Ok(())

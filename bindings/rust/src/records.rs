@@ -14,12 +14,12 @@ pub struct Record {
     /// The offset of the first message that carries the first vote: the vote on its own, a certificate that lists it, or evidence
     /// with it. Of a nullify and a finalize the nullify is the first.
     pub first_place: usize,
-    /// The offset of the first message that carries the second vote. It may be before the other, and both may be one.
+    /// The offset of the first message that carries the second vote. It may be before `first_place`, or the same.
     pub second_place: usize,
 }
 
-/// Audits a stream as [`audit`](crate::audit) does, and returns the evidence as records, each with the places of its votes in the
-/// stream. They are as many as the report has evidence, in the same order.
+/// Audits a stream as [`audit`](crate::audit) does, and returns the evidence as records, each with the places of its votes in
+/// the stream. There is one for each evidence of the report, in the same order.
 ///
 /// ```
 /// use simplex_audit::{records, Committees, Encoder, Kind, Size, Vote};
@@ -42,8 +42,8 @@ pub fn records(committees: &Committees, stream: &[u8]) -> Result<Vec<Record>, Er
     Ok(ffi::records(committees, stream)?.iter().map(record).collect())
 }
 
-/// The records of what was stored with a batch behind it that are new: those with at least one place in the batch, at the length of
-/// what was stored or behind. All other evidence was stored before. `Error::Arguments` where what was stored has a fault, behind
+/// The new ones of the records of what was stored with a batch behind it: those with at least one place in the batch, at
+/// `stored.len()` or above. All other evidence was stored before. `Error::Arguments` where what was stored has a fault, behind
 /// which nothing would be read.
 ///
 /// ```

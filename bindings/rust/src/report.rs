@@ -33,9 +33,9 @@ pub struct Split {
     pub epoch: u64,
     /// The view of the round.
     pub view: u64,
-    /// How many participants evidence accuses in the round.
+    /// How many participants the evidence accuses in the round.
     pub accused: u64,
-    /// f + 1, the least number that it has to accuse.
+    /// f + 1: the evidence accuses at least this many.
     pub enough: u64,
 }
 

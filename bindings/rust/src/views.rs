@@ -2,12 +2,12 @@
 
 use crate::{ffi, Error};
 
-/// How many of `n` participants may lie: the greatest f with 3f + 1 <= n, and 0 for none.
+/// How many of `n` participants may lie: the greatest f with 3f + 1 <= n, and 0 where n is 0.
 pub fn max_faults(n: u32) -> u32 {
     ffi::max_faults(n)
 }
 
-/// How many of `n` participants are a quorum: n - f, and 0 for none.
+/// How many of `n` participants are a quorum: n - f, and 0 where n is 0.
 ///
 /// ```
 /// use simplex_audit::views::{max_faults, quorum};
@@ -40,8 +40,8 @@ pub fn issuance_floor(term_length: u32, optimistic_views: u64, view: u64) -> Res
     ffi::issuance_floor(term_length, optimistic_views, view)
 }
 
-/// The number of the participant who leads a view of an epoch, in the order of the numbers or in the one by a seed.
-/// `Error::Arguments` where there is no participant or terms have no views.
+/// The number of the participant who leads a view of an epoch, in the order of the numbers or in the one that a seed
+/// determines. `Error::Arguments` where there is no participant or terms have no views.
 pub fn leader(seed: Option<&[u8]>, participants: u32, term_length: u32, epoch: u64, view: u64) -> Result<u32, Error> {
     ffi::leader(seed, participants, term_length, epoch, view)
 }

@@ -1,4 +1,4 @@
--- Why words are no arguments.
+-- Why words are not arguments that name committees.
 use Rattle.std.proofs.Common.{◌≡◌, ℕ, zero, suc, ◌<◌, ◌≤◌, List, [], ◌∷◌, Result, Some, Err, take, drop, get_or, length, refl, sym, ap, subst, ◌∙◌, arith}
 use Rattle.std.specs.Prelude.{◌≢◌, All}
 use Rattle.std.proofs.lemmas.List.Elements.{All-head}
@@ -9,7 +9,7 @@ use Rattle.simplex_detector.specs.declared.committees.CommitteesError.TheVariant
 use Rattle.audit_cli.specs.Arguments.{AreNoKeys, AreGroups, BeginsGroup, StandsBeforeGroup, NameCommittees, AreNoArguments, keys_named}
 use Rattle.audit_cli.proofs.GroupLemmas.{keys_begin_no_group}
 
--- the texts of a committee's keys do not stand before a group, nor are they none
+-- there are texts of a committee's keys, and the first begins no group
 pub keys_stand : (texts keys : List (List ℕ)) → keys_named texts ≡ Some keys → 1 ≤ length keys → StandsBeforeGroup texts → ⊥
 keys_stand [] keys named some stands = let same : [] ≡ keys = cc in absurd (omega (arith, some, ap length same))
 keys_stand (text ∷ texts) keys named some stands = All-head (λ (t : List ℕ). BeginsGroup t → ⊥) text texts (keys_begin_no_group (text ∷ texts) keys named) stands
@@ -21,7 +21,7 @@ groups_begin namespace texts (pair ∷ pairs) zero some above none are = absurd 
 groups_begin namespace texts (pair ∷ pairs) (suc n) some above none (keys, rest, e, small, is, others) =
     All-head (λ (t : List ℕ). BeginsGroup t → ⊥) _ _ (subst (λ ts. All (λ text. BeginsGroup text → ⊥) (take (suc n) ts)) e none) (_, refl)
 
--- no texts are no groups
+-- where there are groups there are texts
 pub groups_some : (namespace : List ℕ) (texts : List (List ℕ)) (pairs : List (ℕ × PlainScheme)) → pairs ≢ [] → texts ≡ [] → AreGroups namespace texts pairs → ⊥
 groups_some namespace texts [] some none are = some refl
 groups_some namespace texts (pair ∷ pairs) some none (keys, rest, e, small, is, others) = absurd cc

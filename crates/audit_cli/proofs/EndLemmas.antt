@@ -28,7 +28,7 @@ ends-without_committees basis words reader writer failure none (inl e) keeps =
 ends-without_committees basis words reader writer failure none (inr e) keeps =
     subst (λ (f : Failure). Ends basis words reader writer (Err f)) (sym e) keeps
 
--- the run gave up
+-- the run failed
 pub ends-given_up : (basis : Bases) (words : List (List ℕ)) (reader : ReaderUse) (writer : WriterUse) (committees : Schedule PlainScheme) (error : RunError)
     → AreArguments words committees
     → (error ≡ errors.Read → IsTrue reader.failed) → (error ≡ errors.TooLong → GaveTooMuch reader)
@@ -40,7 +40,7 @@ ends-given_up basis words reader writer committees errors.TooLong named failed l
 ends-given_up basis words reader writer committees errors.OutOfMemory named failed long keeps written = keeps (λ e. absurd cc)
 ends-given_up basis words reader writer committees errors.Write named failed long keeps written = written refl
 
--- arguments that are none end in the usage or in an allocation failure
+-- arguments that name no committees end in the usage or in an allocation failure
 pub ends-refused : (basis : Bases) (words : List (List ℕ)) (reader : ReaderUse) (writer : WriterUse) (ending : Ending)
     → AreNoArguments words → Ends basis words reader writer ending
     → (ending ≡ Err failures.Usage) ⊎ (ending ≡ Err failures.OutOfMemory)

@@ -19,7 +19,7 @@ use Rattle.audit_cli.specs.Arguments.{IsNamedCommittee, AreGroups, BeginsGroup, 
 
 -- ---- keys and groups
 
--- text that is no hexadecimal digits names no key, whatever its length
+-- a text of any length that is not hexadecimal digits names no key
 no_digits : (b c : Bool) (decoded : Result (List ℕ) FromHexError) → key_of decoded ≡ None → key_of (if b then Err OddLength else if c then decoded else Err InvalidStringLength) ≡ None
 no_digits true c decoded none = refl
 no_digits false true decoded none = none
@@ -67,7 +67,7 @@ no_group texts n all none =
 
 -- ---- where a group ends
 
--- the texts of keys in front of a group, or of nothing, are all those that begin no group
+-- the texts of keys before a group, or at the end, are all those up to the first that begins a group
 pub same_front : (front rest : List (List ℕ)) (n : ℕ) → All (λ text. BeginsGroup text → ⊥) front → StandsBeforeGroup rest
     → All (λ text. BeginsGroup text → ⊥) (take n (front ++ rest)) → StandsBeforeGroup (drop n (front ++ rest)) → (front ≡ take n (front ++ rest)) × (rest ≡ drop n (front ++ rest))
 same_front [] rest zero keys group none stands = (refl, refl)
@@ -78,12 +78,12 @@ same_front (text ∷ front) rest (suc n) keys group none stands =
     let tail = same_front front rest n (All-tail (λ (t : List ℕ). BeginsGroup t → ⊥) text front keys) group (All-tail (λ (t : List ℕ). BeginsGroup t → ⊥) text (take n (front ++ rest)) none) stands in
     (ap (λ (ts : List (List ℕ)). text ∷ ts) tail.0, tail.1)
 
--- groups stand before a group, or are none
+-- the texts of groups begin with a group, or are none
 pub groups_stand : (namespace : List ℕ) (texts : List (List ℕ)) (pairs : List (ℕ × PlainScheme)) → AreGroups namespace texts pairs → StandsBeforeGroup texts
 groups_stand namespace texts [] none = subst StandsBeforeGroup (sym none) tt
 groups_stand namespace texts (pair ∷ pairs) (keys, rest, e, small, is, others) = subst StandsBeforeGroup (sym e) (decimal pair.0, refl)
 
--- the text of an epoch tells it
+-- the text of an epoch determines it
 pub epoch_told : (m n : ℕ) → m < 2 ^ 64 → n < 2 ^ 64 → epoch_text m ≡ epoch_text n → m ≡ n
 epoch_told m n m_small n_small e = decimal_injective m n m_small n_small (ap (drop 1) e)
 
@@ -113,7 +113,7 @@ first_group namespace text behind (pair ∷ more) (keys, rest, e, small, is, oth
 
 -- ---- epochs that rise
 
--- what a test of two numbers tells
+-- what a test of two numbers decides
 pub lt_told : (a b : ℕ) → (is_lt (nat_cmp a b) ≡ true → a < b) × (a < b → is_lt (nat_cmp a b) ≡ true)
 lt_told a b = by (nat_cmp a b) (ranked a b (nat_cmp a b) refl)
   where
@@ -135,7 +135,7 @@ above_last pairs last epoch rising some is below k d lt =
 pub last_below : {S : Type 0} (pairs : List (ℕ × S)) (last : ℕ × S) (epoch : ℕ) → length pairs - 1 < length pairs → last ≡ get_or pairs (length pairs - 1) last → All (λ p. p.0 < epoch) pairs → last.0 < epoch
 last_below pairs last epoch some is all = subst (λ p. p.0 < epoch) (sym is) (all (length pairs - 1) last some)
 
--- entries rise further by one that is above all
+-- rising entries still rise with one more that is above all
 pub rising_push : {S : Type 0} (pairs : List (ℕ × S)) (p : ℕ × S) → AreRising pairs → All (λ q. q.0 < p.0) pairs → AreRising (pairs ++ p ∷ [])
 rising_push pairs p rising above a b d a_lt b_lt =
     let size = length-append pairs (p ∷ []) in
@@ -148,7 +148,7 @@ rising_push pairs p rising above a b d a_lt b_lt =
           rw is (omega (arith, before, last, above a d (omega (arith, a_lt, is)))))
     ]
 
--- entries whose epochs go on with one rise only if it is above all before it
+-- entries that rise have each epoch above all before it
 pub risen : {S : Type 0} (pairs before more : List (ℕ × S)) (p : ℕ × S) → AreRising pairs → map (λ q. q.0) pairs ≡ map (λ q. q.0) before ++ map (λ q. q.0) (p ∷ more) → All (λ q. q.0 < p.0) before
 risen {S} pairs before more p rising same k d lt =
     let epoch : ℕ × S → ℕ = λ q. q.0 in

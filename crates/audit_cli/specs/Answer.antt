@@ -17,11 +17,11 @@ use Rattle.audit_cli.specs.declared.status.Status.TheVariants as statuses
 use Rattle.audit_cli.specs.declared.status.Failure.{Failure}
 use Rattle.audit_cli.specs.declared.status.Failure.TheVariants.{Usage, Read, Write, OutOfMemory}
 
--- what a certificate is: the attestations that it lists
+-- a certificate is the attestations that it lists
 abbrev pub PlainCertificate : Type 0
 PlainCertificate = List (Attestation PlainScheme (List ℕ) (List ℕ))
 
--- what an audit goes by under committees: how messages are read, and what they are judged by
+-- the basis of an audit under committees: how messages are read, and the rules by which they are judged
 abbrev pub Bases : Type 1
 Bases = Schedule PlainScheme → Basis PlainScheme (List ℕ) PlainCertificate (List ℕ) (List ℕ)
 
@@ -67,7 +67,7 @@ pub record IsRead (basis : Bases) (words : List (List ℕ)) (reader : ReaderUse)
   pub account : IsAccount (basis committees) (λ bytes. bytes) input summary text
   pub fault_is : summary.fault ≡ fault
 
--- a reader gave more bytes than are counted
+-- a reader gave more than 2^64 - 1 bytes
 abbrev pub GaveTooMuch : ReaderUse → Type 0
 GaveTooMuch reader = (input : List ℕ) × (2 ^ 64 ≤ length input) × Consumes reader.before reader.after input
 
@@ -81,13 +81,13 @@ status_of (Ok None) = statuses.Whole
 status_of (Ok (Some fault)) = statuses.Fault
 status_of (Err failure) = status_after failure
 
--- what is said of an ending
+-- what is said on standard error after an ending
 abbrev pub said_of : Ending → List ℕ
 said_of (Ok None) = []
 said_of (Ok (Some fault)) = complaint_at fault.place
 said_of (Err failure) = complaint_of failure
 
--- what an ending says of the arguments, of the reader and of the writer
+-- what holds of the arguments, of the reader and of the writer after an ending
 abbrev pub Ends : Bases → List (List ℕ) → ReaderUse → WriterUse → Ending → Type 0
 Ends basis words reader writer (Ok fault) = (text : List ℕ) × IsRead basis words reader text fault × Appends writer.before writer.after text × IsTrue writer.flushed
 Ends basis words reader writer (Err Usage) = AreNoArguments words × Keeps writer.before writer.after

@@ -49,8 +49,8 @@ AreNoKeys texts = (keys : List (List ℕ)) → ¬ AreKeyTexts texts keys
 abbrev pub Ascend : List (List ℕ) → Type 0
 Ascend = IsStrictlySortedBy (slice_cmp nat_cmp)
 
--- the scheme verifies for the committee whose keys the texts name: whatever their order there, a participant's number is
--- the place of its key among them in ascending order
+-- the scheme verifies for the committee whose keys the texts name, in any order: a participant's number is the place of its
+-- key among them in ascending order
 pub record IsNamedCommittee (namespace : List ℕ) (texts : List (List ℕ)) (scheme : PlainScheme) : Type 0 where
   pub keys : List (List ℕ)
   pub participants : List (List ℕ)

@@ -22,7 +22,7 @@ status_after Read = statuses.Failed
 status_after Write = statuses.Failed
 status_after OutOfMemory = statuses.Failed
 
--- the failure that an error of a run is; too much to count is no input that can be read
+-- the failure of a run's error: input of more than 2^64 - 1 bytes cannot be read
 abbrev pub failure_of : RunError → Failure
 failure_of errors.Read = Read
 failure_of errors.TooLong = Read

@@ -11,8 +11,8 @@ use simplex_plain::plain::Plain;
 use std::alloc::Global;
 
 /// Reads the arguments, without the program's name: a namespace, and then keys, or groups of an epoch and keys. They are
-/// judged from left to right; `Failure::Usage` where they are no such arguments, `Failure::OutOfMemory` where an allocation
-/// failed meanwhile.
+/// checked from left to right: `Failure::Usage` where they are no such arguments, `Failure::OutOfMemory` where an
+/// allocation failed before that was found.
 pub fn parse(alloc: Global, arguments: &[String]) -> Result<Committees<Plain>, Failure>
     ensures committees { IfOk result (AreArguments (map string_bytes arguments.now)) }
     ensures usage { result ≡ Err Failure.Usage → AreNoArguments (map string_bytes arguments.now) }

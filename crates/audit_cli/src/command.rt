@@ -16,7 +16,8 @@ use simplex_scheme::scheme::Sha256Digest;
 use std::alloc::Global;
 use std::io::{ErrorKind, Read, Write};
 
-/// Audits the input under the committees that the arguments name, and writes its text. Returns its fault, if there is one.
+/// Audits the input under the committees that the arguments name, and writes the text of the report. Returns the input's
+/// fault, if there is one.
 fn audit_input<R: Read, W: Write>(
     alloc: Global,
     arguments: &[String],
@@ -38,7 +39,7 @@ fn audit_input<R: Read, W: Write>(
     Ok(summary.fault)
 }
 
-/// Says something, and flushes. An interrupted write is made again; any other failure changes nothing.
+/// Writes a text to standard error, and flushes. An interrupted write is made again; after any other failure it returns.
 pub fn say<E: Write>(errors: &mut E, text: &[u8])
     ensures { AppendsBeginning (E.contents errors.old) (E.contents errors.new) text.now }
 {
@@ -57,7 +58,7 @@ pub fn say<E: Write>(errors: &mut E, text: &[u8])
     let _ = errors.flush();
 }
 
-/// Says on standard error how a run ended, and gives its status. That it cannot be said changes nothing.
+/// Says on standard error how a run ended, and returns its status. A failure to write there does not change the status.
 pub(crate) fn conclude<E: Write>(errors: &mut E, ended: Result<Option<Fault>, Failure>) -> Status
     ensures status { result ≡ status_of ended }
     ensures said { AppendsBeginning (E.contents errors.old) (E.contents errors.new)
@@ -78,8 +79,8 @@ pub(crate) fn conclude<E: Write>(errors: &mut E, ended: Result<Option<Fault>, Fa
 
 /// Runs the program over its arguments, without the program's name, and its three streams.
 ///
-/// The arguments are judged before anything is read, and nothing is written before the whole input is read
-/// and all memory is allocated. What cannot be said on `errors` leaves the status.
+/// The arguments are checked before anything is read, and nothing is written before the whole input is read
+/// and all memory is allocated. A failure to write to `errors` does not change the status.
 pub fn command<R: Read, W: Write, E: Write>(
     alloc: Global,
     arguments: &[String],
@@ -94,7 +95,7 @@ pub fn command<R: Read, W: Write, E: Write>(
         × Ends ⟦<Plain as Audited<Sha256Digest>>⟧.basis (map string_bytes arguments.now)
         (reader_use R.remaining input.old input.new)
         (writer_use W.contents output.old output.new) ending }
-    // Where a device failed the status says so, and nothing else is said.
+    // Where the input or the output failed the status is `Failed`, and standard error says only that.
     ensures read_failed { IsTrue (has_failed input.new) → (result ≡ Status.Failed)
         × AppendsBeginning (E.contents errors.old) (E.contents errors.new)
         (complaint_of Failure.Read) }

@@ -63,7 +63,7 @@ fn is_above(pairs: &[(Epoch, Plain)], epoch: Epoch) -> bool
     }
 }
 
-/// The epochs and committees that groups of texts name. They are judged from left to right.
+/// The epochs and committees that groups of texts name. The texts are checked from left to right.
 pub fn parse_groups(
     alloc: Global,
     namespace: &str,

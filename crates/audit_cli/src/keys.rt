@@ -11,7 +11,7 @@ use simplex_plain::plain::{Plain, PlainKey};
 use simplex_scheme::scheme::Set;
 use std::alloc::{AllocError, Global};
 
-/// How many keys a committee has at most.
+/// The greatest number of keys of a committee.
 const MOST_KEYS: usize = 4_294_967_295;
 
 /// Whether a committee may have this many keys.
@@ -32,7 +32,7 @@ fn parse_key(text: &str) -> Result<PlainKey, Failure>
     }
 }
 
-/// The keys that texts name, in the order of the texts. All room is made once the first text names a key.
+/// The keys that texts name, in the order of the texts. Memory for all is allocated once the first text names a key.
 fn parse_keys(alloc: Global, texts: &[String]) -> Result<Vec<PlainKey>, Failure>
     ensures keys { IfOk result (λ keys. keys_named (map string_bytes texts.now) ≡ Some keys.items) }
     ensures usage { result ≡ Err Failure.Usage → keys_named (map string_bytes texts.now) ≡ None }
@@ -49,7 +49,7 @@ fn parse_keys(alloc: Global, texts: &[String]) -> Result<Vec<PlainKey>, Failure>
     Ok(keys)
 }
 
-/// The keys that texts name, in any order: `Failure::Usage` where they are no keys of a committee.
+/// The keys that texts name, in any order: `Failure::Usage` where they are not the keys of a committee.
 fn parse_set(alloc: Global, texts: &[String]) -> Result<Set<PlainKey>, Failure>
     ensures named { IfOk result (λ set. (keys : List (List ℕ)) ×
         AreKeyTexts (map string_bytes texts.now) keys × IsPermutation keys set) }
@@ -68,7 +68,7 @@ fn parse_set(alloc: Global, texts: &[String]) -> Result<Set<PlainKey>, Failure>
     }
 }
 
-/// The committee of the keys that texts name, in any order: `Failure::Usage` where they are no keys of a committee.
+/// The committee of the keys that texts name, in any order: `Failure::Usage` where they are not the keys of a committee.
 pub fn parse_committee(alloc: Global, namespace: &str, texts: &[String]) -> Result<Plain, Failure>
     ensures committee { IfOk result (IsNamedCommittee namespace.now (map string_bytes texts.now)) }
     ensures usage { result ≡ Err Failure.Usage → AreNoKeys (map string_bytes texts.now) }

@@ -45,8 +45,8 @@ pub fn no_arguments(error: &io::Error) -> Failure
 /// Runs the program over the arguments that its process is given, the program's name first, and its three
 /// streams, and returns the number that the process ends with.
 ///
-/// Where the arguments cannot be read nothing is read or written, and the number is that of an allocation failure, or else of
-/// arguments that are no namespace and keys.
+/// Where the arguments cannot be read the input and the output are untouched, and the number is 3 after an allocation failure,
+/// else 2.
 pub fn start<R: Read, W: Write, E: Write>(
     alloc: Global,
     given: io::Result<Args>,
@@ -61,7 +61,7 @@ pub fn start<R: Read, W: Write, E: Write>(
         × Ends ⟦<Plain as Audited<Sha256Digest>>⟧.basis (words_of (into_iter_items given))
         (reader_use R.remaining input.old input.new)
         (writer_use W.contents output.old output.new) ending) }
-    // Where a device failed the number says so, and nothing else is said.
+    // Where the input or the output failed the number is 3, and standard error says only that.
     ensures read_failed { IsTrue (has_failed input.new) → (result ≡ 3)
         × AppendsBeginning (E.contents errors.old) (E.contents errors.new)
         (complaint_of Failure.Read) }

@@ -14,7 +14,7 @@ use std::alloc::AllocError;
 pub enum Status {
     /// The whole stream was read as messages.
     Whole,
-    /// The stream stops being messages somewhere. What stands before was audited.
+    /// The stream has a fault. The messages before it were audited.
     Fault,
     /// The arguments are no namespace and keys, or groups of them.
     Usage,
@@ -55,7 +55,7 @@ impl Status {
     }
 }
 
-/// Why the program gives up.
+/// Why the program fails.
 #[derive(Clone, Copy, Debug, PartialEq, Eq)]
 pub enum Failure {
     /// The arguments are no namespace and keys, or groups of them.
@@ -120,7 +120,7 @@ impl Failure {
         }
     }
 
-    /// What is said on standard error, with its line's end.
+    /// The line on standard error, with its newline.
     pub fn complaint(self) -> &'static str
         ensures { result.now ≡ complaint_of self }
     {
@@ -133,8 +133,8 @@ impl Failure {
     }
 }
 
-/// What is said on standard error of a fault at a byte, with its line's end. It takes no memory, and the longest, of 42 bytes,
-/// has room.
+/// The line on standard error for a fault at a byte, with its newline. It allocates nothing, and the longest, of 42 bytes,
+/// fits.
 pub fn complaint(place: usize) -> ArrayString<64>
     ensures { result.bytes ≡ complaint_at place }
 {

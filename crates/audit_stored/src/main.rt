@@ -1,7 +1,7 @@
 //! `audit_stored NAMESPACE KEY...` or `audit_stored NAMESPACE @EPOCH KEY...`: `audit` for a stored stream. It takes the same
 //! arguments, prints the same lines and ends with the same statuses, but holds all of standard input, and verifies only the
-//! votes of suspects, signers of a committee of whom two votes contradict in a round that claim to be theirs, and the
-//! certificates of these rounds.
+//! votes of suspects and the certificates of their rounds. A suspect is a signer of a committee, in a round where two votes
+//! that claim to be that signer's contradict.
 #![tactic(auto)]
 
 ghost use Rattle.std.specs.Prelude.{IfOk, string_bytes};
@@ -42,7 +42,8 @@ fn account<S: Listing<D>, D: Digest>(
     Ok((summary, text))
 }
 
-/// Audits what a reader gives by the committees that the words name, and writes the text. Returns the fault, if there is one.
+/// Audits what a reader gives under the committees that the words name, and writes the text. Returns the fault, if there is
+/// one.
 fn audit_input<R: Read, W: Write>(
     alloc: Global,
     words: &[String],

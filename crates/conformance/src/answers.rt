@@ -7,7 +7,7 @@ use conformance_messages::vectors::{Unanswered, bytes};
 use simplex_plain::marked::MarkedDigest;
 use std::alloc::{AllocError, Global};
 
-/// What is said of a line that is no test vector.
+/// The answer to a line that is no test vector.
 const NO_VECTOR: &str = "no row";
 
 /// The answer to a line.

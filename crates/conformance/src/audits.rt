@@ -11,8 +11,8 @@ use simplex_plain::marked::Marked;
 use simplex_scheme::scheme::{Digest, Listing, SchemeTypes};
 use std::alloc::{AllocError, Global};
 
-/// The marked committee of this many participants for every epoch, or `EPOCH:NUMBER`s parted by commas, of which each is the
-/// committee of an epoch. The epochs have to rise strictly.
+/// The marked committee of this many participants for every epoch, or from `EPOCH:NUMBER`s, separated by commas, one for each
+/// of these epochs, which have to rise strictly.
 pub(crate) fn committees(alloc: Global, word: &str) -> Result<Committees<Marked>, Unanswered> {
     if !word.contains(':') {
         return Ok(Committees::every(committee(alloc, word)?));
@@ -32,8 +32,8 @@ fn pair(alloc: Global, word: &str) -> Result<(Epoch, Marked), Unanswered> {
     }
 }
 
-/// The answer to an audit of a stream: that of `audit`, of `audit_deferred` and of two runs, one of which reads a byte a call,
-/// where all agree.
+/// The answer to an audit of a stream: that of `audit`, where `audit_deferred` and two runs, one of them reading a byte a call,
+/// agree with it.
 pub(crate) fn audit_vector<S: Listing<D>, D: Digest>(
     alloc: Global,
     committees: &Committees<S>,
@@ -53,7 +53,7 @@ pub(crate) fn audit_vector<S: Listing<D>, D: Digest>(
     Ok(answer)
 }
 
-/// What a run says that reads this many bytes a call.
+/// The answer of a run that reads at most this many bytes a call.
 fn ran<S: Listing<D>, D: Digest>(
     alloc: Global,
     committees: &Committees<S>,
@@ -81,7 +81,7 @@ fn ran<S: Listing<D>, D: Digest>(
     Ok(answer)
 }
 
-/// The answer to an audit of a stream in pieces: how it stands after each, and then what the audit finds.
+/// The answer to an audit of a stream in pieces: how the auditor stands after each, and then the report.
 pub(crate) fn feed_vector<S: Listing<D>, D: Digest>(
     alloc: Global,
     committees: &Committees<S>,
@@ -119,7 +119,7 @@ fn standing<S: Listing<D>, D: Digest>(
     format!(in alloc; "fed {fed}, rest {rest}, votes {votes}")
 }
 
-/// What a report says: how many messages were read, the lines of the evidence and of the splits, and the fault.
+/// The answer of a report: how many messages were read, the lines of the evidence and of the splits, and the fault.
 fn text_of<S: Listing<D>, D: Digest>(
     alloc: Global,
     report: &Report<S, D>,

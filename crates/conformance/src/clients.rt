@@ -27,7 +27,7 @@ pub(crate) fn follow<S: Listing<D>, D: Digest>(
     Ok(text)
 }
 
-/// What a light client returns for the finalization that the bytes are.
+/// What a light client returns for a finalization that comes as bytes.
 fn followed<S: Listing<D>, D: Digest>(
     alloc: Global,
     client: &mut LightClient<'_, S, D>,

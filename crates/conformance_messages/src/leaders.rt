@@ -14,7 +14,7 @@ use std::time::Duration;
 /// The word in the place of a seed where there is none.
 const NO_SEED: &str = "-";
 
-/// A rotation by this seed, in terms of this many views.
+/// The rotation in the order that this seed determines, in terms of this many views.
 fn rotation(alloc: Global, seed: &str, length: TermLength) -> Result<RoundRobin, Unanswered>
     ensures { IfOk result (λ settings. settings.terms.term_length ≡ length) }
 {
@@ -23,7 +23,7 @@ fn rotation(alloc: Global, seed: &str, length: TermLength) -> Result<RoundRobin,
     } else {
         RoundRobin::shuffled(alloc, bytes(alloc, &[seed])?.as_slice())?
     };
-    // No leader depends on when a term is given up.
+    // No leader depends on the timeout.
     let timeout = Duration::from_secs(1);
     if can_be_stable(length, timeout) {
         return Ok(rotation.with_term(length, timeout, ViewDelta::new(0)));
@@ -31,7 +31,7 @@ fn rotation(alloc: Global, seed: &str, length: TermLength) -> Result<RoundRobin,
     Ok(rotation)
 }
 
-/// The leader of a round of the committee, by clones of the rotation and of what it makes, and by a voter that has the
+/// The leader of a round of the committee, by clones of the rotation and of its elector, and by a voter that has the
 /// rotation itself.
 pub(crate) fn leader(
     alloc: Global,

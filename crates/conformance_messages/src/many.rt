@@ -8,7 +8,7 @@ use simplex_scheme::scheme::{Digest, Scheme};
 use simplex_votes::types::Certificate;
 use std::alloc::{AllocError, Global};
 
-/// Whether each of the certificate messages that the bytes are is valid: asked about at once, kind by kind.
+/// Whether each of the certificate messages that the bytes encode is valid: those of a kind are verified at once.
 pub(crate) fn many<S: Scheme<D>, D: Digest + 'static>(
     alloc: Global,
     scheme: &S,
@@ -22,7 +22,7 @@ pub(crate) fn many<S: Scheme<D>, D: Digest + 'static>(
     Ok(answers(alloc, scheme, messages)?)
 }
 
-/// What is answered of the messages, kind by kind.
+/// The answer of the messages, kind by kind.
 fn answers<S: Scheme<D>, D: Digest + 'static>(
     alloc: Global,
     scheme: &S,

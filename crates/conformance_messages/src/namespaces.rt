@@ -1,4 +1,4 @@
-//! The bytes that are signed, and the names under which they are.
+//! The bytes that are signed, and their namespaces.
 
 use crate::refusals::name;
 use crate::vectors::{Unanswered, bytes};
@@ -6,7 +6,7 @@ use simplex_base::codec::decode;
 use simplex_scheme::scheme::{CertificateSubject, Digest, Namespace, Proposal, Subject};
 use std::alloc::Global;
 
-/// The names under a base, of a clone of them.
+/// The namespaces under a base, from a clone of them.
 pub(crate) fn derive(alloc: Global, base: &[u8]) -> Result<String, Unanswered> {
     let names = Namespace::new(alloc, base)?.clone()?;
     let notarize = hex::encode(alloc, names.notarize.as_slice())?;
@@ -16,7 +16,7 @@ pub(crate) fn derive(alloc: Global, base: &[u8]) -> Result<String, Unanswered> {
     Ok(format!(in alloc; "{notarize} {nullify} {finalize} {seed}")?)
 }
 
-/// The name under a base and the message of the subject of a kind that the words encode.
+/// The namespace under a base and the message of the subject of a kind that the words encode.
 pub(crate) fn subject<D: Digest>(
     alloc: Global,
     kind: &str,
@@ -42,7 +42,7 @@ pub(crate) fn subject<D: Digest>(
     }
 }
 
-/// The name of a subject and its message.
+/// The namespace of a subject and its message.
 fn text_of<D: Digest>(
     alloc: Global,
     names: &Namespace,

@@ -36,7 +36,7 @@ pub(crate) fn batch<S: Scheme<D>, D: Digest>(
     Ok(text)
 }
 
-/// What a batcher returns for the vote that the bytes are.
+/// What a batcher returns for the vote that the bytes encode.
 fn taken<S: Scheme<D>, D: Digest>(
     alloc: Global,
     batcher: &mut Batcher<'_, S, D>,
@@ -52,7 +52,7 @@ fn taken<S: Scheme<D>, D: Digest>(
     }
 }
 
-/// What a resolver selects of the notarizations that the bytes are: the proposals that are certified.
+/// What a resolver selects of the notarizations that the bytes encode: the proposals that are certified.
 pub(crate) fn resolved<S: Scheme<D>, D: Digest>(
     alloc: Global,
     scheme: &S,
@@ -76,7 +76,7 @@ pub(crate) fn resolved<S: Scheme<D>, D: Digest>(
     Ok(text)
 }
 
-/// A notarization as what a resolver is given.
+/// A notarization as an item for a resolver.
 fn item_of<'a, S: Scheme<D>, D: Digest>(
     message: &'a Notarization<S, D>,
 ) -> (Subject<'a, D>, &'a S::Certificate) {
@@ -90,8 +90,8 @@ fn text_of<D: Digest>(alloc: Global, subject: &Subject<'_, D>) -> Result<String,
     hex::encode(alloc, message.as_slice())
 }
 
-/// What a voter returns for a view: whether it takes votes of it, whether one that has certified a view casts them, and
-/// whether it hears what that one casts. Where all that is counted is no view there is no answer.
+/// What a voter returns for a view: whether it takes votes of the view, whether a node that has certified view `certified`
+/// casts them, and whether it hears that node's. [`PAST`] where a computed view is above 2^64 - 1.
 pub(crate) fn hear(
     alloc: Global,
     viewport: &Viewport,

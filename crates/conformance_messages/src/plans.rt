@@ -1,11 +1,11 @@
-//! Plans of what is sent once more.
+//! Plans to send a payload once more.
 
 use crate::vectors::{Unanswered, participant};
 use simplex_base::positions::{Participant, Round};
 use simplex_lead::{Plan, Recipients};
 use std::alloc::{AllocError, Global};
 
-/// A plan to send the payload of a round to these participants once more: what a clone of it says.
+/// A plan to send the payload of a round to these participants once more: the answer of a clone of it.
 pub(crate) fn forward(alloc: Global, round: Round, signers: &[&str]) -> Result<String, Unanswered> {
     let mut recipients = Vec::new(alloc);
     for word in signers {

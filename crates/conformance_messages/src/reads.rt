@@ -27,11 +27,12 @@ pub(crate) enum Asked {
     Read,
     /// The value that all of them encode.
     Decode,
-    /// How their prefixes are refused, and they themselves with a bit flipped.
+    /// How each of their prefixes is refused, and they themselves with each bit flipped.
     Cut,
 }
 
-/// The value that a prefix of the bytes encodes, or all of them, of a type that is read without a bound, and so without memory.
+/// The value that a prefix of the bytes encodes, or all of them, of a type that is read without a bound and so without an
+/// allocation.
 fn read_free<T: ReadExt + Encode + Clone>(
     alloc: Global,
     asked: Asked,
@@ -75,7 +76,7 @@ fn read_under<T: Read + Encode + Drop, C: FnOnce(&T) -> Result<T, AllocError>>(
     }
 }
 
-/// What is said of a value: how long its encoding is, the encoding, and how many bytes are left behind it.
+/// The answer of a value: how long its encoding is, the encoding, and how many bytes are left behind it.
 fn text_of<T: Encode>(
     alloc: Global,
     asked: Asked,
@@ -130,9 +131,9 @@ fn turned<T: Read + Drop>(
     Ok(letters)
 }
 
-/// What a read of a prefix of the bytes returns: `r` where there is a value, and else the first letter of the refusal,
-/// of which `V` is a number's and `B` a truth value's. `!` tells that the slice was moved though nothing was read. Where
-/// the type is read without a bound the read takes no memory.
+/// The letter for a read of a prefix of the bytes: `r` where there is a value, `E` for `EndOfBuffer`, `V` for
+/// `InvalidVarint`, `B` for `InvalidBool`, `I` for any other refusal, and `!` where the slice was moved though nothing was
+/// read. Where the type is read without a bound the read allocates nothing.
 fn letter<T: Read + Drop>(
     alloc: Global,
     bounded: bool,
@@ -156,7 +157,7 @@ fn letter<T: Read + Drop>(
     }
 }
 
-/// The answer to a test vector that asks this of a value of this kind, which is under this bound where it has certificates.
+/// The answer to a test vector that asks this of a value of this kind, read under this bound where it has certificates.
 pub(crate) fn read_vector(
     alloc: Global,
     asked: Asked,
@@ -202,7 +203,7 @@ fn read_message<S: Scheme<D>, D: Digest>(
     }
 }
 
-/// The same of what has certificates, which are under the bound.
+/// The same of a type with certificates, which are read under the bound.
 fn read_bounded<S: Scheme<D>, D: Digest>(
     alloc: Global,
     asked: Asked,

@@ -6,7 +6,7 @@ ghost use Rattle.conformance_messages.specs.Words.{refusal_name};
 use simplex_base::codec::Error;
 use std::alloc::{AllocError, Global};
 
-/// The name of a refusal, with the type and the condition of an invalid value. `OutOfMemory` is never given.
+/// The name of a refusal, with the type and the condition of an invalid value. `AllocError` for `OutOfMemory`.
 pub fn name(alloc: Global, error: Error) -> Result<String, AllocError>
     ensures { IfOk result (λ name. string_bytes name ≡ refusal_name error) }
 {

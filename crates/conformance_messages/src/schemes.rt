@@ -1,4 +1,4 @@
-//! Schemes of test vectors: a committee of either scheme, and who of it one is.
+//! Schemes of test vectors: a committee of either scheme, and the participant that signs, if there is one.
 
 ghost use Rattle.std.specs.Prelude.{◌≤◌, ◌<◌, ◌^◌, length, IfOk};
 
@@ -10,7 +10,7 @@ use simplex_plain::plain::{Plain, PlainKey};
 use simplex_scheme::scheme::Set;
 use std::alloc::{AllocError, Global};
 
-/// The marked scheme of a committee of this many, `N`, or of this participant of it, `N/SIGNER`.
+/// The marked scheme of a committee of `N` participants, or by `N/SIGNER` that of this participant of it.
 pub(crate) fn marked(alloc: Global, word: &str) -> Result<Marked, Unanswered> {
     match word.split_once('/') {
         None => Ok(Marked::new(alloc, committee_size(word)?, None)?),
@@ -24,8 +24,8 @@ pub(crate) fn marked(alloc: Global, word: &str) -> Result<Marked, Unanswered> {
     }
 }
 
-/// The plain scheme under a base of a committee of this many, `N`, whose keys have the numbers from 0 on, or `FIRST+N`, from
-/// FIRST on; or of a participant of it, as [`marked`] has it.
+/// The plain scheme under a base, of a committee of `N` participants, whose keys have the numbers from 0 on, or by `FIRST+N`
+/// from FIRST on; or that of a participant of it, as for [`marked`].
 pub(crate) fn plain(alloc: Global, base: &str, word: &str) -> Result<Plain, Unanswered> {
     let base = bytes(alloc, &[base])?;
     match word.split_once('/') {

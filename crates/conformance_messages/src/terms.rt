@@ -3,7 +3,7 @@
 use simplex_base::positions::{TermLength, View};
 use std::alloc::{AllocError, Global};
 
-/// The term that holds the view, where its end and the next term's start are views.
+/// The term of a view: its index and start, and its end and the next term's start where these are views.
 pub(crate) fn term(alloc: Global, length: TermLength, view: View) -> Result<String, AllocError> {
     let index = view.term_index(length);
     let start = view.term_start(length).get();

@@ -55,7 +55,7 @@ pub(crate) fn small(word: &str) -> Result<u32, Unanswered>
     }
 }
 
-/// An epoch, in decimal digits and nothing else. `NoVector` comes where the word is no such number of at most 2^64 - 1.
+/// An epoch, in decimal digits and nothing else. `NoVector` where the word is no such number of at most 2^64 - 1.
 pub fn epoch(word: &str) -> Result<Epoch, Unanswered>
     ensures { IfOk result (λ epoch. IsDecimal word.now epoch) }
 {
@@ -97,16 +97,16 @@ pub(crate) fn committee_size(word: &str) -> Result<u32, Unanswered>
     Ok(size)
 }
 
-/// The marked committee of this many participants, which signs nothing. `NoVector` comes where the word is no number from 1
-/// to 2^32 - 1 in decimal digits.
+/// The marked committee of this many participants, which signs nothing. `NoVector` where the word is no number from 1 to
+/// 2^32 - 1 in decimal digits.
 pub fn committee(alloc: Global, word: &str) -> Result<Marked, Unanswered>
     ensures { IfOk result (λ scheme. IsMarkedCommittee word.now scheme) }
 {
     Ok(Marked::new(alloc, committee_size(word)?, None)?)
 }
 
-/// The bytes that some words encode, each of them whole bytes by two hexadecimal digits a byte. `NoVector` comes where one
-/// does not.
+/// The bytes that some words encode, each of them whole bytes by two hexadecimal digits a byte. `NoVector` where a word does
+/// not.
 pub fn bytes(alloc: Global, words: &[&str]) -> Result<Vec<u8>, Unanswered>
     ensures { IfOk result (λ bytes. bytes.items ≡ flat_map (λ word. decoded word.now) words.now) }
 {

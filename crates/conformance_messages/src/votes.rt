@@ -73,7 +73,7 @@ fn verify<S: Scheme<D>, D: Digest>(
     }
 }
 
-/// The vote of a kind for what the bytes encode, as the participant signs it that the scheme is for. No memory is taken.
+/// The vote of a kind for what the bytes encode, signed by the scheme's own participant. Signing allocates nothing.
 fn sign<S: Scheme<D>, D: Digest + 'static>(
     alloc: Global,
     scheme: &S,
@@ -106,7 +106,7 @@ fn sign<S: Scheme<D>, D: Digest + 'static>(
     }
 }
 
-/// A vote that was signed without memory, if there is one.
+/// The answer of a vote that was signed without an allocation, or of none.
 fn text_of<V: Encode + Drop>(
     alloc: Global,
     signed: Result<Option<V>, AllocError>,
@@ -118,7 +118,7 @@ fn text_of<V: Encode + Drop>(
     }
 }
 
-/// What a call makes of the votes that the bytes are.
+/// What a call assembles of the votes that the bytes encode.
 fn assemble<S: Scheme<D>, D: Digest + 'static>(
     alloc: Global,
     scheme: &S,
@@ -143,7 +143,7 @@ fn assemble<S: Scheme<D>, D: Digest + 'static>(
     }
 }
 
-/// What is made of notarizes, owned or lent.
+/// What is assembled of notarizes, owned or borrowed.
 fn notarization<S: Scheme<D>, D: Digest>(
     alloc: Global,
     scheme: &S,
@@ -165,7 +165,7 @@ fn notarization<S: Scheme<D>, D: Digest>(
     )
 }
 
-/// What is made of nullifies, owned or lent.
+/// What is assembled of nullifies, owned or borrowed.
 fn nullification<S: Scheme<D>, D: Digest>(
     alloc: Global,
     scheme: &S,
@@ -187,7 +187,7 @@ fn nullification<S: Scheme<D>, D: Digest>(
     )
 }
 
-/// What is made of finalizes, owned or lent.
+/// What is assembled of finalizes, owned or borrowed.
 fn finalization<S: Scheme<D>, D: Digest>(
     alloc: Global,
     scheme: &S,
@@ -209,20 +209,21 @@ fn finalization<S: Scheme<D>, D: Digest>(
     )
 }
 
-/// What is said where votes are for several subjects, or a signer is there twice or in no committee.
+/// The answer where votes are for several subjects, or a signer stands twice or outside the committee.
 fn no_assembly(alloc: Global) -> Result<String, Unanswered> {
     memory::returns(alloc);
     Ok("no assembly".to_string(alloc)?)
 }
 
-/// Has memory where this many votes are a quorum, as a certificate is made of them. Of fewer nothing is made, without memory.
+/// Lets allocations succeed again where this many votes are a quorum: a certificate is assembled of them. Of fewer none is,
+/// and nothing is allocated.
 fn take_memory<S: CertificateScheme>(alloc: Global, scheme: &S, votes: usize) {
     if votes >= quorum(scheme.participants().len() as u32) as usize {
         memory::returns(alloc);
     }
 }
 
-/// A certificate message, or how many votes are fewer than which quorum.
+/// The assembled certificate message, or the quorum and the number of votes where they are too few.
 fn assembled<M: Encode + Drop>(
     alloc: Global,
     made: Result<M, AssemblyError>,
@@ -242,7 +243,7 @@ pub(crate) fn encoded<T: Encode>(alloc: Global, value: &T) -> Result<String, All
     hex::encode(alloc, value.encode(alloc)?.as_slice())
 }
 
-/// The values that the bytes are, one after another.
+/// The values that the bytes encode, one after another.
 pub(crate) fn values<T: Read + Drop>(
     alloc: Global,
     cfg: &T::Cfg,

@@ -8,10 +8,10 @@ use simplex_base::positions::View;
 use simplex_lead::{Lookahead, Viewport};
 use std::alloc::{AllocError, Global};
 
-/// What is said where a call counts past the last view.
+/// The answer where a call counts past the last view.
 pub(crate) const PAST: &str = "past the end";
 
-/// How far ahead a node looks, in terms of this many views.
+/// The lookahead of this many optimistic views, in terms of this many views.
 pub(crate) fn lookahead(length: &str, ahead: &str) -> Result<Lookahead, Unanswered> {
     Ok(Lookahead {
         term_length: term_length(length)?,
@@ -19,7 +19,7 @@ pub(crate) fn lookahead(length: &str, ahead: &str) -> Result<Lookahead, Unanswer
     })
 }
 
-/// Whether votes of the view `pending` are taken in the view `current`, where all that is counted is a view.
+/// Whether votes of the view `pending` are taken in the view `current`, or `None` where a computed view is above 2^64 - 1.
 pub(crate) fn admits(lookahead: Lookahead, current: View, pending: View) -> Option<bool>
     ensures { MatchOption result (¬ FitsWindow lookahead.term_length current) (λ taken.
         IsTrue taken ↔
@@ -31,7 +31,7 @@ pub(crate) fn admits(lookahead: Lookahead, current: View, pending: View) -> Opti
     Some(lookahead.admits(current, pending))
 }
 
-/// Whether messages of the view `pending` are sent in the view `current`, where all that is counted is a view.
+/// Whether messages of the view `pending` are sent in the view `current`, or `None` where a computed view is above 2^64 - 1.
 pub(crate) fn outbound(lookahead: Lookahead, current: View, pending: View) -> Option<bool>
     ensures { MatchOption result (¬ FitsWindow lookahead.term_length current) (λ sent. IsTrue sent ↔
         IsOutbound lookahead.term_length lookahead.optimistic_views current pending) }
@@ -42,7 +42,7 @@ pub(crate) fn outbound(lookahead: Lookahead, current: View, pending: View) -> Op
     Some(lookahead.admits_outbound(current, pending))
 }
 
-/// The last view of the term of `current` that is admitted ahead of it, where all that is counted is a view.
+/// The last view of the term of `current` that is admitted ahead of it, or `None` where a computed view is above 2^64 - 1.
 pub(crate) fn limit(lookahead: Lookahead, current: View) -> Option<View>
     ensures { MatchOption result (¬ FitsWindow lookahead.term_length current) (λ limit.
         limit ≡ own_limit lookahead.term_length lookahead.optimistic_views current) }
@@ -53,7 +53,7 @@ pub(crate) fn limit(lookahead: Lookahead, current: View) -> Option<View>
     Some(lookahead.admission_limit(current))
 }
 
-/// Whether a node takes votes of the view, where all that is counted from its current one is a view.
+/// Whether a node takes votes of the view, or `None` where a view computed from its current one is above 2^64 - 1.
 fn takes_vote(viewport: Viewport, view: View) -> Option<bool>
     ensures { MatchOption result (¬ FitsWindow viewport.lookahead.term_length viewport.current)
         (λ taken. IsTrue taken ↔
@@ -67,7 +67,7 @@ fn takes_vote(viewport: Viewport, view: View) -> Option<bool>
     Some(viewport.admits_vote(view))
 }
 
-/// A truth value, if there is one.
+/// A truth value, or [`PAST`] where there is none.
 pub(crate) fn truth(alloc: Global, value: Option<bool>) -> Result<String, AllocError> {
     match value {
         Some(value) => format!(in alloc; "{value}"),
@@ -75,7 +75,7 @@ pub(crate) fn truth(alloc: Global, value: Option<bool>) -> Result<String, AllocE
     }
 }
 
-/// A view, or what is said where there is none.
+/// A view, or the answer where there is none.
 fn place(alloc: Global, view: Option<View>, none: &str) -> Result<String, AllocError> {
     match view {
         Some(view) => format!(in alloc; "{}", view.get()),
@@ -92,7 +92,7 @@ pub(crate) fn limit_vector(
     place(alloc, limit(lookahead, current), PAST)
 }
 
-/// The answer to a test vector that asks from where messages of the view may be issued.
+/// The answer to a test vector that asks for the issuance floor of the view.
 pub(crate) fn floor_vector(
     alloc: Global,
     lookahead: Lookahead,

@@ -20,8 +20,8 @@ pub record AreCommitteeKeys (keys : List (List ℕ)) : Type 0 where
   pub few : length keys < 2 ^ 32
   pub distinct : AllPairs (λ a b. a ≢ b) keys
 
--- The committee of these keys: a participant's number is the place of its key among them in ascending order, and what is
--- signed is signed under the names of the namespace.
+-- The committee of these keys: a participant's number is the place of its key among them in ascending order, and votes are
+-- signed under the namespaces of this base.
 pub record IsPlainCommittee (namespace : List ℕ) (keys : List (List ℕ)) (committee : PlainScheme) : Type 0 where
   pub are_keys : AreCommitteeKeys keys
   pub same : IsPermutation keys committee.keys
@@ -33,8 +33,8 @@ pub record IsPlainCommittee (namespace : List ℕ) (keys : List (List ℕ)) (com
 abbrev pub round_and_signer : {S D P G : Type 0} → Evidence S D P G → Round × ℕ
 round_and_signer evidence = (round_of (evidence_value evidence).first.subject, (evidence_value evidence).first.signer)
 
--- Accused are the rounds and the signers of the evidence of the stream's report, in its order, where the committee of the
--- keys judges every epoch. The basis of committees says how messages are read and judged under them.
+-- `accused` are the rounds and the signers of the evidence of the stream's report, in its order, where the committee of the
+-- keys judges every epoch. `basis` gives how messages are read and judged under committees.
 pub record AreAccused {C : Type 0} (basis : Schedule PlainScheme → Basis PlainScheme (List ℕ) C (List ℕ) (List ℕ)) (namespace : List ℕ) (keys : List (List ℕ)) (stream : List ℕ) (accused : List (Round × ℕ)) : Type 0 where
   pub committee : PlainScheme
   pub report : Report PlainScheme (List ℕ) (List ℕ) (List ℕ)

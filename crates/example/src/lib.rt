@@ -1,4 +1,4 @@
-//! How the crates are used: who of a committee signed two contradictory votes in a stream of messages.
+//! How the crates are used: which participants signed two contradictory votes in a stream of messages.
 #![tactic(auto)]
 
 ghost use Rattle.std.specs.Prelude.{◌≡◌, ◌↔◌, Ok, None, IfOk, IfSome, map};
@@ -11,8 +11,8 @@ use simplex_plain::plain::{Plain, PlainKey};
 use simplex_scheme::scheme::{Set, Sha256Digest};
 use std::alloc::{AllocError, Global};
 
-/// Who is accused by the stream, in which round, in the order of the evidence. One committee judges every epoch. `None`
-/// comes where the keys are no committee: none at all, more than 2^32 - 1, or one of them twice.
+/// The rounds and the signers that the stream accuses, in the order of the evidence. One committee judges every epoch.
+/// `None` where the keys are not those of a committee: none at all, more than 2^32 - 1, or one of them twice.
 pub fn accused(
     alloc: Global,
     namespace: &[u8],
@@ -32,7 +32,7 @@ pub fn accused(
     Ok(Some(places(alloc, &report.evidence)?))
 }
 
-/// The committee of these keys, if they are one's.
+/// The committee of these keys, if they are those of one.
 fn committee_of(
     alloc: Global,
     namespace: &[u8],

@@ -11,7 +11,7 @@ error_at (Once failing kind) call = if call == failing then Some kind else None
 error_at (Since first kind) call = if nat_le first call then Some kind else None
 error_at (Short short) call = None
 
--- how many bytes a call moves at most that would move so many
+-- how many bytes a call moves at most, where it would move `step` without trouble
 abbrev pub step_at : Trouble → ℕ → ℕ → ℕ
 step_at Never call step = step
 step_at (Once failing kind) call step = step

@@ -1,6 +1,6 @@
 //! Fake readers and writers for tests. They stand over memory that a test gives or over a fixed array, so
-//! they take no memory themselves, and they tell their bytes: what a reader has left, and what a writer
-//! holds.
+//! they allocate nothing themselves, and their bytes can be seen: what a reader has left, and what a
+//! writer holds.
 #![tactic(auto)]
 
 pub mod source;

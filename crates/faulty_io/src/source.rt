@@ -36,8 +36,8 @@ impl<'a> Model for Source<'a> {
 }
 
 impl<'a> Source<'a> {
-    /// A reader of these bytes, of which no call was made. With a `step` of `usize::MAX` a call gives as
-    /// many bytes as it has room for.
+    /// A reader of these bytes, before its first call. With a `step` of `usize::MAX` a call gives as many
+    /// bytes as its buffer has room for.
     pub fn new(bytes: &'a [u8], step: usize, trouble: Trouble) -> Source<'a>
         requires { 0 < step }
         ensures { result ≡ record { left = bytes.now; step = step; trouble = trouble; calls = 0 } }
@@ -57,7 +57,7 @@ impl<'a> Source<'a> {
         self.left
     }
 
-    /// How many calls were made, those that failed among them.
+    /// How many calls were made, including those that failed.
     pub fn calls(&self) -> usize
         ensures { result ≡ self.now.calls }
     {

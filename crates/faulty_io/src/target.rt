@@ -15,9 +15,9 @@ use std::marker::Model;
 /// How many bytes a [`Target`] has room for.
 pub const ROOM: usize = 4096;
 
-/// A writer that takes at most `step` bytes a call, and `room` bytes in all, after which it takes none: its
-/// calls then answer 0. Its writes and its flushes fail, and its writes fall short, where their troubles say, and are counted each by
-/// themselves. A write that fails takes nothing.
+/// A writer that takes at most `step` bytes a call, and `room` bytes in all; after these its writes return 0.
+/// Writes and flushes are counted each by themselves. They fail, and writes fall short, where their troubles
+/// say. A write that fails takes nothing.
 #[derive(Drop)]
 pub struct Target {
     bytes: [u8; 4096],
@@ -91,14 +91,14 @@ impl Target {
         &self.bytes[..self.count]
     }
 
-    /// Whether each byte that it took was flushed since.
+    /// Whether each byte that it took was flushed afterwards.
     pub fn is_flushed(&self) -> bool
         ensures { IsTrue result ↔ (self.now.pending ≡ false) }
     {
         !self.pending
     }
 
-    /// How many writes and flushes were made, those that failed among them.
+    /// How many writes and how many flushes were made, including those that failed.
     pub fn calls(&self) -> (usize, usize)
         ensures { (result.0 ≡ self.now.writes) × (result.1 ≡ self.now.flushes) }
     {

@@ -30,7 +30,7 @@ impl Trouble {
         }
     }
 
-    /// How many bytes a call moves at most that would move so many.
+    /// How many bytes a call moves at most, where it would move `step` without trouble.
     pub fn step_at(self, call: usize, step: usize) -> usize
         ensures { result ≡ step_at self call step }
     {

@@ -1,5 +1,5 @@
 //! `inspect`, `inspect NAMESPACE KEY...` or `inspect NAMESPACE @EPOCH KEY...`: reads a stream of messages from standard input,
-//! and prints each as a line of JSON, under committees also whether each signature and certificate is valid, and then a line
+//! and prints each as a line of JSON, with committees also whether each signature and certificate is valid, and then a line
 //! for the fault, if there is one.
 #![tactic(auto)]
 

@@ -14,7 +14,7 @@ use Rattle.audit_cli.specs.declared.status.Failure.TheVariants as failures
 use Rattle.inspect_cli.specs.Arguments.{AreGiven, AreNotGiven}
 use Rattle.inspect_cli.specs.Answer.{LinesUnder, IsBegun, InspectEnds}
 
--- words that name no committees, and are some
+-- words, at least one, that name no committees
 pub not_given : (words : List (List ℕ)) → words ≢ [] → AreNoArguments words → AreNotGiven words
 not_given words some none None empty = some empty
 not_given words some none (Some committees) named = none committees named
@@ -32,7 +32,7 @@ ends_without lines words reader writer failure none (inl e) keeps =
 ends_without lines words reader writer failure none (inr e) keeps =
     subst (λ (f : Failure). InspectEnds lines words reader writer (Err f)) (sym e) (inl keeps)
 
--- the run gave up
+-- the run failed
 pub ends_given_up : (lines : LinesUnder) (words : List (List ℕ)) (reader : ReaderUse) (writer : WriterUse) (error : RunError)
     → (error ≡ errors.Read → IsTrue reader.failed) → (error ≡ errors.TooLong → GaveTooMuch reader) → (error ≡ errors.Write → IsTrue writer.failed)
     → IsBegun lines words reader writer → InspectEnds lines words reader writer (Err (failure_of error))

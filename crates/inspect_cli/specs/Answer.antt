@@ -26,7 +26,7 @@ pub record IsShown (lines : LinesUnder) (words : List (List ℕ)) (reader : Read
   pub written : AppendsText (lines committees) input fault writer.before writer.after
   pub flushed : IsTrue writer.flushed
 
--- A beginning of the text of an input was written, be it empty or the whole.
+-- A prefix of the text of an input was written, perhaps empty or the whole.
 pub record IsBegun (lines : LinesUnder) (words : List (List ℕ)) (reader : ReaderUse) (writer : WriterUse) : Type 0 where
   pub committees : Option (Schedule PlainScheme)
   pub input : List ℕ
@@ -34,13 +34,13 @@ pub record IsBegun (lines : LinesUnder) (words : List (List ℕ)) (reader : Read
   pub input_is : IsInput reader.before input
   pub written : AppendsPart (lines committees) input writer.before writer.after
 
--- what is said of an ending
+-- what is said on standard error after an ending
 abbrev pub inspect_said_of : Ending → List ℕ
 inspect_said_of (Ok None) = []
 inspect_said_of (Ok (Some fault)) = inspect_complaint_at fault.place
 inspect_said_of (Err failure) = inspect_complaint_of failure
 
--- what an ending says of the arguments, of the reader and of the writer
+-- what holds of the arguments, of the reader and of the writer after an ending
 abbrev pub InspectEnds : LinesUnder → List (List ℕ) → ReaderUse → WriterUse → Ending → Type 0
 InspectEnds lines words reader writer (Ok fault) = IsShown lines words reader writer fault
 InspectEnds lines words reader writer (Err Usage) = AreNotGiven words × Keeps writer.before writer.after

@@ -10,7 +10,7 @@ use simplex_plain::plain::Plain;
 use std::alloc::Global;
 
 /// Reads the arguments, without the program's name: none, or a namespace, and then keys, or groups of an epoch and keys.
-/// `Failure::Usage` where they are neither, `Failure::OutOfMemory` where an allocation failed meanwhile.
+/// `Failure::Usage` where they are none of these, `Failure::OutOfMemory` where an allocation failed before that was found.
 pub fn parse_any(alloc: Global, arguments: &[String]) -> Result<Option<Committees<Plain>>, Failure>
     ensures given { IfOk result (AreGiven (map string_bytes arguments.now)) }
     ensures usage { result ≡ Err Failure.Usage → AreNotGiven (map string_bytes arguments.now) }

@@ -20,8 +20,8 @@ use simplex_scheme::scheme::Sha256Digest;
 use std::alloc::Global;
 use std::io::{Read, Write};
 
-/// Writes the lines of the input, judged by the committees that the arguments name, if they name any. Returns its fault, if
-/// there is one.
+/// Writes the lines of the input, judged by the committees that the arguments name, if they name any. Returns the input's
+/// fault, if there is one.
 fn show_input<R: Read, W: Write>(
     alloc: Global,
     arguments: &[String],
@@ -44,7 +44,7 @@ fn show_input<R: Read, W: Write>(
     Ok(fault)
 }
 
-/// Says on standard error how a run ended, and gives its status. That it cannot be said changes nothing.
+/// Says on standard error how a run ended, and returns its status. A failure to write there does not change the status.
 pub(crate) fn conclude<E: Write>(errors: &mut E, ended: Result<Option<Fault>, Failure>) -> Status
     ensures status { result ≡ status_of ended }
     ensures said { AppendsBeginning (E.contents errors.old) (E.contents errors.new)
@@ -65,8 +65,8 @@ pub(crate) fn conclude<E: Write>(errors: &mut E, ended: Result<Option<Fault>, Fa
 
 /// Runs the program over its arguments, without the program's name, and its three streams.
 ///
-/// The arguments are judged before anything is read. The line of a message is written as soon as the message is read, so after
-/// a failure a beginning of the text may have been written. What cannot be said on `errors` leaves the status.
+/// The arguments are checked before anything is read. Lines are written while the input is read, so after a failure a prefix of
+/// the text may have been written. A failure to write to `errors` does not change the status.
 pub fn command<R: Read, W: Write, E: Write>(
     alloc: Global,
     arguments: &[String],
@@ -81,7 +81,7 @@ pub fn command<R: Read, W: Write, E: Write>(
         × InspectEnds ⟦<Plain as Inspected<Sha256Digest>>⟧.lines (map string_bytes arguments.now)
         (reader_use R.remaining input.old input.new)
         (writer_use W.contents output.old output.new) ending }
-    // Where a device failed the status says so, and nothing else is said.
+    // Where the input or the output failed the status is `Failed`, and standard error says only that.
     ensures read_failed { IsTrue (has_failed input.new) → (result ≡ Status.Failed)
         × AppendsBeginning (E.contents errors.old) (E.contents errors.new)
         (inspect_complaint_of Failure.Read) }

@@ -7,7 +7,7 @@ use arrayvec::ArrayString;
 use audit_cli::status::Failure;
 use itoa::Buffer;
 
-/// What is said on standard error of a failure, with its line's end.
+/// The line on standard error for a failure, with its newline.
 pub fn inspect_complaint_of(failure: Failure) -> &'static str
     ensures { result.now ≡ inspect_complaint_of failure }
 {
@@ -19,8 +19,8 @@ pub fn inspect_complaint_of(failure: Failure) -> &'static str
     }
 }
 
-/// What is said on standard error of a fault at a byte, with its line's end. It takes no memory, and the longest, of 44 bytes,
-/// has room.
+/// The line on standard error for a fault at a byte, with its newline. It allocates nothing, and the longest, of 44 bytes,
+/// fits.
 pub fn inspect_complaint_at(place: usize) -> ArrayString<64>
     ensures { result.bytes ≡ inspect_complaint_at place }
 {

@@ -1,4 +1,4 @@
-//! `json_lines`: says how many lines standard input has, and how many of them are JSON objects as `serde_json` reads them.
+//! `json_lines`: prints how many lines standard input has, and how many of them are JSON objects as `serde_json` reads them.
 #![tactic(auto)]
 
 ghost use Rattle.std.specs.Prelude.{◌≡◌, IfOk, is_some, option_and_then};
@@ -9,7 +9,7 @@ use serde_json::{Error, Value};
 use std::alloc::Global;
 use std::io;
 
-/// Whether a text is a JSON object. The error comes only after an allocation failed.
+/// Whether a text is a JSON object. The error is returned only after an allocation failed.
 fn is_object(alloc: Global, text: &str) -> Result<bool, Error>
     ensures { IfOk result (λ it. it ≡ is_some (option_and_then as_object (read text.now))) }
 {

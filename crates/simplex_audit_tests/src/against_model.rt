@@ -1,4 +1,4 @@
-//! The audit, the deferred one and the auditor by its definition, over many small streams.
+//! The audit and the deferred audit beside the auditor by its definition, over many small streams.
 
 use crate::model::audit_by_definition;
 use crate::outcome::{deferred_outcome_of, four_and_one, outcome_of};
@@ -77,7 +77,7 @@ pub(crate) const TAILS: [&[u8]; 6] = [
 /// How many participants the committees of epochs 0 and 1 have, and the bound that messages are read under.
 const SIZES: ([usize; 2], u32) = ([4, 1], 4);
 
-/// The audit of a stream, and the deferred one, return what its definition does.
+/// The audit of a stream, and the deferred one, return what the auditor by its definition does.
 fn check<S: Listing<D>, D: Digest>(
     rt: &impl Abort,
     alloc: Global,

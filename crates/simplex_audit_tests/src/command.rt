@@ -23,12 +23,12 @@ const READ_FAILED: &str = "audit: read failed\n";
 
 const WRITE_FAILED: &str = "audit: write failed\n";
 
-/// One call of the program: arguments and devices, and what comes of it.
+/// One call of the program: arguments and devices, and what it has to return and write.
 #[derive(Clone, Copy)]
 struct Case<'a> {
     arguments: &'a [&'a str],
     stream: &'a [u8],
-    /// How many bytes a call gives, takes, and takes of what is said.
+    /// How many bytes a read of the input gives, a write to the output takes, and one to standard error takes.
     steps: (usize, usize, usize),
     reading: Trouble,
     writing: Trouble,
@@ -136,7 +136,8 @@ fn ample_arguments_and_faults(rt: HostRuntime) -> Result<(), Fail> {
     Ok(())
 }
 
-/// Each cause of status 3 but memory. What cannot be said leaves the status, and what is interrupted is said again.
+/// Each cause of status 3 except memory. A failed write to standard error leaves the status, and an interrupted one is made
+/// again.
 #[test]
 fn ample_devices_that_fail(rt: HostRuntime) -> Result<(), Fail> {
     let stream = hex::decode(rt.alloc(), TWICE)?;
@@ -212,7 +213,7 @@ fn ample_devices_that_fail(rt: HostRuntime) -> Result<(), Fail> {
     Ok(())
 }
 
-/// What a call over devices that do not fail comes to, in groups.
+/// Makes a call with groups of keys, over devices that do not fail.
 fn any_is_refused(rt: &(impl Abort + AllocGlobal)) -> bool {
     let Ok(stream) = hex::decode(rt.alloc(), TWICE) else {
         return true;

@@ -60,7 +60,7 @@ impl Counted {
         self.verified.get()
     }
 
-    /// Whether the signer is in the committee and the signature is the mark, counted.
+    /// Whether the signer is in the committee and the signature is the mark. The call is counted.
     fn is_marked(&self, attestation: &Attestation<Self>) -> bool
         ensures { result ≡ (nat_lt attestation.now.signer (length self.now) &&
             bytes_eq attestation.now.signature (170 ∷ [])) }
@@ -178,7 +178,7 @@ impl<D: Digest> Scheme<D> for Counted {
         requires distinct { IsDistinct nat_eq (signers_of attestations.items) }
         requires members { All (λ a. a.signer < length self.now) attestations.items }
         ensures below { RefusesFew (length self.now) (length attestations.items) result }
-        // No memory is taken.
+        // Nothing is allocated.
         ensures ample { quorum_of (length self.now) ≤ length attestations.items → IsOk result }
         ensures made { IfOk result (λ certificate. IsInOrder attestations.items certificate) }
         ensures certified { IfOk result (λ certificate. (subject : SubjectValue D) →

@@ -1,4 +1,4 @@
-//! A deferred audit returns what an audit does, and what is stored of a batch by one is what a ledger stores.
+//! A deferred audit returns what an audit does, and `store_batch` what a ledger stores.
 
 use crate::outcome::{deferred_outcome_of, marked, outcome_of};
 use simplex_audit::audit::Committees;
@@ -23,7 +23,7 @@ const BATCH: &[u8] = &[
     0, 0,
 ];
 
-/// A deferred audit and a batch return what an audit and a ledger do.
+/// A deferred audit and `store_batch` return what an audit and a ledger do.
 fn check<S: Listing<D>, D: Digest>(
     rt: &impl Abort,
     alloc: Global,

@@ -20,7 +20,7 @@ const STREAM: &[u8] = &[
     10, 255,
 ];
 
-/// Their lines under a committee of four.
+/// The lines of the stream under a committee of four.
 const LINES: &str =
     "{\"offset\":0,\"length\":7,\"kind\":\"notarize\",\"epoch\":0,\"view\":10,\"statements\":[\
     {\"vote\":\"notarize\",\"parent\":5,\"payload\":\"06\",\"signatures\":[\
@@ -78,7 +78,7 @@ fn refused(rt: HostRuntime) {
     let _ = any_is_refused(&rt);
 }
 
-/// Over a writer that fails the call does, and the writer holds this beginning of the lines.
+/// Over a writer that fails the call fails, and the writer holds this prefix of the lines.
 fn fails<S: Listing<D>, D: Digest>(
     rt: &impl Abort,
     alloc: Global,

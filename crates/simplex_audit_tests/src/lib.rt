@@ -1,4 +1,4 @@
-//! Tests of the audit that cross the crates, and the plain auditor that it is run against.
+//! Tests of the audit that cross the crates, and the auditor by its definition that it is compared with.
 #![tactic(auto)]
 
 #[cfg(test)]

@@ -37,7 +37,7 @@ fn nullification(alloc: Global) -> Result<Vec<u8>, Fail> {
     Ok(bytes)
 }
 
-/// The stream is one message, which accuses nobody, also where it comes in reads of 1,000 bytes.
+/// The stream, in reads of 1,000 bytes, is one message, which accuses nobody.
 fn check<S: Listing<D>, D: Digest>(
     rt: &impl Abort,
     alloc: Global,

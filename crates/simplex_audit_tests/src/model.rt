@@ -1,6 +1,6 @@
-//! The auditor by its definition: the valid votes stand in one list and the subjects of certified messages in another, and of
-//! each list any two are compared. It is slow, and there to be run against. What a message says it takes from its bytes, in which
-//! each number and each payload is one byte, and the signature of the marked scheme another.
+//! The auditor by its definition: it lists the valid votes and the subjects of certified messages, and compares any two of each
+//! list. It is slow, and there to be compared with. It takes the parts of a message from its bytes itself: each number, each
+//! payload and each signature of the marked scheme is one byte.
 
 use crate::outcome::Outcome;
 use simplex_audit::audit::Fault;
@@ -33,7 +33,7 @@ struct Matter {
 }
 
 impl Matter {
-    /// What a vote or a certificate of this sort is for, by its first bytes.
+    /// What a vote or a certificate of this sort is for, from its first bytes.
     fn read(sort: Sort, bytes: &mut &[u8]) -> Matter {
         let (epoch, view) = (u64::from(byte(bytes)), u64::from(byte(bytes)));
         let round = Round::new(Epoch::new(epoch), View::new(view));
@@ -49,7 +49,7 @@ impl Matter {
         }
     }
 
-    /// Whether two votes contradict, the first of which is of the kind's first sort, and the second of its second.
+    /// Whether two votes contradict, the first being of a kind's first sort, and the second of its second.
     fn contradicts(&self, other: &Matter) -> bool {
         KINDS.iter().any(|kind| self.sort == kind.0
             && other.sort == kind.1
@@ -81,10 +81,11 @@ struct Lists {
     certified: Vec<Matter>,
 }
 
-/// How many participants the committee of each epoch from 0 on has. There is none in later epochs.
+/// How many participants the committee of each epoch from 0 on has. Later epochs have no committee.
 type Sizes<'a> = &'a [usize];
 
-/// What an audit of the stream has to return, by marked committees of these sizes. `T` is what is read of it under `bound`.
+/// What an audit of the stream has to return, under marked committees of these sizes. `T` is the type of the messages, which
+/// are read under `bound`.
 pub(crate) fn audit_by_definition<T: Read + Drop>(
     alloc: Global,
     sizes: Sizes<'_>,
@@ -139,7 +140,7 @@ fn skip<T: Read + Drop>(alloc: Global, bound: &T::Cfg, bytes: &mut &[u8]) -> Res
     Ok(())
 }
 
-/// The first of the bytes, behind which they are left. It is 0 where there is none.
+/// Takes the first of the bytes. Returns 0 where there is none.
 fn byte(bytes: &mut &[u8]) -> u8 {
     let Some((first, rest)) = bytes.split_first() else {
         return 0;
@@ -169,7 +170,7 @@ fn list_message(sizes: Sizes<'_>, bytes: &mut &[u8], lists: &mut Lists) -> Resul
     }
 }
 
-/// The number of participants of the committee of a round, none where there is no committee.
+/// The number of participants of the committee of a round, 0 where there is no committee.
 fn size_at(sizes: Sizes<'_>, round: Round) -> usize {
     let epoch = round.epoch().get() as usize;
     sizes.get(epoch).copied().unwrap_or(0)
@@ -180,8 +181,8 @@ fn faults_of(participants: usize) -> usize {
     participants.saturating_sub(1) / 3
 }
 
-/// Takes an attestation to this, and appends the vote if it is valid: marked so, by a member of the committee of its epoch.
-/// Returns whether it is.
+/// Takes an attestation to this, and appends the vote if it is valid: its signature is the mark, and its signer is in the
+/// committee of its epoch. Returns whether it is valid.
 fn list_attestation(
     sizes: Sizes<'_>,
     matter: Matter,

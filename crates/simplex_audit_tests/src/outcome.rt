@@ -12,7 +12,7 @@ use std::test::Fail;
 /// What an audit returns.
 #[derive(Debug, PartialEq, Eq, Drop)]
 pub struct Outcome {
-    /// The lines of the evidence, and then those of the splits, each with its end.
+    /// The lines of the evidence, and then those of the splits, each with its newline.
     pub text: String,
     /// The number of messages read.
     pub read: usize,
@@ -52,7 +52,7 @@ pub(crate) fn deferred_outcome_of<S: Listing<D>, D: Digest>(
     written(alloc, audit_deferred::<S, D>(alloc, committees, stream)?)
 }
 
-/// A report in this form.
+/// A report as an outcome.
 fn written<S: Listing<D>, D: Digest>(alloc: Global, report: Report<S, D>) -> Result<Outcome, Fail> {
     let mut text = String::new(alloc);
     for evidence in &report.evidence {

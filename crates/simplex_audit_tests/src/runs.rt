@@ -46,7 +46,7 @@ const STEADY: Case<'static> = Case {
     flushes: 1,
 };
 
-/// Makes a run by a marked committee of four, and compares.
+/// Makes a run under a marked committee of four, and compares.
 fn ends(rt: &impl Abort, alloc: Global, case: Case<'_>) -> Result<(), Fail> {
     ends_by::<_, MarkedDigest>(rt, alloc, &marked(alloc, 4)?, case);
     Ok(())
@@ -175,7 +175,7 @@ impl Twenty {
         Ok(Twenty { stream, text })
     }
 
-    /// The run over them in calls of 16 bytes: ten reads, the last of which is at the end, and 24 writes.
+    /// The run over them in calls of 16 bytes: ten reads, the last at the end, and 24 writes.
     fn steady(&self) -> Case<'_> {
         Case {
             stream: self.stream.as_slice(),
@@ -186,7 +186,7 @@ impl Twenty {
     }
 }
 
-/// A read that fails, or is interrupted, lets nothing be written. One that is short changes nothing.
+/// After a read that fails, or is interrupted, nothing is written. A short read changes nothing.
 #[test]
 fn ample_each_read_in_turn(rt: HostRuntime) -> Result<(), Fail> {
     let twenty = Twenty::new(rt.alloc())?;
@@ -209,7 +209,7 @@ fn ample_each_read_in_turn(rt: HostRuntime) -> Result<(), Fail> {
     ends(&rt, rt.alloc(), Case { reading, ..steady })
 }
 
-/// A write that fails, or is interrupted, leaves what was written before it. One that is short changes nothing.
+/// After a write that fails, or is interrupted, the writer holds what was written before it. A short write changes nothing.
 #[test]
 fn ample_each_write_in_turn(rt: HostRuntime) -> Result<(), Fail> {
     let twenty = Twenty::new(rt.alloc())?;

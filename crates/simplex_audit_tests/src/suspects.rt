@@ -1,4 +1,4 @@
-//! The attestations that have to be verified, and that the verdicts of no others are in the report.
+//! The attestations that have to be verified, and that the report depends on no other verdicts.
 
 ghost use Rattle.std.proofs.Common.{lit<, lit≤};
 
@@ -47,7 +47,7 @@ fn found(
     suspects::<Committee, MarkedDigest>(alloc, committees, stream)
 }
 
-/// The stream with each byte 0xaa, of which only verdicts are any, as another.
+/// The stream with this byte in place of each byte 0xaa; only verdicts are such.
 fn with_verdicts(alloc: Global, stream: &[u8], verdict: u8) -> Result<Vec<u8>, AllocError> {
     let mut bytes = Vec::new(alloc);
     for byte in stream {
@@ -56,7 +56,7 @@ fn with_verdicts(alloc: Global, stream: &[u8], verdict: u8) -> Result<Vec<u8>, A
     Ok(bytes)
 }
 
-/// Copies the verdict at a place, where there is one.
+/// Copies the verdict at a place, if both have one there.
 fn copy_verdict(from: &[u8], to: &mut [u8], place: usize) {
     if place < from.len() && place < to.len() {
         to[place] = from[place];

@@ -1,6 +1,6 @@
-//! How many attestations an audit has verified: a vote that changes nothing is not verified, nor is one again whose certificate
-//! was found to certify. A deferred audit verifies those alone of signers that are claimed to contradict in a round, and of the
-//! certificates of that round. Listing suspects, and the records of a report, verifies none.
+//! How many attestations an audit has verified: a vote that changes nothing is not verified, and the votes of a certificate
+//! that was found to certify are not verified again. A deferred audit verifies only the votes of suspects and the certificates
+//! of their rounds. Listing suspects, or the records of a report, verifies none.
 
 use crate::counted::Counted;
 use simplex_audit::audit::{Committees, audit, audit_deferred};
@@ -103,13 +103,13 @@ fn ample_nothing_is_verified_twice(rt: HostRuntime) -> Result<(), Fail> {
             (6, 6),
         ),
         (&[NOTARIZATION, second, third], (4, 4)),
-        // What claims to contradict is verified, and nothing of another round or signer.
+        // The votes of suspects are verified, and nothing of another round or signer.
         (&[first, UNSIGNED], (2, 2)),
         (&[vote, certificate, first, second], (6, 2)),
         (&[vote, first, certificate, UNSIGNED], (6, 2)),
         (&[OTHER, first, UNSIGNED, OTHER], (3, 2)),
         (&[OTHER, first, NOTARIZATION, second], (6, 5)),
-        // Of the votes that a certificate lists which does not certify only those of suspects are verified.
+        // Of the votes in a certificate that does not certify only those of suspects are verified.
         (&[first, second, FORGED], (6, 4)),
     ];
     for (messages, verified) in cases {
@@ -146,7 +146,7 @@ fn ample_nothing_of_an_honest_stream_is_verified(rt: HostRuntime) -> Result<(), 
     // Nor is anything verified where the stream comes as a batch.
     let stored = store_batch::<Counted, MarkedDigest>(alloc, &committees, &[], stream.as_slice())?;
     assert_eq!(rt; (stored.len(), verified(&committees)?), (0, 0));
-    // One vote that contradicts costs its signer's votes and the certificate of its own round.
+    // One vote that contradicts has its signer's votes and the certificate of its round verified.
     stream.extend_from_slice(&[0, 0, 128, 1, 5, 7, 3, 0xaa])?;
     let report = audit_deferred::<Counted, MarkedDigest>(alloc, &committees, stream.as_slice())?;
     assert_eq!(rt; (report.read, report.evidence.len()), (12_501, 1));

@@ -1,4 +1,4 @@
-//! What a watched device hands on: each call once, and what it returns.
+//! A watched device passes on each call once, and what it returns.
 
 use faulty_io::{Source, Target, Trouble};
 use simplex_audit::audit::Watched;
@@ -22,7 +22,7 @@ fn kind_of<T: Copy>(outcome: io::Result<T>) -> Option<ErrorKind> {
     }
 }
 
-/// A read is one read of the device, and gives its bytes or its error.
+/// A read is one read of the device, and returns its bytes or its error.
 #[test]
 fn reads_are_handed_on(rt: HostRuntime) -> Result<(), Fail> {
     for kind in KINDS {

@@ -1,6 +1,6 @@
-//! Calls that take no memory: what they return while every allocation fails.
+//! Calls that allocate nothing: what they return while every allocation fails.
 //!
-//! `.ci/refusals` runs each test here with every allocation refused from the one that `memory_ends` asks for.
+//! `.ci/refusals` runs each test here with every allocation made to fail, from that of `memory_ends` on.
 
 use crate::outcome::marked;
 use faulty_io::{Source, Target, Trouble};
@@ -13,7 +13,7 @@ use std::io::{ErrorKind, Read};
 use std::process::Abort;
 use std::test::Fail;
 
-/// Asks for the room from which on every allocation may be refused.
+/// Makes the allocation from which on every one may fail.
 fn memory_ends(alloc: Global) {
     let _ = Vec::<u8>::with_capacity(alloc, 12345);
 }
@@ -55,7 +55,7 @@ fn without_memory_committees(rt: HostRuntime) -> Result<(), Fail> {
     Ok(())
 }
 
-/// What auditors say of two votes and the beginning of a message, and of nothing.
+/// What auditors return after two votes and the beginning of a message, and after nothing.
 fn check_auditors<S: Listing<D>, D: Digest>(
     rt: &impl Abort,
     alloc: Global,
@@ -85,7 +85,7 @@ const CONTRADICTING: &[u8] = &[
     3, 0, 10, 1, 0xaa,
 ];
 
-/// Whom the evidence of a report accuses, and where.
+/// The round and the signer of each evidence of a report.
 fn check_evidence<S: Listing<D>, D: Digest>(
     rt: &impl Abort,
     alloc: Global,

@@ -13,7 +13,7 @@ use simplex_base::values::{EqByParts, ExactClone};
 use simplex_scheme::scheme::{Digest, Listing, SchemeTypes};
 use std::alloc::{AllocError, Global};
 
-/// The whole stream was read as messages, and the buffer is written.
+/// The call succeeded, and the buffer is written. An audit has read the whole stream as messages.
 pub const WHOLE: u32 = 0;
 
 /// The stream has a fault, a byte that starts no message. The messages before it were audited, and

@@ -1,5 +1,5 @@
-//! Audits over slices and numbers, for callers that are not Rattle. Each call puts its result into a buffer of the caller's, and
-//! states how many bytes or items that are; a buffer that is too short is as before.
+//! Audits over slices and numbers, for callers that are not Rattle. Each call puts its result into a buffer of the caller's
+//! and states how many bytes or items that are; a buffer that is too short is as before.
 //!
 //! Audits: [`answer`] puts a report into a buffer, [`records`] its evidence as records, [`suspects`] the attestations that have
 //! to be verified first, and [`store`] what a ledger stores. Committees: [`keys`] and [`plain`] have those of the plain scheme,

@@ -24,8 +24,8 @@ fn listed<T: Read + Drop>(alloc: Global, cfg: &T::Cfg, encodings: &[&str]) -> Op
     Some(values)
 }
 
-/// Certificates of these encodings for the proposal with this payload in round (0, 10), under a bound of four, verify as wanted.
-/// Returns whether an allocation failed; then the same list is verified when it is asked about again.
+/// Certificates of these encodings for the proposal with this payload in round (0, 10), under a bound of four, verify as
+/// wanted. Returns whether an allocation failed; then a second call over the same list verifies it.
 fn is_refused<S: CertificateVerifier<D>, D: Digest>(
     rt: &(impl Abort + AllocGlobal),
     scheme: &S,
@@ -53,7 +53,7 @@ fn is_refused<S: CertificateVerifier<D>, D: Digest>(
     is_answer_refused(rt, scheme, pairs.as_slice(), wanted)
 }
 
-/// Certificates verify as wanted. Returns whether an allocation failed; then the same list is verified when it is asked about again.
+/// Certificates verify as wanted. Returns whether an allocation failed; then a second call over the same list verifies it.
 fn is_answer_refused<S: CertificateVerifier<D>, D: Digest>(
     rt: &(impl Abort + AllocGlobal),
     scheme: &S,
@@ -69,8 +69,8 @@ fn is_answer_refused<S: CertificateVerifier<D>, D: Digest>(
     refused
 }
 
-/// Five certificates, of which the first has a participant too few and the fourth a bad signature, the second of them alone, the
-/// fourth alone, and none. Returns whether an allocation failed.
+/// Four lists: five certificates, the first with a participant too few and the fourth with an invalid signature; the second
+/// alone; the fourth alone; and none. Returns whether an allocation failed.
 fn any_list_is_refused<S: CertificateVerifier<D>, D: Digest>(
     rt: &(impl Abort + AllocGlobal),
     scheme: &S,
@@ -84,7 +84,7 @@ fn any_list_is_refused<S: CertificateVerifier<D>, D: Digest>(
     five || second || fourth || is_refused(rt, scheme, payload, &[], &[])
 }
 
-/// The key that is this number.
+/// The key whose last byte is this number, behind zeros.
 fn key(number: u8) -> PlainKey {
     let mut key = [0; 32];
     key[31] = number;
@@ -132,7 +132,7 @@ fn ample(rt: HostRuntime) {
     assert!(rt; !marked_is_refused(&rt) && !plain_is_refused(&rt));
 }
 
-/// Where the allocation for the answers fails there is none.
+/// Where the allocation for the answers fails there are none.
 #[test]
 fn refused(rt: HostRuntime) {
     let _ = marked_is_refused(&rt);

@@ -1,4 +1,4 @@
-//! Numbers that are given, and that no test vector asks for.
+//! Known numbers that no test vector asks for.
 
 use crate::without_memory::is_out;
 use simplex_base::codec::MaxEncodeSize;
@@ -45,9 +45,9 @@ fn one_of_four_may_lie(rt: HostRuntime) {
     }
 }
 
-/// Greatest sizes of an epoch, a view, a participant and a round, of an attestation, a proposal, a notarize, a nullify, a
-/// finalize, a vote and a context, and for four participants of a certificate, a notarization, a nullification, a finalization
-/// and a certificate message.
+/// The greatest encoded sizes, in bytes, of an epoch, a view, a participant and a round, of an attestation, a proposal, a
+/// notarize, a nullify, a finalize, a vote and a context, and for four participants of a certificate, a notarization, a
+/// nullification, a finalization and a certificate message.
 fn sizes<S: CertificateScheme, D: Digest>() -> [usize; 16] {
     [
         Epoch::max_encode_size(),

@@ -19,7 +19,7 @@ use std::process::Abort;
 use std::test::Fail;
 use std::time::Duration;
 
-/// A hash that is the same for everything.
+/// A hasher whose digest is the same for all bytes.
 struct Same;
 
 impl Hasher for Same {
@@ -32,7 +32,7 @@ impl Hasher for Same {
     }
 }
 
-/// A hash that falls as the last byte rises: 255 less that byte.
+/// A hasher whose digest falls as the last byte rises: 255 minus that byte.
 struct Falling;
 
 impl Hasher for Falling {
@@ -49,18 +49,18 @@ impl Hasher for Falling {
     }
 }
 
-/// The last of the bytes, or what is given where there is none.
+/// The last of the bytes, or `none` where there is none.
 fn last_of(bytes: &[u8], none: u8) -> u8
     ensures { result ≡ fold (λ _ byte. byte) none bytes.now }
 {
     bytes.iter().fold(none, |_, byte| *byte)
 }
 
-/// What makes electors by which participant 0 leads always, whatever the certificate.
+/// A configuration of electors by which participant 0 always leads, with any certificate.
 #[derive(Clone, Drop)]
 struct FirstAlways(Terms);
 
-/// An elector by which participant 0 leads always.
+/// An elector by which participant 0 always leads.
 #[derive(Clone, Copy)]
 struct First {
     terms: Terms,
@@ -125,8 +125,8 @@ impl<S: CertificateScheme> Elector<S> for First {
     ghost clones = { λ elector copy same. one_alike _ _ _ _ elector copy (sym same) };
 }
 
-/// An elector of this configuration, for this committee, goes by this mode and by these terms, and so lead the first views of
-/// epoch 0, from view 0 on. It says so without memory.
+/// An elector of this configuration, for this committee, has this mode and these terms, and elects in this order for the first
+/// views of epoch 0, from view 0 on. It allocates nothing for that.
 fn check<C: Config<Marked>>(
     rt: &impl Abort,
     alloc: Global,
@@ -145,7 +145,7 @@ fn check<C: Config<Marked>>(
     Ok(())
 }
 
-/// By these hashes the committee of five leads the first six views in this order.
+/// With this hasher the committee of five leads the first six views in this order.
 fn check_order<H: Hasher>(
     rt: &impl Abort,
     alloc: Global,
@@ -156,12 +156,12 @@ fn check_order<H: Hasher>(
     check(rt, alloc, five, shuffled, rotating(), &order)
 }
 
-/// The mode of a rotation, and its terms where it has no others.
+/// The mode of a rotation, and its terms where no others were given.
 fn rotating() -> (Mode, Terms) {
     (Mode::Scheduled, Terms::rotating())
 }
 
-/// Hashes that tie leave the order, and hashes that fall turn it.
+/// Equal digests leave the order as it is, and falling ones reverse it.
 #[test]
 fn ample_chosen_hashes(rt: HostRuntime) -> Result<(), Fail> {
     let five = Marked::new(rt.alloc(), 5, None)?;
@@ -184,7 +184,7 @@ fn by_digest(alloc: Global, seed: &[u8], participants: u32) -> Result<Vec<u32>, 
     order.into_iter().map(|(_, number)| number).collect(alloc)
 }
 
-/// The order in which the committee of ten leads by a seed, which is that of the digests.
+/// The order in which the committee of ten leads with a seed, which is that of the digests.
 fn order_of(rt: &impl Abort, alloc: Global, ten: &Marked, seed: &[u8]) -> Result<Vec<u32>, Fail> {
     let shuffled: RoundRobin<Sha256> = RoundRobin::shuffled(alloc, seed)?;
     let order = by_digest(alloc, seed, 10)?;
@@ -242,7 +242,7 @@ fn without_memory_leaders(rt: HostRuntime) -> Result<(), Fail> {
     check(&rt, rt.alloc(), &four, rotation, wanted, &[0, 1, 2, 3, 0])
 }
 
-/// A rotation is made, and has terms of 20 views, without memory. Its elector takes memory.
+/// A rotation in terms of 20 views is made without an allocation. Its elector allocates.
 #[test]
 fn without_memory_rotation(rt: HostRuntime) -> Result<(), Fail> {
     let four = Marked::new(rt.alloc(), 4, None)?;
@@ -270,7 +270,7 @@ fn without_memory_modes(rt: HostRuntime) {
     assert!(rt; matches!(Mode::Scheduled.early::<u32>(), Some(None)));
 }
 
-/// What stable terms keep.
+/// What stable terms hold.
 #[test]
 fn without_memory_terms(rt: HostRuntime) {
     let _ = is_out(rt.alloc());
@@ -281,7 +281,7 @@ fn without_memory_terms(rt: HostRuntime) {
     assert!(rt; terms.optimistic_views() == ViewDelta::new(2));
 }
 
-/// What is counted of views.
+/// Sums and differences of views, a fault bound and a quorum.
 #[test]
 fn without_memory_views(rt: HostRuntime) {
     let _ = is_out(rt.alloc());
@@ -304,7 +304,7 @@ fn without_memory_term_of_a_view(rt: HostRuntime) {
     assert!(rt; view.admits(View::new(21), length) && !view.admits(View::new(12), length));
 }
 
-/// How far ahead a node looks in terms of 20 views.
+/// A lookahead of two optimistic views in terms of 20 views.
 fn lookahead() -> Lookahead {
     let (length, second) = (TermLength::new(20), Duration::from_secs(1));
     Lookahead::new(&Terms::stable(length, second, ViewDelta::new(2)))

@@ -1,4 +1,4 @@
-//! What is as before where an allocation failed, of which no test vector can tell.
+//! What is as before where an allocation failed, which no test vector can state.
 
 use simplex_base::codec::{Encode, Read, Write};
 use simplex_plain::marked::{Marked, MarkedDigest};
@@ -6,8 +6,8 @@ use simplex_scheme::scheme::{CertificateScheme, Digest};
 use simplex_votes::types::{Certificate, Vote};
 use std::process::Abort;
 
-/// Reads a value with a byte behind it, and appends it to a buffer that holds a byte. Returns whether an allocation failed; then the
-/// slice and the buffer were as before, and the same call does what it does with ample memory.
+/// Reads a value with a byte behind it, and appends it to a buffer that holds a byte. Returns whether an allocation failed;
+/// then the slice and the buffer were as before, and the same call does what it does with ample memory.
 fn is_refused<T: Read + Encode + Drop>(
     rt: &(impl Abort + AllocGlobal),
     cfg: &T::Cfg,

@@ -60,7 +60,7 @@ const MESSAGES: [&[u8]; 16] = [
     &[9, 0, 10, 1, 0xaa, 0, 10, 5, 6, 1, 0xaa],
 ];
 
-/// These messages are told apart.
+/// Any two of these messages are unequal.
 fn are_messages_told_apart<S: CertificateScheme, D: Digest>(
     rt: &impl Abort,
     alloc: Global,

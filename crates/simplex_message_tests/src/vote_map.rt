@@ -27,7 +27,7 @@ impl Attributable for Ballot {
     }
 }
 
-/// Who has an item and who has none, and a clear, of which no test vector tells.
+/// Which participants have an item, and a clear: no test vector asks for these.
 #[test]
 fn ample_clear(rt: HostRuntime) -> Result<(), Fail> {
     let mut map = AttributableMap::new(rt.alloc(), 5);
@@ -45,7 +45,7 @@ fn ample_clear(rt: HostRuntime) -> Result<(), Fail> {
     Ok(())
 }
 
-/// Whether the participant has an item, which then is its own.
+/// Whether the participant has an item, and that is its own.
 fn has(map: &AttributableMap<Ballot>, signer: u32) -> bool {
     match map.get(Participant::new(signer)) {
         Some(ballot) => *ballot == Ballot::of(signer),
@@ -90,13 +90,13 @@ fn ample(rt: HostRuntime) {
     assert!(rt; !is_refused(&rt));
 }
 
-/// Where the room is refused the map is as before.
+/// Where the allocation fails the map is as before.
 #[test]
 fn refused(rt: HostRuntime) {
     let _ = is_refused(&rt);
 }
 
-/// An untouched map takes no memory.
+/// An untouched map allocates nothing.
 #[test]
 fn without_memory_untouched(rt: HostRuntime) {
     let _ = is_out(rt.alloc());
@@ -106,7 +106,7 @@ fn without_memory_untouched(rt: HostRuntime) {
     assert!(rt; matches!(untouched.insert(Ballot::of(5)), Ok(false)));
 }
 
-/// A map with an item takes no memory. A clear gives the items' memory up, so that the next insert asks for some.
+/// A map with an item allocates nothing. A clear frees the items' memory, so that the next insert allocates.
 #[test]
 fn without_memory(rt: HostRuntime) -> Result<(), Fail> {
     let mut map = AttributableMap::new(rt.alloc(), 5);

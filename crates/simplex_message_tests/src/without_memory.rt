@@ -1,7 +1,7 @@
-//! Calls that take no memory, made when none is left, where no test vector makes them so.
+//! Calls that allocate nothing, made while every allocation fails, where no test vector makes them so.
 //!
-//! Each test makes first what takes memory, and then asks for [`SIGNAL`] bytes. An allocator that refuses this request and every
-//! later one leaves the calls behind it without memory; under any other allocator they are made with memory.
+//! Each test first makes what needs memory, and then asks for [`SIGNAL`] bytes. Under an allocator that fails this request and
+//! every later one the calls behind it have no memory; under any other allocator they have.
 
 ghost use Rattle.std.specs.Prelude.{◌≡◌, IfOk, length};
 
@@ -23,10 +23,10 @@ use std::alloc::Global;
 use std::process::Abort;
 use std::test::Fail;
 
-/// The number of bytes of the request from which on an allocator may refuse every request.
+/// The number of bytes of the request from which on an allocator may fail every request.
 const SIGNAL: usize = 12_345;
 
-/// Asks for [`SIGNAL`] bytes and for one more, and returns whether both were refused: then no memory is left.
+/// Asks for [`SIGNAL`] bytes and for one more, and returns whether both failed: then no memory is left.
 pub(crate) fn is_out(alloc: Global) -> bool {
     let signal = Vec::<u8>::with_capacity(alloc, SIGNAL);
     let behind = Vec::<u8>::with_capacity(alloc, 1);
@@ -53,7 +53,7 @@ const VOTES: [&[u8]; 3] = [
     &[2, 0, 10, 5, 6, 1, 0xaa],
 ];
 
-/// The artifacts that they become.
+/// The artifacts that these votes become.
 const STORED_VOTES: [&[u8]; 3] = [
     &[0, 0, 10, 5, 6, 1, 0xaa],
     &[3, 0, 10, 1, 0xaa],
@@ -67,17 +67,17 @@ const CERTIFICATES: [&[u8]; 3] = [
     &[2, 0, 10, 5, 6, 3, 0, 0xaa, 1, 0xaa, 2, 0xaa],
 ];
 
-/// The words of their kinds.
+/// The words for the kinds of these messages.
 const KINDS: [&str; 3] = ["notarization", "nullification", "finalization"];
 
-/// The artifacts that they become.
+/// The artifacts that these messages become.
 const STORED_CERTIFICATES: [&[u8]; 3] = [
     &[1, 0, 10, 5, 6, 3, 0, 0xaa, 1, 0xaa, 2, 0xaa],
     &[4, 0, 10, 3, 0, 0xaa, 1, 0xaa, 2, 0xaa],
     &[6, 0, 10, 5, 6, 3, 0, 0xaa, 1, 0xaa, 2, 0xaa],
 ];
 
-/// Whether messages become these artifacts, which are as long.
+/// Whether messages become these artifacts, of the same encoded lengths.
 fn are_stored<M: EncodeSize + Drop, A: From<M> + EncodeSize + PartialEq + Drop>(
     messages: Vec<M>,
     artifacts: &[A],
@@ -152,14 +152,14 @@ fn without_memory_certificates(rt: HostRuntime) -> Result<(), Fail> {
     Ok(())
 }
 
-/// Of participant 1 the votes for two proposals, and a nullify.
+/// Votes of participant 1 for two proposals, and a nullify.
 const CONTRADICTING: [&[u8]; 3] = [
     &[0, 10, 5, 6, 1, 0xaa],
     &[0, 10, 5, 7, 1, 0xaa],
     &[0, 10, 1, 0xaa],
 ];
 
-/// The values with these two encodings, which take no memory.
+/// The values with these two encodings, which are decoded without an allocation.
 fn pair<A: ReadExt + Drop, B: ReadExt + Drop>(
     alloc: Global,
     first: &[u8],
@@ -235,7 +235,7 @@ fn without_memory_assembly(rt: HostRuntime) -> Result<(), Fail> {
     Ok(())
 }
 
-/// The attestation of the participant to a proposal, if it is valid and nobody signs none.
+/// The attestation of `me` to a proposal, if it is valid and `nobody` signs none.
 fn signed<S: Scheme<D>, D: Digest>(
     alloc: Global,
     me: &S,
@@ -252,7 +252,7 @@ fn signed<S: Scheme<D>, D: Digest>(
     }
 }
 
-/// Whether no attestations are too few for a committee of one.
+/// Whether an empty list of attestations is refused as too few for a committee of one.
 fn is_refused_without_any<S: Scheme<D>, D: Digest>(alloc: Global, me: &S) -> bool {
     let none = Vec::new(alloc);
     if !can_assemble(me, none.as_slice()) {
@@ -284,7 +284,7 @@ fn is_assembled<S: Scheme<D>, D: Digest>(
         && nobody.verify_certificate(Subject::Notarize { proposal }, &certificate)
 }
 
-/// Whether the participant of a committee of one signs, and makes a certificate of its attestation and of no less.
+/// Whether the participant of a committee of one signs, and makes a certificate of its attestation, and none without it.
 fn is_quorum_alone<S: Scheme<D>, D: Digest>(
     alloc: Global,
     me: &S,

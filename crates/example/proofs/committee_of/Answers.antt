@@ -13,7 +13,7 @@ use Rattle.example.proofs.committee_of.Goals as goal
 sizes : (keys : List (List ℕ)) (count : ℕ) → count ≡ length keys → false ≡ (count == 0) → count ≤ 4294967295 → (1 ≤ length keys) × (length keys < 2 ^ 32)
 sizes keys count same some few = let more = eqb-false count 0 (sym some) in (omega arith, omega arith)
 
--- these are a committee's where none is there twice
+-- these keys are a committee's where none is there twice
 are_keys : (keys : List (List ℕ)) → (1 ≤ length keys) × (length keys < 2 ^ 32) → IsDistinct bytes_eq keys → AreCommitteeKeys keys
 are_keys keys size distinct = record {
   some = size.0;

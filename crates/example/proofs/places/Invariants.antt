@@ -3,6 +3,6 @@ use Rattle.std.specs.Prelude.{map}
 use Rattle.example.specs.Accused.{round_and_signer}
 use Rattle.example.proofs.places.Given as goal
 
--- those so far
+-- the rounds and the signers so far
 abbrev pub invariant-loop-one : goal.invariant-loop-one
 invariant-loop-one l = l.places.items ≡ map round_and_signer (take l.one-index l.evidence)
