@@ -1,5 +1,5 @@
 //! The auditor for callers that speak the C ABI (bindings/simplex_audit.h). Each export calls a function of `simplex_ffi` and
-//! has its contract.
+//! has its contract: which status it returns when, and what it writes, is said there and in the header.
 #![tactic(auto)]
 
 ghost use Rattle.std.specs.Prelude.{◌≡◌, ◌≢◌, ◌⊎◌, ◌-◌, ◌≤◌, ◌++◌, None, Some};

@@ -34,7 +34,7 @@ impl<'a, S: Listing<D>, D: Digest> Ledger<'a, S, D> {
     }
 
     /// A ledger that begins with what an earlier one stored: it is the ledger that was fed these bytes. The contract of
-    /// `store` states whom it then accuses, and whom after further pieces.
+    /// `store` states whom it then accuses, and whom after further pieces. `AllocError` only where an allocation failed.
     pub fn resume(
         alloc: Global,
         committees: &'a Committees<S>,
@@ -49,7 +49,7 @@ impl<'a, S: Listing<D>, D: Digest> Ledger<'a, S, D> {
         Ok(ledger)
     }
 
-    /// The ledger that was fed this piece, too. Where an allocation fails there is no ledger.
+    /// The ledger that was fed this piece, too. Where an allocation fails, `AllocError`, there is no ledger.
     pub fn feed(self, piece: &[u8]) -> Result<Self, AllocError>
         requires { bytes_fed self + length piece.now < 2 ^ 64 }
         ensures bytes { IfOk result (λ next.
@@ -71,7 +71,7 @@ impl<'a, S: Listing<D>, D: Digest> Ledger<'a, S, D> {
     }
 
     /// The evidence of all that it was fed: one for each round, signer and kind with two valid votes that contradict, in
-    /// this order.
+    /// this order. `AllocError` only where an allocation failed.
     pub fn evidence(&self) -> Result<Vec<Evidence<S, D>>, AllocError>
         ensures { IfOk result (λ held. (committees : Schedule S) (stream : List ℕ) →
             WasFed ⟦<S as Audited<D>>⟧.basis committees self.now stream →
@@ -82,7 +82,8 @@ impl<'a, S: Listing<D>, D: Digest> Ledger<'a, S, D> {
     }
 
     /// The evidence as bytes for `resume`: each a message, an `Activity`, one after the other in the order of `evidence`; no
-    /// bytes where there is no evidence. Votes that contradict nothing yet are not stored.
+    /// bytes where there is no evidence. Votes that contradict nothing yet are not stored. `AllocError` only where an allocation
+    /// failed.
     pub fn store(&self, alloc: Global) -> Result<Vec<u8>, AllocError>
         // The bytes encode the evidence, and it is their evidence, too. A piece behind them is read as it is alone, and what is
         // held then is the evidence of both: accused signers stay accused, and nobody is accused whom the messages of both do
@@ -98,8 +99,8 @@ impl<'a, S: Listing<D>, D: Digest> Ledger<'a, S, D> {
 }
 
 /// What a ledger stores that was fed the bytes that an earlier one stored, or none, and then a batch of messages. Only the
-/// votes of suspects and the certificates of their rounds are verified, as by [`audit_deferred`], and memory is bounded by the
-/// stored bytes and the batch.
+/// votes of suspects and the certificates of their rounds are verified, as by [`audit_deferred`]. Memory is bounded by the stored
+/// bytes, the batch and, for each of their rounds, the size of its committee. `AllocError` only where an allocation failed.
 pub fn store_batch<S: Listing<D>, D: Digest>(
     alloc: Global,
     committees: &Committees<S>,

@@ -68,7 +68,7 @@ impl<'a, S: Listing<D>, D: Digest> LightClient<'a, S, D> {
         }
     }
 
-    /// The finalization of the latest round so far.
+    /// The finalization of the latest round so far, or `None` before one was taken.
     pub fn latest(&self) -> Option<&Finalization<S, D>>
         ensures latest { option_copied result ≡ self.now.latest }
         // It certifies its proposal under the committee of its epoch.

@@ -62,9 +62,10 @@ fn read_set(alloc: Global, bytes: &[u8]) -> Result<Option<Set<PlainKey>>, AllocE
     }
 }
 
-/// The committee of these keys, of 32 bytes each and in any order, under this namespace, for every
-/// epoch. `None` where they are not the keys of a committee: at least one, fewer than 2^32, and none
-/// twice.
+/// The committee of these keys, of 32 bytes each and in any order, under this base, for every epoch. A
+/// participant's number is the place of its key in ascending order. `None` where they are not the keys
+/// of a committee: at least one, fewer than 2^32, and none twice. `AllocError` only where an allocation
+/// failed.
 pub fn committees(
     alloc: Global,
     namespace: &[u8],

@@ -91,10 +91,10 @@ pub fn admits_outbound(term_length: u32, optimistic_views: u64, current: u64, pe
     NO
 }
 
-/// The earliest view from which messages of the view `view` may be issued, written to `floor`:
-/// [`YES`] where there is one, and [`NO`] where no lookahead bounds it: without a lookahead, and
-/// for the first view of a term. [`NONE`] where `term_length` is 0. Where the answer is not [`YES`]
-/// `floor` is as before.
+/// The earliest view from which messages of the view `view` may be issued, `view` less
+/// `optimistic_views` less 1 and at least 0, written to `floor`: [`YES`] where there is one, and [`NO`]
+/// where no lookahead bounds it: without a lookahead, and for the first view of a term. [`NONE`] where
+/// `term_length` is 0. Where the answer is not [`YES`] `floor` is as before.
 pub fn issuance_floor(term_length: u32, optimistic_views: u64, view: u64, floor: &mut u64) -> u32
     ensures yes { result ≡ 1 → (1 ≤ term_length) × (floor.new ≡ view - optimistic_views - 1) ×
         ¬ (optimistic_views ≡ 0) × ¬ (view ≡ term_start term_length view) }

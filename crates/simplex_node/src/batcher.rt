@@ -53,7 +53,7 @@ impl<'a, S: Scheme<D>, D: Digest> Batcher<'a, S, D> {
     /// Takes a vote of any signer for any proposal. It is recorded if it is valid, for the proposal, and its signer's
     /// first such vote; so an invalid vote never takes the place of a valid one. Returns `None` until a quorum of
     /// participants has signed such votes; from then on every call assembles a notarization from all recorded votes.
-    /// After an error the vote may have been recorded or not.
+    /// `AllocError` only where an allocation failed; the vote may then have been recorded or not.
     pub fn take(
         &mut self,
         alloc: Global,
@@ -120,7 +120,7 @@ impl<'a, S: Scheme<D>, D: Digest> Batcher<'a, S, D> {
         self.votes.len()
     }
 
-    /// The notarization of all recorded votes, if they are a quorum.
+    /// The notarization of all recorded votes, if they are a quorum. `AllocError` only where an allocation failed.
     pub fn notarization(&self, alloc: Global) -> Result<Option<Notarization<S, D>>, AllocError>
         ensures certifies { IfOk result (λ answer.
             IfSome answer (λ n. (n.proposal ≡ self.now.proposal) ×

@@ -8,7 +8,7 @@ use simplex_evidence::types::verify_certificates;
 use simplex_scheme::scheme::{CertificateVerifier, Digest, Subject};
 use std::alloc::{AllocError, Global};
 
-/// The items whose certificate certifies their subject, in the order given.
+/// The items whose certificate certifies their subject, in the order given. `AllocError` only where an allocation failed.
 pub fn resolve<'a, 'b, S: CertificateVerifier<D>, D: Digest>(
     alloc: Global,
     scheme: &S,

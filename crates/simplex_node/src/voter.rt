@@ -12,7 +12,8 @@ use simplex_lead::{Lookahead, Viewport};
 use simplex_scheme::scheme::{CertificateScheme, Set};
 use std::alloc::{AllocError, Global};
 
-/// Whether a node takes a vote of this view, which it then holds until it no longer retains the view.
+/// Whether a node takes a vote of this view: it retains the view, and admits it from its current one, for which
+/// `viewport.lookahead.fits` has to hold.
 pub fn takes(viewport: &Viewport, view: View) -> bool
     requires { FitsWindow viewport.now.lookahead.term_length viewport.now.current }
     ensures taken { IsTrue result ↔
@@ -30,8 +31,8 @@ pub fn takes(viewport: &Viewport, view: View) -> bool
     viewport.lookahead.admits(viewport.current, view) && viewport.retains(view)
 }
 
-/// Whether a node that has certified view `certified` casts votes of view `view`: it is then in view `certified + 1`,
-/// and `view` is in reach.
+/// Whether a node that has certified view `certified`, which is below 2^64 - 1, casts votes of view `view`: it is then in
+/// view `certified + 1`, and `view` is in reach.
 pub fn casts(lookahead: &Lookahead, certified: View, view: View) -> bool
     requires { certified + 1 < 2 ^ 64 }
     ensures { IsTrue result ↔
@@ -42,7 +43,8 @@ pub fn casts(lookahead: &Lookahead, certified: View, view: View) -> bool
 
 /// Whether a node with this viewport hears a vote of view `view` from a node with the same lookahead that has certified
 /// view `certified`: the vote is not cast or it is taken. It is heard wherever `certified` is in reach of this node's
-/// view and not behind its term, unless terms have one view, and this node retains `view`.
+/// view and not behind its term, unless terms have one view, and this node retains `view`. Of its current view
+/// `viewport.lookahead.fits` has to hold, and `certified` is below 2^64 - 1.
 pub fn is_heard(viewport: &Viewport, certified: View, view: View) -> bool
     requires current { FitsWindow viewport.now.lookahead.term_length viewport.now.current }
     requires certified { certified + 1 < 2 ^ 64 }
@@ -61,7 +63,8 @@ pub fn is_heard(viewport: &Viewport, certified: View, view: View) -> bool
     !casts(&viewport.lookahead, certified, view) || viewport.admits_vote(view)
 }
 
-/// Who leads a round, for a node with this configuration and these participants.
+/// Who leads a round, for a node with this configuration and these participants, 1 to 2^32 - 1 of them. The certificate is the
+/// one that led to the round; a scheduled elector ignores it. `AllocError` only where an allocation failed.
 pub fn leader<S: CertificateScheme, C: Config<S>>(
     alloc: Global,
     config: C,

@@ -8,8 +8,18 @@ use Rattle.simplex_votes.specs.Votes.{SignedVote}
 use Rattle.simplex_evidence.specs.Contradiction.{Equivocation}
 use Rattle.simplex_detector.specs.Evidence.{IsEquivocation}
 use Rattle.simplex_places.specs.FirstPlaces.{AreSought, IsSought, NotesAlong, first_place, has_key, or_found}
-use Rattle.simplex_places.specs.Records.{IsFirstPlace, IsRecord, found_place, record_by}
+use Rattle.simplex_places.specs.Records.{IsFirstPlace, IsOfEvidence, IsRecord, found_place, record_by}
 use Rattle.simplex_places.proofs.PlaceLemmas.{first_stands, any_kept}
+
+-- a record by what was found is of its evidence
+of_evidence : {D G K : Type 0} (cmp : K → K → Ordering) (key_of : SignedVote D G → K) (places : BTreeMap K (Option ℕ)) (e : Equivocation D G) → IsOfEvidence e (record_by cmp key_of places e)
+of_evidence cmp key_of places e = record { epoch_is = refl; view_is = refl; signer_is = refl; kind_is = refl }
+
+-- all of some evidence, whatever was found
+pub all_of_evidence : {D G K E : Type 0} (cmp : K → K → Ordering) (key_of : SignedVote D G → K) (places : BTreeMap K (Option ℕ)) (value : E → Equivocation D G) (es : List E) →
+    AllZip IsOfEvidence (map value es) (map (λ e. record_by cmp key_of places (value e)) es)
+all_of_evidence cmp key_of places value [] = tt
+all_of_evidence cmp key_of places value (e ∷ es) = (of_evidence cmp key_of places (value e), all_of_evidence cmp key_of places value es)
 
 -- Votes are the same where their keys are equal, every vote is itself, and what was found of a key is the place of the first
 -- message with a vote of that key.
@@ -35,10 +45,7 @@ module _ {M D G K : Type 0} (cmp : K → K → Ordering) (eq : K → K → Bool)
   record_stands : (payload_eq : D → D → Bool) (e : Equivocation D G) → IsEquivocation payload_eq (filter keep (flat_map votes messages)) e → AreSought cmp key_of before e →
       IsRecord (λ v m. list_any (same v) (votes m)) encoding messages e (record_by cmp key_of after e)
   record_stands payload_eq e casts sought = record {
-    epoch_is = refl;
-    view_is = refl;
-    signer_is = refl;
-    kind_is = refl;
+    of_evidence = of_evidence cmp key_of after e;
     first_stands = vote_stands e.first sought.0 casts.first_cast;
     second_stands = vote_stands e.second sought.1 casts.second_cast;
   }

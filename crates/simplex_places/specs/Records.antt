@@ -24,12 +24,16 @@ pub record IsFirstPlace {M : Type 0} (test : M → Bool) (encoding : M → List 
   pub first : All (λ m. test m ≡ false) before
   pub place_is : place ≡ length (flat_map encoding before)
 
--- The record is that of an evidence: whom it accuses, of what, and the places of the first messages that carry its votes.
-pub record IsRecord {M D G : Type 0} (carries : SignedVote D G → M → Bool) (encoding : M → List ℕ) (messages : List M) (e : Equivocation D G) (found : Record) : Type 0 where
+-- The record states whom an evidence accuses, in which round and of what.
+pub record IsOfEvidence {D G : Type 0} (e : Equivocation D G) (found : Record) : Type 0 where
   pub epoch_is : found.epoch ≡ (round_of e.first.subject).epoch
   pub view_is : found.view ≡ (round_of e.first.subject).view
   pub signer_is : found.signer ≡ e.first.signer
   pub kind_is : found.kind ≡ kind_rank e.kind
+
+-- The record is that of an evidence, with the places where the first messages begin that carry its votes.
+pub record IsRecord {M D G : Type 0} (carries : SignedVote D G → M → Bool) (encoding : M → List ℕ) (messages : List M) (e : Equivocation D G) (found : Record) : Type 0 where
+  pub of_evidence : IsOfEvidence e found
   pub first_stands : IsFirstPlace (carries e.first) encoding messages found.first_place
   pub second_stands : IsFirstPlace (carries e.second) encoding messages found.second_place
 

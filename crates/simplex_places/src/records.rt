@@ -2,10 +2,12 @@
 
 ghost use Rattle.std.specs.Prelude.{◌≡◌, ◌&&◌, IfOk, Some, map, nat_eq, refl};
 ghost use Rattle.std.specs.BTreeMap.{get};
+ghost use Rattle.std.specs.List.{AllZip};
 ghost use Rattle.simplex_audit.specs.Guarantees.{IsAudit};
+ghost use Rattle.simplex_audit.specs.Report.{evidence_in};
 ghost use Rattle.simplex_detector.specs.Accusation.{kind_rank};
 ghost use Rattle.simplex_detector.specs.Values.{evidence_value};
-ghost use Rattle.simplex_places.specs.Records.{AreRecords, found_place, record_by};
+ghost use Rattle.simplex_places.specs.Records.{AreRecords, IsOfEvidence, found_place, record_by};
 
 use crate::first_places::{find, sought};
 use crate::located::Located;
@@ -121,7 +123,9 @@ fn records_by<K: Key<D, S::Signature>, S: Listing<D>, D: Digest>(
     stream: &[u8],
     report: &Report<S, D>,
 ) -> Result<Vec<Record>, AllocError>
-    ensures { IfOk result (λ found.
+    ensures whose { IfOk result (λ found.
+        AllZip IsOfEvidence (evidence_in report.now) found.items) }
+    ensures records { IfOk result (λ found.
         IsAudit (⟦<S as Audited<D>>⟧.basis committees.now) stream.now report.now →
         AreRecords (⟦<S as Audited<D>>⟧.basis committees.now) ⟦<S as Located<D>>⟧.carries
         stream.now report.now found.items) }
@@ -133,9 +137,10 @@ fn records_by<K: Key<D, S::Signature>, S: Listing<D>, D: Digest>(
     Ok(found)
 }
 
-/// The evidence of the report of a stream as records, in the order of the report, each with the places of its two votes in
-/// the stream. Where there is evidence the stream is read a second time, and nothing is verified: each vote is looked up among
-/// those of the evidence, by its value. Memory is bounded by the report. `AllocError` is returned only after an allocation
+/// The evidence of the report of a stream as records, in the order of the report, each with the places of its two votes in the
+/// stream. The report has to be that of this stream under these committees; of another one the places mean nothing. Where there
+/// is evidence the stream is read a second time, and nothing is verified: each vote is looked up among those of the evidence.
+/// Memory is bounded by the report and the longest certificate of the stream. `AllocError` is returned only after an allocation
 /// failed.
 pub fn records<S: Listing<D>, D: Digest>(
     alloc: Global,
@@ -143,7 +148,11 @@ pub fn records<S: Listing<D>, D: Digest>(
     stream: &[u8],
     report: &Report<S, D>,
 ) -> Result<Vec<Record>, AllocError>
-    ensures { IfOk result (λ found.
+    // One for each evidence of the report, of any stream: whom it accuses, and of what.
+    ensures whose { IfOk result (λ found.
+        AllZip IsOfEvidence (evidence_in report.now) found.items) }
+    // The places are those of this stream, if the report is.
+    ensures records { IfOk result (λ found.
         IsAudit (⟦<S as Audited<D>>⟧.basis committees.now) stream.now report.now →
         AreRecords (⟦<S as Audited<D>>⟧.basis committees.now) ⟦<S as Located<D>>⟧.carries
         stream.now report.now found.items) }

@@ -8,12 +8,12 @@
 //! attestations that it was assembled from. With `AttestationVerifier` and the calls of
 //! [`certificates`](crate::certificates) it only has to say when one signature is valid.
 
-ghost use Rattle.std.specs.Prelude.{◌≡◌, ◌&&◌, ◌==◌, ◌<◌, ◌≤◌, ◌^◌, ◌+◌, ◌*◌, None, Some, Ok, IsOk, IfOk, MatchOption, All, length, nat_eq, true};
+ghost use Rattle.std.specs.Prelude.{◌≡◌, ◌↔◌, ◌&&◌, ◌==◌, ◌<◌, ◌≤◌, ◌^◌, ◌+◌, ◌*◌, None, Some, Ok, IsOk, IsTrue, IfOk, MatchOption, All, length, nat_eq, refl, true};
 ghost use Rattle.std.specs.List.{IsDistinct, list_any};
 ghost use Rattle.std.proofs.Common.{lit≤};
 ghost use Rattle.simplex_base.specs.Format.{format_of};
 ghost use Rattle.simplex_scheme.specs.Subject.{SubjectValue, subject_value};
-ghost use Rattle.simplex_scheme.specs.Committee.{IsInOrder, is_quorum, quorum_of, signers_of, RefusesFew};
+ghost use Rattle.simplex_scheme.specs.Committee.{IsInOrder, IsQuorum, is_quorum, quorum_of, signers_of, RefusesFew};
 ghost use Rattle.simplex_plain.specs.CommitteeLaws.{quorum_meaning, listed_size};
 ghost use Rattle.simplex_plain.specs.Judged.{nobody, vote_of, is_on, judged_good, judged_members};
 
@@ -23,7 +23,7 @@ use crate::plain::{PlainKey, PlainKeyRole, PlainSignatureRole};
 use simplex_base::codec::Read;
 use simplex_base::codec::fixed_bytes::FixedBytes;
 use simplex_base::positions::Participant;
-use simplex_base::values::ExactClone;
+use simplex_base::values::{EqByParts, ExactClone};
 use simplex_scheme::scheme::{
     AssemblyError, Attestation, CertificateScheme, CertificateVerifier, Digest, Listing, Scheme,
     SchemeTypes, Set, Subject,
@@ -72,6 +72,19 @@ pub enum JudgedVote {
 
 impl ExactClone for JudgedVote {
     ghost exact = { λ x y same. same };
+}
+
+impl EqByParts for JudgedVote {
+    ghost use Rattle.simplex_plain.specs.Judged.{same_judged_vote};
+    ghost use Rattle.simplex_plain.specs.declared.judged.JudgedVote.TheVariants.{Notarize, Nullify, Finalize};
+
+    ghost same = { same_judged_vote };
+
+    ghost equal = { elim [
+      | Notarize ↦ elim [ Notarize ↦ refl | Nullify ↦ refl | Finalize ↦ refl ]
+      | Nullify ↦ elim [ Notarize ↦ refl | Nullify ↦ refl | Finalize ↦ refl ]
+      | Finalize ↦ elim [ Notarize ↦ refl | Nullify ↦ refl | Finalize ↦ refl ]
+    ] };
 }
 
 /// The kind of vote that a subject is of.
@@ -187,7 +200,11 @@ impl<D: Digest> CertificateVerifier<D> for Judged {
         is_quorum (length scheme.keys) (judged_good (format_of ⟦<D as Read>⟧) scheme subject) };
 
     fn verify_certificate(&self, subject: Subject<'_, D>, certificate: &Listed<Judged>) -> bool
-        ensures { result ≡ is_quorum (length self.now.keys)
+        ensures certified { result ≡ is_quorum (length self.now.keys)
+            (judged_good (format_of ⟦<D as Read>⟧) self.now (subject_value subject.entry))
+            certificate.now }
+        // True exactly where the certificate's attestations are a quorum.
+        ensures exactly { IsTrue result ↔ IsQuorum (length self.now.keys)
             (judged_good (format_of ⟦<D as Read>⟧) self.now (subject_value subject.entry))
             certificate.now }
     {

@@ -45,8 +45,8 @@ impl<R, const N: usize> Model for Vouched<R, N> {
 }
 
 impl<R, const N: usize> Vouched<R, N> {
-    /// The committee of `participants` participants. It allocates 4 bytes for each. The key of a participant is its
-    /// number.
+    /// The committee of `participants` participants, at least one. The key of a participant is its number. It allocates
+    /// 4 bytes for each; `AllocError` only where that failed.
     pub fn new(alloc: Global, participants: u32) -> Result<Self, AllocError>
         requires { 1 ≤ participants }
         ensures { IfOk result (λ vouched. vouched ≡ record { keys = numbered participants }) }

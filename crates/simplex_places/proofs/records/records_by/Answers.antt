@@ -10,9 +10,9 @@ use Rattle.simplex_detector.specs.Values.{evidence_value}
 use Rattle.simplex_votes.specs.Votes.{SignedVote}
 use Rattle.simplex_audit.specs.Messages.{AreMessages}
 use Rattle.simplex_places.specs.FirstPlaces.{AreSought, NotesAlong}
-use Rattle.simplex_places.specs.Records.{IsRecord}
+use Rattle.simplex_places.specs.Records.{IsOfEvidence, IsRecord}
 use Rattle.simplex_places.specs.Votes.{carries, same_signed_vote}
-use Rattle.simplex_places.proofs.RecordLemmas.{records_stand}
+use Rattle.simplex_places.proofs.RecordLemmas.{all_of_evidence, records_stand}
 use Rattle.simplex_places.proofs.records.records_by.Given as given
 use Rattle.simplex_places.proofs.records.records_by.Goals as goal
 
@@ -27,8 +27,13 @@ format g bound =
     (record { is_value = g.S.Certificate.Read.fits bound; encoding = g.S.Certificate.Encoding.encoding; reading = g.S.Certificate.Read.reading bound })
     (fixed g.S.Signature.FixedSize.SIZE g.S.Signature.Fixed.bytes_of g.S.Signature.Fixed.of_bytes)
 
-pub returns : goal.returns
-returns g c audit messages rest are =
+pub returns-clause-whose : goal.returns-clause-whose
+returns-clause-whose g c =
+    let es = c.args.report.now.evidence.items in
+    subst (AllZip IsOfEvidence (map evidence_value es)) (sym (c.in_ok-found.ensures ∙ ap (map _) c.as_slice-evidence.ensures.value)) (all_of_evidence g.K.Ord.cmp g.K.Key.key_of c.find.new.places evidence_value es)
+
+pub returns-clause-records : goal.returns-clause-records
+returns-clause-records g c audit messages rest are =
     let cmp = g.K.Ord.cmp in
     let eq = g.K.PartialEq.eq in
     let key_of = g.K.Key.key_of in
