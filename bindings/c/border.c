@@ -1,8 +1,9 @@
 /*
  * Tries what the contracts of the calls say of buffers and refusals, from C: buffers that fit, that
- * are a byte too short or empty, empty slices, arguments that are no committees, verdicts, records
- * that are new, calls at once in several threads, and each allocation failing in turn. Every buffer
- * is a block of its own, so that AddressSanitizer and valgrind see an access outside.
+ * are a byte too short or empty, empty slices, arguments that are no committees, verdicts, stored
+ * evidence with faulty batches and faulty stored bytes, each kind of record, records that are new,
+ * calls at once in several threads, and each allocation failing in turn. Every buffer is a block of
+ * its own, so that AddressSanitizer and valgrind see an access outside.
  *
  *     border < STREAM             STREAM: the sample of crates/audit
  *     border --limit < STREAM     also what needs more memory than the process may have
@@ -227,8 +228,11 @@ static size_t audits(const struct input *in, uint32_t wanted, size_t read, size_
 }
 
 /* The words of the kinds, by their numbers. */
-static const char *const kinds[] = {"conflicting-notarize", "conflicting-finalize",
-                                    "nullify-finalize"};
+static const char *const kinds[] = {
+    [SIMPLEX_CONFLICTING_NOTARIZE] = "conflicting-notarize",
+    [SIMPLEX_CONFLICTING_FINALIZE] = "conflicting-finalize",
+    [SIMPLEX_NULLIFY_FINALIZE] = "nullify-finalize",
+};
 
 /* The evidence as records, with buffers as above: the same as the lines of the text, with places
  * inside the stream. */
@@ -275,8 +279,43 @@ static void enlists(const struct input *in)
     free(text);
 }
 
-/* Evidence as messages, with buffers as above. What is stored has the report of the stream, and is
- * stored again as it is. */
+struct bytes {
+    const uint8_t *at;
+    size_t len;
+};
+
+/* Whether of these stored bytes with this batch behind them exactly the wanted bytes are stored. */
+static int gives(const struct input *in, struct bytes stored, struct bytes batch,
+                 struct bytes wanted)
+{
+    struct input both = *in;
+    both.stored = stored.at;
+    both.stored_len = stored.len;
+    both.stream = batch.at;
+    both.stream_len = batch.len;
+    size_t size = 99;
+    uint8_t *evidence = block(wanted.len, 7);
+    uint32_t status = store(&both, evidence, wanted.len, &size);
+    int same = size == wanted.len && !memcmp(evidence, wanted.at, wanted.len);
+    free(evidence);
+    return status == SIMPLEX_WHOLE && same;
+}
+
+/* The evidence of the stream, once it is stored, is stored again as it is: with the stream as a
+ * batch, with an empty batch, and with one that begins with no message. Behind stored bytes that
+ * begin with no message the batch is not read. */
+static void stays(const struct input *in, struct bytes evidence)
+{
+    uint8_t *byte = block(1, 0xff);
+    const struct bytes stream = {in->stream, in->stream_len}, fault = {byte, 1}, none = {byte, 0};
+    CHECK(gives(in, evidence, stream, evidence));
+    CHECK(gives(in, evidence, none, evidence));
+    CHECK(gives(in, evidence, fault, evidence));
+    CHECK(gives(in, fault, stream, none));
+    free(byte);
+}
+
+/* Evidence as messages, with buffers as above. What is stored has the report of the stream. */
 static void stores(const struct input *in)
 {
     size_t n = 99, size;
@@ -292,7 +331,7 @@ static void stores(const struct input *in)
         CHECK(all(shorter, n - 1, 7));
         free(shorter);
     }
-    struct input held = *in, both = *in;
+    struct input held = *in;
     held.stream = held.stored = evidence;
     held.stream_len = n;
     held.stored_len = 0;
@@ -304,12 +343,44 @@ static void stores(const struct input *in)
     CHECK(summary.splits || (summary.length == other.length && !memcmp(text, as_well, other.length)));
     free(text);
     free(as_well);
-    both.stored = evidence;
-    both.stored_len = n;
-    uint8_t *again = block(n, 7);
-    CHECK(store(&both, again, n, &size) == SIMPLEX_WHOLE && size == n && !memcmp(evidence, again, n));
-    free(again);
+    stays(in, (struct bytes){evidence, n});
     free(evidence);
+}
+
+/* The evidence of two notarizes of this length: both without their tags, behind its own. */
+static uint8_t *put_conflict(uint8_t *at, const uint8_t *first, const uint8_t *second, size_t vote)
+{
+    *at++ = 7;
+    memcpy(at, first + 1, vote - 1);
+    memcpy(at + vote - 1, second + 1, vote - 1);
+    return at + 2 * (vote - 1);
+}
+
+/* The stream is two notarizes of one length that contradict, and the batch has them in the other
+ * order. Evidence has the earliest valid votes, and those of the stored bytes come before those of
+ * the batch. */
+static void precedes(const struct input *in)
+{
+    const size_t vote = in->stream_len / 2, n = 2 * vote - 1;
+    const uint8_t *one = in->stream, *other = in->stream + vote;
+    uint8_t *stored = block(n, 0), *damaged = block(n, 0), *late = block(n, 0);
+    uint8_t *turned = block(2 * vote, 0);
+    memcpy(turned, other, vote);
+    memcpy(turned + vote, one, vote);
+    put_conflict(stored, one, other, vote);
+    put_conflict(damaged, one, other, vote);
+    put_conflict(late, other, one, vote);
+    damaged[n - 1] ^= 1; /* now its second vote is not valid */
+    const struct bytes batch = {turned, 2 * vote}, evidence = {stored, n}, changed = {damaged, n};
+    const struct bytes none = {turned, 0};
+    CHECK(gives(in, none, batch, (struct bytes){late, n}));
+    CHECK(gives(in, evidence, batch, evidence));
+    CHECK(gives(in, changed, none, none));
+    CHECK(gives(in, changed, batch, evidence));
+    free(turned);
+    free(late);
+    free(damaged);
+    free(stored);
 }
 
 /* The attestations that have to be verified, with buffers as above. The report depends on no other
@@ -399,6 +470,7 @@ static void plain(const uint8_t *sample, size_t len)
     CHECK(len == 138);
     CHECK(audits(&in, SIMPLEX_WHOLE, 2, 0) == 1);
     stores(&in);
+    precedes(&in);
     enlists(&in);
     without_memory(&in);
     in.stream_len = 137;
@@ -503,6 +575,7 @@ static void vouched(int signature)
     /* which committee is that of the epoch */
     CHECK(accused(&in, no_epochs, 0, four, 1) == 1);
     stores(&in);
+    precedes(&in);
     enlists(&in);
     without_memory(&in);
     CHECK(accused(&in, epochs, 2, low_high, 2) == 1);
@@ -578,6 +651,33 @@ static void deferred(int signature)
     free(none);
 }
 
+/* A vote of each kind by a participant who contradicts: all three are listed, each by its kind. */
+static void deferred_kinds(size_t signature)
+{
+    static const uint32_t kind[] = {SIMPLEX_NOTARIZE, SIMPLEX_FINALIZE, SIMPLEX_NULLIFY};
+    static const uint32_t four[] = {4};
+    static const uint64_t epoch[] = {0};
+    const size_t vote = 38 + signature, nullify = 5 + signature;
+    const size_t verdicts[] = {vote - 1, 2 * vote - 1, 2 * vote + nullify - 1};
+    uint8_t room[400], *end = room;
+    end = put_notarize(end, 4, 2, 6, signature, 1);
+    end = put_finalize(end, 4, 2, 6, signature);
+    end = put_nullify(end, 4, 2, signature);
+    uint8_t *stream = copy(room, (size_t)(end - room));
+    struct input in = {.stored = stream, .stream = stream, .stream_len = (size_t)(end - room),
+                       .signature = (int)signature, .epochs = epoch, .sizes = four, .sizes_len = 1};
+    CHECK(defers(&in, verdicts, 3) == 3);
+    struct simplex_suspect records[3];
+    size_t needed;
+    CHECK(suspects(&in, records, 3, &needed) == SIMPLEX_WHOLE && needed == 3);
+    for (size_t i = 0; i < 3; i++) {
+        CHECK(records[i].kind == kind[i] && records[i].signer == 2);
+        CHECK(records[i].verdict_place == verdicts[i] && records[i].subject_place == i * vote + 1);
+        CHECK(records[i].subject_length == (kind[i] == SIMPLEX_NULLIFY ? 2 : 35));
+    }
+    free(stream);
+}
+
 /* Whether the only record of a stream has this kind and these places, under a committee of four for
 * every epoch. */
 static int stands_at(const uint8_t *stream, size_t len, size_t signature, uint32_t kind,
@@ -625,14 +725,17 @@ static void placed(size_t signature)
     memcpy(end, votes + 36, vote - 36);
     end += vote - 36;
     const size_t certificate = (size_t)(end - room);
-    *end++ = 7;
-    memcpy(end, votes + 1, vote - 1);
-    memcpy(end + vote - 1, votes + vote + 1, vote - 1);
-    end += 2 * (vote - 1);
+    end = put_conflict(end, votes, votes + vote, vote);
     CHECK(stands_at(room, (size_t)(end - room), signature, SIMPLEX_CONFLICTING_NOTARIZE, 0,
                     certificate));
     CHECK(stands_at(room + certificate, (size_t)(end - room) - certificate, signature,
                     SIMPLEX_CONFLICTING_NOTARIZE, 0, 0));
+    /* a finalize of another, and then two that contradict */
+    end = put_finalize(room, 4, 1, 6, signature);
+    end = put_finalize(end, 4, 2, 6, signature);
+    end = put_finalize(end, 4, 2, 7, signature);
+    CHECK(stands_at(room, (size_t)(end - room), signature, SIMPLEX_CONFLICTING_FINALIZE, vote,
+                    2 * vote));
     /* a finalize, and then a nullify: the nullify is the first vote of the evidence */
     end = put_finalize(room, 4, 2, 6, signature);
     end = put_nullify(end, 4, 2, signature);
@@ -817,6 +920,9 @@ int main(int argc, char **argv)
     deferred(48);
     deferred(64);
     deferred(96);
+    deferred_kinds(48);
+    deferred_kinds(64);
+    deferred_kinds(96);
     placed(48);
     placed(64);
     placed(96);

@@ -19,6 +19,23 @@ def two_votes(view, signer=2, size=64, verify=valid):
     return stream.encoded()
 
 
+def plain_vote(vote):
+    """A message with a vote of the participant whose key is 32 zero bytes, under the plain scheme with the base `test`."""
+    signed = vote.signed_bytes(b"test")
+    name = signed[: 1 + signed[0]]
+    signature = hashlib.sha256(name + bytes(32) + signed[len(name) :]).digest()
+    return bytes([Encoder._VOTES[vote.kind]]) + vote.message() + b"\0" + signature
+
+
+def contradictions():
+    """Committees, and two notarizes that contradict as messages: with signatures of each size, and under the plain scheme."""
+    for size in (48, 64, 96):
+        votes = two_votes(10, size=size)
+        yield Committees.every(size, 4), votes[: len(votes) // 2], votes[len(votes) // 2 :]
+    votes = [plain_vote(Vote("notarize", 3, 10, 5, payload)) for payload in (b"\6" * 32, b"\7" * 32)]
+    yield Committees.plain(b"test", [bytes(32)]), *votes
+
+
 class Tests(unittest.TestCase):
     def test_sizes(self):
         for size in (48, 64, 96):
@@ -42,13 +59,7 @@ class Tests(unittest.TestCase):
     def test_what_is_signed_is_what_the_plain_scheme_verifies(self):
         for one, other in (("notarize", "notarize"), ("nullify", "finalize"), ("finalize", "finalize")):
             votes = [Vote(one, 3, 10) if one == "nullify" else Vote(one, 3, 10, 5, b"\6" * 32), Vote(other, 3, 10, 5, b"\7" * 32)]
-            stream = b""
-            for vote in votes:
-                signed = vote.signed_bytes(b"test")
-                name = signed[: 1 + signed[0]]
-                signature = hashlib.sha256(name + bytes(32) + signed[len(name) :]).digest()
-                stream += bytes([Encoder._VOTES[vote.kind]]) + vote.message() + b"\0" + signature
-            report = audit(Committees.plain(b"test", [bytes(32)]), stream)
+            report = audit(Committees.plain(b"test", [bytes(32)]), b"".join(map(plain_vote, votes)))
             self.assertEqual((report.read, len(report.evidence)), (2, 1))
 
     def test_deferred(self):
@@ -108,6 +119,21 @@ class Tests(unittest.TestCase):
         committees = Committees.every(64, 4)
         stored = store(committees, store(committees, b"", two_votes(10)), two_votes(11, signer=1))
         self.assertEqual([(it.view, it.signer) for it in audit(committees, stored).evidence], [(10, 2), (11, 1)])
+
+    def test_what_was_stored_stays(self):
+        for committees, one, other in contradictions():
+            stored = store(committees, b"", one + other)
+            self.assertEqual(len(audit(committees, stored).evidence), 1)
+            # a batch that begins with no message, and one that has the same votes in the other order
+            for batch in (b"\xff", other + one):
+                self.assertEqual(store(committees, stored, batch), stored)
+
+    def test_damaged_bytes_are_refused(self):
+        for committees, one, other in contradictions():
+            stored = store(committees, b"", one + other)
+            for damaged in (b"\xff", stored[:-1], stored + b"\xff"):
+                self.assertRaises(ValueError, store, committees, damaged, one + other)
+                self.assertRaises(ValueError, new_records, committees, damaged, one + other)
 
     def test_new_records(self):
         committees = Committees.every(64, 4)

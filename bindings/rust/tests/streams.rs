@@ -23,6 +23,34 @@ fn fork(size: Size, verifier: &dyn simplex_audit::Verifier) -> Encoder {
     stream
 }
 
+/// Two notarizes of participant 0 that contradict, each as a message: with signatures of each size and under the plain scheme.
+fn contradictions() -> Vec<(Committees, [Vec<u8>; 2])> {
+    let mut all = vec![(Committees::plain(b"test", &[[0; 32]]).unwrap(), plain_votes())];
+    for size in SIZES {
+        let votes = [[6; 32], [7; 32]].map(|payload| {
+            let mut stream = Encoder::new(size);
+            let vote = Vote::Notarize { epoch: 0, view: 10, parent: 5, payload };
+            stream.vote(&vote, 0, &vec![9; size.bytes()], &every).unwrap();
+            stream.as_bytes().to_vec()
+        });
+        all.push((Committees::every(size, 4).unwrap(), votes));
+    }
+    all
+}
+
+/// These votes under the plain scheme, of a key of 32 zero bytes. A signature, here in two halves, is the SHA-256 of the
+/// namespace behind its length, of the key, and of the proposal.
+fn plain_votes() -> [Vec<u8>; 2] {
+    let signed = [
+        (6, [0x8c6774d2f68c567d3d7099353ba7b9a7_u128, 0x3b4a3919f00bf8571c6cf14b8b0e1fbc]),
+        (7, [0x85c5f612872154ca52e992a79aec3bfd, 0xc407bf2873f7f4372e33b4be6de3d71b]),
+    ];
+    signed.map(|(payload, halves)| {
+        let signature = halves.map(u128::to_be_bytes).concat();
+        [&[0, 0, 10, 5][..], &[payload; 32], &[0], &signature].concat()
+    })
+}
+
 #[test]
 fn certificates_that_contradict() {
     for size in SIZES {
@@ -145,6 +173,35 @@ fn more_than_the_first_buffer() {
     let stored = ledger.stored().to_vec();
     ledger.feed(&[]).unwrap();
     assert_eq!(ledger.stored(), stored);
+}
+
+#[test]
+fn what_was_stored_stays() {
+    for (committees, [one, other]) in contradictions() {
+        let mut ledger = Ledger::resume(committees, Vec::new()).unwrap();
+        ledger.feed(&[&one[..], &other].concat()).unwrap();
+        let stored = ledger.stored().to_vec();
+        assert_eq!(ledger.report().unwrap().evidence.len(), 1);
+        // a batch that begins with no message, and one that has the same votes in the other order
+        for batch in [vec![0xff], [other, one].concat()] {
+            ledger.feed(&batch).unwrap();
+            assert_eq!(ledger.stored(), stored);
+        }
+    }
+}
+
+#[test]
+fn damaged_bytes_are_refused() {
+    for (committees, votes) in contradictions() {
+        let mut ledger = Ledger::resume(committees.clone(), Vec::new()).unwrap();
+        ledger.feed(&votes.concat()).unwrap();
+        let stored = ledger.stored();
+        for damaged in [&[0xff][..], &stored[..stored.len() - 1], &[stored, &[0xff]].concat()] {
+            assert_eq!(Ledger::resume(committees.clone(), damaged.to_vec()).err(), Some(Error::Arguments));
+            assert_eq!(new_records(&committees, damaged, &votes.concat()), Err(Error::Arguments));
+        }
+        assert_eq!(Ledger::resume(committees, stored.to_vec()).unwrap().stored(), stored);
+    }
 }
 
 #[test]
