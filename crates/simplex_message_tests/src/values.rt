@@ -88,8 +88,8 @@ fn ample_hashes(rt: HostRuntime) -> Result<(), Fail> {
     Ok(())
 }
 
-/// Recipients and plans that list no keys are cloned without memory, and each clone equals its source and no other: a clone that
-/// fails, or is of another variant, is refused.
+/// Recipients and plans that list no keys are cloned without memory, and each clone equals its source. A clone that returns
+/// `AllocError`, or another variant, is refused.
 #[test]
 fn without_memory_plans(rt: HostRuntime) -> Result<(), Fail> {
     let round = Round::new(Epoch::new(0), View::new(10));

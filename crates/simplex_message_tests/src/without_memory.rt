@@ -169,7 +169,7 @@ fn pair<A: ReadExt + Drop, B: ReadExt + Drop>(
     Some((first, decode(alloc, second).ok()?))
 }
 
-/// Whether two notarizes contradict, and are the evidence that is made of them. None contradicts itself.
+/// Whether two notarizes contradict, and are the evidence that is made of them, while a notarize does not contradict itself.
 fn are_notarizes_evidence<S: Scheme<D>, D: Digest>(alloc: Global, scheme: &S) -> bool {
     let Some((first, second)) = pair(alloc, CONTRADICTING[0], CONTRADICTING[1]) else {
         return false;
@@ -233,7 +233,7 @@ fn without_memory_evidence(rt: HostRuntime) -> Result<(), Fail> {
     Ok(())
 }
 
-/// Whether each kind of subject is signed under the base `test` and the suffix of its kind, and is of round (0, 10).
+/// Whether a subject of each kind is signed under the base `test` with the suffix of its kind, and is of round (0, 10).
 fn are_named<D: Digest>(names: &Namespace, proposal: &Proposal<D>) -> bool {
     let round = proposal.round;
     let subjects: [(Subject<'_, D>, &[u8]); 3] = [
@@ -252,7 +252,7 @@ fn are_named<D: Digest>(names: &Namespace, proposal: &Proposal<D>) -> bool {
     true
 }
 
-/// The names under which subjects are signed, and their rounds: a name of another kind, and a round of another subject, are refused.
+/// The namespaces of subjects, and their rounds. One that is signed under the namespace of another kind is refused.
 #[test]
 fn without_memory_subjects(rt: HostRuntime) -> Result<(), Fail> {
     let names = Namespace::new(rt.alloc(), b"test")?;
@@ -261,7 +261,7 @@ fn without_memory_subjects(rt: HostRuntime) -> Result<(), Fail> {
     Ok(())
 }
 
-/// Whether a scheme is that of a committee of four, whose participant this is, if it is one, and its certificates state who signed.
+/// Whether a scheme has four participants and is this one of them, if it is one, and its certificates state who signed them.
 fn is_of_four<S: CertificateScheme>(scheme: &S, me: Option<Participant>) -> bool {
     scheme.me() == me && scheme.certificate_codec_config() == 4 && S::is_attributable()
 }
@@ -274,8 +274,8 @@ fn lists_two<S: Listing<D>, D: Digest>(certificate: &S::Certificate) -> bool {
     is_first && is_last && listed.len() == 2
 }
 
-/// What a scheme states of itself, and what a certificate lists: a scheme that takes itself for nobody or for another participant,
-/// another bound of certificates, and a list in which an attestation is missing are refused.
+/// What a scheme states of itself, and what a certificate lists. A scheme that is another participant or none, another bound on
+/// certificates, and a list that lacks an attestation are refused.
 #[test]
 fn without_memory_schemes(rt: HostRuntime) -> Result<(), Fail> {
     let third = Marked::new(rt.alloc(), 4, Some(Participant::new(2)))?;
