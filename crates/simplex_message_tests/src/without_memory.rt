@@ -226,6 +226,7 @@ fn are_evidence<S: Scheme<D>, D: Digest>(alloc: Global, scheme: &S) -> bool {
         && are_both_evidence(alloc, scheme)
 }
 
+/// Votes that contradict are evidence. A body that finds a vote in conflict with itself, or votes of two rounds, is refused.
 #[test]
 fn without_memory_evidence(rt: HostRuntime) -> Result<(), Fail> {
     let scheme = Marked::new(rt.alloc(), 4, None)?;
