@@ -1,8 +1,9 @@
 //! The program as a function over its arguments and streams: its exit status, its text and what it says.
 
 use crate::example_crate::TWICE;
+use crate::without_memory::memory_ends;
 use audit_cli::command::command;
-use audit_cli::status::Status;
+use audit_cli::status::{Status, complaint};
 use faulty_io::{Source, Target, Trouble};
 use simplex_audit::audit::Watched;
 use std::alloc::{AllocError, Global};
@@ -234,4 +235,17 @@ fn ample(rt: HostRuntime) {
 #[test]
 fn refused(rt: HostRuntime) {
     let _ = any_is_refused(&rt);
+}
+
+/// The complaint about a fault has room for each place, and takes no memory. One that stops short of the greatest place, or of the
+/// line's end, is refused.
+#[test]
+fn without_memory_longest_complaint(rt: HostRuntime) {
+    memory_ends(rt.alloc());
+    let longest = complaint(usize::MAX);
+    assert_eq!(rt;
+        longest.as_str(),
+        "audit: fault at byte 18446744073709551615\n"
+    );
+    assert_eq!(rt; longest.len(), 42);
 }

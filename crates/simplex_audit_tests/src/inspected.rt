@@ -13,7 +13,7 @@ use std::test::Fail;
 
 /// A notarize of participant 1, a nullify of participant 4, a finalization of participants 1 and 2, and two bytes that begin no
 /// message.
-const STREAM: &[u8] = &[
+pub(crate) const STREAM: &[u8] = &[
     0, 0, 10, 5, 6, 1, 0xaa, //
     3, 0, 11, 4, 0xaa, //
     6, 0, 10, 5, 6, 2, 1, 0xaa, 2, 0xaa, //
@@ -21,7 +21,7 @@ const STREAM: &[u8] = &[
 ];
 
 /// The lines of the stream under a committee of four.
-const LINES: &str =
+pub(crate) const LINES: &str =
     "{\"offset\":0,\"length\":7,\"kind\":\"notarize\",\"epoch\":0,\"view\":10,\"statements\":[\
     {\"vote\":\"notarize\",\"parent\":5,\"payload\":\"06\",\"signatures\":[\
     {\"signer\":1,\"signature\":\"aa\",\"valid\":true}]}]}\n\

@@ -14,6 +14,8 @@ mod example_crate;
 #[cfg(test)]
 mod inspected;
 #[cfg(test)]
+mod inspected_pieces;
+#[cfg(test)]
 mod long;
 #[cfg(test)]
 mod model;

@@ -1,9 +1,10 @@
-//! A long message that comes in short reads.
+//! A long message that comes in short reads. A body that looks for messages after each read would take minutes.
 
 use crate::outcome::marked;
 use faulty_io::{Source, Target, Trouble};
 use simplex_audit::audit::{Committees, Watched, run};
-use simplex_plain::marked::MarkedDigest;
+use simplex_inspect::input::inspect_input;
+use simplex_plain::marked::{Marked, MarkedDigest};
 use simplex_scheme::scheme::{Digest, Listing};
 use std::alloc::Global;
 use std::process::Abort;
@@ -25,12 +26,12 @@ fn encoded(number: u32) -> [u8; 4] {
     ]
 }
 
-/// A nullification of 16 megabytes.
-fn nullification(alloc: Global) -> Result<Vec<u8>, Fail> {
+/// A nullification of view 10 with this many attestations, whose number is encoded in these bytes: five bytes for each.
+fn nullification(alloc: Global, attestations: u32, count: &[u8]) -> Result<Vec<u8>, Fail> {
     let mut bytes = Vec::new(alloc);
     bytes.extend_from_slice(b"\x04\x00\x0a")?;
-    bytes.extend_from_slice(&encoded(ATTESTATIONS))?;
-    for signer in FIRST..FIRST + ATTESTATIONS {
+    bytes.extend_from_slice(count)?;
+    for signer in FIRST..FIRST.saturating_add(attestations) {
         bytes.extend_from_slice(&encoded(signer))?;
         bytes.push(0xaa)?;
     }
@@ -55,7 +56,36 @@ fn check<S: Listing<D>, D: Digest>(
 fn ample_a_long_message_in_short_reads_is_read(rt: HostRuntime) -> Result<(), Fail> {
     let alloc = rt.alloc();
     let committees = marked(alloc, FIRST + ATTESTATIONS)?;
-    let stream = nullification(alloc)?;
+    let stream = nullification(alloc, ATTESTATIONS, &encoded(ATTESTATIONS))?;
     assert_eq!(rt; stream.len(), 16_000_007);
     check::<_, MarkedDigest>(&rt, alloc, &committees, stream.as_slice())
+}
+
+/// The beginning and the end of the line of a nullification with 400,000 attestations.
+const ENDS: (&[u8], &[u8]) = (
+    b"{\"offset\":0,\"length\":2000006,\"kind\":\"nullification\",\"epoch\":0,\"view\":10,\"statements\":[\
+    {\"vote\":\"nullify\",\"signatures\":[{\"signer\":2097152,\"signature\":\"aa\"},",
+    b"{\"signer\":2497151,\"signature\":\"aa\"}]}]}\n",
+);
+
+/// The line of the message is written, also where it comes in reads of 50 bytes. Nothing is verified.
+fn check_line<S: Listing<D>, D: Digest>(
+    rt: &impl Abort,
+    alloc: Global,
+    stream: &[u8],
+) -> Result<(), Fail> {
+    let source = Source::new(stream, 50, Trouble::Never);
+    let (mut reader, mut writer) = (Watched::new(source), Watched::new(Vec::new(alloc)));
+    let fault = inspect_input::<S, D, _, _>(alloc, &None, &mut reader, &mut writer)?;
+    let line = writer.into_inner();
+    assert!(rt; fault.is_none() && line.starts_with(ENDS.0) && line.ends_with(ENDS.1));
+    assert_eq!(rt; line.len(), 14_400_122);
+    Ok(())
+}
+
+#[test]
+fn ample_a_long_message_in_short_reads_is_shown(rt: HostRuntime) -> Result<(), Fail> {
+    let stream = nullification(rt.alloc(), 400_000, b"\x80\xb5\x18")?;
+    assert_eq!(rt; stream.len(), 2_000_006);
+    check_line::<Marked, MarkedDigest>(&rt, rt.alloc(), stream.as_slice())
 }

@@ -75,17 +75,18 @@ fn writes_of_nothing(rt: HostRuntime) -> Result<(), Fail> {
     Ok(())
 }
 
-/// A flush is one flush of the device, which flushes it or returns its error.
+/// A flush is one flush of the device, which flushes it or returns its error. One that failed counts as no flush.
 #[test]
 fn flushes_are_handed_on(rt: HostRuntime) -> Result<(), Fail> {
     for kind in KINDS {
         let target = Target::new(2, 3, Trouble::Never, Trouble::Once(0, kind));
         let mut writer = Watched::new(target);
         assert_eq!(rt; writer.write(b"ab")?, 2);
+        assert!(rt; !writer.flushed());
         assert_eq!(rt; kind_of(writer.flush()), Some(kind));
-        assert!(rt; writer.failed());
+        assert!(rt; writer.failed() && !writer.flushed());
         writer.flush()?;
-        assert!(rt; writer.failed());
+        assert!(rt; writer.failed() && writer.flushed());
         let target = writer.into_inner();
         assert!(rt; target.is_flushed());
         assert_eq!(rt; target.calls(), (1, 2));

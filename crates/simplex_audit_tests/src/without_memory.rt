@@ -3,9 +3,13 @@
 //! `.ci/refusals` runs each test here with every allocation made to fail, from that of `memory_ends` on.
 
 use crate::outcome::marked;
+use audit_cli::status::{Failure, Status};
 use faulty_io::{Source, Target, Trouble};
 use simplex_audit::audit::{Auditor, Committees, CommitteesError, Watched, audit};
 use simplex_base::positions::{Epoch, Participant, Round, View};
+use simplex_inspect::validity::Validity;
+use simplex_places::places::{FINALIZE, Placed, Suspect};
+use simplex_places::records::{NULLIFY_FINALIZE, Record};
 use simplex_plain::marked::{Marked, MarkedDigest};
 use simplex_scheme::scheme::{CertificateScheme, Digest, Listing};
 use std::alloc::Global;
@@ -14,7 +18,7 @@ use std::process::Abort;
 use std::test::Fail;
 
 /// Makes the allocation from which on every one may fail.
-fn memory_ends(alloc: Global) {
+pub(crate) fn memory_ends(alloc: Global) {
     let _ = Vec::<u8>::with_capacity(alloc, 12345);
 }
 
@@ -105,6 +109,63 @@ fn check_evidence<S: Listing<D>, D: Digest>(
 fn without_memory_evidence(rt: HostRuntime) -> Result<(), Fail> {
     let committees = marked(rt.alloc(), 4)?;
     check_evidence::<_, MarkedDigest>(&rt, rt.alloc(), &committees)
+}
+
+/// Whether a clone equals its source, where it could be made.
+fn is_cloned<T: Copy + PartialEq>(value: &T) -> bool {
+    match value.clone() {
+        Ok(copy) => copy == *value,
+        Err(_) => false,
+    }
+}
+
+/// Values that can be copied are cloned without memory, and each clone equals its source. A clone that returns `AllocError` is
+/// refused.
+#[test]
+fn without_memory_clones(rt: HostRuntime) {
+    memory_ends(rt.alloc());
+    let suspect = Suspect {
+        epoch: 1,
+        view: 2,
+        verdict_place: 3,
+        subject_place: 4,
+        subject_length: 5,
+        signer: 6,
+        kind: FINALIZE,
+    };
+    let record = Record {
+        epoch: 1,
+        view: 2,
+        first_place: 3,
+        second_place: 4,
+        signer: 5,
+        kind: NULLIFY_FINALIZE,
+    };
+    assert!(rt; is_cloned(&suspect) && is_cloned(&record));
+    for is_listed in [false, true] {
+        assert!(rt; is_cloned(&Placed { suspect, is_listed }));
+    }
+    for validity in [
+        Validity::Valid,
+        Validity::NoCommittee,
+        Validity::OutsideSigner,
+        Validity::WrongSignature,
+        Validity::TooFew,
+        Validity::WrongAttestation,
+    ] {
+        assert!(rt; is_cloned(&validity));
+    }
+    for status in [Status::Whole, Status::Fault, Status::Usage, Status::Failed] {
+        assert!(rt; is_cloned(&status));
+    }
+    for failure in [
+        Failure::Usage,
+        Failure::Read,
+        Failure::Write,
+        Failure::OutOfMemory,
+    ] {
+        assert!(rt; is_cloned(&failure));
+    }
 }
 
 #[test]

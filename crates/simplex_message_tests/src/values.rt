@@ -1,8 +1,10 @@
-//! Equality and hashes at a few values.
+//! Equality, hashes and clones at a few values.
 
+use crate::without_memory::is_out;
 use simplex_base::codec::{Fixed, Read, decode_cfg};
-use simplex_base::positions::{Epoch, Round, View};
+use simplex_base::positions::{Epoch, Participant, Round, View};
 use simplex_evidence::types::Activity;
+use simplex_lead::{Plan, Recipients};
 use simplex_plain::marked::{Marked, MarkedDigest};
 use simplex_scheme::scheme::{CertificateScheme, Digest, Proposal};
 use std::alloc::Global;
@@ -83,5 +85,20 @@ fn ample_hashes(rt: HostRuntime) -> Result<(), Fail> {
         seen.insert(Proposal::new(round, View::new(parent), payload))?;
     }
     assert_eq!(rt; seen.len(), 3);
+    Ok(())
+}
+
+/// Recipients and plans that list no keys are cloned without memory, and each clone equals its source. A clone that returns
+/// `AllocError`, or another variant, is refused.
+#[test]
+fn without_memory_plans(rt: HostRuntime) -> Result<(), Fail> {
+    let round = Round::new(Epoch::new(0), View::new(10));
+    let all: Recipients<Participant> = Recipients::All;
+    let one = Recipients::One(Participant::new(3));
+    let prepare: Plan<Participant> = Plan::Prepare { round };
+    let propose: Plan<Participant> = Plan::Propose { round };
+    let _ = is_out(rt.alloc());
+    assert!(rt; all.clone()? == all && one.clone()? == one && all != one);
+    assert!(rt; prepare.clone()? == prepare && propose.clone()? == propose && prepare != propose);
     Ok(())
 }

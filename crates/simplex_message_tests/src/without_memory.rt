@@ -13,8 +13,8 @@ use simplex_plain::marked::{Marked, MarkedDigest};
 use simplex_plain::plain::{Plain, PlainKey};
 use simplex_scheme::assembly::can_assemble;
 use simplex_scheme::scheme::{
-    AssemblyError, Attestation, CertificateScheme, CertificateVerifier, Digest, Proposal, Scheme,
-    SchemeTypes, Set, SetError, Sha256Digest, Subject,
+    AssemblyError, Attestation, CertificateScheme, CertificateSubject, CertificateVerifier, Digest,
+    Listing, Namespace, Proposal, Scheme, SchemeTypes, Set, SetError, Sha256Digest, Subject,
 };
 use simplex_votes::types::{
     Artifact, Attributable, Certificate, Finalize, Notarize, Nullify, Vote,
@@ -169,12 +169,14 @@ fn pair<A: ReadExt + Drop, B: ReadExt + Drop>(
     Some((first, decode(alloc, second).ok()?))
 }
 
-/// Whether two notarizes contradict, and are the evidence that is made of them.
+/// Whether two notarizes contradict, and are the evidence that is made of them, while a notarize does not contradict itself.
 fn are_notarizes_evidence<S: Scheme<D>, D: Digest>(alloc: Global, scheme: &S) -> bool {
     let Some((first, second)) = pair(alloc, CONTRADICTING[0], CONTRADICTING[1]) else {
         return false;
     };
-    if !ConflictingNotarize::<S, D>::conflicts(&first, &second) {
+    if !ConflictingNotarize::<S, D>::conflicts(&first, &second)
+        || ConflictingNotarize::<S, D>::conflicts(&first, &first)
+    {
         return false;
     }
     let evidence = ConflictingNotarize::new(first.copy(), second.copy());
@@ -186,19 +188,30 @@ fn are_finalizes_evidence<S: Scheme<D>, D: Digest>(alloc: Global, scheme: &S) ->
     let Some((first, second)) = pair(alloc, CONTRADICTING[0], CONTRADICTING[1]) else {
         return false;
     };
-    if !ConflictingFinalize::<S, D>::conflicts(&first, &second) {
+    if !ConflictingFinalize::<S, D>::conflicts(&first, &second)
+        || ConflictingFinalize::<S, D>::conflicts(&first, &first)
+    {
         return false;
     }
     let evidence = ConflictingFinalize::new(first.copy(), second.copy());
     evidence.verify(scheme) && *evidence.finalize_1() == first && *evidence.finalize_2() == second
 }
 
-/// As [`are_notarizes_evidence`], of a nullify and a finalize.
+/// A finalize of participant 1 in the round after that of the votes that contradict.
+const LATER: &[u8] = &[0, 11, 5, 6, 1, 0xaa];
+
+/// Whether a nullify and a finalize contradict, and are the evidence that is made of them. A finalize of another round does not
+/// contradict the nullify.
 fn are_both_evidence<S: Scheme<D>, D: Digest>(alloc: Global, scheme: &S) -> bool {
     let Some((first, second)) = pair(alloc, CONTRADICTING[2], CONTRADICTING[0]) else {
         return false;
     };
-    if !NullifyFinalize::<S, D>::conflicts(&first, &second) {
+    let Ok(later) = decode::<Finalize<S, D>>(alloc, LATER) else {
+        return false;
+    };
+    if !NullifyFinalize::<S, D>::conflicts(&first, &second)
+        || NullifyFinalize::<S, D>::conflicts(&first, &later)
+    {
         return false;
     }
     let evidence = NullifyFinalize::new(first.copy(), second.copy());
@@ -213,10 +226,65 @@ fn are_evidence<S: Scheme<D>, D: Digest>(alloc: Global, scheme: &S) -> bool {
         && are_both_evidence(alloc, scheme)
 }
 
+/// Votes that contradict are evidence. A body that finds a vote in conflict with itself, or votes of two rounds, is refused.
 #[test]
 fn without_memory_evidence(rt: HostRuntime) -> Result<(), Fail> {
     let scheme = Marked::new(rt.alloc(), 4, None)?;
     assert!(rt; are_evidence::<Marked, MarkedDigest>(rt.alloc(), &scheme));
+    Ok(())
+}
+
+/// Whether a subject of each kind is signed under the base `test` with the suffix of its kind, and is of round (0, 10).
+fn are_named<D: Digest>(names: &Namespace, proposal: &Proposal<D>) -> bool {
+    let round = proposal.round;
+    let subjects: [(Subject<'_, D>, &[u8]); 3] = [
+        (Subject::Notarize { proposal }, b"test_NOTARIZE"),
+        (Subject::Nullify { round }, b"test_NULLIFY"),
+        (Subject::Finalize { proposal }, b"test_FINALIZE"),
+    ];
+    for (subject, name) in &subjects {
+        if subject.namespace(names) != *name
+            || subject.epoch() != Epoch::new(0)
+            || subject.view() != View::new(10)
+        {
+            return false;
+        }
+    }
+    true
+}
+
+/// The namespaces of subjects, and their rounds. One that is signed under the namespace of another kind is refused.
+#[test]
+fn without_memory_subjects(rt: HostRuntime) -> Result<(), Fail> {
+    let names = Namespace::new(rt.alloc(), b"test")?;
+    let _ = is_out(rt.alloc());
+    assert!(rt; are_named(&names, &proposal(MarkedDigest::from_bytes(&[6]))));
+    Ok(())
+}
+
+/// Whether a scheme has four participants and is this one of them, if it is one, and its certificates state who signed them.
+fn is_of_four<S: CertificateScheme>(scheme: &S, me: Option<Participant>) -> bool {
+    scheme.me() == me && scheme.certificate_codec_config() == 4 && S::is_attributable()
+}
+
+/// Whether a certificate lists an attestation of participant 1, and then one of participant 3, and no other.
+fn lists_two<S: Listing<D>, D: Digest>(certificate: &S::Certificate) -> bool {
+    let listed = S::attestations(certificate);
+    let is_first = matches!(listed.first(), Some(first) if first.signer == Participant::new(1));
+    let is_last = matches!(listed.last(), Some(last) if last.signer == Participant::new(3));
+    is_first && is_last && listed.len() == 2
+}
+
+/// What a scheme states of itself, and what a certificate lists. A scheme that is another participant or none, another bound on
+/// certificates, and a list that lacks an attestation are refused.
+#[test]
+fn without_memory_schemes(rt: HostRuntime) -> Result<(), Fail> {
+    let third = Marked::new(rt.alloc(), 4, Some(Participant::new(2)))?;
+    let nobody = Marked::new(rt.alloc(), 4, None)?;
+    let certificate = decode_cfg::<Listed<Marked>>(rt.alloc(), &[2, 1, 0xaa, 3, 0xaa], &4)?;
+    let _ = is_out(rt.alloc());
+    assert!(rt; is_of_four(&third, Some(Participant::new(2))) && is_of_four(&nobody, None));
+    assert!(rt; lists_two::<Marked, MarkedDigest>(&certificate));
     Ok(())
 }
 
