@@ -20,7 +20,7 @@ use std::env::Args;
 use std::io;
 use std::io::{ErrorKind, Read, Write};
 
-/// The arguments after the program's name.
+/// The arguments after the program's name. `AllocError` where an allocation failed.
 pub fn without_name(alloc: Global, given: Args) -> Result<Vec<String>, AllocError>
     ensures { IfOk result (λ words.
         map string_bytes words.items ≡ words_of (into_iter_items given)) }
@@ -45,8 +45,8 @@ pub fn no_arguments(error: &io::Error) -> Failure
 /// Runs the program over the arguments that its process is given, the program's name first, and its three
 /// streams, and returns the number that the process ends with.
 ///
-/// Where the arguments cannot be read nothing is read or written, and the number is that of an allocation failure, or else of
-/// arguments that are no namespace and keys.
+/// Where the arguments cannot be read neither `input` nor `output` is touched; the complaint is written to `errors`, and the
+/// number is that of an allocation failure, or else of arguments that are no namespace and keys.
 pub fn start<R: Read, W: Write, E: Write>(
     alloc: Global,
     given: io::Result<Args>,

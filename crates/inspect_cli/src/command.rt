@@ -65,8 +65,10 @@ pub(crate) fn conclude<E: Write>(errors: &mut E, ended: Result<Option<Fault>, Fa
 
 /// Runs the program over its arguments, without the program's name, and its three streams.
 ///
-/// The arguments are judged before anything is read. The line of a message is written as soon as the message is read, so after
-/// a failure a beginning of the text may have been written. What cannot be said on `errors` leaves the status.
+/// The arguments are judged before anything is read. Lines are written while the input is read, so after a failure a beginning
+/// of the text may have been written. A message's line is written after the read that completes it, except that while 4,096
+/// bytes or more are held it may wait until twice as many bytes are held as after the last look for messages, or until the
+/// input ends. What cannot be said on `errors` leaves the status.
 pub fn command<R: Read, W: Write, E: Write>(
     alloc: Global,
     arguments: &[String],

@@ -27,8 +27,8 @@ use std::io::{ErrorKind, Read, Write};
 /// Runs the program over the arguments that its process is given, the program's name first, and its three
 /// streams, and returns the number that the process ends with.
 ///
-/// Where the arguments cannot be read nothing is read or written, and the number is that of an allocation failure, or else of
-/// arguments that are no namespace and keys.
+/// Where the arguments cannot be read neither `input` nor `output` is touched; the complaint is written to `errors`, and the
+/// number is that of an allocation failure, or else of arguments that are no namespace and keys.
 pub fn start<R: Read, W: Write, E: Write>(
     alloc: Global,
     given: io::Result<Args>,
