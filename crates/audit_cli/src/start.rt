@@ -9,7 +9,7 @@ ghost use Rattle.audit_cli.specs.Status.{complaint_of, number_of};
 ghost use Rattle.simplex_audit.specs.Run.{AppendsBeginning};
 ghost use Rattle.simplex_audit.specs.Watched.{has_failed};
 
-use crate::command::{command, conclude};
+use crate::command::{Verification, command, conclude};
 use crate::status::{Failure, Status};
 use simplex_audit::audit::Watched;
 use simplex_audit::basis::Audited;
@@ -49,6 +49,7 @@ pub fn no_arguments(error: &io::Error) -> Failure
 /// number is that of an allocation failure, or else of arguments that are no namespace and keys.
 pub fn start<R: Read, W: Write, E: Write>(
     alloc: Global,
+    verification: Verification,
     given: io::Result<Args>,
     input: &mut Watched<R>,
     output: &mut Watched<W>,
@@ -85,7 +86,9 @@ pub fn start<R: Read, W: Write, E: Write>(
         Err(error) => return conclude(errors, Err(no_arguments(&error))).number(),
     };
     match without_name(alloc, given) {
-        Ok(words) => command(alloc, words.as_slice(), input, output, errors).number(),
+        Ok(words) => {
+            command(alloc, verification, words.as_slice(), input, output, errors).number()
+        }
         Err(_) => conclude(errors, Err(Failure::OutOfMemory)).number(),
     }
 }
