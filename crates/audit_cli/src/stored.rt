@@ -14,9 +14,9 @@ use simplex_scheme::scheme::{Digest, Listing};
 use std::alloc::{AllocError, Global};
 use std::io::{Read, Write};
 
-/// All that a reader gives. An interrupted read counts as failed, though what comes after it is read too.
+/// All that a reader gives. An interrupted read counts as failed, though what comes after it is read too; so does a read that
+/// failed before this call.
 fn read_whole<R: Read>(alloc: Global, reader: &mut Watched<R>) -> Result<Vec<u8>, RunError>
-    requires { has_failed reader.old ≡ false }
     ensures bytes { IfOk result (λ stream.
         Consumes (R.remaining (inner_of reader.old)) (R.remaining (inner_of reader.new))
         stream.items) }
@@ -93,8 +93,7 @@ pub fn run_deferred<S: Listing<D>, D: Digest, R: Read, W: Write>(
     reader: &mut Watched<R>,
     writer: &mut Watched<W>,
 ) -> Result<Summary, RunError>
-    requires reader_well { has_failed reader.old ≡ false }
-    requires writer_well { has_failed writer.old ≡ false }
+    requires { has_failed writer.old ≡ false }
     // The whole reader was read, and exactly the text of its report was written.
     ensures whole { IfOk result (λ summary. (input text : List ℕ)
         × Consumes (R.remaining (inner_of reader.old)) (R.remaining (inner_of reader.new)) input

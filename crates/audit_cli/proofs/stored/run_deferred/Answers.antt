@@ -1,4 +1,4 @@
-use Rattle.std.proofs.Common.{string_bytes, subst, rules}
+use Rattle.std.proofs.Common.{string_bytes, sym, rules}
 use Rattle.audit_cli.proofs.stored.run_deferred.Goals as goal
 
 pub returns-in_err-write_text-clause-beginning : goal.returns-in_err-write_text-clause-beginning
