@@ -3,6 +3,7 @@
 //! certificates contradict.
 #![tactic(auto)]
 
+use audit_cli::command::Verification;
 use audit_cli::start::start;
 use simplex_audit::audit::Watched;
 use std::env;
@@ -11,6 +12,7 @@ use std::process::ExitCode;
 fn main(rt: HostRuntime) -> ExitCode {
     let number = start(
         rt.alloc(),
+        Verification::Full,
         env::args(&rt),
         &mut Watched::new(rt.stdin()),
         &mut Watched::new(rt.stdout()),

@@ -9,6 +9,7 @@ ghost use Rattle.audit_cli.specs.Status.{complaint_of};
 
 use crate::arguments;
 use crate::status::{Failure, Status, complaint};
+use crate::stored::run_deferred;
 use simplex_audit::audit::{Fault, Watched, run};
 use simplex_audit::basis::Audited;
 use simplex_plain::plain::Plain;
@@ -16,10 +17,20 @@ use simplex_scheme::scheme::Sha256Digest;
 use std::alloc::Global;
 use std::io::{ErrorKind, Read, Write};
 
+/// Which signatures a run verifies, and what it holds. Its text, its fault and its status do not depend on it.
+#[derive(Drop)]
+pub enum Verification {
+    /// Those of the votes and certificates that can change the report. The input is read in pieces, none of which is held.
+    Full,
+    /// Those of the votes of suspects and of the certificates of their rounds alone. The whole input is held.
+    Deferred,
+}
+
 /// Audits the input under the committees that the arguments name, and writes the text of the report. Returns the input's
 /// fault, if there is one.
 fn audit_input<R: Read, W: Write>(
     alloc: Global,
+    verification: Verification,
     arguments: &[String],
     input: &mut Watched<R>,
     output: &mut Watched<W>,
@@ -35,8 +46,21 @@ fn audit_input<R: Read, W: Write>(
         (output.new ≡ output.old) }
 {
     let committees = arguments::parse(alloc, arguments)?;
-    let summary = run::<Plain, Sha256Digest, R, W>(alloc, &committees, input, output)?;
-    Ok(summary.fault)
+    match verification {
+        Verification::Full => {
+            let summary = run::<Plain, Sha256Digest, R, W>(alloc, &committees, input, output)?;
+            Ok(summary.fault)
+        }
+        Verification::Deferred => {
+            let summary = run_deferred::<Plain, Sha256Digest, R, W>(
+                alloc,
+                &committees,
+                input,
+                output,
+            )?;
+            Ok(summary.fault)
+        }
+    }
 }
 
 /// Writes a text to standard error, and flushes. An interrupted write is made again; after any other failure it returns.
@@ -83,6 +107,7 @@ pub(crate) fn conclude<E: Write>(errors: &mut E, ended: Result<Option<Fault>, Fa
 /// and all memory is allocated. A failure to write to `errors` does not change the status.
 pub fn command<R: Read, W: Write, E: Write>(
     alloc: Global,
+    verification: Verification,
     arguments: &[String],
     input: &mut Watched<R>,
     output: &mut Watched<W>,
@@ -107,6 +132,6 @@ pub fn command<R: Read, W: Write, E: Write>(
     ensures untouched { AreNoArguments (map string_bytes arguments.now) → (input.new ≡ input.old) ×
         (output.new ≡ output.old) }
 {
-    let ended = audit_input(alloc, arguments, input, output);
+    let ended = audit_input(alloc, verification, arguments, input, output);
     conclude(errors, ended)
 }

@@ -63,7 +63,9 @@ fn is_above(pairs: &[(Epoch, Plain)], epoch: Epoch) -> bool
     }
 }
 
-/// The epochs and committees that groups of texts name. The texts are checked from left to right.
+/// The epochs and committees that groups of texts name. The texts are checked from left to right: `Failure::Usage` where they
+/// are not groups of an epoch and the keys of a committee, or the epochs do not rise strictly; `Failure::OutOfMemory` where an
+/// allocation failed before that was found.
 pub fn parse_groups(
     alloc: Global,
     namespace: &str,

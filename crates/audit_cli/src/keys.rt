@@ -68,7 +68,8 @@ fn parse_set(alloc: Global, texts: &[String]) -> Result<Set<PlainKey>, Failure>
     }
 }
 
-/// The committee of the keys that texts name, in any order: `Failure::Usage` where they are not the keys of a committee.
+/// The committee of the keys that texts name, in any order: `Failure::Usage` where they are not the keys of a committee,
+/// `Failure::OutOfMemory` where an allocation failed before that was found.
 pub fn parse_committee(alloc: Global, namespace: &str, texts: &[String]) -> Result<Plain, Failure>
     ensures committee { IfOk result (IsNamedCommittee namespace.now (map string_bytes texts.now)) }
     ensures usage { result ≡ Err Failure.Usage → AreNoKeys (map string_bytes texts.now) }

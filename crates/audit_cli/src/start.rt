@@ -9,7 +9,7 @@ ghost use Rattle.audit_cli.specs.Status.{complaint_of, number_of};
 ghost use Rattle.simplex_audit.specs.Run.{AppendsBeginning};
 ghost use Rattle.simplex_audit.specs.Watched.{has_failed};
 
-use crate::command::{command, conclude};
+use crate::command::{Verification, command, conclude};
 use crate::status::{Failure, Status};
 use simplex_audit::audit::Watched;
 use simplex_audit::basis::Audited;
@@ -20,7 +20,7 @@ use std::env::Args;
 use std::io;
 use std::io::{ErrorKind, Read, Write};
 
-/// The arguments after the program's name.
+/// The arguments after the program's name. `AllocError` where an allocation failed.
 pub fn without_name(alloc: Global, given: Args) -> Result<Vec<String>, AllocError>
     ensures { IfOk result (λ words.
         map string_bytes words.items ≡ words_of (into_iter_items given)) }
@@ -45,10 +45,11 @@ pub fn no_arguments(error: &io::Error) -> Failure
 /// Runs the program over the arguments that its process is given, the program's name first, and its three
 /// streams, and returns the number that the process ends with.
 ///
-/// Where the arguments cannot be read the input and the output are untouched, and the number is 3 after an allocation failure,
-/// else 2.
+/// Where the arguments cannot be read the input and the output are untouched, the complaint is written to `errors`, and the
+/// number is 3 after an allocation failure, else 2.
 pub fn start<R: Read, W: Write, E: Write>(
     alloc: Global,
+    verification: Verification,
     given: io::Result<Args>,
     input: &mut Watched<R>,
     output: &mut Watched<W>,
@@ -85,7 +86,9 @@ pub fn start<R: Read, W: Write, E: Write>(
         Err(error) => return conclude(errors, Err(no_arguments(&error))).number(),
     };
     match without_name(alloc, given) {
-        Ok(words) => command(alloc, words.as_slice(), input, output, errors).number(),
+        Ok(words) => {
+            command(alloc, verification, words.as_slice(), input, output, errors).number()
+        }
         Err(_) => conclude(errors, Err(Failure::OutOfMemory)).number(),
     }
 }

@@ -66,7 +66,9 @@ pub(crate) fn conclude<E: Write>(errors: &mut E, ended: Result<Option<Fault>, Fa
 /// Runs the program over its arguments, without the program's name, and its three streams.
 ///
 /// The arguments are checked before anything is read. Lines are written while the input is read, so after a failure a prefix of
-/// the text may have been written. A failure to write to `errors` does not change the status.
+/// the text may have been written. A message's line is written after the read that completes it, except that while 4,096 bytes
+/// or more are held it may wait until twice as many bytes are held as after the last look for messages, or until the input
+/// ends. A failure to write to `errors` does not change the status.
 pub fn command<R: Read, W: Write, E: Write>(
     alloc: Global,
     arguments: &[String],

@@ -27,8 +27,8 @@ use std::io::{ErrorKind, Read, Write};
 /// Runs the program over the arguments that its process is given, the program's name first, and its three
 /// streams, and returns the number that the process ends with.
 ///
-/// Where the arguments cannot be read the input and the output are untouched, and the number is 3 after an allocation failure,
-/// else 2.
+/// Where the arguments cannot be read the input and the output are untouched, the complaint is written to `errors`, and the
+/// number is 3 after an allocation failure, else 2.
 pub fn start<R: Read, W: Write, E: Write>(
     alloc: Global,
     given: io::Result<Args>,

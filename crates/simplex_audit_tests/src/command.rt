@@ -1,8 +1,8 @@
-//! The program as a function over its arguments and streams: its exit status, its text and what it says.
+//! The program as a function over its arguments and streams: its exit status, its text and what it says, however it verifies.
 
 use crate::example_crate::TWICE;
 use crate::without_memory::memory_ends;
-use audit_cli::command::command;
+use audit_cli::command::{Verification, command};
 use audit_cli::status::{Status, complaint};
 use faulty_io::{Source, Target, Trouble};
 use simplex_audit::audit::Watched;
@@ -68,7 +68,7 @@ fn words(alloc: Global, texts: &[&str]) -> Result<Vec<String>, AllocError> {
 }
 
 /// Makes a call, and compares. Returns whether an allocation failed; then nothing was written, and the program said so.
-fn is_refused(rt: &impl Abort, alloc: Global, case: Case<'_>) -> bool {
+fn is_refused(rt: &impl Abort, alloc: Global, verification: Verification, case: Case<'_>) -> bool {
     let Ok(arguments) = words(alloc, case.arguments) else {
         return true;
     };
@@ -77,7 +77,14 @@ fn is_refused(rt: &impl Abort, alloc: Global, case: Case<'_>) -> bool {
     let mut errors = Target::new(case.steps.2, usize::MAX, case.saying, Trouble::Never);
     let (mut input, mut output) = (Watched::new(source), Watched::new(target));
     let arguments = arguments.as_slice();
-    let status = command(alloc, arguments, &mut input, &mut output, &mut errors);
+    let status = command(
+        alloc,
+        verification,
+        arguments,
+        &mut input,
+        &mut output,
+        &mut errors,
+    );
     let (source, target) = (input.into_inner(), output.into_inner());
     assert!(rt; errors.is_flushed());
     let refused = errors.held() == OUT_OF_MEMORY.as_bytes();
@@ -96,7 +103,8 @@ fn is_refused(rt: &impl Abort, alloc: Global, case: Case<'_>) -> bool {
 /// Makes the calls with ample memory.
 fn ends(rt: &impl Abort, alloc: Global, cases: &[Case<'_>]) {
     for case in cases {
-        assert!(rt; !is_refused(rt, alloc, *case));
+        assert!(rt; !is_refused(rt, alloc, Verification::Full, *case));
+        assert!(rt; !is_refused(rt, alloc, Verification::Deferred, *case));
     }
 }
 
@@ -223,7 +231,8 @@ fn any_is_refused(rt: &(impl Abort + AllocGlobal)) -> bool {
         arguments: &["test", "@0", ZEROS, "@1", ZEROS],
         ..steady(stream.as_slice())
     };
-    is_refused(rt, rt.alloc(), case)
+    is_refused(rt, rt.alloc(), Verification::Full, case)
+        || is_refused(rt, rt.alloc(), Verification::Deferred, case)
 }
 
 #[test]

@@ -1,6 +1,7 @@
-//! Runs over readers and writers that do and do not fail.
+//! Runs over readers and writers that do and do not fail, also those of a stored stream.
 
 use crate::outcome::marked;
+use audit_cli::stored::run_deferred;
 use faulty_io::{Source, Target, Trouble};
 use simplex_audit::audit::{Committees, RunError, Watched, run};
 use simplex_plain::marked::MarkedDigest;
@@ -46,9 +47,12 @@ const STEADY: Case<'static> = Case {
     flushes: 1,
 };
 
-/// Makes a run under a marked committee of four, and compares.
+/// Makes a run under a marked committee of four, and one of a stored stream, and compares.
 fn ends(rt: &impl Abort, alloc: Global, case: Case<'_>) -> Result<(), Fail> {
-    ends_by::<_, MarkedDigest>(rt, alloc, &marked(alloc, 4)?, case);
+    let committees = marked(alloc, 4)?;
+    for deferred in [false, true] {
+        ends_by::<_, MarkedDigest>(rt, alloc, &committees, deferred, case);
+    }
     Ok(())
 }
 
@@ -57,13 +61,18 @@ fn ends_by<S: Listing<D>, D: Digest>(
     rt: &impl Abort,
     alloc: Global,
     committees: &Committees<S>,
+    deferred: bool,
     case: Case<'_>,
 ) {
     let source = Source::new(case.stream, case.steps.0.max(1), case.reading);
     let target = Target::new(case.steps.1, case.room, case.writing, case.flushing);
     let (mut reader, mut writer) = (Watched::new(source), Watched::new(target));
     assert!(rt; !reader.failed() && !writer.failed());
-    let outcome = run::<S, D, Source, Target>(alloc, committees, &mut reader, &mut writer);
+    let outcome = if deferred {
+        run_deferred::<S, D, Source, Target>(alloc, committees, &mut reader, &mut writer)
+    } else {
+        run::<S, D, Source, Target>(alloc, committees, &mut reader, &mut writer)
+    };
     assert_eq!(rt; reader.failed(), case.error == Some(RunError::Read));
     assert_eq!(rt; writer.failed(), case.error == Some(RunError::Write));
     assert_eq!(rt; outcome.err(), case.error);

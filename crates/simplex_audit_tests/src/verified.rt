@@ -1,9 +1,11 @@
 //! How many attestations an audit has verified: a vote that changes nothing is not verified, and the votes of a certificate
 //! that was found to certify are not verified again. A deferred audit verifies only the votes of suspects and the certificates
-//! of their rounds. Listing suspects, or the records of a report, verifies none.
+//! of their rounds, and so does a run over a stored stream. Listing suspects, or the records of a report, verifies none.
 
 use crate::counted::Counted;
-use simplex_audit::audit::{Committees, audit, audit_deferred};
+use audit_cli::stored::run_deferred;
+use faulty_io::{Source, Target, Trouble};
+use simplex_audit::audit::{Committees, Watched, audit, audit_deferred};
 use simplex_base::codec::Fixed;
 use simplex_base::positions::Epoch;
 use simplex_clients::ledger::store_batch;
@@ -136,6 +138,23 @@ fn honest(alloc: Global) -> Result<Vec<u8>, Fail> {
     Ok(stream)
 }
 
+/// How many messages a run over a stored stream reads, and how many lines of evidence it writes.
+fn stored_counts(
+    alloc: Global,
+    committees: &Committees<Counted>,
+    stream: &[u8],
+) -> Result<(usize, usize), Fail> {
+    let mut reader = Watched::new(Source::new(stream, usize::MAX, Trouble::Never));
+    let mut writer = Watched::new(Target::steady());
+    let summary = run_deferred::<Counted, MarkedDigest, Source, Target>(
+        alloc,
+        committees,
+        &mut reader,
+        &mut writer,
+    )?;
+    Ok((summary.read, summary.evidence))
+}
+
 #[test]
 fn ample_nothing_of_an_honest_stream_is_verified(rt: HostRuntime) -> Result<(), Fail> {
     let alloc = rt.alloc();
@@ -146,11 +165,16 @@ fn ample_nothing_of_an_honest_stream_is_verified(rt: HostRuntime) -> Result<(), 
     // Nor is anything verified where the stream comes as a batch.
     let stored = store_batch::<Counted, MarkedDigest>(alloc, &committees, &[], stream.as_slice())?;
     assert_eq!(rt; (stored.len(), verified(&committees)?), (0, 0));
+    // Nor where it is a stored stream.
+    let counts = stored_counts(alloc, &committees, stream.as_slice())?;
+    assert_eq!(rt; (counts, verified(&committees)?), ((12_500, 0), 0));
     // One vote that contradicts has its signer's votes and the certificate of its round verified.
     stream.extend_from_slice(&[0, 0, 128, 1, 5, 7, 3, 0xaa])?;
     let report = audit_deferred::<Counted, MarkedDigest>(alloc, &committees, stream.as_slice())?;
     assert_eq!(rt; (report.read, report.evidence.len()), (12_501, 1));
     assert_eq!(rt; verified(&committees)?, 5);
+    let counts = stored_counts(alloc, &committees, stream.as_slice())?;
+    assert_eq!(rt; (counts, verified(&committees)?), ((12_501, 1), 10));
     Ok(())
 }
 

@@ -58,6 +58,10 @@ input_begun lines (Some bytes) (Some left) input old new consumed begun =
     let (text, is, some) = begun_of_more lines input left old new begun in
     (input ++ left, consumed, (text, inl is, some))
 
+-- the lines of the first messages of an input are a part of its text
+pub part_of_begun : {M : Type 0} (lines : Lines M) (input : List ℕ) (old new : Option (List ℕ)) → AppendsBegun lines input old new → AppendsPart lines input old new
+part_of_begun lines input old new (text, is, some) = (text, inl is, some)
+
 -- nothing more was read
 pub consumed_nothing : (a b c : Option (List ℕ)) (input piece : List ℕ) (n : ℕ) → n ≡ 0 → Consumes a b input → Consumes b c (take n piece) → Consumes a c input
 consumed_nothing a b c input piece n none before next =

@@ -93,7 +93,7 @@ fn hold(left: Left, piece: &[u8]) -> Result<Left, RunError>
     })
 }
 
-/// Writes the lines of the messages at the start of what is left, and drops the bytes of these messages.
+/// Writes the lines of the messages at the start of what is left, flushes, and drops the bytes of these messages.
 fn advance<S: Listing<D>, D: Digest, W: Write>(
     alloc: Global,
     committees: &Option<Committees<S>>,
@@ -107,6 +107,7 @@ fn advance<S: Listing<D>, D: Digest, W: Write>(
         IsLeft (⟦<S as Inspected<D>>⟧.lines committees.now) next input
         start (W.contents (inner_of writer.new))) }
     ensures seen { IfOk result (λ next. bytes_seen next ≡ bytes_seen left) }
+    ensures flushed { OnOk result (IsTrue (is_flushed writer.new)) }
     ensures begun { IfErr result (λ e. (input : List ℕ) (start : Option (List ℕ)) →
         IsLeft (⟦<S as Inspected<D>>⟧.lines committees.now) left input
         start (W.contents (inner_of writer.old)) →
@@ -171,16 +172,17 @@ fn take_piece<S: Listing<D>, D: Digest, W: Write>(
     advance::<S, D, W>(alloc, committees, left, writer)
 }
 
-/// Writes the lines of all that a reader gives: one for each message of the stream, in order, as soon as the message is read,
-/// and one for its fault, if there is one. Returns the fault. The messages and the fault are those of an audit of the stream.
+/// Writes the lines of all that a reader gives: one for each message of the stream, in order, and one for its fault, if there
+/// is one. Returns the fault. The messages and the fault are those of an audit of the stream.
 ///
-/// The input is read in pieces of up to 65,536 bytes, and lines are written and flushed before the next piece is read. Nothing
-/// is held but the bytes behind the last whole message, after a fault all that follow. From 4,096 held bytes on lines may come
-/// later: once twice as many bytes are held as after the last look for messages, or at the end of the input.
+/// The input is read in pieces of up to 65,536 bytes. A message's line is written and flushed after the read that completes the
+/// message, and before the next read, except that while 4,096 bytes or more are held it may wait until twice as many bytes are
+/// held as after the last look for messages, or until the input ends. Held are the bytes whose lines are not written yet, after
+/// a fault all that follow.
 ///
 /// `Read` exactly where a read failed, `Write` exactly where a write or a flush failed; an interrupted call counts as failed.
 /// `OutOfMemory` where an allocation failed, and `TooLong` where the reader gave more than 2^64 - 1 bytes. After each of them
-/// a prefix of the text was written, perhaps empty or the whole.
+/// a prefix of the text of what was read was written, perhaps empty or the whole.
 pub fn inspect_input<S: Listing<D>, D: Digest, R: Read, W: Write>(
     alloc: Global,
     committees: &Option<Committees<S>>,
@@ -199,6 +201,11 @@ pub fn inspect_input<S: Listing<D>, D: Digest, R: Read, W: Write>(
     // After an error a prefix of the text of the input was written.
     ensures begun { IfErr result (λ e. (input : List ℕ)
         × IsInput (R.remaining (inner_of reader.old)) input
+        × AppendsPart (⟦<S as Inspected<D>>⟧.lines committees.now) input
+        (W.contents (inner_of writer.old)) (W.contents (inner_of writer.new))) }
+    // That text is of no more than the bytes that were read.
+    ensures taken { IfErr result (λ e. (input : List ℕ)
+        × Consumes (R.remaining (inner_of reader.old)) (R.remaining (inner_of reader.new)) input
         × AppendsPart (⟦<S as Inspected<D>>⟧.lines committees.now) input
         (W.contents (inner_of writer.old)) (W.contents (inner_of writer.new))) }
     // Read and write errors come from the reader and the writer alone.

@@ -356,7 +356,7 @@ fn message_word<S: CertificateScheme, D: Digest>(message: &Activity<S, D>) -> &'
 }
 
 /// The line of a message, with its newline: its 0-based offset in the stream, its length in bytes, its kind, its round, and
-/// its statements. Without committees it has no validities.
+/// its statements. Without committees it has no validities. `AllocError` where an allocation failed.
 pub fn line<S: Listing<D>, D: Digest>(
     alloc: Global,
     committees: &Option<Committees<S>>,

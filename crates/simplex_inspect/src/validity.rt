@@ -5,7 +5,7 @@ ghost use Rattle.simplex_inspect.specs.Validity.{validity_of_signature, validity
 
 use simplex_base::values::{EqByParts, ExactClone};
 
-/// Whether a signature or a certificate is valid, and why not.
+/// Whether a signature or a certificate is valid, and why not. It is public for contracts: no public call returns one.
 #[derive(Clone, Copy, Debug, PartialEq, Eq)]
 pub enum Validity {
     /// It is valid.
@@ -18,7 +18,8 @@ pub enum Validity {
     WrongSignature,
     /// Of a certificate: it lists fewer attestations than a quorum.
     TooFew,
-    /// Of a certificate: it lists enough attestations, and one of them is not valid.
+    /// Of a certificate: it lists a quorum or more, and the scheme does not accept it. For the schemes here that is because the
+    /// signature of an attestation that it lists is not valid; another scheme may ask for more than valid signatures.
     WrongAttestation,
 }
 

@@ -58,7 +58,7 @@ impl EqByParts for Suspect {
     ghost equal = { λ x y. refl };
 }
 
-/// An attestation of the stream.
+/// An attestation of the stream. It is public for contracts: no public call returns one.
 #[derive(Clone, Copy, Debug, PartialEq, Eq)]
 pub struct Placed {
     /// Where it stands, whether it has to be verified or not.

@@ -1,5 +1,5 @@
 use Rattle.std.proofs.Common.{refl, rules}
-use Rattle.audit_stored.proofs.account.Goals as goal
+use Rattle.audit_cli.proofs.stored.account.Goals as goal
 
 pub returns : goal.returns
 returns g c = record {
