@@ -8,6 +8,7 @@ ghost use Rattle.simplex_audit.specs.Watched.{inner_of, has_failed, is_flushed};
 
 use simplex_audit::audit::{Committees, RunError, Summary, Watched, audit_deferred};
 use simplex_audit::basis::Audited;
+use simplex_audit::run::write_text;
 use simplex_audit::text::text;
 use simplex_base::codec::Fixed;
 use simplex_scheme::scheme::{Digest, Listing};
@@ -54,31 +55,6 @@ fn account<S: Listing<D>, D: Digest>(
         fault: report.fault,
     };
     Ok((summary, text))
-}
-
-/// Writes all of a text and flushes.
-fn write_text<W: Write>(writer: &mut Watched<W>, text: &[u8]) -> Result<(), RunError>
-    requires { has_failed writer.old ≡ false }
-    ensures written { OnOk result
-        (Appends (W.contents (inner_of writer.old)) (W.contents (inner_of writer.new)) text.now) }
-    ensures flushed { OnOk result (IsTrue (is_flushed writer.new)) }
-    ensures beginning { AppendsBeginning (W.contents (inner_of writer.old))
-        (W.contents (inner_of writer.new)) text.now }
-    ensures failed { IsTrue (has_failed writer.new) ↔ (result ≡ Err RunError.Write) }
-    ensures error { IfErr result (λ e. e ≡ RunError.Write) }
-{
-    let mut count = 0;
-    'parts: while count < text.len() {
-        match writer.write(&text[count..]) {
-            Ok(0) => return Err(RunError::Write),
-            Ok(taken) => count += taken,
-            Err(_) => return Err(RunError::Write),
-        }
-    }
-    match writer.flush() {
-        Ok(()) => Ok(()),
-        Err(_) => Err(RunError::Write),
-    }
 }
 
 /// What [`run`](simplex_audit::run::run) does, by a deferred audit: audits all that a reader gives, and writes a line for each

@@ -7,10 +7,11 @@ ghost use Rattle.simplex_inspect.specs.Inspected.{AppendsText, AppendsBegun, App
 ghost use Rattle.simplex_inspect.specs.Left.{IsLeft, bytes_seen};
 
 use crate::basis::Inspected;
-use crate::inspect::{finish, write_text};
+use crate::inspect::finish;
 use crate::left::Left;
 use crate::reading::{ReadLines, read_lines};
 use simplex_audit::audit::{Fault, RunError, Watched};
+use simplex_audit::run::write_text;
 use simplex_detector::committees::Committees;
 use simplex_scheme::scheme::{Digest, Listing};
 use std::alloc::{AllocError, Global};

@@ -1,9 +1,8 @@
 //! Writes the lines of a stream.
 
 ghost use Rattle.std.specs.Prelude.{◌≡◌, ◌⊎◌, ◌↔◌, ◌+◌, ◌<◌, ◌^◌, ℕ, List, Option, false, Err, IsTrue, IfOk, IfErr, OnOk, length, string_bytes};
-ghost use Rattle.std.specs.Io.KnownBytes.{Appends, Keeps};
+ghost use Rattle.std.specs.Io.KnownBytes.{Keeps};
 ghost use Rattle.simplex_audit.specs.Progress.{fault_of};
-ghost use Rattle.simplex_audit.specs.Run.{AppendsBeginning};
 ghost use Rattle.simplex_audit.specs.Watched.{inner_of, has_failed, is_flushed};
 ghost use Rattle.simplex_inspect.specs.Inspected.{IsWritten, AppendsText, AppendsPart, fault_text};
 
@@ -11,36 +10,12 @@ use crate::basis::Inspected;
 use crate::fault::fault_line;
 use crate::reading::read_lines;
 use simplex_audit::audit::{Fault, RunError, Watched};
+use simplex_audit::run::write_text;
 use simplex_base::codec::Error;
 use simplex_detector::committees::Committees;
 use simplex_scheme::scheme::{Digest, Listing};
 use std::alloc::{AllocError, Global};
 use std::io::Write;
-
-/// Writes all of a text and flushes.
-pub(crate) fn write_text<W: Write>(writer: &mut Watched<W>, text: &[u8]) -> Result<(), RunError>
-    requires { has_failed writer.old ≡ false }
-    ensures written { OnOk result
-        (Appends (W.contents (inner_of writer.old)) (W.contents (inner_of writer.new)) text.now) }
-    ensures flushed { OnOk result (IsTrue (is_flushed writer.new)) }
-    ensures beginning { AppendsBeginning (W.contents (inner_of writer.old))
-        (W.contents (inner_of writer.new)) text.now }
-    ensures failed { IsTrue (has_failed writer.new) ↔ (result ≡ Err RunError.Write) }
-    ensures error { IfErr result (λ e. e ≡ RunError.Write) }
-{
-    let mut count = 0;
-    'parts: while count < text.len() {
-        match writer.write(&text[count..]) {
-            Ok(0) => return Err(RunError::Write),
-            Ok(taken) => count += taken,
-            Err(_) => return Err(RunError::Write),
-        }
-    }
-    match writer.flush() {
-        Ok(()) => Ok(()),
-        Err(_) => Err(RunError::Write),
-    }
-}
 
 /// The fault of bytes that end in this way.
 fn fault_at(place: usize, stop: Option<Error>) -> Option<Fault>

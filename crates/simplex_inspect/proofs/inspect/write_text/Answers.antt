@@ -1,8 +1,0 @@
-use Rattle.std.proofs.Common.{rules}
-use Rattle.std.proofs.lemmas.List.{take_rest}
-use Rattle.simplex_audit.proofs.DeviceLemmas.{Appends-piece}
-use Rattle.simplex_inspect.proofs.inspect.write_text.Goals as goal
-
-pub parts-preserved : goal.parts-preserved
-parts-preserved g c =
-    (search rules, search rules, Appends-piece _ _ _ _ _ _ c.parts.invariant.2 (rw take_rest at c.in-Ok.ensures.bytes))
