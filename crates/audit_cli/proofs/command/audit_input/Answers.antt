@@ -48,8 +48,8 @@ returns-in_err-summary-in-Full-clause-untouched g c = λ none. absurd (committee
 pub returns-in_err-summary-in-Deferred-clause-untouched : goal.returns-in_err-summary-in-Deferred-clause-untouched
 returns-in_err-summary-in-Deferred-clause-untouched g c = λ none. absurd (committees-named _ _ c.in_ok-committees.ensures.committees none)
 
-pub returns-in_ok-summary-in-Full-clause-untouched : goal.returns-in_ok-summary-in-Full-clause-untouched
-returns-in_ok-summary-in-Full-clause-untouched g c = λ none. absurd (committees-named _ _ c.in_ok-committees.ensures.committees none)
+pub returns-in-Full-clause-untouched : goal.returns-in-Full-clause-untouched
+returns-in-Full-clause-untouched g c = λ none. absurd (committees-named _ _ c.in_ok-committees.ensures.committees none)
 
-pub returns-in_ok-summary-in-Deferred-clause-untouched : goal.returns-in_ok-summary-in-Deferred-clause-untouched
-returns-in_ok-summary-in-Deferred-clause-untouched g c = λ none. absurd (committees-named _ _ c.in_ok-committees.ensures.committees none)
+pub returns-clause-untouched : goal.returns-clause-untouched
+returns-clause-untouched g c = λ none. absurd (committees-named _ _ c.in_ok-committees.ensures.committees none)
