@@ -61,31 +61,31 @@ fn ample_a_long_message_in_short_reads_is_read(rt: HostRuntime) -> Result<(), Fa
     check::<_, MarkedDigest>(&rt, alloc, &committees, stream.as_slice())
 }
 
-/// The beginning and the end of the line of a nullification with 400,000 attestations.
+/// The beginning and the end of the line of a nullification with 200,000 attestations.
 const ENDS: (&[u8], &[u8]) = (
-    b"{\"offset\":0,\"length\":2000006,\"kind\":\"nullification\",\"epoch\":0,\"view\":10,\"statements\":[\
+    b"{\"offset\":0,\"length\":1000006,\"kind\":\"nullification\",\"epoch\":0,\"view\":10,\"statements\":[\
     {\"vote\":\"nullify\",\"signatures\":[{\"signer\":2097152,\"signature\":\"aa\"},",
-    b"{\"signer\":2497151,\"signature\":\"aa\"}]}]}\n",
+    b"{\"signer\":2297151,\"signature\":\"aa\"}]}]}\n",
 );
 
-/// The line of the message is written, also where it comes in reads of 50 bytes. Nothing is verified.
+/// The line of the message is written, also where it comes in reads of 25 bytes. Nothing is verified.
 fn check_line<S: Listing<D>, D: Digest>(
     rt: &impl Abort,
     alloc: Global,
     stream: &[u8],
 ) -> Result<(), Fail> {
-    let source = Source::new(stream, 50, Trouble::Never);
+    let source = Source::new(stream, 25, Trouble::Never);
     let (mut reader, mut writer) = (Watched::new(source), Watched::new(Vec::new(alloc)));
     let fault = inspect_input::<S, D, _, _>(alloc, &None, &mut reader, &mut writer)?;
     let line = writer.into_inner();
     assert!(rt; fault.is_none() && line.starts_with(ENDS.0) && line.ends_with(ENDS.1));
-    assert_eq!(rt; line.len(), 14_400_122);
+    assert_eq!(rt; line.len(), 7_200_122);
     Ok(())
 }
 
 #[test]
 fn ample_a_long_message_in_short_reads_is_shown(rt: HostRuntime) -> Result<(), Fail> {
-    let stream = nullification(rt.alloc(), 400_000, b"\x80\xb5\x18")?;
-    assert_eq!(rt; stream.len(), 2_000_006);
+    let stream = nullification(rt.alloc(), 200_000, b"\xc0\x9a\x0c")?;
+    assert_eq!(rt; stream.len(), 1_000_006);
     check_line::<Marked, MarkedDigest>(&rt, rt.alloc(), stream.as_slice())
 }

@@ -1,6 +1,6 @@
-//! Tests of the message types: what neither a contract nor a test vector states. Equality and hashes at a few values; electors
-//! and hashers of the tests' own; the vote map cleared and with many inserts; many certificates verified at once; what is as
-//! before where an allocation failed; calls that allocate nothing, made while every allocation fails; and known numbers.
+//! Tests of the message types: what neither a contract nor a test vector states. Equality, hashes and clones at a few values;
+//! electors and hashers of the tests' own; the vote map cleared and with many inserts; many certificates verified at once; what
+//! is as before where an allocation failed; calls that allocate nothing, made while every allocation fails; and known numbers.
 #![tactic(auto)]
 
 #[cfg(test)]
