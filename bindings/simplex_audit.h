@@ -42,7 +42,7 @@ extern "C" {
 #define SIMPLEX_VERSION 1u
 uint32_t simplex_version(void);
 
-/* How an audit, or a call that stores evidence, ended. */
+/* How a call ended that audits, stores, lists or elects. */
 #define SIMPLEX_WHOLE 0u     /* Success. The buffer is written, and an audit found no fault. */
 #define SIMPLEX_FAULT 1u     /* The byte at `fault_place` starts no message. The messages before it
                                 were audited, and the buffer is written. */
@@ -109,9 +109,9 @@ struct simplex_record {
  * Audits a stream as simplex_audit_vouched_.. does, and writes the evidence of the report as
  * records, one for each line of evidence and in the same order. A message carries a vote if it is
  * the vote, if its certificate lists the vote, or if it is evidence with the vote; votes are the
- * same with the same proposal or round, signer and signature. The place of a vote is the offset of
- * the tag of the first message that carries it. The second place may be before the first, and both
- * may be the same: evidence carries two votes.
+ * same with the same kind, proposal or round, signer and signature. The place of a vote is the
+ * offset of the tag of the first message that carries it. The second place may be before the
+ * first, and both may be the same: evidence carries two votes.
  *
  * `summary` is that of the audit: `evidence` is the number of records, `length` the bytes of the
  * text that simplex_audit_vouched_.. writes. The first `summary->evidence` records are written;
@@ -200,9 +200,9 @@ uint32_t simplex_suspects_vouched_96(const uint64_t *epochs, size_t epochs_len,
  * contradict nothing in their batch are not stored: a batch has to hold every vote of its rounds.
  * What is behind a fault of the batch is ignored, so audit the batch to learn of a fault. Nothing
  * checks `stored`: behind a fault in it no message of the batch is read, and the status is
- * SIMPLEX_WHOLE. What an earlier call wrote has no fault, so audit it first to find one. Changed or
- * truncated bytes may have no fault, as where a signature is no longer valid; what they accused is
- * then lost: guard what you store by a checksum.
+ * SIMPLEX_WHOLE. What an earlier call wrote has no fault: audit it first, and a fault shows damage.
+ * Changed or truncated bytes may have no fault, as where a signature is no longer valid; what they
+ * accused is then lost: guard what you store by a checksum.
  *
  * The first `*size` bytes of `evidence` are then the messages; the bytes behind them are as before.
  * The status is SIMPLEX_WHOLE, SIMPLEX_ARGUMENTS, SIMPLEX_MEMORY or SIMPLEX_SHORT. `evidence` may

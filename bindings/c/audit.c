@@ -64,7 +64,7 @@ static uint8_t *read_all(size_t *len)
 }
 
 /* Audits with a buffer that the text fits into. NULL where an allocation failed, or with keys that
-* are refused. */
+ * are refused. */
 static uint8_t *report(const char *name, const uint8_t *keys, size_t keys_len,
                        const uint8_t *stream, size_t len, uint32_t *status,
                        struct simplex_summary *summary)

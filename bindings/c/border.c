@@ -384,7 +384,7 @@ static void precedes(const struct input *in)
 }
 
 /* The attestations that have to be verified, with buffers as above. The report depends on no other
-* verdict: with every other verdict flipped it is the same. Returns how many they are. */
+ * verdict: with every other verdict flipped it is the same. Returns how many they are. */
 static size_t defers(const struct input *in, const size_t *verdicts, size_t verdicts_len)
 {
     size_t n = 99, needed = 99, spare = 2;
@@ -428,7 +428,7 @@ static size_t defers(const struct input *in, const size_t *verdicts, size_t verd
 }
 
 /* With its k-th allocation and all later ones made to fail a call ends with SIMPLEX_MEMORY, writes
-* nothing and frees what it allocated, until k is more than the allocations that it makes. */
+ * nothing and frees what it allocated, until k is more than the allocations that it makes. */
 static void without_memory(const struct input *in)
 {
     long before = blocks;
@@ -679,7 +679,7 @@ static void deferred_kinds(size_t signature)
 }
 
 /* Whether the only record of a stream has this kind and these places, under a committee of four for
-* every epoch. */
+ * every epoch. */
 static int stands_at(const uint8_t *stream, size_t len, size_t signature, uint32_t kind,
                      size_t first, size_t second)
 {
@@ -743,7 +743,7 @@ static void placed(size_t signature)
 }
 
 /* The records of what was stored with the stream behind it, as a batch: those with at least one
-* place in the batch are those that what was stored does not have. Returns how many they are. */
+ * place in the batch are those that what was stored does not have. Returns how many they are. */
 static size_t renewed(const struct input *in)
 {
     struct input both = *in, before = *in;
@@ -775,7 +775,7 @@ static size_t renewed(const struct input *in)
 }
 
 /* What a batch adds: evidence with one vote stored and the other in the batch, and evidence with
-* both votes in the batch. */
+ * both votes in the batch. */
 static void renews(size_t signature)
 {
     static const uint32_t four[] = {4};

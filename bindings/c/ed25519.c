@@ -153,7 +153,7 @@ static void print_places(const struct bytes *stream)
 }
 
 /* Verifies the signatures of a stream that have to be verified, and writes the verdicts into it.
-* Returns how many there are. */
+ * Returns how many there are. */
 static size_t verify_suspects(EVP_PKEY **keys, struct bytes *stream)
 {
     struct simplex_suspect records[100];

@@ -248,7 +248,7 @@ def store(committees, stored, batch):
 
 
 def new_records(committees, stored, batch):
-    """The new ones of the records of what was stored with a batch behind it: those with at least one place in the batch, at
+    """The new records of what was stored with a batch behind it: those with at least one place in the batch, at
     `len(stored)` or above. All other evidence was stored before. `ValueError` as for `store`.
 
     >>> committees, stored = Committees.every(64, 4), b""
@@ -400,7 +400,8 @@ def issuance_floor(term_length, optimistic_views, view):
 
 
 def leader(participants, term_length, epoch, view, seed=None):
-    """The number of the participant who leads a view, in the order of the numbers or in the one that a seed determines."""
+    """The number of the participant who leads a view of an epoch, in the order of the numbers or in the one that a seed
+    determines."""
     number = ctypes.c_uint32()
     terms = _checked(participants, 32, "a number of participants"), _checked(term_length, 32, "a term length")
     place = _checked(epoch, 64, "an epoch"), _checked(view, 64, "a view")

@@ -42,7 +42,7 @@ pub fn records(committees: &Committees, stream: &[u8]) -> Result<Vec<Record>, Er
     Ok(ffi::records(committees, stream)?.iter().map(record).collect())
 }
 
-/// The new ones of the records of what was stored with a batch behind it: those with at least one place in the batch, at
+/// The new records of what was stored with a batch behind it: those with at least one place in the batch, at
 /// `stored.len()` or above. All other evidence was stored before. `Error::Arguments` where what was stored has a fault, behind
 /// which nothing would be read.
 ///

@@ -11,7 +11,7 @@ use Rattle.audit_cli.proofs.GroupLemmas.{first_group, epoch_told, risen}
 abbrev pub epochs_of : List (ℕ × PlainScheme) → List ℕ
 epochs_of pairs = map (λ p. p.0) pairs
 
--- any groups that the texts are have the epochs before, and then those of groups that the remaining texts are
+-- if the texts are groups, their epochs are those of `before`, and then those of groups that `rest` is
 abbrev pub Continues : List ℕ → List (List ℕ) → List (List ℕ) → List (ℕ × PlainScheme) → Type 0
 Continues namespace texts rest before =
     (pairs : List (ℕ × PlainScheme)) → AreGroups namespace texts pairs

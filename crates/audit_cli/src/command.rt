@@ -17,12 +17,14 @@ use simplex_scheme::scheme::Sha256Digest;
 use std::alloc::Global;
 use std::io::{ErrorKind, Read, Write};
 
-/// Which signatures a run verifies, and what it holds. Its text, its fault and its status do not depend on it.
+/// Which signatures a run verifies, and what it holds. The text, the fault and the status of a run are the same either way,
+/// unless an allocation fails.
 #[derive(Drop)]
 pub enum Verification {
-    /// Those of the votes and certificates that can change the report. The input is read in pieces, none of which is held.
+    /// Those of the votes and certificates that can change the state of their round. The input is read in pieces; only the
+    /// bytes after the last whole message are held, after a fault all that follow.
     Full,
-    /// Those of the votes of suspects and of the certificates of their rounds alone. The whole input is held.
+    /// Only those of the votes of suspects and of the certificates of their rounds. The whole input is held.
     Deferred,
 }
 

@@ -61,8 +61,9 @@ fn account<S: Listing<D>, D: Digest>(
 /// evidence of the report, and then one for each split. The whole input is held, and of an honest stream nothing is verified.
 /// All memory is allocated before the first write.
 ///
-/// `Read` exactly where a read failed, `Write` exactly where a write or a flush failed; an interrupted call counts as failed.
-/// `OutOfMemory` where an allocation failed. `TooLong` never comes.
+/// `Read` exactly where a read failed, also before this call; an interrupted read counts as failed, and what comes after it is
+/// read first. `Write` exactly where a write or a flush failed, an interrupted one included. `OutOfMemory` where an allocation
+/// failed and no read did. `TooLong` is never returned.
 pub fn run_deferred<S: Listing<D>, D: Digest, R: Read, W: Write>(
     alloc: Global,
     committees: &Committees<S>,

@@ -62,7 +62,7 @@ module _ {S D C P G : Type 0} (basis : Basis S D C P G) (stream : List ℕ) (rep
   HasNoOtherEvidence = OfMessages basis stream (λ messages. EvidenceIsUnique basis.rules.eq (valid_votes basis.rules messages) (evidence_in report))
 
   -- the splits are the rounds with two certified messages that contradict, in order, each once with the number of signers
-  -- accused there and f + 1, which is no more, and the list is unique
+  -- accused there and f + 1, which that number reaches; no other list is
   pub record ShowsSplits : Type 0 where
     pub are_splits : OfMessages basis stream (λ messages. AreSplits basis.rules messages report.splits.items)
     pub only : OfMessages basis stream (λ messages. SplitsAreUnique basis.rules messages report.splits.items)

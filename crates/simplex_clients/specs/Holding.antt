@@ -18,7 +18,7 @@ use Rattle.simplex_clients.specs.declared.ledger.Ledger.{Ledger}
 abbrev pub bytes_fed : {S D P G : Type 0} → Ledger S D P G → ℕ
 bytes_fed ledger = fed_of ledger.auditor
 
--- a ledger of these committees was fed this stream
+-- a ledger of these committees was fed this stream, and nothing else
 abbrev pub WasFed : {S D C P G : Type 0} → (Schedule S → Basis S D C P G) → Schedule S → Ledger S D P G → List ℕ → Type 0
 WasFed basis committees ledger stream = Stands basis committees ledger.auditor stream
 

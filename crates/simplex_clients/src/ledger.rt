@@ -15,8 +15,8 @@ use simplex_evidence::types::Activity;
 use simplex_scheme::scheme::{Digest, Listing, SchemeTypes};
 use std::alloc::{AllocError, Global};
 
-/// Holds the evidence of all messages that it is fed in pieces of any length. It records the votes that evidence can
-/// consist of, and not the messages.
+/// Holds the evidence of all messages that it is fed, in pieces of any length: each evidence once. It records the votes that
+/// evidence can consist of, and not the messages.
 #[derive(Drop)]
 pub struct Ledger<'a, S: SchemeTypes, D: Digest> {
     auditor: Auditor<'a, S, D>,
@@ -49,7 +49,7 @@ impl<'a, S: Listing<D>, D: Digest> Ledger<'a, S, D> {
         Ok(ledger)
     }
 
-    /// The ledger that was fed this piece, too. Where an allocation fails, `AllocError`, there is no ledger.
+    /// The ledger that was fed this piece, too. `AllocError` only where an allocation failed, and then there is no ledger.
     pub fn feed(self, piece: &[u8]) -> Result<Self, AllocError>
         requires { bytes_fed self + length piece.now < 2 ^ 64 }
         ensures bytes { IfOk result (λ next.
@@ -82,8 +82,8 @@ impl<'a, S: Listing<D>, D: Digest> Ledger<'a, S, D> {
     }
 
     /// The evidence as bytes for `resume`: each a message, an `Activity`, one after the other in the order of `evidence`; no
-    /// bytes where there is no evidence. Votes that contradict nothing yet are not stored. `AllocError` only where an allocation
-    /// failed.
+    /// bytes where there is no evidence. Votes that contradict nothing yet are not stored. `AllocError` only where an
+    /// allocation failed.
     pub fn store(&self, alloc: Global) -> Result<Vec<u8>, AllocError>
         // The bytes encode the evidence, and it is their evidence, too. A piece behind them is read as it is alone, and what is
         // held then is the evidence of both: accused signers stay accused, and nobody is accused whom the messages of both do
@@ -99,8 +99,9 @@ impl<'a, S: Listing<D>, D: Digest> Ledger<'a, S, D> {
 }
 
 /// What a ledger stores that was fed the bytes that an earlier one stored, or none, and then a batch of messages. Only the
-/// votes of suspects and the certificates of their rounds are verified, as by [`audit_deferred`]. Memory is bounded by the stored
-/// bytes, the batch and, for each of their rounds, the size of its committee. `AllocError` only where an allocation failed.
+/// votes of suspects and the certificates of their rounds are verified, as by [`audit_deferred`]. Memory is bounded by the
+/// stored bytes, the batch and, for each of their rounds, the size of its committee. `AllocError` only where an allocation
+/// failed.
 pub fn store_batch<S: Listing<D>, D: Digest>(
     alloc: Global,
     committees: &Committees<S>,

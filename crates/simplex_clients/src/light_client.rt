@@ -31,7 +31,7 @@ pub enum Followed<S: SchemeTypes, D: Digest> {
     Known,
     /// It does not certify its proposal under the committee of its epoch.
     Refused,
-    /// It contradicts the latest: the evidence, which accuses more participants of the committee than may lie.
+    /// It contradicts the latest: the evidence, which accuses more participants of their epoch's committee than may lie.
     Fork(Vec<Evidence<S, D>>),
 }
 

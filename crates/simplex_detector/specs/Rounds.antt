@@ -53,7 +53,7 @@ pub record TakesVote {S D P G : Type 0} (eq : D → D → Bool) (v : SignedVote 
   pub more : (n : ℕ) → IsSized n before → v.signer < n → IsTrue (changes eq (slots before v.signer (sort_of v.subject)).earliest (slots before v.signer (sort_of v.subject)).other v.subject) →
       round_count after ≡ round_count before + 1
 
--- the recorded votes are those that vs gives for a round, whose committee has n participants
+-- of a round whose committee has n participants exactly the votes are recorded that `vs` has in the slots of that round
 pub record HoldsRound {S D P G : Type 0} (eq : D → D → Bool) (n : ℕ) (vs : List (SignedVote D G)) (round : Round) (recorded : RoundVotes S D P G) : Type 0 where
   pub sized : IsSized n recorded
   pub held : (signer : ℕ) (sort : Sort) → slots recorded signer sort ≡ slot_of eq vs sort round signer

@@ -29,8 +29,8 @@ module _ {S D C P G : Type 0} (rules : Rules S D C P G) (messages : List (Activi
       IsTrue (messages_contradict rules.eq m k) → IsTrue (is_certified_message rules m) → IsTrue (is_certified_message rules k) →
       faults_of (rules.size (activity_round m).epoch) + 1 ≤ accused_count rules.eq (valid_votes rules messages) (activity_round m)
 
-  -- The signers of both certificates are distinct, at least n - 2f of them and so at least f + 1, and each is accused in the
-  -- round, whose committee has n participants and the fault bound f.
+  -- The signers of both certificates are distinct, there are at least n - 2f of them, which is at least f + 1, and each is
+  -- accused in the round, whose committee has n participants and the fault bound f.
   pub record IsAccountable (round : Round) (c d : C) : Type 0 where
     pub distinct : IsDistinct nat_eq (shared_signers rules c d)
     pub many : rules.size round.epoch - 2 * faults_of (rules.size round.epoch) ≤ length (shared_signers rules c d)

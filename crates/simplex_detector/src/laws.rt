@@ -113,9 +113,9 @@ pub fn recorded_votes_have_room<S: Listing<D>, D: Digest>()
         (format_of ⟦<S::Signature as Read>⟧)) messages) }
 {}
 
-/// A signer is suspect in a round where two votes that claim to be that signer's contradict, verified or not. Verifying only
-/// the votes of suspects and the certificates of their rounds yields the evidence and the splits of all messages. Where
-/// nobody is suspect there are none.
+/// A signer of a committee is suspect in a round where two votes that claim to be that signer's contradict, whether their
+/// signatures are valid or not. Verifying only the votes of suspects and the certificates of their rounds yields the evidence
+/// and the splits of all messages. Where nobody is suspect there are none.
 pub fn suspects_tell_all<S: Listing<D>, D: Digest>()
     ensures nobody { (schedule : Schedule S) → NobodyIsSuspect (⟦<S as Judges<D>>⟧.rules schedule)
         (λ judging. ⟦<S as Judges<D>>⟧.rules_under judging schedule) }

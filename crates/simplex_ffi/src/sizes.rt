@@ -12,8 +12,8 @@ use std::alloc::{AllocError, Global};
 
 /// The committees of these sizes: without epochs one committee for every epoch, of the one size; else
 /// for each epoch one of the size at the same place. `None` where there are no such committees: there
-/// are more or fewer sizes, a size is 0, or epochs do not rise strictly. `AllocError` only where an
-/// allocation failed.
+/// are not as many sizes as epochs, or without epochs not exactly one; a size is 0; or epochs do not
+/// rise strictly. `AllocError` only where an allocation failed.
 pub fn committees<R, const N: usize>(
     alloc: Global,
     epochs: &[u64],

@@ -51,8 +51,8 @@ fn first_bytes(rest: &[u8]) -> &[u8]
     }
 }
 
-/// The line of a fault, with its newline: its 0-based offset, the refusal as a JSON string, and up to 16 bytes from there on, the
-/// first of `rest`. `AllocError` where an allocation failed.
+/// The line of a fault, with its newline: its 0-based offset, the refusal as a JSON string, and up to 16 bytes from there on,
+/// the first of `rest`. `AllocError` where an allocation failed.
 pub fn fault_line(alloc: Global, fault: &Fault, rest: &[u8]) -> Result<String, AllocError>
     ensures { IfOk result (λ text. string_bytes text ≡ fault_line fault.now rest.now) }
 {

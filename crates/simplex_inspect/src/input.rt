@@ -204,7 +204,7 @@ pub fn inspect_input<S: Listing<D>, D: Digest, R: Read, W: Write>(
         × IsInput (R.remaining (inner_of reader.old)) input
         × AppendsPart (⟦<S as Inspected<D>>⟧.lines committees.now) input
         (W.contents (inner_of writer.old)) (W.contents (inner_of writer.new))) }
-    // That text is of no more than the bytes that were read.
+    // It is also a prefix of the text of the bytes that were read.
     ensures taken { IfErr result (λ e. (input : List ℕ)
         × Consumes (R.remaining (inner_of reader.old)) (R.remaining (inner_of reader.new)) input
         × AppendsPart (⟦<S as Inspected<D>>⟧.lines committees.now) input

@@ -46,8 +46,8 @@ fn refusal(error: Error) -> Result<Error, AllocError>
 }
 
 /// Reads the messages at the start of some bytes, as many as there are, and makes the line of each. `offset` is that of the
-/// first byte in the stream; with the number of bytes it is below 2^64. `AllocError` where an allocation failed, also in reading
-/// a message.
+/// first byte in the stream; with the number of bytes it is below 2^64. `AllocError` where an allocation failed, also in
+/// reading a message.
 pub fn read_lines<'a, S: Listing<D>, D: Digest>(
     alloc: Global,
     committees: &Option<Committees<S>>,

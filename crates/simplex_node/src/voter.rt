@@ -42,8 +42,8 @@ pub fn casts(lookahead: &Lookahead, certified: View, view: View) -> bool
 }
 
 /// Whether a node with this viewport hears a vote of view `view` from a node with the same lookahead that has certified
-/// view `certified`: the vote is not cast or it is taken. It is heard wherever `certified` is in reach of this node's
-/// view and not behind its term, unless terms have one view, and this node retains `view`. Of its current view
+/// view `certified`: the vote is not cast or it is taken. It is heard wherever this node retains `view` and `certified` is in
+/// reach of its view and, unless terms have one view, no later than the last view of its term. Of its current view
 /// `viewport.lookahead.fits` has to hold, and `certified` is below 2^64 - 1.
 pub fn is_heard(viewport: &Viewport, certified: View, view: View) -> bool
     requires current { FitsWindow viewport.now.lookahead.term_length viewport.now.current }

@@ -15,7 +15,7 @@ use Rattle.simplex_places.proofs.PlaceLemmas.{first_stands, any_kept}
 of_evidence : {D G K : Type 0} (cmp : K → K → Ordering) (key_of : SignedVote D G → K) (places : BTreeMap K (Option ℕ)) (e : Equivocation D G) → IsOfEvidence e (record_by cmp key_of places e)
 of_evidence cmp key_of places e = record { epoch_is = refl; view_is = refl; signer_is = refl; kind_is = refl }
 
--- all of some evidence, whatever was found
+-- the records of some evidence are of it, for any places
 pub all_of_evidence : {D G K E : Type 0} (cmp : K → K → Ordering) (key_of : SignedVote D G → K) (places : BTreeMap K (Option ℕ)) (value : E → Equivocation D G) (es : List E) →
     AllZip IsOfEvidence (map value es) (map (λ e. record_by cmp key_of places (value e)) es)
 all_of_evidence cmp key_of places value [] = tt

@@ -20,7 +20,7 @@ kind_of (Finalizes p) = 2
 abbrev pub signed_at : {D : Type 0} → Format D → ℕ → SubjectValue D → Bool → Signed
 signed_at payload place x is_listed = record { round = round_of x; kind = kind_of x; place = place; size = length (message_of payload x); is_listed = is_listed }
 
--- the attestation of what was signed by a signer, with its verdict at a place
+-- the attestation by a signer of what was signed, with its verdict at a place
 abbrev pub placed_at : Signed → ℕ → ℕ → Placed
 placed_at signed signer verdict = record {
   suspect = record {
@@ -44,7 +44,7 @@ abbrev pub places_from : {S P G : Type 0} → Format G → Signed → ℕ → Li
 places_from signature signed place [] = []
 places_from signature signed place (a ∷ others) = placed_at signed a.signer (behind signature place a - 1) ∷ places_from signature signed (behind signature place a) others
 
--- the attestation of a vote from a place on: its subject, and then its attestation
+-- the attestation of a vote whose subject begins at a place, with the attestation behind it
 abbrev pub vote_places : {S D P G : Type 0} → Format D → Format G → ℕ → SubjectValue D → Attestation S P G → List Placed
 vote_places payload signature place x a = places_from signature (signed_at payload place x false) (place + length (message_of payload x)) (a ∷ [])
 
