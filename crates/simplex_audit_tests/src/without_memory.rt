@@ -3,17 +3,13 @@
 //! `.ci/refusals` runs each test here with every allocation made to fail, from that of `memory_ends` on.
 
 use crate::outcome::marked;
-use audit_cli::status::{Failure, Status};
-use faulty_io::{Source, Target, Trouble};
-use simplex_audit::audit::{Auditor, Committees, CommitteesError, Watched, audit};
+use simplex_audit::audit::{Auditor, Committees, CommitteesError, audit};
 use simplex_base::positions::{Epoch, Participant, Round, View};
-use simplex_inspect::validity::Validity;
 use simplex_places::places::{FINALIZE, Placed, Suspect};
 use simplex_places::records::{NULLIFY_FINALIZE, Record};
 use simplex_plain::marked::{Marked, MarkedDigest};
 use simplex_scheme::scheme::{CertificateScheme, Digest, Listing};
 use std::alloc::Global;
-use std::io::{ErrorKind, Read};
 use std::process::Abort;
 use std::test::Fail;
 
@@ -145,39 +141,4 @@ fn without_memory_clones(rt: HostRuntime) {
     for is_listed in [false, true] {
         assert!(rt; is_cloned(&Placed { suspect, is_listed }));
     }
-    for validity in [
-        Validity::Valid,
-        Validity::NoCommittee,
-        Validity::OutsideSigner,
-        Validity::WrongSignature,
-        Validity::TooFew,
-        Validity::WrongAttestation,
-    ] {
-        assert!(rt; is_cloned(&validity));
-    }
-    for status in [Status::Whole, Status::Fault, Status::Usage, Status::Failed] {
-        assert!(rt; is_cloned(&status));
-    }
-    for failure in [
-        Failure::Usage,
-        Failure::Read,
-        Failure::Write,
-        Failure::OutOfMemory,
-    ] {
-        assert!(rt; is_cloned(&failure));
-    }
-}
-
-#[test]
-fn without_memory_watched(rt: HostRuntime) {
-    memory_ends(rt.alloc());
-    let failing = Trouble::Once(0, ErrorKind::Other);
-    let mut reader = Watched::new(Source::new(b"", 1, failing));
-    assert!(rt; !reader.failed());
-    assert!(rt; reader.read(&mut [0]).is_err());
-    assert!(rt; reader.failed());
-    assert_eq!(rt; reader.into_inner().calls(), 1);
-    let writer = Watched::new(Target::steady());
-    assert!(rt; !writer.failed());
-    assert_eq!(rt; writer.into_inner().calls(), (0, 0));
 }

@@ -1,8 +1,8 @@
 //! The lines of a stream that comes in reads of seven bytes: what is written and flushed before each further read, and what is
 //! left where a read, a write or a flush fails.
 
+use crate::committee::marked;
 use crate::inspected::{LINES, STREAM};
-use crate::outcome::marked;
 use faulty_io::{Source, Target, Trouble};
 use simplex_audit::audit::{Committees, RunError, Watched};
 use simplex_inspect::input::inspect_input;

@@ -1,6 +1,6 @@
 //! A long message that comes in short reads. A body that looks for messages after each read would take minutes.
 
-use crate::outcome::marked;
+use crate::committee::marked;
 use faulty_io::{Source, Target, Trouble};
 use simplex_audit::audit::{Committees, Watched, run};
 use simplex_inspect::input::inspect_input;

@@ -1,6 +1,6 @@
 //! The lines of a stream in memory: over writers that do and do not fail, and where an allocation fails.
 
-use crate::outcome::marked;
+use crate::committee::marked;
 use faulty_io::{Target, Trouble};
 use simplex_audit::audit::{Committees, RunError, Watched};
 use simplex_inspect::inspect::inspect;
