@@ -16,7 +16,7 @@ fn main(rt: HostRuntime) -> ExitCode {
         env::args(&rt),
         &mut Watched::new(rt.stdin()),
         &mut Watched::new(rt.stdout()),
-        &mut rt.stderr(),
+        &mut Watched::new(rt.stderr()),
     );
     ExitCode::from(number)
 }

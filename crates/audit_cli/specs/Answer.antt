@@ -1,5 +1,5 @@
 -- What the program makes of its arguments and its input.
-use Rattle.std.specs.Prelude.{◌≡◌, ◌⊎◌, ◌≤◌, ◌^◌, ℕ, Bool, IsTrue, List, [], length, Option, Some, None, Result, Ok, Err}
+use Rattle.std.specs.Prelude.{◌≡◌, ◌⊎◌, ◌≤◌, ◌^◌, ℕ, Bool, false, IsTrue, List, [], length, Option, Some, None, Result, Ok, Err}
 use Rattle.std.specs.Io.KnownBytes.{Consumes, IsAtEnd, Appends, Keeps}
 use Rattle.simplex_plain.specs.Plain.{PlainScheme}
 use Rattle.simplex_scheme.specs.declared.scheme.Attestation.{Attestation}
@@ -55,6 +55,10 @@ writer_use contents old new = record {
   failed = has_failed new;
   flushed = is_flushed new;
 }
+
+-- of a text a prefix was written, perhaps empty or the whole, and all of it unless a call failed
+abbrev pub Says : WriterUse → List ℕ → Type 0
+Says writer text = AppendsBeginning writer.before writer.after text × (writer.failed ≡ false → Appends writer.before writer.after text)
 
 -- a whole input was read, and its text and its fault are those for the committees that the arguments name
 pub record IsRead (basis : Bases) (words : List (List ℕ)) (reader : ReaderUse) (text : List ℕ) (fault : Option Fault) : Type 0 where

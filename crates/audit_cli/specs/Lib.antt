@@ -1,3 +1,4 @@
 pub mod Arguments
 pub mod Answer
 pub mod Status
+pub mod Verification

@@ -4,9 +4,8 @@ ghost use Rattle.std.specs.Prelude.{◌≡◌, ◌≢◌, ◌⊎◌, false, IsTr
 ghost use Rattle.std.specs.IoError.{error_kind};
 ghost use Rattle.std.specs.Vec.Iter.{into_iter_items};
 ghost use Rattle.audit_cli.specs.Arguments.{AreNoArguments, words_of};
-ghost use Rattle.audit_cli.specs.Answer.{Ends, Ending, reader_use, writer_use, status_of, said_of};
+ghost use Rattle.audit_cli.specs.Answer.{Ends, Ending, Says, reader_use, writer_use, status_of, said_of};
 ghost use Rattle.audit_cli.specs.Status.{complaint_of, number_of};
-ghost use Rattle.simplex_audit.specs.Run.{AppendsBeginning};
 ghost use Rattle.simplex_audit.specs.Watched.{has_failed};
 
 use crate::command::{Verification, command, conclude};
@@ -53,32 +52,28 @@ pub fn start<R: Read, W: Write, E: Write>(
     given: io::Result<Args>,
     input: &mut Watched<R>,
     output: &mut Watched<W>,
-    errors: &mut E,
+    errors: &mut Watched<E>,
 ) -> u8
     requires input_well { has_failed input.old ≡ false }
     requires output_well { has_failed output.old ≡ false }
     ensures ends { IfOk given (λ given. (ending : Ending) × (result ≡ number_of (status_of ending))
-        × AppendsBeginning (E.contents errors.old) (E.contents errors.new) (said_of ending)
+        × Says (writer_use E.contents errors.old errors.new) (said_of ending)
         × Ends ⟦<Plain as Audited<Sha256Digest>>⟧.basis (words_of (into_iter_items given))
         (reader_use R.remaining input.old input.new)
         (writer_use W.contents output.old output.new) ending) }
     // Where the input or the output failed the number is 3, and standard error says only that.
     ensures read_failed { IsTrue (has_failed input.new) → (result ≡ 3)
-        × AppendsBeginning (E.contents errors.old) (E.contents errors.new)
-        (complaint_of Failure.Read) }
+        × Says (writer_use E.contents errors.old errors.new) (complaint_of Failure.Read) }
     ensures write_failed { IsTrue (has_failed output.new) → (result ≡ 3)
-        × AppendsBeginning (E.contents errors.old) (E.contents errors.new)
-        (complaint_of Failure.Write) }
+        × Says (writer_use E.contents errors.old errors.new) (complaint_of Failure.Write) }
     ensures refused { IfOk given (λ given. AreNoArguments (words_of (into_iter_items given)) →
         (result ≡ 2) ⊎ (result ≡ 3)) }
     ensures untouched { IfOk given (λ given. AreNoArguments (words_of (into_iter_items given)) →
         (input.new ≡ input.old) × (output.new ≡ output.old)) }
     ensures memory { IfErr given (λ error. error_kind error ≡ ErrorKind.OutOfMemory → (result ≡ 3)
-        × AppendsBeginning (E.contents errors.old) (E.contents errors.new)
-        (complaint_of Failure.OutOfMemory)) }
+        × Says (writer_use E.contents errors.old errors.new) (complaint_of Failure.OutOfMemory)) }
     ensures usage { IfErr given (λ error. error_kind error ≢ ErrorKind.OutOfMemory → (result ≡ 2)
-        × AppendsBeginning (E.contents errors.old) (E.contents errors.new)
-        (complaint_of Failure.Usage)) }
+        × Says (writer_use E.contents errors.old errors.new) (complaint_of Failure.Usage)) }
     ensures unused { OnErr given ((input.new ≡ input.old) × (output.new ≡ output.old)) }
 {
     let given = match given {

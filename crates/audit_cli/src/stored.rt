@@ -1,7 +1,7 @@
 //! A run over a stored stream, which it holds whole: only the votes of suspects and the certificates of their rounds are
 //! verified.
 
-ghost use Rattle.std.specs.Prelude.{◌≡◌, ◌≢◌, ◌↔◌, ◌⊎◌, ℕ, List, false, IsTrue, Err, IfOk, IfErr, OnOk, string_bytes};
+ghost use Rattle.std.specs.Prelude.{◌≡◌, ◌≢◌, ◌↔◌, ◌⊎◌, ℕ, List, false, IsTrue, Err, IfOk, IfErr, IfSome, OnOk, string_bytes};
 ghost use Rattle.std.specs.Io.KnownBytes.{Consumes, IsAtEnd, Appends, Keeps};
 ghost use Rattle.simplex_audit.specs.Run.{IsAccount, AppendsBeginning};
 ghost use Rattle.simplex_audit.specs.Watched.{inner_of, has_failed, is_flushed};
@@ -78,10 +78,15 @@ pub fn run_deferred<S: Listing<D>, D: Digest, R: Read, W: Write>(
         × IsAccount (⟦<S as Audited<D>>⟧.basis committees.now) D.bytes_of input summary text
         × Appends (W.contents (inner_of writer.old)) (W.contents (inner_of writer.new)) text) }
     ensures flushed { OnOk result (IsTrue (is_flushed writer.new)) }
+    // If the reader's remaining bytes are known, they are the input.
+    ensures known { IfOk result (λ summary.
+        IfSome (R.remaining (inner_of reader.old)) (λ input. (text : List ℕ)
+        × IsAccount (⟦<S as Audited<D>>⟧.basis committees.now) D.bytes_of input summary text
+        × Appends (W.contents (inner_of writer.old)) (W.contents (inner_of writer.new)) text)) }
     // Read and write errors come from the reader and the writer alone.
     ensures read_failed { IsTrue (has_failed reader.new) ↔ (result ≡ Err RunError.Read) }
     ensures write_failed { IsTrue (has_failed writer.new) ↔ (result ≡ Err RunError.Write) }
-    ensures counted { result ≢ Err RunError.TooLong }
+    ensures too_long { result ≢ Err RunError.TooLong }
     // After an error nothing was written, except for a prefix of the text where the writer failed.
     ensures nothing { IfErr result (λ e. e ≢ RunError.Write →
         Keeps (W.contents (inner_of writer.old)) (W.contents (inner_of writer.new))) }

@@ -74,8 +74,9 @@ fn is_refused(rt: &impl Abort, alloc: Global, verification: Verification, case: 
     };
     let source = Source::new(case.stream, case.steps.0.max(1), case.reading);
     let target = Target::new(case.steps.1, case.room, case.writing, case.flushing);
-    let mut errors = Target::new(case.steps.2, usize::MAX, case.saying, Trouble::Never);
+    let errors = Target::new(case.steps.2, usize::MAX, case.saying, Trouble::Never);
     let (mut input, mut output) = (Watched::new(source), Watched::new(target));
+    let mut errors = Watched::new(errors);
     let arguments = arguments.as_slice();
     let status = command(
         alloc,
@@ -86,6 +87,7 @@ fn is_refused(rt: &impl Abort, alloc: Global, verification: Verification, case: 
         &mut errors,
     );
     let (source, target) = (input.into_inner(), output.into_inner());
+    let errors = errors.into_inner();
     assert!(rt; errors.is_flushed());
     let refused = errors.held() == OUT_OF_MEMORY.as_bytes();
     if refused {

@@ -37,7 +37,7 @@ returns-in_err-summary-in-Deferred-clause-ends g c =
     rw (p.1, p.2) (ends-given_up _ _
     (reader_use g.R.Read.remaining c.args.input.now input) (writer_use g.W.Write.contents c.args.output.now output)
     c.in_ok-committees.committees c.in_err-summary-in-Deferred.field-0.0 c.in_ok-committees.ensures.committees
-    (λ e. ran.read_failed.1 (ap Err e)) (λ e. absurd (ran.counted (ap Err e))) (λ other. ran.nothing other)
+    (λ e. ran.read_failed.1 (ap Err e)) (λ e. absurd (ran.too_long (ap Err e))) (λ other. ran.nothing other)
     (λ e.
     let (bytes, text, summary, consumed, ended, account, beginning) = ran.beginning (ap Err e) in
     (text, summary.fault, record { committees = c.in_ok-committees.committees; input = bytes; summary = summary; named = c.in_ok-committees.ensures.committees; consumed = consumed; ended = ended; account = account; fault_is = refl }, beginning, ran.write_failed.1 (ap Err e))))
