@@ -56,7 +56,7 @@ writer_use contents old new = record {
   flushed = is_flushed new;
 }
 
--- of a text a prefix was written, perhaps empty or the whole, and all of it unless a call failed
+-- a text was said: the writer took a prefix of it, perhaps empty, and all of it unless a call failed, now or before
 abbrev pub Says : WriterUse → List ℕ → Type 0
 Says writer text = AppendsBeginning writer.before writer.after text × (writer.failed ≡ false → Appends writer.before writer.after text)
 
