@@ -32,7 +32,7 @@ install:
 	done; \
 	test -n "$$some" || { echo 'No program is built yet: make audit, make audit_stored or make inspect' >&2; exit 1; }
 
-# The gate: proves everything from nothing, tries the mutants, runs the tests and the programs, and then tries what was
+# The gate: proves everything, tries the mutants, runs the tests and the programs, and then tries what was
 # built as its users would, and with each of its allocations made to fail.
 test:
 	.ci/gate
