@@ -9,7 +9,7 @@ who signed two contradictory votes. The caller verifies signatures by a library 
 ([(10, 2, 'conflicting-notarize')], None)
 
 It loads `bindings/out/simplex_audit.so`, or that of the folder that the variable SIMPLEX_AUDIT_LIB names. A call raises
-`ValueError` where its arguments are no committees, or none of its terms, and `MemoryError` where an allocation failed.
+`ValueError` where its arguments are no valid committees or numbers, and `MemoryError` where an allocation failed.
 """
 import collections
 import ctypes
@@ -157,7 +157,7 @@ Evidence = collections.namedtuple("Evidence", "epoch view signer kind line")
 Evidence.__doc__ = "A participant who signed two contradictory votes in a round, the kind, and the line of the report, with the votes."
 
 Split = collections.namedtuple("Split", "epoch view accused enough")
-Split.__doc__ = "A round whose certificates contradict, how many evidence accuses there, and f + 1, the least number that it has to."
+Split.__doc__ = "A round whose certificates contradict, how many evidence accuses there, and f + 1; it accuses at least as many."
 
 Report = collections.namedtuple("Report", "read evidence splits fault text")
 Report.__doc__ = "How many messages were read, the evidence and the splits, the offset of the fault or `None`, and the lines of both."

@@ -123,9 +123,9 @@ pub(crate) fn conclude<E: Write>(
 
 /// Runs the program over its arguments, without the program's name, and its three streams.
 ///
-/// The arguments are checked before anything is read, and nothing is written before the whole input is read
-/// and all memory is allocated. The complaint is written whole, unless a write or a flush of `errors` fails; the status is the
-/// same then.
+/// The arguments are checked before anything is read, and nothing is written before the whole input
+/// is read and all memory is allocated. The complaint is written whole, unless a call of `errors`
+/// fails, or had failed before; the status is the same then.
 pub fn command<R: Read, W: Write, E: Write>(
     alloc: Global,
     verification: Verification,

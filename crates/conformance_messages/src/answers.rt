@@ -20,9 +20,10 @@ use simplex_lead::{Lookahead, Viewport};
 use simplex_plain::marked::MarkedDigest;
 use std::alloc::Global;
 
-/// The answer to the test vector of these words, as docs/CONFORMANCE.md has it; here those that ask what some bytes encode, and
-/// what a scheme makes of them. `NoVector` where the words are no test vector that asks about messages. No clause states the
-/// answer: the stored test vectors of `conformance` do.
+/// The answer to the test vector of these words, as docs/CONFORMANCE.md has it; here those that ask
+/// what some bytes encode, and what a scheme makes of them. `NoVector` where the words are no test
+/// vector that asks about messages, and `OutOfMemory` only where an allocation failed. No clause
+/// states the answer: the stored test vectors of `conformance` do.
 pub fn message_vector(alloc: Global, words: &[&str]) -> Result<String, Unanswered>
     ensures { length words.now ≡ 0 → result ≡ Err NoVector }
 {

@@ -98,7 +98,7 @@ pub(crate) fn committee_size(word: &str) -> Result<u32, Unanswered>
 }
 
 /// The marked committee of this many participants, which signs nothing. `NoVector` where the word is no number from 1 to
-/// 2^32 - 1 in decimal digits.
+/// 2^32 - 1 in decimal digits, and `OutOfMemory` only where an allocation failed.
 pub fn committee(alloc: Global, word: &str) -> Result<Marked, Unanswered>
     ensures { IfOk result (λ scheme. IsMarkedCommittee word.now scheme) }
 {
@@ -106,7 +106,7 @@ pub fn committee(alloc: Global, word: &str) -> Result<Marked, Unanswered>
 }
 
 /// The bytes that some words encode, each of them whole bytes by two hexadecimal digits a byte. `NoVector` where a word does
-/// not.
+/// not, and `OutOfMemory` only where an allocation failed.
 pub fn bytes(alloc: Global, words: &[&str]) -> Result<Vec<u8>, Unanswered>
     ensures { IfOk result (λ bytes. bytes.items ≡ flat_map (λ word. decoded word.now) words.now) }
 {

@@ -13,6 +13,7 @@ use std::alloc::{AllocError, Global};
 
 /// The rounds and the signers that the stream accuses, in the order of the evidence. One committee judges every epoch.
 /// `None` where the keys are not those of a committee: none at all, more than 2^32 - 1, or one of them twice.
+/// `AllocError` only where an allocation failed.
 pub fn accused(
     alloc: Global,
     namespace: &[u8],

@@ -66,10 +66,12 @@ pub(crate) fn conclude<E: Write>(
 
 /// Runs the program over its arguments, without the program's name, and its three streams.
 ///
-/// The arguments are checked before anything is read. Lines are written while the input is read, so after a failure a prefix of
-/// the text may have been written. A message's line is written after the read that completes it, except that while 4,096 bytes
-/// or more are held it may wait until twice as many bytes are held as after the last look for messages, or until the input
-/// ends. The complaint is written whole, unless a write or a flush of `errors` fails; the status is the same then.
+/// The arguments are checked before anything is read. Lines are written while the input is read, so
+/// after a failure a prefix of the text may have been written. A message's line is written after
+/// the read that completes it, except that while 4,096 bytes or more are held it may wait until
+/// twice as many bytes are held as after the last look for messages, or until the input ends. The
+/// complaint is written whole, unless a call of `errors` fails, or had failed before; the status is
+/// the same then.
 pub fn command<R: Read, W: Write, E: Write>(
     alloc: Global,
     arguments: &[String],

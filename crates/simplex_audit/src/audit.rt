@@ -21,7 +21,7 @@ pub use simplex_detector::evidence::Evidence;
 use simplex_detector::judging::{Judging, suspects_of};
 use simplex_detector::laws::{
     accused_stay, certificates_are_accountable, evidence_is_determined, splits_are_determined,
-    suspects_suffice, suspects_tell_all,
+    suspects_determine_reports, suspects_suffice,
 };
 pub use simplex_detector::split::Split;
 use simplex_scheme::scheme::{Digest, Listing, SchemeTypes};
@@ -164,7 +164,7 @@ fn audit_suspects<S: Listing<D>, D: Digest>(
     ensures encoded { IfOk result (λ report.
         All (⟦<S as Audited<D>>⟧.basis committees.now).format.is_value (as_messages report)) }
 {
-    suspects_tell_all::<S, D>();
+    suspects_determine_reports::<S, D>();
     let claims = audit_stream(alloc, committees, &Judging::Claimed, stream)?;
     if claims.evidence.is_empty() {
         return Ok(claims);

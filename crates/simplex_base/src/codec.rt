@@ -90,8 +90,8 @@ pub trait Read: Encoding {
     /// Whether reading allocates. Where it doesn't, `OutOfMemory` is never returned.
     ghost takes_memory: { Bool };
 
-    /// Reads the value whose encoding is a prefix of the input, and moves the slice past it. After an error the slice
-    /// is as before.
+    /// Reads the value whose encoding is a prefix of the input, and moves the slice past it.
+    /// `OutOfMemory` only where an allocation failed. After an error the slice is as before.
     fn read_cfg(alloc: Global, input: &mut &[u8], cfg: &Self::Cfg) -> Result<Self, Error>
         ensures { Gives takes_memory result input.old.now input.new.now
             (reading cfg.now input.old.now) };
@@ -177,7 +177,8 @@ pub trait Fixed: FixedSize + Copy + Eq + Ord + Hash {
     ghost ordered: { (x y : Self) → Self.cmp x y ≡ slice_cmp nat_cmp (bytes_of x) (bytes_of y) };
 }
 
-/// Reads a value that needs no configuration, and moves the slice past it. After an error the slice is as before.
+/// Reads a value that needs no configuration, and moves the slice past it. `OutOfMemory` only where
+/// an allocation failed. After an error the slice is as before.
 pub fn read_value<T: ReadExt>(alloc: Global, input: &mut &[u8]) -> Result<T, Error>
     // The value's encoding is a prefix of the input, and the slice is then the bytes after it.
     ensures taken { IfOk result (λ x. T.fits tt x ×
@@ -193,7 +194,8 @@ pub fn read_value<T: ReadExt>(alloc: Global, input: &mut &[u8]) -> Result<T, Err
     T::read_cfg(alloc, input, &())
 }
 
-/// Reads a value whose encoding is all of the bytes. `ExtraData` where bytes are left after it.
+/// Reads a value whose encoding is all of the bytes. `ExtraData` where bytes are left after it, and
+/// `OutOfMemory` only where an allocation failed.
 pub fn decode_cfg<T: Read + Drop>(alloc: Global, bytes: &[u8], cfg: &T::Cfg) -> Result<T, Error>
     // What is read has these bytes as its encoding,
     ensures taken { IfOk result (λ x. T.fits cfg.now x × (bytes.now ≡ T.encoding x)) }
@@ -220,8 +222,8 @@ fn read_all<T: Read + Drop>(alloc: Global, bytes: &[u8], cfg: &T::Cfg) -> Result
     Ok(value)
 }
 
-/// Reads a value that needs no configuration and whose encoding is all of the bytes. `ExtraData` where bytes are left
-/// after it.
+/// Reads a value that needs no configuration and whose encoding is all of the bytes. `ExtraData`
+/// where bytes are left after it, and `OutOfMemory` only where an allocation failed.
 pub fn decode<T: ReadExt + Drop>(alloc: Global, bytes: &[u8]) -> Result<T, Error>
     ensures taken { IfOk result (λ x. T.fits tt x × (bytes.now ≡ T.encoding x)) }
     // Each value that was written is read again, unless an allocation fails.

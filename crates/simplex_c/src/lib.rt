@@ -1,5 +1,19 @@
-//! The auditor for callers that speak the C ABI (bindings/simplex_audit.h). Each export calls a function of `simplex_ffi` and
-//! has its contract: which status it returns when, and what it writes, is said there and in the header.
+//! The auditor for callers that speak the C ABI (bindings/simplex_audit.h). Each export calls a
+//! function of `simplex_ffi` and has its contract.
+//!
+//! A call that audits, stores, lists or elects returns a status:
+//!
+//! - 0: success. The buffer is written, and an audit found no fault.
+//! - 1, of audits and of records alone: the byte at `fault_place` starts no message. The messages
+//!   before it were audited, and the buffer is written.
+//! - 2: the arguments are no committees; of leaders, there is no participant or a term has no view.
+//!   Nothing was written.
+//! - 3: an allocation failed. Nothing was written.
+//! - 4, of calls with a buffer: it is too short, and as before. The length that is needed is
+//!   written, for audits and records with the rest of the summary.
+//!
+//! Where the buffer is written it begins with the result, and the bytes or records behind that are
+//! as before.
 #![tactic(auto)]
 
 ghost use Rattle.std.specs.Prelude.{◌≡◌, ◌≢◌, ◌⊎◌, ◌-◌, ◌≤◌, ◌++◌, None, Some};
@@ -39,7 +53,8 @@ pub extern "C" fn simplex_version() -> u32
 }
 
 /// Audits a stream whose signatures have 48 bytes, such as those of BLS12-381 in G1, each with the
-/// caller's verdict behind it, under the committees of these sizes.
+/// caller's verdict behind it, under the committees of these sizes. The text of the report is put
+/// into `text`. Returns a status as above.
 #[unsafe(no_mangle)]
 pub extern "C" fn simplex_audit_vouched_48(
     alloc: Global,
@@ -63,7 +78,7 @@ pub extern "C" fn simplex_audit_vouched_48(
 
 /// Audits a stream whose signatures have 48 bytes, each with the caller's verdict behind it, under
 /// the committees of these sizes, and writes the evidence of the report as records, each with the
-/// places of its two votes in the stream.
+/// places of its two votes in the stream. Returns a status as above.
 #[unsafe(no_mangle)]
 pub extern "C" fn simplex_records_vouched_48(
     alloc: Global,
@@ -88,7 +103,8 @@ pub extern "C" fn simplex_records_vouched_48(
 }
 
 /// Stores the evidence of what was stored and of a batch behind it, whose signatures have 48 bytes
-/// and the caller's verdict, under the committees of these sizes.
+/// and the caller's verdict, under the committees of these sizes. What is behind a fault is
+/// ignored. Returns a status as above, never 1.
 #[unsafe(no_mangle)]
 pub extern "C" fn simplex_store_vouched_48(
     alloc: Global,
@@ -113,6 +129,7 @@ pub extern "C" fn simplex_store_vouched_48(
 
 /// Lists the attestations that the caller has to verify before it audits a stream whose signatures
 /// have 48 bytes and a verdict, which may still be any byte, under the committees of these sizes.
+/// What is behind a fault is ignored. Returns a status as above, never 1.
 #[unsafe(no_mangle)]
 pub extern "C" fn simplex_suspects_vouched_48(
     alloc: Global,
@@ -136,7 +153,8 @@ pub extern "C" fn simplex_suspects_vouched_48(
 }
 
 /// Audits a stream whose signatures have 64 bytes, such as those of Ed25519, each with the caller's
-/// verdict behind it, under the committees of these sizes.
+/// verdict behind it, under the committees of these sizes. The text of the report is put into
+/// `text`. Returns a status as above.
 #[unsafe(no_mangle)]
 pub extern "C" fn simplex_audit_vouched_64(
     alloc: Global,
@@ -160,7 +178,7 @@ pub extern "C" fn simplex_audit_vouched_64(
 
 /// Audits a stream whose signatures have 64 bytes, each with the caller's verdict behind it, under
 /// the committees of these sizes, and writes the evidence of the report as records, each with the
-/// places of its two votes in the stream.
+/// places of its two votes in the stream. Returns a status as above.
 #[unsafe(no_mangle)]
 pub extern "C" fn simplex_records_vouched_64(
     alloc: Global,
@@ -185,7 +203,8 @@ pub extern "C" fn simplex_records_vouched_64(
 }
 
 /// Stores the evidence of what was stored and of a batch behind it, whose signatures have 64 bytes
-/// and the caller's verdict, under the committees of these sizes.
+/// and the caller's verdict, under the committees of these sizes. What is behind a fault is
+/// ignored. Returns a status as above, never 1.
 #[unsafe(no_mangle)]
 pub extern "C" fn simplex_store_vouched_64(
     alloc: Global,
@@ -210,6 +229,7 @@ pub extern "C" fn simplex_store_vouched_64(
 
 /// Lists the attestations that the caller has to verify before it audits a stream whose signatures
 /// have 64 bytes and a verdict, which may still be any byte, under the committees of these sizes.
+/// What is behind a fault is ignored. Returns a status as above, never 1.
 #[unsafe(no_mangle)]
 pub extern "C" fn simplex_suspects_vouched_64(
     alloc: Global,
@@ -233,7 +253,8 @@ pub extern "C" fn simplex_suspects_vouched_64(
 }
 
 /// Audits a stream whose signatures have 96 bytes, such as those of BLS12-381 in G2, each with the
-/// caller's verdict behind it, under the committees of these sizes.
+/// caller's verdict behind it, under the committees of these sizes. The text of the report is put
+/// into `text`. Returns a status as above.
 #[unsafe(no_mangle)]
 pub extern "C" fn simplex_audit_vouched_96(
     alloc: Global,
@@ -257,7 +278,7 @@ pub extern "C" fn simplex_audit_vouched_96(
 
 /// Audits a stream whose signatures have 96 bytes, each with the caller's verdict behind it, under
 /// the committees of these sizes, and writes the evidence of the report as records, each with the
-/// places of its two votes in the stream.
+/// places of its two votes in the stream. Returns a status as above.
 #[unsafe(no_mangle)]
 pub extern "C" fn simplex_records_vouched_96(
     alloc: Global,
@@ -282,7 +303,8 @@ pub extern "C" fn simplex_records_vouched_96(
 }
 
 /// Stores the evidence of what was stored and of a batch behind it, whose signatures have 96 bytes
-/// and the caller's verdict, under the committees of these sizes.
+/// and the caller's verdict, under the committees of these sizes. What is behind a fault is
+/// ignored. Returns a status as above, never 1.
 #[unsafe(no_mangle)]
 pub extern "C" fn simplex_store_vouched_96(
     alloc: Global,
@@ -307,6 +329,7 @@ pub extern "C" fn simplex_store_vouched_96(
 
 /// Lists the attestations that the caller has to verify before it audits a stream whose signatures
 /// have 96 bytes and a verdict, which may still be any byte, under the committees of these sizes.
+/// What is behind a fault is ignored. Returns a status as above, never 1.
 #[unsafe(no_mangle)]
 pub extern "C" fn simplex_suspects_vouched_96(
     alloc: Global,
@@ -330,7 +353,8 @@ pub extern "C" fn simplex_suspects_vouched_96(
 }
 
 /// Audits a stream of the plain scheme, whose signatures are hashes, under one committee for every
-/// epoch: `keys` are its keys, of 32 bytes each, in any order.
+/// epoch: `keys` are its keys, of 32 bytes each, in any order. The text of the report is put into
+/// `text`. Returns a status as above.
 #[unsafe(no_mangle)]
 pub extern "C" fn simplex_audit_plain(
     alloc: Global,
@@ -352,7 +376,7 @@ pub extern "C" fn simplex_audit_plain(
 }
 
 /// Audits a stream of the plain scheme, and writes the evidence of the report as records, each with
-/// the places of its two votes in the stream.
+/// the places of its two votes in the stream. Returns a status as above.
 #[unsafe(no_mangle)]
 pub extern "C" fn simplex_records_plain(
     alloc: Global,
@@ -374,7 +398,8 @@ pub extern "C" fn simplex_records_plain(
     records_plain(alloc, name, keys, stream, records, summary)
 }
 
-/// Stores the evidence of what was stored and of a batch behind it, of the plain scheme.
+/// Stores the evidence of what was stored and of a batch behind it, of the plain scheme. What is
+/// behind a fault is ignored. Returns a status as above, never 1.
 #[unsafe(no_mangle)]
 pub extern "C" fn simplex_store_plain(
     alloc: Global,
@@ -412,7 +437,9 @@ pub extern "C" fn simplex_quorum(n: u32) -> u32
     numbers::quorum(n)
 }
 
-/// Whether a node in view `current` takes votes of the view `pending`.
+/// Whether a node in view `current` takes votes of the view `pending`. Returns 1 for yes and 0 for
+/// no; 2 where terms have no views, or the start of the next term plus the term length plus 1 is
+/// above 2^64 - 1.
 #[unsafe(no_mangle)]
 pub extern "C" fn simplex_admits(
     term_length: u32,
@@ -430,7 +457,8 @@ pub extern "C" fn simplex_admits(
     numbers::admits(term_length, optimistic_views, current, pending)
 }
 
-/// Whether a node in view `current` sends messages of the view `pending`.
+/// Whether a node in view `current` sends messages of the view `pending`. Returns 1, 0 or 2 as
+/// `simplex_admits` does.
 #[unsafe(no_mangle)]
 pub extern "C" fn simplex_admits_outbound(
     term_length: u32,
@@ -448,7 +476,9 @@ pub extern "C" fn simplex_admits_outbound(
     numbers::admits_outbound(term_length, optimistic_views, current, pending)
 }
 
-/// The earliest view from which messages of a view may be issued, written to `floor` where there is one.
+/// The earliest view from which messages of a view may be issued, written to `floor` where there is
+/// one. Returns 1 where it is written; 0 where no lookahead bounds it, and 2 where terms have no
+/// views, and then `floor` is as before.
 #[unsafe(no_mangle)]
 pub extern "C" fn simplex_issuance_floor(
     term_length: u32,
@@ -467,7 +497,8 @@ pub extern "C" fn simplex_issuance_floor(
     numbers::issuance_floor(term_length, optimistic_views, view, floor)
 }
 
-/// The participant who leads a view of an epoch, in the order of the numbers.
+/// The participant who leads a view of an epoch, in the order of the numbers. The number is written
+/// to `number`. Returns 0, 2 or 3 as above; after 2 and 3 `number` is as before.
 #[unsafe(no_mangle)]
 pub extern "C" fn simplex_leader(
     alloc: Global,
@@ -488,7 +519,8 @@ pub extern "C" fn simplex_leader(
     leaders::leader(alloc, None, participants, term_length, epoch, view, number)
 }
 
-/// The participant who leads a view of an epoch, in the order that the seed determines.
+/// The participant who leads a view of an epoch, in the order that the seed determines. The number
+/// is written to `number`. Returns 0, 2 or 3 as above; after 2 and 3 `number` is as before.
 #[unsafe(no_mangle)]
 pub extern "C" fn simplex_leader_shuffled(
     alloc: Global,

@@ -85,8 +85,8 @@ greatest_next keys ps i so_far size next p lt is sized maxed =
     omega (arith, len, most, sized)
 
 -- where each entry has a participant the committee of an epoch has one
-pub manned : {S P : Type 0} (keys : S → List P) (ps : List (ℕ × S)) → All (λ p. 1 ≤ length (keys p.1)) ps → (epoch : ℕ) (c : S) → committee_of (Listed ps) epoch ≡ Some c → 1 ≤ length (keys c)
-manned keys ps one epoch c h =
+pub listed_some : {S P : Type 0} (keys : S → List P) (ps : List (ℕ × S)) → All (λ p. 1 ≤ length (keys p.1)) ps → (epoch : ℕ) (c : S) → committee_of (Listed ps) epoch ≡ Some c → 1 ≤ length (keys c)
+listed_some keys ps one epoch c h =
     let (p, p_in, _, is) = found_mapped (λ q. q.1) (λ q. eqb q.0 epoch) ps c h in
     subst (λ s. 1 ≤ length (keys s)) is (All-contains (λ q. 1 ≤ length (keys q.1)) ps p one p_in)
 

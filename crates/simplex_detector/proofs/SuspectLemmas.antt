@@ -19,7 +19,7 @@ abbrev pub AreSuspect : {S D C P G : Type 0} → Rules S D C P G → List (Activ
 AreSuspect rules messages suspected = (n : Accusation) → IsTrue (is_accused rules.eq (valid_votes rules messages) n) → IsTrue (suspected.signers n.round n.signer) × IsTrue (suspected.rounds n.round)
 
 -- where each accused signer is suspect in its round, judging suspects alone yields the evidence and the splits of all messages
-pub record TellAll {S D C P G : Type 0} (rules : Rules S D C P G) (messages : List (Activity S D C P G)) (suspected : Suspected) : Type 0 where
+pub record DetermineReports {S D C P G : Type 0} (rules : Rules S D C P G) (messages : List (Activity S D C P G)) (suspected : Suspected) : Type 0 where
   pub evidence : (es : List (Equivocation D G)) → IsEvidence rules.eq (valid_votes (among rules suspected) messages) es ↔ IsEvidence rules.eq (valid_votes rules messages) es
   pub splits : (splits : List Split) → AreSplits (among rules suspected) messages splits ↔ AreSplits rules messages splits
 
@@ -120,8 +120,8 @@ module _ {S D C P G : Type 0} (rules : Rules S D C P G) (l : AreLawful rules) (m
       (λ h. split_more rules.eq xs (filter suspect xs) round (λ x x_in at. Contains-filter suspect xs x x_in (ap s.rounds at ∙ split_is_suspect round (from_subjects rules messages round ∙ h))) h) ∙
       sym (from_subjects rules messages round)
 
-  pub suspects_tell_all : TellAll rules messages s
-  suspects_tell_all =
+  pub suspects_determine_reports : DetermineReports rules messages s
+  suspects_determine_reports =
       let vs = valid_votes rules messages in
       let us = valid_votes (among rules s) messages in
       let shown = λ (n : Accusation) (h : is_accused rules.eq vs n ≡ true). (covers n h).0 in
@@ -246,8 +246,8 @@ same_among rules messages good certified alike = λ i. record {
 
 pub suspects_suffice : {S D C P G : Type 0} (rules : Rules S D C P G) → AreLawful rules → (messages : List (Activity S D C P G)) → SuspectsSuffice rules messages
 suspects_suffice {S} {D} {C} {P} {G} rules l messages =
-    let tell : (judges : Rules S D C P G) → AreLawful judges → TellAll judges messages (suspected judges messages) = λ judges lawful. suspects_tell_all judges lawful messages (suspected judges messages) (λ n h. claimed_is_suspect judges messages n (accused_is_claimed judges lawful messages n h)) in
+    let determined : (judges : Rules S D C P G) → AreLawful judges → DetermineReports judges messages (suspected judges messages) = λ judges lawful. suspects_determine_reports judges lawful messages (suspected judges messages) (λ n h. claimed_is_suspect judges messages n (accused_is_claimed judges lawful messages n h)) in
     record {
-      evidence = λ good certified alike es is. ((tell (judged_by rules good certified) alike.lawful).evidence es).0 (subst (λ judged. IsEvidence rules.eq (valid_votes judged messages) es) (same_among rules messages good certified alike) (((tell rules l).evidence es).1 is));
-      splits = λ good certified alike splits are. ((tell (judged_by rules good certified) alike.lawful).splits splits).0 (subst (λ judged. AreSplits judged messages splits) (same_among rules messages good certified alike) (((tell rules l).splits splits).1 are));
+      evidence = λ good certified alike es is. ((determined (judged_by rules good certified) alike.lawful).evidence es).0 (subst (λ judged. IsEvidence rules.eq (valid_votes judged messages) es) (same_among rules messages good certified alike) (((determined rules l).evidence es).1 is));
+      splits = λ good certified alike splits are. ((determined (judged_by rules good certified) alike.lawful).splits splits).0 (subst (λ judged. AreSplits judged messages splits) (same_among rules messages good certified alike) (((determined rules l).splits splits).1 are));
     }

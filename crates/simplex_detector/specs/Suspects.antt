@@ -73,8 +73,8 @@ module _ {S D C P G : Type 0} (rules : Rules S D C P G) (under : Judging → Rul
       IsEvidence rules.eq (valid_votes rules messages) [] × AreSplits rules messages splits
 
   -- where all signers of the claims and their rounds are suspect, judging suspects alone yields the evidence and the splits
-  abbrev pub SuspectsTellAll : Type 0
-  SuspectsTellAll =
+  abbrev pub SuspectsDetermineReports : Type 0
+  SuspectsDetermineReports =
       (messages : List (Activity S D C P G)) (claims : List (Equivocation D G)) (suspects : SuspectSigners) → AreLawful rules →
       IsEvidence rules.eq (valid_votes (under judging.Claimed) messages) claims →
       All (λ round. IsTrue (contains round_cmp suspects.rounds round)) (map (λ e. round_of e.first.subject) claims) →

@@ -112,7 +112,7 @@ impl<S: CertificateScheme> Committees<S> {
         ensures most { (epoch : ℕ) (committee : S) → committee_of self.now epoch ≡ Some committee →
             length (S.keys committee) ≤ result }
         // Each has a participant.
-        ensures manned { (epoch : ℕ) (committee : S) →
+        ensures some { (epoch : ℕ) (committee : S) →
             committee_of self.now epoch ≡ Some committee → 1 ≤ length (S.keys committee) }
         ensures reached { (epoch : ℕ) × (committee : S) ×
             (committee_of self.now epoch ≡ Some committee) × (length (S.keys committee) ≡ result) }
@@ -140,7 +140,7 @@ fn are_rising<S>(pairs: &[(Epoch, S)]) -> bool
 fn greatest<S: CertificateScheme>(pairs: &[(Epoch, S)]) -> u32
     ensures value { result ≡ greatest S.keys pairs.now }
     // Each committee has a participant.
-    ensures manned { All (λ p. 1 ≤ length (S.keys p.1)) pairs.now }
+    ensures some { All (λ p. 1 ≤ length (S.keys p.1)) pairs.now }
 {
     let mut most = 0;
     'pairs: for pair in pairs {

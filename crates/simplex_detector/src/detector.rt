@@ -38,7 +38,9 @@ impl<S: Listing<D>, D: Digest> Detector<S, D> {
         }
     }
 
-    /// Records one message. Its round is looked up once, and again where it is new.
+    /// Records one message. Its round is looked up once, and again where it is new. `AllocError`
+    /// only where an allocation failed: the message may then be recorded in part, and nothing is
+    /// stated of what the detector returns from then on, so drop it.
     pub fn observe(
         &mut self,
         alloc: Global,
@@ -81,6 +83,7 @@ impl<S: Listing<D>, D: Digest> Detector<S, D> {
     }
 
     /// The evidence in the valid votes so far: at most one for each round, signer and kind, in that order.
+    /// `AllocError` only where an allocation failed.
     pub fn evidence(&self, alloc: Global) -> Result<Vec<Evidence<S, D>>, AllocError>
         ensures evidence { IfOk result (λ found. GivesEvidence ⟦<S as Judges<D>>⟧.rules_under
             self.now (map evidence_value found.items)) }
@@ -106,7 +109,8 @@ impl<S: Listing<D>, D: Digest> Detector<S, D> {
         Ok(found)
     }
 
-    /// The splits of the messages so far, in the order of rounds.
+    /// The splits of the messages so far, in the order of rounds. `AllocError` only where an
+    /// allocation failed.
     pub fn splits(
         &self,
         alloc: Global,

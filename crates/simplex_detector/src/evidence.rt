@@ -71,6 +71,7 @@ impl<S: SchemeTypes, D: Digest> Evidence<S, D> {
 
     /// The line that reports it, without the newline: epoch, view, signer, kind, and the parent and payload of each
     /// proposal, separated by single blanks. Numbers are decimal, payloads in lower-case hexadecimal.
+    /// `AllocError` only where an allocation failed.
     pub fn line(&self, alloc: Global) -> Result<String, AllocError>
         ensures { IfOk result (λ line.
             string_bytes line ≡ line_of D.bytes_of (evidence_value self.now)) }

@@ -141,7 +141,8 @@ impl SuspectSigners {
     }
 }
 
-/// The signers of some evidence, each with its round, and the rounds.
+/// The signers of some evidence, each with its round, and the rounds. `AllocError` only where an
+/// allocation failed.
 pub fn suspects_of<S: SchemeTypes, D: Digest>(
     alloc: Global,
     evidence: &[Evidence<S, D>],

@@ -17,7 +17,7 @@ ghost use Rattle.simplex_detector.specs.Recorded.{RecordedAreSlots, FewAreRecord
 ghost use Rattle.simplex_detector.specs.Laws.{EvidenceIsUnique, AccusesExactly, ReorderingAccusesSame, AccusedStay, IsEvidenceAgain};
 ghost use Rattle.simplex_detector.specs.Rules.{Rules, AreLawful, HaveCommittees, valid_votes};
 ghost use Rattle.simplex_detector.specs.Splits.{AreSplits};
-ghost use Rattle.simplex_detector.specs.Suspects.{claimed, suspect_of, is_suspect, is_suspect_round, NobodyIsSuspect, SuspectsTellAll, SuspectsSuffice};
+ghost use Rattle.simplex_detector.specs.Suspects.{claimed, suspect_of, is_suspect, is_suspect_round, NobodyIsSuspect, SuspectsDetermineReports, SuspectsSuffice};
 ghost use Rattle.simplex_detector.specs.SplitLaws.{EnoughAreAccused, SignersAreAccountable, SplitsAreUnique, SplitsHaveAccused};
 ghost use Rattle.simplex_detector.specs.Values.{evidence_value};
 ghost use Rattle.simplex_detector.specs.declared.evidence.Evidence.{Evidence};
@@ -116,10 +116,10 @@ pub fn recorded_votes_have_room<S: Listing<D>, D: Digest>()
 /// A signer of a committee is suspect in a round where two votes that claim to be that signer's contradict, whether their
 /// signatures are valid or not. Verifying only the votes of suspects and the certificates of their rounds yields the evidence
 /// and the splits of all messages. Where nobody is suspect there are none.
-pub fn suspects_tell_all<S: Listing<D>, D: Digest>()
+pub fn suspects_determine_reports<S: Listing<D>, D: Digest>()
     ensures nobody { (schedule : Schedule S) → NobodyIsSuspect (⟦<S as Judges<D>>⟧.rules schedule)
         (λ judging. ⟦<S as Judges<D>>⟧.rules_under judging schedule) }
-    ensures suspects { (schedule : Schedule S) → SuspectsTellAll
+    ensures suspects { (schedule : Schedule S) → SuspectsDetermineReports
         (⟦<S as Judges<D>>⟧.rules schedule)
         (λ judging. ⟦<S as Judges<D>>⟧.rules_under judging schedule) }
 {}

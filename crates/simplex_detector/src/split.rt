@@ -11,6 +11,7 @@ use std::alloc::{AllocError, Global};
 /// different proposals, or a nullification and a finalization.
 #[derive(Clone, Copy, Debug, PartialEq, Eq)]
 pub struct Split {
+    /// The round of both messages.
     pub round: Round,
     /// How many participants are accused in the round, each counted once, for any number of kinds.
     pub named: u32,
@@ -32,7 +33,7 @@ impl EqByParts for Split {
 
 impl Split {
     /// The line that reports it, without the newline: epoch, view, the word `split`, `named` and `least`, separated by
-    /// single blanks. Numbers are decimal.
+    /// single blanks. Numbers are decimal. `AllocError` only where an allocation failed.
     pub fn line(&self, alloc: Global) -> Result<String, AllocError>
         ensures { IfOk result (λ line. string_bytes line ≡ split_line self.now) }
     {

@@ -112,12 +112,16 @@ pub fn suspects_are_votes<S: Counted<D>, D: Digest>()
         (format_of ⟦<S::Signature as Read>⟧) stream found }
 {}
 
-/// The attestations of a stream that have to be verified before it is audited, in the order of the stream. A signer of a
-/// committee is suspect in a round where two votes that claim to be that signer's contradict, and then the round is suspect,
-/// too. Listed are the votes of suspects in their rounds, standalone and in evidence, and, for each certificate of a suspect
-/// round, all attestations whose signers are in the committee of the epoch. The report depends on no other attestation's
-/// signature. Nothing is verified here, so the stream may hold any verdicts. It is read once, in memory that is bounded by the
-/// stream and the sizes of the committees. `AllocError` is returned only after an allocation failed.
+/// The attestations of a stream that have to be verified before it is audited, in the order of the
+/// stream. A signer of a committee is suspect in a round where two votes that claim to be that
+/// signer's contradict, and then the round is suspect, too. Listed are the votes of suspects in
+/// their rounds, standalone and in evidence, and, for each certificate of a suspect round, all
+/// attestations whose signers are in the committee of the epoch. That no other vote and no other
+/// certificate has a part in the evidence and the splits is proved of the judging
+/// (`suspects_suffice` in `simplex_detector::laws`); that no other verdict has one is tested, and
+/// no clause here says it. Nothing is verified here, so the stream may hold any verdicts. It is
+/// read once, in memory that is bounded by the stream and the sizes of the committees. `AllocError`
+/// is returned only after an allocation failed.
 pub fn suspects<S: Counted<D>, D: Digest>(
     alloc: Global,
     committees: &Committees<S>,

@@ -15,8 +15,11 @@ use simplex_votes::types::{Finalize, Notarize, Nullify};
 /// The subject of a vote, as a part of its key.
 #[derive(PartialEq, Eq, PartialOrd, Ord, Drop)]
 pub enum Said<D> {
+    /// To notarize a proposal.
     Notarizes(Proposal<D>),
+    /// To nullify a round.
     Nullifies(Round),
+    /// To finalize a proposal.
     Finalizes(Proposal<D>),
 }
 

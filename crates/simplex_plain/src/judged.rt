@@ -38,7 +38,9 @@ pub struct Verdict {
     pub vote: JudgedVote,
     /// The bytes that are signed, as `CertificateSubject::message` gives them.
     pub message: Vec<u8>,
+    /// The number of the signer. Outside the committee no signature is valid.
     pub signer: Participant,
+    /// The signature.
     pub signature: FixedBytes<PlainSignatureRole, 32>,
 }
 
@@ -65,8 +67,11 @@ impl Model for Judged {
 /// What is voted for.
 #[derive(Clone, Copy, Debug, PartialEq, Eq)]
 pub enum JudgedVote {
+    /// To notarize a proposal.
     Notarize,
+    /// To nullify a round.
     Nullify,
+    /// To finalize a proposal.
     Finalize,
 }
 

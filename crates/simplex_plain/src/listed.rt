@@ -23,8 +23,9 @@ use std::alloc::{AllocError, Global};
 use std::hash::{Hash, Hasher};
 use std::marker::Model;
 
-/// From 1 to 2^32 - 1 attestations with strictly ascending signers, encoded as their count, 1 to 5 bytes, and the
-/// attestations one after another.
+/// From 1 to 2^32 - 1 attestations with strictly ascending signers, encoded as their count, 1 to 5
+/// bytes, and the attestations one after another: for n participants at most 5 + n (5 + s) bytes,
+/// signatures having s.
 #[derive(Drop)]
 pub struct Listed<S: SchemeTypes> {
     attestations: Vec<Attestation<S>>,

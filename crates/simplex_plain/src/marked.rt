@@ -75,8 +75,9 @@ impl Model for Marked {
 }
 
 impl Marked {
-    /// The scheme of a committee of `n`, for the participant with this number or, with `None`, for a verifier. The
-    /// key of a participant is its number.
+    /// The scheme of a committee of `n`, for the participant with this number or, with `None`, for
+    /// a verifier. The key of a participant is its number. It allocates 4 bytes for each
+    /// participant; `AllocError` only where that failed.
     pub fn new(alloc: Global, n: u32, me: Option<Participant>) -> Result<Marked, AllocError>
         requires some { 1 ≤ n }
         requires member { ForSome me (λ me. me < n) }

@@ -79,6 +79,7 @@ impl Model for Plain {
 
 impl Plain {
     /// The scheme of this committee, for a verifier. `namespace` is the base of the namespaces of all kinds of votes.
+    /// `AllocError` only where an allocation failed.
     pub fn verifier(
         alloc: Global,
         namespace: &[u8],
@@ -97,7 +98,7 @@ impl Plain {
     }
 
     /// The scheme of this committee, for the participant with this key. `None` where the key is not in the committee;
-    /// nothing is then allocated.
+    /// nothing is then allocated. `AllocError` only where an allocation failed.
     pub fn signer(
         alloc: Global,
         namespace: &[u8],

@@ -2,7 +2,7 @@
 use Rattle.std.proofs.Common.{◌≡◌, ◌≢◌, ◌↔◌, ℕ, List, ◌++◌, get_or, sym, ap, ◌∙◌, arith}
 use Rattle.std.specs.Prelude.{codes, reverse}
 use Rattle.std.proofs.lemmas.List.{append_cancel_right, reverse-append}
-use Rattle.simplex_scheme.specs.Namespace.{names_of, AreApart, TellBases}
+use Rattle.simplex_scheme.specs.Namespace.{names_of, AreApart, DetermineBases}
 
 -- two lists that differ at a place from the end are two
 apart_from_end : (base other suffix ending : List ℕ) (place : ℕ) → get_or (reverse suffix ++ reverse base) place 0 ≢ get_or (reverse ending ++ reverse other) place 0 → base ++ suffix ≢ other ++ ending
@@ -39,8 +39,8 @@ before_suffix : (base other suffix : List ℕ) → (base ++ suffix ≡ other ++ 
 before_suffix base other suffix = (append_cancel_right base other suffix, ap (λ front. front ++ suffix))
 
 -- names of one kind are equal exactly where their bases are
-pub names_tell_bases : (base other : List ℕ) → TellBases base other
-names_tell_bases base other = record {
+pub names_determine_bases : (base other : List ℕ) → DetermineBases base other
+names_determine_bases base other = record {
   notarize = before_suffix base other (codes "_NOTARIZE");
   nullify = before_suffix base other (codes "_NULLIFY");
   finalize = before_suffix base other (codes "_FINALIZE");

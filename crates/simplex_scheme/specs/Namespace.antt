@@ -29,7 +29,7 @@ pub record AreApart (these those : Names) : Type 0 where
   pub seed : IsNoneOf these.seed those.notarize those.nullify those.finalize
 
 -- two bases have the same name of a kind exactly where they are the same base
-pub record TellBases (base other : List ℕ) : Type 0 where
+pub record DetermineBases (base other : List ℕ) : Type 0 where
   pub notarize : ((names_of base).notarize ≡ (names_of other).notarize) ↔ (base ≡ other)
   pub nullify : ((names_of base).nullify ≡ (names_of other).nullify) ↔ (base ≡ other)
   pub finalize : ((names_of base).finalize ≡ (names_of other).finalize) ↔ (base ≡ other)

@@ -11,6 +11,7 @@ use simplex_base::codec::fixed_bytes::{FixedBytes, Role};
 
 /// A function from bytes to digests.
 pub trait Hasher {
+    /// What it returns for any bytes.
     type Digest: Digest;
 
     /// The digest of some bytes.

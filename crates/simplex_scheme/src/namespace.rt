@@ -1,7 +1,7 @@
 //! The byte strings under which votes and seeds are signed.
 
 ghost use Rattle.std.specs.Prelude.{◌≡◌, ℕ, List, ◌++◌, IfOk};
-ghost use Rattle.simplex_scheme.specs.Namespace.{names_of, AreApart, TellBases};
+ghost use Rattle.simplex_scheme.specs.Namespace.{names_of, AreApart, DetermineBases};
 
 use simplex_base::values::ExactClone;
 use std::alloc::{AllocError, Global};
@@ -42,7 +42,7 @@ impl Namespace {
         // Namespaces of two kinds differ, for any two bases.
         ensures apart { (other : List ℕ) → AreApart (names_of base.now) (names_of other) }
         // Namespaces of one kind are equal exactly where their bases are.
-        ensures one { (other : List ℕ) → TellBases base.now other }
+        ensures one { (other : List ℕ) → DetermineBases base.now other }
     {
         Self::derive(alloc, base)
     }

@@ -13,12 +13,16 @@ use simplex_base::positions::{Round, Roundable, View};
 use simplex_base::values::{EqByParts, ExactClone, OrdByParts};
 use std::alloc::{AllocError, Global};
 
-/// A payload that is proposed for a round, on top of the proposal of the parent's view. It is encoded as
-/// its round, its parent and its payload; proposals are ordered so too.
+/// A payload that is proposed for a round, on top of the proposal of the parent's view. It is
+/// encoded as its round, its parent and its payload, at most 30 bytes and the digest's; proposals
+/// are ordered so too.
 #[derive(Debug, PartialEq, Eq, PartialOrd, Ord, Hash)]
 pub struct Proposal<D> {
+    /// The round that it is proposed for.
     pub round: Round,
+    /// The view of the parent; nothing relates it to the round's view.
     pub parent: View,
+    /// The digest of what is proposed.
     pub payload: D,
 }
 

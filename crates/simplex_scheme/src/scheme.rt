@@ -39,16 +39,21 @@ impl<R: Role<N>, const N: usize> PublicKey for FixedBytes<R, N> {}
 
 /// The types of keys and signatures.
 pub trait SchemeTypes {
+    /// The key of a participant, by which it is listed in its committee.
     type PublicKey: PublicKey;
 
+    /// What a participant signs a subject with.
     type Signature: Signature;
 }
 
-/// A signature with the number of its signer, encoded in that order.
+/// The number of a signer and its signature, encoded in that order: at most 5 bytes and the
+/// signature's.
 #[derive(Drop)]
 #[derive_where(PartialEq, Eq, Hash)]
 pub struct Attestation<S: SchemeTypes> {
+    /// The number of the signer, which may be outside the committee.
     pub signer: Participant,
+    /// The signature, which may be invalid.
     pub signature: S::Signature,
 }
 
@@ -183,7 +188,7 @@ pub trait Scheme<D: Digest>: CertificateVerifier<D> {
         Type 0 };
 
     /// Signs as this participant. `None` exactly where the scheme has no participant of its own; nothing is then
-    /// allocated.
+    /// allocated. `AllocError` only where an allocation failed.
     fn sign(
         &self,
         alloc: Global,

@@ -16,8 +16,11 @@ use std::alloc::{AllocError, Global};
 /// What a vote or a certificate says.
 #[derive(Clone, Copy)]
 pub enum Subject<'a, D> {
+    /// That a proposal is notarized; the round is the proposal's.
     Notarize { proposal: &'a Proposal<D> },
+    /// That a round is nullified.
     Nullify { round: Round },
+    /// That a proposal is finalized; the round is the proposal's.
     Finalize { proposal: &'a Proposal<D> },
 }
 
@@ -92,7 +95,7 @@ pub trait CertificateSubject {
     fn namespace<'b>(&self, names: &'b Self::Namespace) -> &'b [u8]
         ensures { result.now ≡ name_in self.now names.now };
 
-    /// The bytes that are signed.
+    /// The bytes that are signed. `AllocError` only where an allocation failed.
     fn message(&self, alloc: Global) -> Result<Bytes, AllocError>
         ensures { IfOk result (λ bytes. bytes ≡ signed self.now) };
 }

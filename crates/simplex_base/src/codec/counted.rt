@@ -22,8 +22,8 @@ fn write_all<T: Write>(items: &[T], buf: &mut Vec<u8>) -> Result<(), AllocError>
     Ok(())
 }
 
-/// Appends the number of the values as a 32-bit number, 1 to 5 bytes, and then the values one after another. After an
-/// error the buffer is as before.
+/// Appends the number of the values as a 32-bit number, 1 to 5 bytes, and then the values one after
+/// another. `AllocError` only where an allocation failed; the buffer is then as before.
 pub fn write_counted<T: Write>(items: &[T], buf: &mut Vec<u8>) -> Result<(), AllocError>
     requires { length items.now < 2 ^ 32 }
     ensures ok { OnOk result

@@ -10,7 +10,7 @@ pub enum Error {
     #[error("the input ends too early")]
     EndOfBuffer,
     /// A number has a needless last zero group, too many groups or too large a last one.
-    #[error("a number is spelled wrongly")]
+    #[error("a number is encoded wrongly")]
     InvalidVarint,
     /// A truth value is neither `00` nor `01`.
     #[error("a truth value is neither 0 nor 1")]

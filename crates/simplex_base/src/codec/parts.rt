@@ -26,7 +26,8 @@ pub(super) fn or_restore(
     done
 }
 
-/// Appends one value and then another. After an error the buffer is as before.
+/// Appends one value and then another. `AllocError` only where an allocation failed; the buffer is
+/// then as before.
 pub fn write_both<A: Write, B: Write>(
     first: &A,
     second: &B,

@@ -9,7 +9,8 @@ use crate::codec::error::Error;
 use crate::codec::parts::or_restore;
 use std::alloc::{AllocError, Global};
 
-/// Appends a tag of one byte and then a value. After an error the buffer is as before.
+/// Appends a tag of one byte and then a value. `AllocError` only where an allocation failed; the
+/// buffer is then as before.
 pub fn write_tagged<T: Write>(tag: u8, body: &T, buf: &mut Vec<u8>) -> Result<(), AllocError>
     ensures ok { OnOk result (buf.new.items ≡ buf.old.items ++ (tag ∷ T.encoding body.now)) }
     ensures err { OnErr result (buf.new.items ≡ buf.old.items) }
@@ -28,18 +29,19 @@ pub trait Tagged {
     /// What reading gives after a tag.
     ghost branches: { Self.Cfg → ℕ → List ℕ → Reading Self };
 
-    /// Whether reading allocates.
+    /// Whether reading allocates. Where it doesn't, `OutOfMemory` is never returned.
     ghost takes_memory: { Bool };
 
-    /// Reads the body of this tag and moves the slice past it. `Invalid` where the union has no such tag. After an
-    /// error the slice is as before.
+    /// Reads the body of this tag and moves the slice past it. `Invalid` where the union has no
+    /// such tag. `OutOfMemory` only where an allocation failed. After an error the slice is as
+    /// before.
     fn read_body(alloc: Global, tag: u8, input: &mut &[u8], cfg: &Self::Cfg) -> Result<Self, Error>
         ensures { Gives takes_memory result input.old.now input.new.now
             (branches cfg.now tag input.old.now) };
 }
 
-/// Reads a tag and then its body, and moves the slice past both. `EndOfBuffer` where the input is empty. After an
-/// error the slice is as before.
+/// Reads a tag and then its body, and moves the slice past both. `EndOfBuffer` where the input is
+/// empty. `OutOfMemory` only where an allocation failed. After an error the slice is as before.
 pub fn read_tagged<T: Tagged>(alloc: Global, input: &mut &[u8], cfg: &T::Cfg) -> Result<T, Error>
     ensures { Gives T.takes_memory result input.old.now input.new.now
         (union_at (T.branches cfg.now) input.old.now) }

@@ -137,7 +137,8 @@ impl Varint {
     }
 }
 
-/// Appends the encoding of a 64-bit number, 1 to 10 bytes. After an error the buffer is as before.
+/// Appends the encoding of a 64-bit number, 1 to 10 bytes. `AllocError` only where an allocation
+/// failed; the buffer is then as before.
 #[tactic(auto, using(crate::specs::VarintLaws::encodes_64, crate::specs::VarintLaws::only_encoding_64))]
 pub fn write_u64(number: u64, buf: &mut Vec<u8>) -> Result<(), AllocError>
     ensures ok { OnOk result (buf.new.items ≡ buf.old.items ++ number_64.encoding number) }
@@ -149,7 +150,8 @@ pub fn write_u64(number: u64, buf: &mut Vec<u8>) -> Result<(), AllocError>
     buf.extend_from_slice(Varint::new(number).as_slice())
 }
 
-/// Appends the encoding of a 32-bit number, 1 to 5 bytes. After an error the buffer is as before.
+/// Appends the encoding of a 32-bit number, 1 to 5 bytes. `AllocError` only where an allocation
+/// failed; the buffer is then as before.
 #[tactic(auto, using(crate::specs::VarintLaws::encodes_32, crate::specs::VarintLaws::only_encoding_32))]
 pub fn write_u32(number: u32, buf: &mut Vec<u8>) -> Result<(), AllocError>
     ensures ok { OnOk result (buf.new.items ≡ buf.old.items ++ number_32.encoding number) }

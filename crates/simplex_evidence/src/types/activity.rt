@@ -61,7 +61,8 @@ impl<S: CertificateScheme, D: Digest> Activity<S, D> {
         }
     }
 
-    /// The same message, with a clone of the certificate where it has one. Only that clone allocates.
+    /// The same message, with a clone of the certificate where it has one. Only that clone
+    /// allocates; `AllocError` only where an allocation failed.
     pub fn clone(&self) -> Result<Self, AllocError>
         ensures parts { IfOk result (λ copy. IsActivityClone S.Certificate.is_clone self.now copy) }
         // Where a certificate's clone is the certificate, this one's is this message.

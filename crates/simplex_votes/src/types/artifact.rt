@@ -43,7 +43,8 @@ pub enum Artifact<S: CertificateScheme, D: Digest> {
 impl<S: CertificateScheme, D: Digest> Artifact<S, D> {
     ghost use Rattle.simplex_votes.specs.Artifact.{artifact_has_certificate, IsArtifactClone, ArtifactClonesCertificate};
 
-    /// The same artifact, with a clone of the certificate where it has one. Only that clone allocates.
+    /// The same artifact, with a clone of the certificate where it has one. Only that clone
+    /// allocates; `AllocError` only where an allocation failed.
     pub fn clone(&self) -> Result<Self, AllocError>
         ensures parts { IfOk result (λ copy. IsArtifactClone S.Certificate.is_clone self.now copy) }
         // Where a certificate's clone is the certificate, this one's is this artifact.

@@ -20,8 +20,11 @@ use std::fmt;
 /// The kinds of certificate messages. They print as `notarization`, `nullification` and `finalization`.
 #[derive(Clone, Copy, Debug, PartialEq, Eq)]
 pub enum Kind {
+    /// Of a notarization.
     Notarization,
+    /// Of a nullification.
     Nullification,
+    /// Of a finalization.
     Finalization,
 }
 
@@ -68,8 +71,9 @@ impl fmt::Display for Kind {
     }
 }
 
-/// A certificate message: one byte of tag, and then the parts of the message with that tag. It is read under the
-/// committee's bound.
+/// A certificate message: one byte of tag, and then the parts of the message with that tag, at most
+/// 31 bytes, the digest's and those of the greatest certificate. It is read under the committee's
+/// bound.
 #[derive(Drop)]
 #[derive_where(PartialEq, Eq)]
 pub enum Certificate<S: CertificateScheme, D: Digest> {
@@ -95,7 +99,8 @@ impl<S: CertificateScheme, D: Digest> Certificate<S, D> {
         }
     }
 
-    /// The same message with a clone of the certificate.
+    /// The same message with a clone of the certificate. `AllocError` only where an allocation
+    /// failed.
     pub fn clone(&self) -> Result<Self, AllocError>
         ensures parts { IfOk result (λ copy.
             (certificate_subject copy ≡ certificate_subject self.now) ×

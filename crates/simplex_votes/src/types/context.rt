@@ -13,11 +13,14 @@ use simplex_scheme::scheme::{Digest, PublicKey};
 use std::alloc::{AllocError, Global};
 
 /// The round of a payload, the key of the round's leader, and the view and the payload of the parent that it is
-/// built on, encoded in that order.
+/// built on, encoded in that order: at most 30 bytes, the key's and the digest's.
 #[derive(Debug, Drop, PartialEq, Eq)]
 pub struct Context<D, P> {
+    /// The round of the payload.
     pub round: Round,
+    /// The key of the round's leader.
     pub leader: P,
+    /// The view of the parent, and its payload; nothing relates that view to the round's.
     pub parent: (View, D),
 }
 

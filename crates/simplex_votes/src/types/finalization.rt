@@ -18,19 +18,22 @@ use simplex_scheme::scheme::{
 };
 use std::alloc::{AllocError, Global};
 
-/// A proposal with a certificate of votes to finalize it, encoded in that order. It is read under the
-/// committee's bound.
+/// A proposal with a certificate of votes to finalize it, encoded in that order: at most 30 bytes,
+/// the digest's and those of the greatest certificate. It is read under the committee's bound.
 #[derive(Drop)]
 #[derive_where(PartialEq, Eq, Hash)]
 pub struct Finalization<S: CertificateScheme, D: Digest> {
+    /// What is certified; its round is that of the message.
     pub proposal: Proposal<D>,
+    /// The certificate; `verify` says whether it certifies.
     pub certificate: S::Certificate,
 }
 
 impl<S: CertificateScheme, D: Digest> Finalization<S, D> {
     ghost use Rattle.simplex_votes.specs.Encodings.{IsFinalization, finalization_encoding};
 
-    /// The same proposal with a clone of the certificate.
+    /// The same proposal with a clone of the certificate. `AllocError` only where an allocation
+    /// failed.
     pub fn clone(&self) -> Result<Self, AllocError>
         ensures parts { IfOk result (λ copy. (copy.proposal ≡ self.now.proposal) ×
             S.Certificate.is_clone self.now.certificate copy.certificate) }

@@ -14,11 +14,14 @@ use simplex_base::values::{EqByParts, ExactClone};
 use simplex_scheme::scheme::{Attestation, Digest, Proposal, Scheme, SchemeTypes, Subject};
 use std::alloc::{AllocError, Global};
 
-/// A vote to finalize a proposal, encoded as the proposal and the attestation.
+/// A vote to finalize a proposal, encoded as the proposal and the attestation: at most 35 bytes,
+/// the digest's and the signature's.
 #[derive(Drop)]
 #[derive_where(PartialEq, Eq, Hash)]
 pub struct Finalize<S: SchemeTypes, D: Digest> {
+    /// What is voted for; its round is that of the vote.
     pub proposal: Proposal<D>,
+    /// The signer and its signature; `verify` says whether it is valid.
     pub attestation: Attestation<S>,
 }
 
@@ -49,6 +52,7 @@ impl<S: SchemeTypes, D: Digest> Clone for Finalize<S, D> {
 
 impl<S: Scheme<D>, D: Digest> Finalize<S, D> {
     /// Signs a proposal as the scheme's participant. `None` exactly where the scheme has none.
+    /// `AllocError` only where an allocation failed.
     pub fn sign(
         alloc: Global,
         scheme: &S,

@@ -16,12 +16,14 @@ use simplex_scheme::scheme::{
 };
 use std::alloc::{AllocError, Global};
 
-/// A round with a certificate of votes to nullify it, encoded in that order. It is read under the committee's
-/// bound.
+/// A round with a certificate of votes to nullify it, encoded in that order: at most 20 bytes and
+/// those of the greatest certificate. It is read under the committee's bound.
 #[derive(Drop)]
 #[derive_where(PartialEq, Eq, Hash)]
 pub struct Nullification<S: CertificateScheme> {
+    /// The round that is certified to be nullified.
     pub round: Round,
+    /// The certificate; `verify` says whether it certifies.
     pub certificate: S::Certificate,
 }
 
@@ -29,7 +31,8 @@ impl<S: CertificateScheme> Nullification<S> {
     ghost use Rattle.simplex_votes.specs.Encodings.{IsNullification, nullification_encoding};
     ghost use Rattle.simplex_votes.specs.Assembly.{CanNullify, StandInOrder};
 
-    /// The same round with a clone of the certificate.
+    /// The same round with a clone of the certificate. `AllocError` only where an allocation
+    /// failed.
     pub fn clone(&self) -> Result<Self, AllocError>
         ensures parts { IfOk result (λ copy. (copy.round ≡ self.now.round) ×
             S.Certificate.is_clone self.now.certificate copy.certificate) }

@@ -14,11 +14,14 @@ use simplex_base::values::{EqByParts, ExactClone};
 use simplex_scheme::scheme::{Attestation, Digest, Scheme, SchemeTypes, Subject};
 use std::alloc::{AllocError, Global};
 
-/// A vote to nullify a round, encoded as the round and the attestation.
+/// A vote to nullify a round, encoded as the round and the attestation: at most 25 bytes and the
+/// signature's.
 #[derive(Drop)]
 #[derive_where(PartialEq, Eq, Hash)]
 pub struct Nullify<S: SchemeTypes> {
+    /// The round that is voted to be nullified.
     pub round: Round,
+    /// The signer and its signature; `verify` says whether it is valid.
     pub attestation: Attestation<S>,
 }
 
@@ -37,6 +40,7 @@ impl<S: SchemeTypes> Nullify<S> {
     }
 
     /// Signs a round as the scheme's participant. `None` exactly where the scheme has none.
+    /// `AllocError` only where an allocation failed.
     pub fn sign<'a, D: Digest + 'a>(
         alloc: Global,
         scheme: &'a S,

@@ -17,7 +17,8 @@ use simplex_base::values::{EqByParts, ExactClone};
 use simplex_scheme::scheme::{Digest, SchemeTypes};
 use std::alloc::{AllocError, Global};
 
-/// A vote: one byte of tag, and then the parts of the vote with that tag.
+/// A vote: one byte of tag, and then the parts of the vote with that tag, at most 36 bytes, the
+/// digest's and the signature's.
 #[derive(Drop)]
 #[derive_where(PartialEq, Eq)]
 pub enum Vote<S: SchemeTypes, D: Digest> {

@@ -18,7 +18,7 @@ returns-then-is_empty-clause-report g c =
     let len : vec_len claims.evidence ≡ 0 = eqb-true (vec_len claims.evidence) 0 (sym c.is_empty.ensures ∙ c.if-is_empty.true) in
     let none : length claims.evidence.items ≡ 0 = omega (arith, claims.evidence.ok.0, len) in
     nobody_reported _ _ _ _ c.args.stream.now claims none
-    (λ messages splits. c.suspects_tell_all.ensures.nobody c.args.committees.now messages splits c.in_ok-claims.ensures.lawful)
+    (λ messages splits. c.suspects_determine_reports.ensures.nobody c.args.committees.now messages splits c.in_ok-claims.ensures.lawful)
     c.in_ok-claims.ensures.report
 
 -- judging the suspects suffices
@@ -31,5 +31,5 @@ returns-clause-report g c =
     let has_signers = subst (All (λ suspect. IsTrue (contains signer_cmp suspects.signers suspect)))
     (ap (map (λ e. suspect_of (evidence_value e))) c.deref.ensures.value ∙ sym (map-map suspect_of evidence_value claims.evidence.items)) c.in_ok-suspects.ensures.signers in
     suspects_reported _ _ c.in_ok-claims.ensures.readable _ _ _ c.args.stream.now claims c.in_ok-report.report c.in_ok-claims.ensures.report
-    (λ messages es splits claimed judged are. c.suspects_tell_all.ensures.suspects c.args.committees.now messages (evidence_in claims) suspects c.in_ok-claims.ensures.lawful claimed has_rounds has_signers es splits judged are)
+    (λ messages es splits claimed judged are. c.suspects_determine_reports.ensures.suspects c.args.committees.now messages (evidence_in claims) suspects c.in_ok-claims.ensures.lawful claimed has_rounds has_signers es splits judged are)
     c.in_ok-report.ensures.report

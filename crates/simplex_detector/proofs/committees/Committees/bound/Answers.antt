@@ -1,5 +1,5 @@
 use Rattle.simplex_detector.proofs.Prelude.{All, IsSchedule, Listed, ap, committee_of, greatest, length, schedule_of, subst, sym, ◌∙◌, ◌≤◌}
-use Rattle.simplex_detector.proofs.CommitteeLemmas.{most, reached, manned}
+use Rattle.simplex_detector.proofs.CommitteeLemmas.{most, reached, listed_some}
 use Rattle.simplex_detector.proofs.committees.Committees.bound.Goals as goal
 
 pub returns-in-Listed-clause-most : goal.returns-in-Listed-clause-most
@@ -14,7 +14,7 @@ returns-in-Listed-clause-reached g c =
     let (epoch, committee, found, same) = reached g.S.CertificateScheme.keys (Listed c.in-Listed.pairs.items) (subst IsSchedule (ap schedule_of c.in-Listed.is) c.self.invariant) in
     (epoch, committee, ap (λ s. committee_of s epoch) (sym now) ∙ found, same ∙ sym (c.greatest.ensures.value ∙ ap (greatest g.S.CertificateScheme.keys) c.deref.ensures.value))
 
-pub returns-in-Listed-clause-manned : goal.returns-in-Listed-clause-manned
-returns-in-Listed-clause-manned g c epoch committee h =
+pub returns-in-Listed-clause-some : goal.returns-in-Listed-clause-some
+returns-in-Listed-clause-some g c epoch committee h =
     let now = ap schedule_of (sym c.in-Listed.is) ∙ c.self.view_is in
-    manned g.S.CertificateScheme.keys c.in-Listed.pairs.items (subst (All (λ p. 1 ≤ length (g.S.CertificateScheme.keys p.1))) c.deref.ensures.value c.greatest.ensures.manned) epoch committee (ap (λ s. committee_of s epoch) now ∙ h)
+    listed_some g.S.CertificateScheme.keys c.in-Listed.pairs.items (subst (All (λ p. 1 ≤ length (g.S.CertificateScheme.keys p.1))) c.deref.ensures.value c.greatest.ensures.some) epoch committee (ap (λ s. committee_of s epoch) now ∙ h)

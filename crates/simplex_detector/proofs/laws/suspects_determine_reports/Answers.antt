@@ -1,7 +1,7 @@
 use Rattle.simplex_detector.proofs.Prelude.{All-contains, AreSplits, IsEvidence, [], contains, map, round_cmp, round_of, signer_cmp, subst, suspect_of, true, valid_votes, ◌≡◌}
 use Rattle.simplex_detector.proofs.Lists.{Contains-map}
-use Rattle.simplex_detector.proofs.SuspectLemmas.{claims_are_claimed, claims_are_suspect, nothing_claimed, suspects_are_among, suspects_in, suspects_tell_all}
-use Rattle.simplex_detector.proofs.laws.suspects_tell_all.Goals as goal
+use Rattle.simplex_detector.proofs.SuspectLemmas.{claims_are_claimed, claims_are_suspect, nothing_claimed, suspects_are_among, suspects_in, suspects_determine_reports}
+use Rattle.simplex_detector.proofs.laws.suspects_determine_reports.Goals as goal
 
 pub returns-clause-nobody : goal.returns-clause-nobody
 returns-clause-nobody g c schedule messages splits l is are =
@@ -17,5 +17,5 @@ returns-clause-suspects g c schedule messages claims suspects l is has_rounds ha
       All-contains (λ suspect. contains signer_cmp suspects.signers suspect ≡ true) (map suspect_of claims) (suspect_of e) has_signers (Contains-map suspect_of claims e e_in),
       All-contains (λ round. contains round_cmp suspects.rounds round ≡ true) (map (λ e. round_of e.first.subject) claims) (round_of e.first.subject) has_rounds (Contains-map (λ e. round_of e.first.subject) claims e e_in),
     )) in
-    let tell = suspects_tell_all _ l messages s suspect in
-    ((tell.evidence es).0 (subst (λ judged. IsEvidence g.D.PartialEq.eq (valid_votes judged messages) es) same es_are), (tell.splits splits).0 (subst (λ judged. AreSplits judged messages splits) same splits_are))
+    let determined = suspects_determine_reports _ l messages s suspect in
+    ((determined.evidence es).0 (subst (λ judged. IsEvidence g.D.PartialEq.eq (valid_votes judged messages) es) same es_are), (determined.splits splits).0 (subst (λ judged. AreSplits judged messages splits) same splits_are))
