@@ -26,3 +26,12 @@ pub trait ExactClone: Clone {
     /// What `clone` returns is the value that was cloned.
     ghost exact: { (x y : Self) → Self.is_clone x y → y ≡ x };
 }
+
+/// A type whose clones are of the same parts, where the clone of a part is what its type says.
+pub trait CloneByParts: Clone {
+    /// The second value is made of clones of the parts of the first.
+    ghost copied: { Self → Self → Type 0 };
+
+    /// So is what `clone` returns of the first.
+    ghost cloned: { (x y : Self) → Self.is_clone x y → copied x y };
+}

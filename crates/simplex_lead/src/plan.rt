@@ -4,7 +4,7 @@ ghost use Rattle.std.specs.Prelude.{refl};
 ghost use Rattle.simplex_lead.specs.Plans.{IsRecipientsClone, IsPlanClone};
 
 use simplex_base::positions::Round;
-use simplex_base::values::EqByParts;
+use simplex_base::values::{CloneByParts, EqByParts};
 use std::alloc::AllocError;
 
 /// Whom something is sent to, of participants that are known by their keys.
@@ -28,6 +28,12 @@ impl<P: Clone> Clone for Recipients<P> {
             Recipients::One(key) => Ok(Recipients::One(key.clone()?)),
         }
     }
+}
+
+impl<P: Clone> CloneByParts for Recipients<P> {
+    ghost copied = { IsRecipientsClone P.is_clone };
+
+    ghost cloned = { λ x y same. same };
 }
 
 impl<P: Eq> EqByParts for Recipients<P> {
@@ -78,6 +84,12 @@ impl<P: Clone> Clone for Plan<P> {
             }),
         }
     }
+}
+
+impl<P: Clone> CloneByParts for Plan<P> {
+    ghost copied = { IsPlanClone P.is_clone };
+
+    ghost cloned = { λ x y same. same };
 }
 
 impl<P: Eq> EqByParts for Plan<P> {

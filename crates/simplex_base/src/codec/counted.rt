@@ -1,6 +1,6 @@
 //! Lists of values of one type: their number, and then the values one after another.
 
-ghost use Rattle.std.specs.Prelude.{◌≡◌, ◌++◌, ◌+◌, ◌*◌, ◌<◌, ◌≤◌, ◌^◌, All, OnOk, OnErr, length};
+ghost use Rattle.std.specs.Prelude.{◌≡◌, ◌++◌, ◌+◌, ◌-◌, ◌*◌, ◌<◌, ◌≤◌, ◌^◌, All, OnOk, OnErr, length, min};
 ghost use Rattle.std.specs.List.{flat_map};
 ghost use Rattle.simplex_base.specs.Varint.{number_32};
 
@@ -37,19 +37,17 @@ pub fn write_counted<T: Write>(items: &[T], buf: &mut Vec<u8>) -> Result<(), All
     or_restore(buf, start, done)
 }
 
-/// The number of bytes of the encoded number of values and of the values. The bound of the type's sizes has to be so
-/// small that the sum does not overflow.
+/// The number of bytes of the encoded number of values and of the values. It stops at 2^64 - 1.
 pub fn size_counted<T: EncodeSize>(items: &[T]) -> usize
     requires few { length items.now < 2 ^ 32 }
-    requires room { 5 + length items.now * T.limit < 2 ^ 64 }
-    ensures size { result ≡ length (number_32.encoding (length items.now) ++
-        flat_map T.encoding items.now) }
+    ensures size { result ≡ min (length (number_32.encoding (length items.now) ++
+        flat_map T.encoding items.now)) (2 ^ 64 - 1) }
     ensures values { All T.is_value items.now }
     ensures limited { result ≤ 5 + length items.now * T.limit }
 {
     let mut size = size_u32(items.len() as u32);
     for item in items {
-        size += item.encode_size();
+        size = size.saturating_add(item.encode_size());
     }
     size
 }

@@ -1,6 +1,6 @@
 //! Values that are encoded part after part, and values of a fixed size.
 
-ghost use Rattle.std.specs.Prelude.{◌≡◌, ◌++◌, ◌+◌, ◌<◌, ◌≤◌, ◌^◌, ◌||◌, false, OnOk, OnErr, length, take};
+ghost use Rattle.std.specs.Prelude.{◌≡◌, ◌++◌, ◌+◌, ◌-◌, ◌≤◌, ◌^◌, ◌||◌, false, min, OnOk, OnErr, length, take};
 ghost use Rattle.simplex_base.specs.Reading.{IsBytes};
 ghost use Rattle.simplex_base.specs.Format.{both_encoded, both_at, BothAre, IsFixed, fixed_at};
 ghost use Rattle.simplex_base.specs.FormatLaws.{both_lawful};
@@ -43,15 +43,14 @@ pub fn write_both<A: Write, B: Write>(
     or_restore(buf, start, done)
 }
 
-/// The number of bytes of one value and then another. The bounds of both sizes have to be so small that the sum does
-/// not overflow.
+/// The number of bytes of one value and then another. It stops at 2^64 - 1.
 pub fn size_both<A: EncodeSize, B: EncodeSize>(first: &A, second: &B) -> usize
-    requires room { A.limit + B.limit < 2 ^ 64 }
-    ensures size { result ≡ length (both_encoded A.encoding B.encoding (first.now, second.now)) }
+    ensures size { result ≡ min (length (both_encoded A.encoding B.encoding
+        (first.now, second.now))) (2 ^ 64 - 1) }
     ensures values { BothAre A.is_value B.is_value (first.now, second.now) }
     ensures limited { result ≤ A.limit + B.limit }
 {
-    first.encode_size() + second.encode_size()
+    first.encode_size().saturating_add(second.encode_size())
 }
 
 impl<A: Encoding, B: Encoding> Encoding for (A, B) {

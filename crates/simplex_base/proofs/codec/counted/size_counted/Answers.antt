@@ -19,7 +19,7 @@ loop-item-preserved g c =
     let x = c.item-item.result in
     let more = length_more g.T.Encoding.encoding (number_32.encoding (length xs)) xs i x c.loop-item-test.true c.item-item.is in
     record {
-      size = omega (arith, c.loop-item.invariant.size, c.encode_size-size.ensures.size, more);
-      values = rw (take_more xs i x c.loop-item-test.true, sym c.item-item.is) (All-push g.T.Encoding.is_value (take i xs) x c.loop-item.invariant.values c.encode_size-size.ensures.value);
-      limited = omega (arith, c.loop-item.invariant.limited, c.encode_size-size.ensures.limited);
+      size = omega (arith, c.loop-item.invariant.size, c.saturating_add-size.ensures, c.encode_size.ensures.size, more);
+      values = rw (take_more xs i x c.loop-item-test.true, sym c.item-item.is) (All-push g.T.Encoding.is_value (take i xs) x c.loop-item.invariant.values c.encode_size.ensures.value);
+      limited = omega (arith, c.loop-item.invariant.limited, c.saturating_add-size.ensures, c.encode_size.ensures.limited);
     }
