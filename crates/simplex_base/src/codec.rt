@@ -45,7 +45,9 @@ pub trait EncodeSize: Encoding {
     /// A bound on the sizes, so that sums of them do not overflow.
     ghost limit: { ℕ };
 
-    /// The number of bytes of the encoding.
+    /// The number of bytes of the encoding. Where the type has a greatest size, generic code calls
+    /// [`bounded_encode_size`](MaxEncodeSize::bounded_encode_size), whose clause says that it is at
+    /// most that.
     fn encode_size(&self) -> usize
         ensures size { result ≡ length (Self.encoding self.now) }
         ensures value { Self.is_value self.now }
