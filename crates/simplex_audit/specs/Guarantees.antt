@@ -1,6 +1,7 @@
 -- What holds of every stream, and of every report of it.
 use Rattle.std.specs.Prelude.{◌≡◌, ℕ, List, [], ◌++◌, All, IsTrue}
 use Rattle.std.specs.List.{flat_map}
+use Rattle.simplex_evidence.specs.Contradiction.{Equivocation}
 use Rattle.simplex_evidence.specs.declared.types.activity.Activity.{Activity}
 use Rattle.simplex_detector.specs.Evidence.{IsEvidence, IsEquivocation}
 use Rattle.simplex_detector.specs.Laws.{EvidenceIsUnique, AccusesExactly, ReorderingAccusesSame}
@@ -31,6 +32,16 @@ module _ {S D C P G : Type 0} (basis : Basis S D C P G) where
   -- which signers messages accuse does not depend on the order of the messages
   abbrev pub AccusedInAnyOrder : Type 0
   AccusedInAnyOrder = (messages : List (Activity S D C P G)) → ReorderingAccusesSame basis.rules messages
+
+  -- Evidence of any messages accuses exactly the signers, rounds and kinds with two of their valid votes that contradict, each
+  -- evidence is two such votes, and no other list is evidence of these messages.
+  pub record EvidenceIsDetermined : Type 0 where
+    pub names : (messages : List (Activity S D C P G)) (es : List (Equivocation D G)) → IsEvidence basis.rules.eq (valid_votes basis.rules messages) es →
+        AccusesExactly basis.rules.eq (valid_votes basis.rules messages) es
+    pub sound : (messages : List (Activity S D C P G)) (es : List (Equivocation D G)) → IsEvidence basis.rules.eq (valid_votes basis.rules messages) es →
+        All (IsEquivocation basis.rules.eq (valid_votes basis.rules messages)) es
+    pub only : (messages : List (Activity S D C P G)) (es : List (Equivocation D G)) → IsEvidence basis.rules.eq (valid_votes basis.rules messages) es →
+        EvidenceIsUnique basis.rules.eq (valid_votes basis.rules messages) es
 
   -- a signer whom the stream's messages accuse stays accused when any bytes are appended
   abbrev pub AccusedStayWithMore : List ℕ → Type 0

@@ -3,7 +3,7 @@
 ghost use Rattle.std.specs.Prelude.{◌&&◌, ℕ, List, All, IfOk, nat_eq, refl};
 ghost use Rattle.simplex_base.specs.Format.{IsLawful};
 ghost use Rattle.simplex_audit.specs.Deferred.{NeedsSuspectsAlone};
-ghost use Rattle.simplex_audit.specs.Guarantees.{HasOneReading, AccusesExactlyThem, ShowsTwoVotes, HasNoOtherEvidence, AccusedInAnyOrder, AccusedStayWithMore, ConflictsAccuseEnough, SignersOfBothAreAccused, ShowsSplits, ReadsAgain, IsAudit};
+ghost use Rattle.simplex_audit.specs.Guarantees.{EvidenceIsDetermined, HasOneReading, AccusesExactlyThem, ShowsTwoVotes, HasNoOtherEvidence, AccusedInAnyOrder, AccusedStayWithMore, ConflictsAccuseEnough, SignersOfBothAreAccused, ShowsSplits, ReadsAgain, IsAudit};
 ghost use Rattle.simplex_audit.specs.Report.{IsReport, as_messages};
 ghost use Rattle.simplex_detector.specs.Rules.{AreLawful};
 
@@ -100,6 +100,11 @@ pub fn audit<S: Listing<D>, D: Digest>(
     // Encoded as messages and audited again, the evidence yields the same evidence in the same order.
     ensures again { IfOk result (λ report.
         ReadsAgain (⟦<S as Audited<D>>⟧.basis committees.now) report) }
+    // All of the clauses above, in one record.
+    ensures audit { IfOk result (λ report.
+        IsAudit (⟦<S as Audited<D>>⟧.basis committees.now) stream.now report) }
+    // Evidence of any messages accuses exactly those whom they accuse, and is the only one.
+    ensures determined { EvidenceIsDetermined (⟦<S as Audited<D>>⟧.basis committees.now) }
 {
     // Laws of any messages.
     accused_stay::<S, D>();
@@ -141,6 +146,8 @@ pub fn audit_deferred<S: Listing<D>, D: Digest>(
     // Every signer of both certificates is accused.
     ensures accountable { SignersOfBothAreAccused (⟦<S as Audited<D>>⟧.basis committees.now)
         stream.now }
+    // Evidence of any messages accuses exactly those whom they accuse, and is the only one.
+    ensures determined { EvidenceIsDetermined (⟦<S as Audited<D>>⟧.basis committees.now) }
 {
     // Laws of any messages.
     accused_stay::<S, D>();

@@ -1,7 +1,7 @@
 //! The audit of a stream that comes in pieces.
 
 ghost use Rattle.std.specs.Prelude.{◌≡◌, ◌+◌, ◌<◌, ◌≤◌, ◌^◌, ◌-◌, min, vec_len, ℕ, List, [], ◌++◌, length, drop, IfOk};
-ghost use Rattle.simplex_audit.specs.Guarantees.{HasOneReading, IsAudit};
+ghost use Rattle.simplex_audit.specs.Guarantees.{EvidenceIsDetermined, HasOneReading, IsAudit};
 ghost use Rattle.simplex_audit.specs.Messages.{AreMessages};
 ghost use Rattle.simplex_evidence.specs.declared.types.activity.Activity.{Activity};
 ghost use Rattle.simplex_detector.specs.Committees.{Schedule};
@@ -238,6 +238,10 @@ impl<'a, S: Listing<D>, D: Digest> Auditor<'a, S, D> {
         ensures single { (committees : Schedule S) (stream other : List ℕ) →
             Stands ⟦<S as Audited<D>>⟧.basis committees self.now stream →
             HasOneReading (⟦<S as Audited<D>>⟧.basis committees) other }
+        // Evidence of any messages, not of the stream's alone, accuses exactly those whom they
+        // accuse, and is the only one.
+        ensures determined { (committees : Schedule S) →
+            EvidenceIsDetermined (⟦<S as Audited<D>>⟧.basis committees) }
     {
         accused_stay::<S, D>();
         evidence_is_determined::<S, D>();

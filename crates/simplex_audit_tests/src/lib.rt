@@ -1,5 +1,5 @@
 //! Tests of the audit and of the calls over it: the audit beside an auditor by its definition, which is written plainly, how
-//! many attestations are verified, who is suspect, the records of a report, what a ledger stores, and calls that allocate
+//! many attestations are verified, how many votes are recorded, who is suspect, the records of a report, what a ledger stores, and calls that allocate
 //! nothing.
 #![tactic(auto)]
 
@@ -13,6 +13,8 @@ mod deferred;
 mod model;
 #[cfg(test)]
 mod outcome;
+#[cfg(test)]
+mod recorded;
 #[cfg(test)]
 mod records;
 #[cfg(test)]

@@ -12,14 +12,13 @@ use Rattle.simplex_evidence.specs.Activity.{votes_in}
 use Rattle.simplex_evidence.specs.Contradiction as contradiction
 use Rattle.simplex_evidence.specs.declared.types.activity.Activity.{Activity}
 use Rattle.simplex_detector.specs.Evidence.{IsEvidence, IsEquivocation}
-use Rattle.simplex_detector.specs.Laws.{EvidenceIsUnique, AccusesExactly}
 use Rattle.simplex_detector.specs.Accusation.{Accusation, is_accused}
 use Rattle.simplex_detector.specs.Rules.{Rules, valid_votes, is_valid}
 use Rattle.simplex_detector.specs.Values.{activity_of, evidence_value}
 use Rattle.simplex_detector.specs.declared.evidence.Evidence.{Evidence}
 use Rattle.simplex_detector.specs.declared.evidence.Evidence.TheVariants as variants
 use Rattle.simplex_audit.specs.Basis.{Basis}
-use Rattle.simplex_audit.specs.Guarantees.{HasOneReading}
+use Rattle.simplex_audit.specs.Guarantees.{EvidenceIsDetermined, HasOneReading}
 use Rattle.simplex_audit.specs.Messages.{AreMessages}
 use Rattle.simplex_clients.specs.Holding.{IsEvidenceOf, IsStored}
 use Rattle.simplex_clients.proofs.ForkLemmas.{both_of_two}
@@ -88,35 +87,29 @@ joined format bytes piece rest messages further are are' = record {
   stuck = are'.stuck;
 }
 
--- the laws of the evidence of any votes
-pub record Laws (D G : Type 0) (eq : D → D → Bool) : Type 0 where
-  pub names : (vs : List (SignedVote D G)) (es : List (contradiction.Equivocation D G)) → IsEvidence eq vs es → AccusesExactly eq vs es
-  pub sound : (vs : List (SignedVote D G)) (es : List (contradiction.Equivocation D G)) → IsEvidence eq vs es → All (IsEquivocation eq vs) es
-  pub only : (vs : List (SignedVote D G)) (es : List (contradiction.Equivocation D G)) → IsEvidence eq vs es → EvidenceIsUnique eq vs es
-
 -- evidence that is encoded as messages, which have it again, is stored
-pub stored : {S D C P G : Type 0} (basis : Basis S D C P G) → Laws D G basis.rules.eq → ((other : List ℕ) → HasOneReading basis other) →
+pub stored : {S D C P G : Type 0} (basis : Basis S D C P G) → EvidenceIsDetermined basis → ((other : List ℕ) → HasOneReading basis other) →
     (stream bytes : List ℕ) (es given : List (Evidence S D P G)) → IsEvidenceOf basis stream es → given ≡ es → bytes ≡ flat_map (λ e. basis.format.encoding (activity_of e)) given →
     AreMessages basis.format (flat_map basis.format.encoding (map activity_of es)) (map activity_of es) [] →
     IsEvidence basis.rules.eq (valid_votes basis.rules (map activity_of es)) (map evidence_value es) → IsStored basis stream bytes
 stored {S} {D} {C} {P} {G} basis laws single stream bytes es given is same joined_is are evidence =
     let encoded : bytes ≡ flat_map basis.format.encoding (map activity_of es) = joined_is ∙ (ap (flat_map (λ e. basis.format.encoding (activity_of e))) same ∙ sym (flat_map-map basis.format.encoding (activity_of {C = C}) es)) in
     let here : AreMessages basis.format bytes (map activity_of es) [] = subst (λ (b : List ℕ). AreMessages basis.format b (map activity_of es) []) (sym encoded) are in
-    let names = laws.names (valid_votes basis.rules (map activity_of es)) (map evidence_value es) evidence in
+    let names = laws.names (map activity_of es) (map evidence_value es) evidence in
     record {
       evidence = es;
       evidence_is = is;
       encoded = encoded;
       again = record { messages = map activity_of es; rest = []; are_messages = here; evidence_is = evidence; names = names };
-      only = λ held h. laws.only (valid_votes basis.rules (map activity_of es)) (map evidence_value es) evidence (map evidence_value held)
+      only = λ held h. laws.only (map activity_of es) (map evidence_value es) evidence (map evidence_value held)
           (subst (λ (ms : List (Activity S D C P G)). IsEvidence basis.rules.eq (valid_votes basis.rules ms) (map evidence_value held)) (single bytes h.messages (map activity_of es) h.rest [] h.are_messages here).0 h.evidence_is);
       reads = λ piece rest further of. joined basis.format bytes piece rest (map activity_of es) further here of;
       then = λ piece rest further held of h.
           let both_are : IsEvidence basis.rules.eq (valid_votes basis.rules (map activity_of es ++ further)) (map evidence_value held) =
           subst (λ (ms : List (Activity S D C P G)). IsEvidence basis.rules.eq (valid_votes basis.rules ms) (map evidence_value held))
           (single (bytes ++ piece) h.messages (map activity_of es ++ further) h.rest rest h.are_messages (joined basis.format bytes piece rest (map activity_of es) further here of)).0 h.evidence_is in
-          let both = laws.names (valid_votes basis.rules (map activity_of es ++ further)) (map evidence_value held) both_are in
-          let inside = stored_within basis.rules (valid_votes basis.rules is.messages) es (laws.sound (valid_votes basis.rules is.messages) (map evidence_value es) is.evidence_is) in
+          let both = laws.names (map activity_of es ++ further) (map evidence_value held) both_are in
+          let inside = stored_within basis.rules (valid_votes basis.rules is.messages) es (laws.sound is.messages (map evidence_value es) is.evidence_is) in
           record {
             evidence_is = both_are;
             names = both;

@@ -10,7 +10,6 @@ use simplex_audit::audit::{Auditor, Committees, Evidence, audit_deferred};
 use simplex_audit::basis::Audited;
 use simplex_base::codec::Read;
 use simplex_base::codec::unions::write_tagged;
-use simplex_detector::laws::evidence_is_determined;
 use simplex_evidence::types::Activity;
 use simplex_scheme::scheme::{Digest, Listing, SchemeTypes};
 use std::alloc::{AllocError, Global};
@@ -40,11 +39,11 @@ impl<'a, S: Listing<D>, D: Digest> Ledger<'a, S, D> {
         committees: &'a Committees<S>,
         stored: &[u8],
     ) -> Result<Self, AllocError>
-        requires { length stored.now < 2 ^ 64 }
         ensures bytes { IfOk result (λ ledger. bytes_fed ledger ≡ length stored.now) }
         ensures fed { IfOk result (λ ledger.
             WasFed ⟦<S as Audited<D>>⟧.basis committees.now ledger stored.now) }
     {
+        counts_are_few(stored.len());
         let ledger = Ledger::new(alloc, committees).feed(stored)?;
         Ok(ledger)
     }
@@ -92,11 +91,15 @@ impl<'a, S: Listing<D>, D: Digest> Ledger<'a, S, D> {
             WasFed ⟦<S as Audited<D>>⟧.basis committees self.now stream →
             IsStored (⟦<S as Audited<D>>⟧.basis committees) stream stored.items) }
     {
-        evidence_is_determined::<S, D>();
         let report = self.auditor.report()?;
         write_all(alloc, &report.evidence)
     }
 }
+
+/// A `usize` is below 2^64.
+fn counts_are_few(count: usize)
+    ensures { count < 2 ^ 64 }
+{}
 
 /// What a ledger stores that was fed the bytes that an earlier one stored, or none, and then a batch of messages. Only the
 /// votes of suspects and the certificates of their rounds are verified, as by [`audit_deferred`]. Memory is bounded by the
@@ -127,7 +130,6 @@ fn store_stream<S: Listing<D>, D: Digest>(
     ensures { IfOk result (λ bytes.
         IsStored (⟦<S as Audited<D>>⟧.basis committees.now) stream.now bytes.items) }
 {
-    evidence_is_determined::<S, D>();
     let found = audit_deferred::<S, D>(alloc, committees, stream)?;
     write_all(alloc, &found.evidence)
 }

@@ -62,7 +62,7 @@ impl Judging {
     }
 
     /// `accepts` of an attestation whose signature is known to be valid: nothing is verified.
-    pub fn accepts_known<S: Scheme<D>, D: Digest>(
+    pub(crate) fn accepts_known<S: Scheme<D>, D: Digest>(
         &self,
         committee: &S,
         subject: &Subject<'_, D>,

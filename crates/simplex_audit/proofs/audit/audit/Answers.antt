@@ -1,9 +1,8 @@
-use Rattle.std.proofs.Common.{map, arith}
+use Rattle.std.proofs.Common.{arith}
 use Rattle.simplex_detector.specs.Committees.{Schedule, rules_of}
 use Rattle.simplex_detector.specs.Rules.{Rules}
-use Rattle.simplex_detector.specs.Values.{activity_of}
-use Rattle.simplex_audit.proofs.AccusedLemmas.{if_ok, if_both, report_evidence, report_splits, accused_stay}
-use Rattle.simplex_audit.proofs.StreamLemmas.{messages_once, are_joined}
+use Rattle.simplex_audit.proofs.AccusedLemmas.{if_ok, if_both, audited, accused_stay}
+use Rattle.simplex_audit.proofs.StreamLemmas.{messages_once}
 use Rattle.simplex_audit.proofs.audit.audit.Given as given
 use Rattle.simplex_audit.proofs.audit.audit.Goals as goal
 
@@ -11,23 +10,42 @@ use Rattle.simplex_audit.proofs.audit.audit.Goals as goal
 abbrev rules : (g : given.Over) → Schedule g.row.S.Denot → Rules g.row.S.Denot g.row.D.Denot g.row.S-Certificate.Denot g.row.S-PublicKey.Denot g.row.S-Signature.Denot
 rules g schedule = rules_of g.D.PartialEq.eq g.S.CertificateScheme.keys g.S.Scheme.good g.S.CertificateVerifier.certified g.S.Listing.listed schedule
 
-pub returns-clause-single : goal.returns-clause-single
-returns-clause-single g c = λ messages others rest left are are'. messages_once _ c.audit_stream.ensures.readable c.args.stream.now rest left messages others are are'
+pub returns-clause-audit : goal.returns-clause-audit
+returns-clause-audit g c =
+    let committees = c.args.committees.now in
+    if_both _ _ _ (λ report is each. audited _ c.audit_stream.ensures.readable (λ m. omega arith) c.audit_stream.ensures.lawful
+    (record {
+      any_order = c.accused_stay.ensures.any_order (rules g committees);
+      later = c.accused_stay.ensures.later (rules g committees);
+      names = c.evidence_is_determined.ensures.names;
+      sound = c.evidence_is_determined.ensures.sound;
+      only = c.evidence_is_determined.ensures.only;
+      again = c.evidence_is_determined.ensures.again (rules g committees);
+      enough = c.certificates_are_accountable.ensures.enough (rules g committees);
+      signers = c.certificates_are_accountable.ensures.signers (rules g committees);
+      only_splits = c.splits_are_determined.ensures.only (rules g committees);
+      split_accused = c.splits_are_determined.ensures.names (rules g committees);
+    })
+    c.args.stream.now report is each)
+    c.audit_stream.result c.audit_stream.ensures.report c.audit_stream.ensures.encoded
 
 pub returns-clause-names : goal.returns-clause-names
-returns-clause-names g c =
-    if_ok _ _ (λ report is messages rest are. c.evidence_is_determined.ensures.names _ _ (report_evidence _ c.audit_stream.ensures.readable c.args.stream.now report is messages rest are))
-    c.audit_stream.result c.audit_stream.ensures.report
+returns-clause-names g c = if_ok _ _ (λ report audit. audit.names) c.audit_stream.result (returns-clause-audit g c)
 
 pub returns-clause-sound : goal.returns-clause-sound
-returns-clause-sound g c =
-    if_ok _ _ (λ report is messages rest are. c.evidence_is_determined.ensures.sound _ _ (report_evidence _ c.audit_stream.ensures.readable c.args.stream.now report is messages rest are))
-    c.audit_stream.result c.audit_stream.ensures.report
+returns-clause-sound g c = if_ok _ _ (λ report audit. audit.sound) c.audit_stream.result (returns-clause-audit g c)
 
 pub returns-clause-only : goal.returns-clause-only
-returns-clause-only g c =
-    if_ok _ _ (λ report is messages rest are. c.evidence_is_determined.ensures.only _ _ (report_evidence _ c.audit_stream.ensures.readable c.args.stream.now report is messages rest are))
-    c.audit_stream.result c.audit_stream.ensures.report
+returns-clause-only g c = if_ok _ _ (λ report audit. audit.only) c.audit_stream.result (returns-clause-audit g c)
+
+pub returns-clause-splits : goal.returns-clause-splits
+returns-clause-splits g c = if_ok _ _ (λ report audit. audit.splits) c.audit_stream.result (returns-clause-audit g c)
+
+pub returns-clause-again : goal.returns-clause-again
+returns-clause-again g c = if_ok _ _ (λ report audit. audit.again) c.audit_stream.result (returns-clause-audit g c)
+
+pub returns-clause-single : goal.returns-clause-single
+returns-clause-single g c = λ messages others rest left are are'. messages_once _ c.audit_stream.ensures.readable c.args.stream.now rest left messages others are are'
 
 pub returns-clause-any_order : goal.returns-clause-any_order
 returns-clause-any_order g c = λ messages. c.accused_stay.ensures.any_order (rules g c.args.committees.now) messages
@@ -42,19 +60,9 @@ returns-clause-enough g c = λ messages rest are. c.certificates_are_accountable
 pub returns-clause-accountable : goal.returns-clause-accountable
 returns-clause-accountable g c = λ messages rest are. c.certificates_are_accountable.ensures.signers (rules g c.args.committees.now) messages c.audit_stream.ensures.lawful
 
-pub returns-clause-splits : goal.returns-clause-splits
-returns-clause-splits g c =
-    if_ok _ _ (λ report is. record {
-      are_splits = λ messages rest are. report_splits _ c.audit_stream.ensures.readable c.args.stream.now report is messages rest are;
-      only = λ messages rest are. c.splits_are_determined.ensures.only (rules g c.args.committees.now) messages _ (report_splits _ c.audit_stream.ensures.readable c.args.stream.now report is messages rest are);
-      enough = c.splits_are_determined.ensures.names (rules g c.args.committees.now) is.messages _ c.audit_stream.ensures.lawful is.splits_are;
-    })
-    c.audit_stream.result c.audit_stream.ensures.report
-
-pub returns-clause-again : goal.returns-clause-again
-returns-clause-again g c =
-    if_both _ _ _ (λ report is each. record {
-      stream = are_joined _ (λ m. omega arith) (map activity_of report.evidence.items) each;
-      evidence = c.evidence_is_determined.ensures.again (rules g c.args.committees.now) is.messages report.evidence.items c.audit_stream.ensures.lawful is.evidence_is;
-    })
-    c.audit_stream.result c.audit_stream.ensures.report c.audit_stream.ensures.encoded
+pub returns-clause-determined : goal.returns-clause-determined
+returns-clause-determined g c = record {
+  names = λ messages. c.evidence_is_determined.ensures.names _;
+  sound = λ messages. c.evidence_is_determined.ensures.sound _;
+  only = λ messages. c.evidence_is_determined.ensures.only _;
+}

@@ -50,3 +50,10 @@ returns-clause-enough g c = λ messages rest are. c.certificates_are_accountable
 
 pub returns-clause-accountable : goal.returns-clause-accountable
 returns-clause-accountable g c = λ messages rest are. c.certificates_are_accountable.ensures.signers (rules g c.args.committees.now) messages c.audit_suspects.ensures.lawful
+
+pub returns-clause-determined : goal.returns-clause-determined
+returns-clause-determined g c = record {
+  names = λ messages. c.evidence_is_determined.ensures.names _;
+  sound = λ messages. c.evidence_is_determined.ensures.sound _;
+  only = λ messages. c.evidence_is_determined.ensures.only _;
+}

@@ -36,3 +36,10 @@ returns-clause-audit g c =
 
 pub returns-clause-single : goal.returns-clause-single
 returns-clause-single g c committees stream other stands = λ messages others rest left are are'. messages_once _ stands.fed.readable other rest left messages others are are'
+
+pub returns-clause-determined : goal.returns-clause-determined
+returns-clause-determined g c committees = record {
+  names = λ messages. c.evidence_is_determined.ensures.names _;
+  sound = λ messages. c.evidence_is_determined.ensures.sound _;
+  only = λ messages. c.evidence_is_determined.ensures.only _;
+}
