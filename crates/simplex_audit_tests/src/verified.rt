@@ -1,11 +1,12 @@
 //! How many attestations an audit has verified: a vote that changes nothing is not verified, and the votes of a certificate
-//! that was found to certify are not verified again. A deferred audit verifies only the votes of suspects and the certificates
-//! of their rounds, and so does a run over a stored stream. Listing suspects, or the records of a report, verifies none.
+//! that was found to certify are not verified again, however the stream is cut. A deferred audit verifies only the votes of
+//! suspects and the certificates of their rounds, and so does a run over a stored stream. Listing suspects, or the records of a
+//! report, verifies none.
 
 use crate::counted::Counted;
 use audit_cli::stored::run_deferred;
 use faulty_io::{Source, Target, Trouble};
-use simplex_audit::audit::{Committees, Watched, audit, audit_deferred};
+use simplex_audit::audit::{Auditor, Committees, Watched, audit, audit_deferred, run};
 use simplex_base::codec::Fixed;
 use simplex_base::positions::Epoch;
 use simplex_clients::ledger::store_batch;
@@ -78,15 +79,54 @@ fn stream_of(alloc: Global, messages: &[&[u8]]) -> Result<Vec<u8>, AllocError> {
     Ok(stream)
 }
 
-/// How many attestations an audit of some messages verifies, and how many a deferred one does.
-fn counts(rt: &impl Abort, alloc: Global, messages: &[&[u8]]) -> Result<(usize, usize), Fail> {
-    let stream = stream_of(alloc, messages)?;
+/// How many attestations a run verifies whose reader gives a byte a call.
+fn verified_by_run(rt: &impl Abort, alloc: Global, stream: &[u8]) -> Result<usize, Fail> {
+    let committees = four(rt, alloc)?;
+    let mut reader = Watched::new(Source::new(stream, 1, Trouble::Never));
+    let mut writer = Watched::new(Target::steady());
+    run::<Counted, MarkedDigest, Source, Target>(alloc, &committees, &mut reader, &mut writer)?;
+    verified(&committees)
+}
+
+/// How many attestations an auditor verifies that is fed a stream in pieces of this many bytes.
+fn verified_in_pieces(
+    rt: &impl Abort,
+    alloc: Global,
+    stream: &[u8],
+    length: usize,
+) -> Result<usize, Fail> {
+    let committees = four(rt, alloc)?;
+    let mut auditor = Auditor::<Counted, MarkedDigest>::new(alloc, &committees);
+    for piece in stream.chunks(length.max(1)) {
+        if piece.len() > usize::MAX - auditor.fed() {
+            return Err("too many bytes".into());
+        }
+        auditor = auditor.feed(piece)?;
+    }
+    let _ = auditor.report()?;
+    verified(&committees)
+}
+
+/// How many attestations an audit of a stream of this many messages verifies, and how many a deferred one does. A run, and an
+/// auditor that is fed the stream in pieces, verify as many as the audit.
+fn counts(
+    rt: &impl Abort,
+    alloc: Global,
+    stream: &[u8],
+    messages: usize,
+) -> Result<(usize, usize), Fail> {
     let (whole, deferred) = (four(rt, alloc)?, four(rt, alloc)?);
-    let report = audit::<Counted, MarkedDigest>(alloc, &whole, stream.as_slice())?;
-    assert_eq!(rt; report.read, messages.len());
-    let report = audit_deferred::<Counted, MarkedDigest>(alloc, &deferred, stream.as_slice())?;
-    assert_eq!(rt; report.read, messages.len());
-    Ok((verified(&whole)?, verified(&deferred)?))
+    let report = audit::<Counted, MarkedDigest>(alloc, &whole, stream)?;
+    assert_eq!(rt; report.read, messages);
+    let report = audit_deferred::<Counted, MarkedDigest>(alloc, &deferred, stream)?;
+    assert_eq!(rt; report.read, messages);
+    let wanted = verified(&whole)?;
+    assert_eq!(rt; verified_by_run(rt, alloc, stream)?, wanted, "by a run");
+    for length in [1, 5] {
+        let found = verified_in_pieces(rt, alloc, stream, length)?;
+        assert_eq!(rt; found, wanted, "in pieces of {length}");
+    }
+    Ok((wanted, verified(&deferred)?))
 }
 
 #[test]
@@ -115,11 +155,9 @@ fn ample_nothing_is_verified_twice(rt: HostRuntime) -> Result<(), Fail> {
         (&[first, second, FORGED], (6, 4)),
     ];
     for (messages, verified) in cases {
-        assert_eq!(rt;
-            counts(&rt, rt.alloc(), messages)?,
-            verified,
-            "of {messages:?}"
-        );
+        let stream = stream_of(rt.alloc(), messages)?;
+        let found = counts(&rt, rt.alloc(), stream.as_slice(), messages.len())?;
+        assert_eq!(rt; found, verified, "of {messages:?}");
     }
     Ok(())
 }
@@ -166,15 +204,19 @@ fn ample_nothing_of_an_honest_stream_is_verified(rt: HostRuntime) -> Result<(), 
     let stored = store_batch::<Counted, MarkedDigest>(alloc, &committees, &[], stream.as_slice())?;
     assert_eq!(rt; (stored.len(), verified(&committees)?), (0, 0));
     // Nor where it is a stored stream.
-    let counts = stored_counts(alloc, &committees, stream.as_slice())?;
-    assert_eq!(rt; (counts, verified(&committees)?), ((12_500, 0), 0));
+    let counted = stored_counts(alloc, &committees, stream.as_slice())?;
+    assert_eq!(rt; (counted, verified(&committees)?), ((12_500, 0), 0));
+    // An audit verifies each vote and each certificate once. A run reads 65,536 bytes at a time, and a vote lies across the first
+    // two of these pieces.
+    let longer = stream_of(alloc, &[NULLIFY, stream.as_slice()])?;
+    assert_eq!(rt; counts(&rt, alloc, longer.as_slice(), 12_501)?, (17_501, 0));
     // One vote that contradicts has its signer's votes and the certificate of its round verified.
     stream.extend_from_slice(&[0, 0, 128, 1, 5, 7, 3, 0xaa])?;
     let report = audit_deferred::<Counted, MarkedDigest>(alloc, &committees, stream.as_slice())?;
     assert_eq!(rt; (report.read, report.evidence.len()), (12_501, 1));
     assert_eq!(rt; verified(&committees)?, 5);
-    let counts = stored_counts(alloc, &committees, stream.as_slice())?;
-    assert_eq!(rt; (counts, verified(&committees)?), ((12_501, 1), 10));
+    let counted = stored_counts(alloc, &committees, stream.as_slice())?;
+    assert_eq!(rt; (counted, verified(&committees)?), ((12_501, 1), 10));
     Ok(())
 }
 

@@ -1,5 +1,8 @@
 //! Many certificates verified at once.
 
+ghost use Rattle.std.specs.Prelude.{◌≡◌, IfSome, length};
+
+use crate::judged::{CERTIFICATES, judged};
 use simplex_base::codec::{Fixed, Read, decode_cfg};
 use simplex_base::positions::{Epoch, Round, View};
 use simplex_evidence::types::verify_certificates;
@@ -85,20 +88,27 @@ fn any_list_is_refused<S: CertificateVerifier<D>, D: Digest>(
 }
 
 /// The key whose last byte is this number, behind zeros.
-fn key(number: u8) -> PlainKey {
+pub(crate) fn key(number: u8) -> PlainKey {
     let mut key = [0; 32];
     key[31] = number;
     PlainKey::from_bytes(&key)
 }
 
-/// The plain scheme under the base `test` of four participants, whose keys are their numbers.
-fn plain(alloc: Global) -> Option<Plain> {
+/// The keys of four participants, which are their numbers.
+pub(crate) fn four_keys(alloc: Global) -> Option<Set<PlainKey>>
+    ensures { IfSome result (λ keys. length keys ≡ 4) }
+{
     let keys = Vec::from_array(alloc, [key(0), key(1), key(2), key(3)]).ok()?;
     let keys = Set::try_from_vec(keys).ok()?;
     if keys.len() != 4 {
         return None;
     }
-    Plain::verifier(alloc, b"test", keys).ok()
+    Some(keys)
+}
+
+/// The plain scheme under the base `test` of four participants, whose keys are their numbers.
+pub(crate) fn plain(alloc: Global) -> Option<Plain> {
+    Plain::verifier(alloc, b"test", four_keys(alloc)?).ok()
 }
 
 /// The certificates of the marked scheme.
@@ -127,9 +137,17 @@ fn plain_is_refused(rt: &(impl Abort + AllocGlobal)) -> bool {
     any_list_is_refused(rt, &scheme, Sha256Digest::from_bytes(&[6; 32]), PLAIN)
 }
 
+/// The lists of the scheme by verdicts.
+fn judged_is_refused(rt: &(impl Abort + AllocGlobal)) -> bool {
+    let Some(scheme) = judged(rt.alloc()) else {
+        return true;
+    };
+    any_list_is_refused(rt, &scheme, MarkedDigest::from_bytes(&[6]), CERTIFICATES)
+}
+
 #[test]
 fn ample(rt: HostRuntime) {
-    assert!(rt; !marked_is_refused(&rt) && !plain_is_refused(&rt));
+    assert!(rt; !marked_is_refused(&rt) && !plain_is_refused(&rt) && !judged_is_refused(&rt));
 }
 
 /// Where the allocation for the answers fails there are none.
@@ -137,4 +155,5 @@ fn ample(rt: HostRuntime) {
 fn refused(rt: HostRuntime) {
     let _ = marked_is_refused(&rt);
     let _ = plain_is_refused(&rt);
+    let _ = judged_is_refused(&rt);
 }

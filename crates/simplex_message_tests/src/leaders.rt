@@ -125,18 +125,22 @@ impl<S: CertificateScheme> Elector<S> for First {
     ghost clones = { λ elector copy same. one_alike _ _ _ _ elector copy (sym same) };
 }
 
-/// An elector of this configuration, for this committee, has this mode and these terms, and elects in this order for the first
-/// views of epoch 0, from view 0 on. It allocates nothing for that.
+/// An elector of this configuration, for this committee, has this mode and these terms, rotating ones if none are given, and
+/// elects in this order for the first views of epoch 0, from view 0 on. It allocates nothing for that.
 fn check<C: Config<Marked>>(
     rt: &impl Abort,
     alloc: Global,
     committee: &Marked,
     config: C,
-    (mode, terms): (Mode, Terms),
+    (mode, terms): (Mode, Option<Terms>),
     order: &[u32],
 ) -> Result<(), Fail> {
     let elector = config.build(alloc, committee.participants())?;
     let _ = is_out(alloc);
+    let terms = match terms {
+        Some(terms) => terms,
+        None => Terms::rotating(),
+    };
     assert!(rt; elector.mode() == mode && elector.terms() == terms);
     for (view, leader) in (0_u64..).zip(order) {
         let round = Round::new(Epoch::new(0), View::new(view));
@@ -153,12 +157,7 @@ fn check_order<H: Hasher>(
     order: [u32; 6],
 ) -> Result<(), Fail> {
     let shuffled: RoundRobin<H> = RoundRobin::shuffled(alloc, b"s")?;
-    check(rt, alloc, five, shuffled, rotating(), &order)
-}
-
-/// The mode of a rotation, and its terms where no others were given.
-fn rotating() -> (Mode, Terms) {
-    (Mode::Scheduled, Terms::rotating())
+    check(rt, alloc, five, shuffled, (Mode::Scheduled, None), &order)
 }
 
 /// Equal digests leave the order as it is, and falling ones reverse it.
@@ -188,7 +187,8 @@ fn by_digest(alloc: Global, seed: &[u8], participants: u32) -> Result<Vec<u32>, 
 fn order_of(rt: &impl Abort, alloc: Global, ten: &Marked, seed: &[u8]) -> Result<Vec<u32>, Fail> {
     let shuffled: RoundRobin<Sha256> = RoundRobin::shuffled(alloc, seed)?;
     let order = by_digest(alloc, seed, 10)?;
-    check(rt, alloc, ten, shuffled, rotating(), order.as_slice())?;
+    let wanted = (Mode::Scheduled, None);
+    check(rt, alloc, ten, shuffled, wanted, order.as_slice())?;
     Ok(order)
 }
 
@@ -210,7 +210,7 @@ fn ample_elector_of_its_own(rt: HostRuntime) -> Result<(), Fail> {
         Duration::from_secs(10),
         ViewDelta::new(1),
     );
-    let wanted = (Mode::Dynamic, terms);
+    let wanted = (Mode::Dynamic, Some(terms));
     check(&rt, rt.alloc(), &four, FirstAlways(terms), wanted, &[0; 4])
 }
 
@@ -238,7 +238,7 @@ fn the_last_view_that_fits(rt: HostRuntime) {
 fn without_memory_leaders(rt: HostRuntime) -> Result<(), Fail> {
     let four = Marked::new(rt.alloc(), 4, None)?;
     let rotation = RoundRobin::<Sha256>::default();
-    let wanted = (Mode::Scheduled, Terms::default());
+    let wanted = (Mode::Scheduled, None);
     check(&rt, rt.alloc(), &four, rotation, wanted, &[0, 1, 2, 3, 0])
 }
 
@@ -270,7 +270,7 @@ fn without_memory_modes(rt: HostRuntime) {
     assert!(rt; matches!(Mode::Scheduled.early::<u32>(), Some(None)));
 }
 
-/// What stable terms hold.
+/// What stable terms hold, and what rotating ones, which are the default.
 #[test]
 fn without_memory_terms(rt: HostRuntime) {
     let _ = is_out(rt.alloc());
@@ -279,6 +279,9 @@ fn without_memory_terms(rt: HostRuntime) {
     let terms = Terms::stable(length, second, ViewDelta::new(2));
     assert!(rt; terms.length().get() == 20 && terms.stall_timeout() == Some(second));
     assert!(rt; terms.optimistic_views() == ViewDelta::new(2));
+    let terms = Terms::default();
+    assert!(rt; terms == Terms::rotating() && terms.length() == TermLength::ONE);
+    assert!(rt; terms.stall_timeout().is_none() && terms.optimistic_views() == ViewDelta::new(0));
 }
 
 /// Sums and differences of views, a fault bound and a quorum.

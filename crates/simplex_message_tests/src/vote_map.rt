@@ -85,8 +85,10 @@ fn is_refused(rt: &(impl Abort + AllocGlobal)) -> bool {
     refused
 }
 
+/// The first insert allocates for all participants, and so does the first after a clear. No other call allocates: one more
+/// allocation, or one less, is refused.
 #[test]
-fn ample(rt: HostRuntime) {
+fn ample_2_allocations(rt: HostRuntime) {
     assert!(rt; !is_refused(&rt));
 }
 

@@ -5,11 +5,12 @@
 
 ghost use Rattle.std.specs.Prelude.{◌≡◌, IfOk, length};
 
+use crate::bisection::{four_keys, key, plain};
 use simplex_base::codec::{EncodeSize, Fixed, MaxEncodeSize, Read, ReadExt, decode, decode_cfg};
-use simplex_base::positions::{Epoch, Epochable, Participant, Round, View, Viewable};
+use simplex_base::positions::{Epoch, Epochable, Participant, Round, Roundable, View, Viewable};
 use simplex_evidence::types::{ConflictingFinalize, ConflictingNotarize, NullifyFinalize};
 use simplex_plain::listed::Listed;
-use simplex_plain::marked::{Marked, MarkedDigest};
+use simplex_plain::marked::{Marked, MarkedDigest, MarkedKey};
 use simplex_plain::plain::{Plain, PlainKey};
 use simplex_scheme::assembly::can_assemble;
 use simplex_scheme::scheme::{
@@ -17,7 +18,7 @@ use simplex_scheme::scheme::{
     Listing, Namespace, Proposal, Scheme, SchemeTypes, Set, SetError, Sha256Digest, Subject,
 };
 use simplex_votes::types::{
-    Artifact, Attributable, Certificate, Finalize, Notarize, Nullify, Vote,
+    Artifact, Attributable, Certificate, Context, Finalize, Notarize, Nullify, Vote,
 };
 use std::alloc::Global;
 use std::process::Abort;
@@ -77,13 +78,26 @@ const STORED_CERTIFICATES: [&[u8]; 3] = [
     &[6, 0, 10, 5, 6, 3, 0, 0xaa, 1, 0xaa, 2, 0xaa],
 ];
 
-/// Whether messages become these artifacts, of the same encoded lengths.
-fn are_stored<M: EncodeSize + Drop, A: From<M> + EncodeSize + PartialEq + Drop>(
-    messages: Vec<M>,
-    artifacts: &[A],
-) -> bool {
+/// The artifact that states that the proposal of the round of these messages was certified.
+const CERTIFICATION: &[u8] = &[2, 0, 10, 1];
+
+/// Whether a value is of round (0, 10), and of its epoch and view.
+fn is_of_round<T: Roundable>(value: &T) -> bool {
+    value.round() == Round::new(Epoch::new(0), View::new(10))
+        && value.epoch() == Epoch::new(0)
+        && value.view() == View::new(10)
+}
+
+/// Whether messages become these artifacts, of the same round and encoded lengths.
+fn are_stored<
+    M: EncodeSize + Roundable + Drop,
+    A: From<M> + EncodeSize + Roundable + PartialEq + Drop,
+>(messages: Vec<M>, artifacts: &[A]) -> bool {
     let is_whole = messages.len() == artifacts.len();
     for (message, artifact) in messages.into_iter().zip(artifacts) {
+        if !is_of_round(&message) || !is_of_round(artifact) {
+            return false;
+        }
         if message.encode_size() != artifact.encode_size() || A::from(message) != *artifact {
             return false;
         }
@@ -91,14 +105,19 @@ fn are_stored<M: EncodeSize + Drop, A: From<M> + EncodeSize + PartialEq + Drop>(
     is_whole
 }
 
-/// Whether votes and certificate messages become artifacts.
+/// Whether votes and certificate messages become artifacts, and each artifact is of their round.
 fn are_all_stored<S: CertificateScheme, D: Digest>(alloc: Global) -> Result<bool, Fail> {
     let certificates = decoded::<Certificate<S, D>>(alloc, &4, &CERTIFICATES)?;
     let stored = decoded::<Artifact<S, D>>(alloc, &4, &STORED_CERTIFICATES)?;
     let votes = decoded::<Vote<S, D>>(alloc, &(), &VOTES)?;
     let stored_votes = decoded::<Artifact<S, D>>(alloc, &4, &STORED_VOTES)?;
+    let certification = decode_cfg::<Artifact<S, D>>(alloc, CERTIFICATION, &4)?;
     let _ = is_out(alloc);
-    Ok(are_stored(certificates, stored.as_slice()) && are_stored(votes, stored_votes.as_slice()))
+    Ok(
+        are_stored(certificates, stored.as_slice())
+            && are_stored(votes, stored_votes.as_slice())
+            && is_of_round(&certification),
+    )
 }
 
 #[test]
@@ -234,18 +253,42 @@ fn without_memory_evidence(rt: HostRuntime) -> Result<(), Fail> {
     Ok(())
 }
 
-/// Whether a subject of each kind is signed under the base `test` with the suffix of its kind, and is of round (0, 10).
+/// What is signed of round (0, 10) and of its proposal, and bytes that differ from both in a part, at the end or behind it.
+const SIGNED: [&[u8]; 9] = [
+    &[0, 10],
+    &[0, 10, 5, 6],
+    &[],
+    &[0],
+    &[0, 11],
+    &[1, 10, 5, 6],
+    &[0, 10, 5, 7],
+    &[0, 10, 5],
+    &[0, 10, 5, 6, 0],
+];
+
+/// Whether a message, and nothing else, is what is signed of a subject.
+fn is_only_message<D: Digest>(subject: &Subject<'_, D>, message: &[u8]) -> bool {
+    for bytes in &SIGNED {
+        if subject.is_message(bytes) != (*bytes == message) {
+            return false;
+        }
+    }
+    true
+}
+
+/// Whether a subject of each kind is signed under the base `test` with the suffix of its kind, has its message, and is of round
+/// (0, 10).
 fn are_named<D: Digest>(names: &Namespace, proposal: &Proposal<D>) -> bool {
     let round = proposal.round;
-    let subjects: [(Subject<'_, D>, &[u8]); 3] = [
-        (Subject::Notarize { proposal }, b"test_NOTARIZE"),
-        (Subject::Nullify { round }, b"test_NULLIFY"),
-        (Subject::Finalize { proposal }, b"test_FINALIZE"),
+    let subjects: [(Subject<'_, D>, &[u8], &[u8]); 3] = [
+        (Subject::Notarize { proposal }, b"test_NOTARIZE", SIGNED[1]),
+        (Subject::Nullify { round }, b"test_NULLIFY", SIGNED[0]),
+        (Subject::Finalize { proposal }, b"test_FINALIZE", SIGNED[1]),
     ];
-    for (subject, name) in &subjects {
+    for (subject, name, message) in &subjects {
         if subject.namespace(names) != *name
-            || subject.epoch() != Epoch::new(0)
-            || subject.view() != View::new(10)
+            || !is_only_message(subject, message)
+            || !is_of_round(subject)
         {
             return false;
         }
@@ -253,17 +296,25 @@ fn are_named<D: Digest>(names: &Namespace, proposal: &Proposal<D>) -> bool {
     true
 }
 
-/// The namespaces of subjects, and their rounds. One that is signed under the namespace of another kind is refused.
+/// The namespaces of subjects, what is signed of them, and their rounds, which is also that of the context of a proposal. One
+/// that is signed under the namespace of another kind, and bytes that are taken for another message, are refused.
 #[test]
 fn without_memory_subjects(rt: HostRuntime) -> Result<(), Fail> {
     let names = Namespace::new(rt.alloc(), b"test")?;
     let _ = is_out(rt.alloc());
-    assert!(rt; are_named(&names, &proposal(MarkedDigest::from_bytes(&[6]))));
+    let proposal = proposal(MarkedDigest::from_bytes(&[6]));
+    assert!(rt; are_named(&names, &proposal));
+    let context = Context {
+        round: proposal.round,
+        leader: MarkedKey::from_bytes(&[0, 0, 0, 1]),
+        parent: (proposal.parent, proposal.payload),
+    };
+    assert!(rt; is_of_round(&context));
     Ok(())
 }
 
 /// Whether a scheme has four participants and is this one of them, if it is one, and its certificates state who signed them.
-fn is_of_four<S: CertificateScheme>(scheme: &S, me: Option<Participant>) -> bool {
+pub(crate) fn is_of_four<S: CertificateScheme>(scheme: &S, me: Option<Participant>) -> bool {
     scheme.me() == me && scheme.certificate_codec_config() == 4 && S::is_attributable()
 }
 
@@ -275,16 +326,45 @@ fn lists_two<S: Listing<D>, D: Digest>(certificate: &S::Certificate) -> bool {
     is_first && is_last && listed.len() == 2
 }
 
+/// Whether a scheme of four is its third participant, another is nobody, and a certificate of participants 1 and 3 lists them.
+fn are_of_four<S: Listing<D>, D: Digest>(
+    alloc: Global,
+    third: &S,
+    nobody: &S,
+    encoding: &[u8],
+) -> Result<bool, Fail> {
+    let certificate = decode_cfg::<S::Certificate>(alloc, encoding, &4)?;
+    let _ = is_out(alloc);
+    Ok(
+        is_of_four(third, Some(Participant::new(2)))
+            && is_of_four(nobody, None)
+            && lists_two::<S, D>(&certificate),
+    )
+}
+
 /// What a scheme states of itself, and what a certificate lists. A scheme that is another participant or none, another bound on
 /// certificates, and a list that lacks an attestation are refused.
 #[test]
 fn without_memory_schemes(rt: HostRuntime) -> Result<(), Fail> {
     let third = Marked::new(rt.alloc(), 4, Some(Participant::new(2)))?;
     let nobody = Marked::new(rt.alloc(), 4, None)?;
-    let certificate = decode_cfg::<Listed<Marked>>(rt.alloc(), &[2, 1, 0xaa, 3, 0xaa], &4)?;
-    let _ = is_out(rt.alloc());
-    assert!(rt; is_of_four(&third, Some(Participant::new(2))) && is_of_four(&nobody, None));
-    assert!(rt; lists_two::<Marked, MarkedDigest>(&certificate));
+    let encoding = [2, 1, 0xaa, 3, 0xaa];
+    assert!(rt; are_of_four::<Marked, MarkedDigest>(rt.alloc(), &third, &nobody, &encoding)?);
+    Ok(())
+}
+
+/// As [`without_memory_schemes`], of the plain scheme.
+#[test]
+fn without_memory_plain_schemes(rt: HostRuntime) -> Result<(), Fail> {
+    let alloc = rt.alloc();
+    let keys = four_keys(alloc).ok_or("no keys")?;
+    let third = Plain::signer(alloc, b"test", keys, &key(2))?.ok_or("nobody")?;
+    let nobody = plain(alloc).ok_or("no committee")?;
+    let mut encoding = [0; 67];
+    encoding[0] = 2;
+    encoding[1] = 1;
+    encoding[34] = 3;
+    assert!(rt; are_of_four::<Plain, Sha256Digest>(alloc, &third, &nobody, &encoding)?);
     Ok(())
 }
 
@@ -368,7 +448,7 @@ fn is_quorum_alone<S: Scheme<D>, D: Digest>(
 }
 
 /// The proposal for this payload in round (0, 10), built on view 5.
-fn proposal<D: Digest>(payload: D) -> Proposal<D> {
+pub(crate) fn proposal<D: Digest>(payload: D) -> Proposal<D> {
     let round = Round::new(Epoch::new(0), View::new(10));
     Proposal::new(round, View::new(5), payload)
 }

@@ -5,6 +5,7 @@ use crate::without_memory::memory_ends;
 use audit_cli::command::{Verification, command};
 use audit_cli::status::{Status, complaint};
 use faulty_io::{Source, Target, Trouble};
+use inspect_cli::complaints::inspect_complaint_at;
 use simplex_audit::audit::Watched;
 use std::alloc::{AllocError, Global};
 use std::io::ErrorKind;
@@ -248,8 +249,8 @@ fn refused(rt: HostRuntime) {
     let _ = any_is_refused(&rt);
 }
 
-/// The complaint about a fault has room for each place, and takes no memory. One that stops short of the greatest place, or of the
-/// line's end, is refused.
+/// The complaint about a fault, that of `inspect` too, has room for each place, and takes no memory. One that stops short of the
+/// greatest place, or of the line's end, is refused.
 #[test]
 fn without_memory_longest_complaint(rt: HostRuntime) {
     memory_ends(rt.alloc());
@@ -259,4 +260,10 @@ fn without_memory_longest_complaint(rt: HostRuntime) {
         "audit: fault at byte 18446744073709551615\n"
     );
     assert_eq!(rt; longest.len(), 42);
+    let longest = inspect_complaint_at(usize::MAX);
+    assert_eq!(rt;
+        longest.as_str(),
+        "inspect: fault at byte 18446744073709551615\n"
+    );
+    assert_eq!(rt; longest.len(), 44);
 }

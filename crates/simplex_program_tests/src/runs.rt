@@ -125,7 +125,7 @@ fn ample_writers_that_fail(rt: HostRuntime) -> Result<(), Fail> {
         flushes: 0,
         ..STEADY
     };
-    let cases: [Case; 6] = [
+    let cases: [Case; 7] = [
         Case {
             room: 10,
             held: "0 10 1 con",
@@ -134,6 +134,12 @@ fn ample_writers_that_fail(rt: HostRuntime) -> Result<(), Fail> {
         Case {
             room: 0,
             held: "",
+            ..failing
+        },
+        Case {
+            steps: (usize::MAX, 10),
+            writing: Trouble::Once(1, ErrorKind::Other),
+            held: "0 10 1 con",
             ..failing
         },
         Case {
