@@ -1,6 +1,7 @@
 //! How many votes an auditor has recorded, by schemes whose certificates list no more attestations
 //! than they have bytes: the exact number, as `Auditor::votes` gives it for these.
 
+ghost use Rattle.std.specs.Prelude.{◌≤◌, length};
 ghost use Rattle.simplex_audit_tests.specs.Recorded.{IsNumberRecorded};
 
 use crate::outcome::marked;
@@ -10,24 +11,46 @@ use simplex_base::codec::Fixed;
 use simplex_plain::listed::lists_within;
 use simplex_plain::marked::{Marked, MarkedDigest};
 use simplex_plain::plain::{Plain, PlainKey};
-use simplex_scheme::scheme::{Digest, Set, Sha256Digest};
-use std::alloc::Global;
+use simplex_scheme::scheme::{Digest, Listing, Set, Sha256Digest};
+use std::alloc::{AllocError, Global};
 use std::test::Fail;
 
-/// How many votes an auditor of plain committees has recorded.
-fn recorded_plain<D: Digest>(auditor: &Auditor<'_, Plain, D>) -> usize
-    ensures { IsNumberRecorded ⟦<Plain as Audited<D>>⟧.basis auditor.now result }
+/// A scheme whose certificates list no more attestations than they have bytes.
+trait ListsWithin<D: Digest>: Listing<D> {
+    /// States it; there is no code.
+    fn within()
+        ensures { (certificate : Self.Certificate) →
+            length (Self.listed certificate) ≤ length (Self.Certificate.encoding certificate) };
+}
+
+impl<D: Digest> ListsWithin<D> for Plain {
+    fn within() {
+        lists_within::<Plain>();
+    }
+}
+
+impl<D: Digest> ListsWithin<D> for Marked {
+    fn within() {
+        lists_within::<Marked>();
+    }
+}
+
+/// How many votes an auditor has recorded.
+fn recorded<S: ListsWithin<D>, D: Digest>(auditor: &Auditor<'_, S, D>) -> usize
+    ensures { IsNumberRecorded ⟦<S as Audited<D>>⟧.basis auditor.now result }
 {
-    lists_within::<Plain>();
+    <S as ListsWithin<D>>::within();
     auditor.votes()
 }
 
-/// How many votes an auditor of marked committees has recorded.
-fn recorded_marked<D: Digest>(auditor: &Auditor<'_, Marked, D>) -> usize
-    ensures { IsNumberRecorded ⟦<Marked as Audited<D>>⟧.basis auditor.now result }
-{
-    lists_within::<Marked>();
-    auditor.votes()
+/// How many votes an auditor has recorded that was fed a stream.
+fn recorded_of<S: ListsWithin<D>, D: Digest>(
+    alloc: Global,
+    committees: &Committees<S>,
+    stream: &[u8],
+) -> Result<usize, AllocError> {
+    let auditor = Auditor::<S, D>::new(alloc, committees).feed(stream)?;
+    Ok(recorded(&auditor))
 }
 
 /// Two notarizes for view 10 by the key of zeros under the base `test`.
@@ -68,15 +91,19 @@ fn zeros(alloc: Global) -> Result<Committees<Plain>, Fail> {
 #[test]
 fn ample_plain(rt: HostRuntime) -> Result<(), Fail> {
     let committees = zeros(rt.alloc())?;
-    let auditor = Auditor::<_, Sha256Digest>::new(rt.alloc(), &committees).feed(PLAIN)?;
-    assert_eq!(rt; recorded_plain(&auditor), 2);
+    assert_eq!(rt;
+        recorded_of::<_, Sha256Digest>(rt.alloc(), &committees, PLAIN)?,
+        2
+    );
     Ok(())
 }
 
 #[test]
 fn ample_marked(rt: HostRuntime) -> Result<(), Fail> {
     let committees = marked(rt.alloc(), 4)?;
-    let auditor = Auditor::<_, MarkedDigest>::new(rt.alloc(), &committees).feed(MARKED)?;
-    assert_eq!(rt; recorded_marked(&auditor), 5);
+    assert_eq!(rt;
+        recorded_of::<_, MarkedDigest>(rt.alloc(), &committees, MARKED)?,
+        5
+    );
     Ok(())
 }

@@ -1,4 +1,0 @@
-use Rattle.simplex_audit_tests.proofs.recorded.recorded_marked.Goals as goal
-
-pub returns : goal.returns
-returns g c = λ committees stream messages rest stands are. c.votes.ensures.exact c.lists_within.ensures committees stream messages rest stands are
