@@ -11,7 +11,7 @@ use crate::status::{Failure, Status, complaint};
 use crate::stored::run_deferred;
 use simplex_audit::audit::{Fault, Watched, run};
 use simplex_audit::basis::Audited;
-use simplex_base::values::{EqByParts, ExactClone};
+use simplex_base::values::{EqByParts, ExactClone, InfallibleClone};
 use simplex_plain::plain::Plain;
 use simplex_scheme::scheme::Sha256Digest;
 use std::alloc::Global;
@@ -30,6 +30,10 @@ pub enum Verification {
 
 impl ExactClone for Verification {
     ghost exact = { λ x y same. same };
+}
+
+impl InfallibleClone for Verification {
+    ghost infallible = { λ _. tt };
 }
 
 impl EqByParts for Verification {

@@ -6,7 +6,7 @@ ghost use Rattle.audit_cli.specs.Status.{number_of, status_after, complaint_of, 
 use arrayvec::ArrayString;
 use itoa::Buffer;
 use simplex_audit::run::RunError;
-use simplex_base::values::{EqByParts, ExactClone};
+use simplex_base::values::{EqByParts, ExactClone, InfallibleClone};
 use std::alloc::AllocError;
 
 /// How the program ends.
@@ -24,6 +24,10 @@ pub enum Status {
 
 impl ExactClone for Status {
     ghost exact = { λ x y same. same };
+}
+
+impl InfallibleClone for Status {
+    ghost infallible = { λ _. tt };
 }
 
 impl EqByParts for Status {
@@ -92,6 +96,10 @@ impl From<RunError> for Failure {
 
 impl ExactClone for Failure {
     ghost exact = { λ x y same. same };
+}
+
+impl InfallibleClone for Failure {
+    ghost infallible = { λ _. tt };
 }
 
 impl EqByParts for Failure {

@@ -14,7 +14,7 @@ use crate::reporting::make_report;
 pub use crate::run::{RunError, Summary, run};
 pub use crate::watched::Watched;
 use simplex_base::codec::Error;
-use simplex_base::values::{EqByParts, ExactClone};
+use simplex_base::values::{EqByParts, ExactClone, InfallibleClone};
 pub use simplex_detector::committees::{Committees, CommitteesError};
 use simplex_detector::detector::Detector;
 pub use simplex_detector::evidence::Evidence;
@@ -38,6 +38,10 @@ pub struct Fault {
 
 impl ExactClone for Fault {
     ghost exact = { λ x y same. same };
+}
+
+impl InfallibleClone for Fault {
+    ghost infallible = { λ _. tt };
 }
 
 impl EqByParts for Fault {

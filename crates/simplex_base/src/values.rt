@@ -27,6 +27,12 @@ pub trait ExactClone: Clone {
     ghost exact: { (x y : Self) → Self.is_clone x y → y ≡ x };
 }
 
+/// A type whose clones need no memory.
+pub trait InfallibleClone: Clone {
+    /// `clone` of a value never returns `AllocError`.
+    ghost infallible: { (x : Self) → Self.is_infallible x };
+}
+
 /// A type whose clones are of the same parts, where the clone of a part is what its type says.
 pub trait CloneByParts: Clone {
     /// The second value is made of clones of the parts of the first.

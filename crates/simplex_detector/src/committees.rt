@@ -5,7 +5,7 @@ ghost use Rattle.std.specs.Option.{option_copied};
 ghost use Rattle.simplex_detector.specs.Committees.{Schedule, Every, Listed, committee_of, bound_of, greatest, AreRising};
 
 use simplex_base::positions::Epoch;
-use simplex_base::values::{EqByParts, ExactClone};
+use simplex_base::values::{EqByParts, ExactClone, InfallibleClone};
 use simplex_scheme::scheme::CertificateScheme;
 use std::marker::Model;
 
@@ -22,6 +22,10 @@ pub enum CommitteesError {
 
 impl ExactClone for CommitteesError {
     ghost exact = { λ x y same. same };
+}
+
+impl InfallibleClone for CommitteesError {
+    ghost infallible = { λ _. tt };
 }
 
 impl EqByParts for CommitteesError {

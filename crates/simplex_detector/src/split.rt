@@ -4,7 +4,7 @@ ghost use Rattle.std.specs.Prelude.{◌≡◌, ◌&&◌, IfOk, nat_eq, refl, str
 ghost use Rattle.simplex_detector.specs.Splits.{split_line};
 
 use simplex_base::positions::Round;
-use simplex_base::values::{EqByParts, ExactClone};
+use simplex_base::values::{EqByParts, ExactClone, InfallibleClone};
 use std::alloc::{AllocError, Global};
 
 /// A round in which two messages whose certificates verify contradict: two notarizations or two finalizations of
@@ -22,6 +22,10 @@ pub struct Split {
 
 impl ExactClone for Split {
     ghost exact = { λ x y same. same };
+}
+
+impl InfallibleClone for Split {
+    ghost infallible = { λ _. tt };
 }
 
 impl EqByParts for Split {

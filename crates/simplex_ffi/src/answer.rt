@@ -9,7 +9,7 @@ use simplex_audit::audit::{Committees, Fault, Report, audit};
 use simplex_audit::basis::Audited;
 use simplex_audit::text::text;
 use simplex_base::codec::Fixed;
-use simplex_base::values::{EqByParts, ExactClone};
+use simplex_base::values::{EqByParts, ExactClone, InfallibleClone};
 use simplex_scheme::scheme::{Digest, Listing, SchemeTypes};
 use std::alloc::{AllocError, Global};
 
@@ -49,6 +49,10 @@ pub struct ReportSummary {
 
 impl ExactClone for ReportSummary {
     ghost exact = { λ x y same. same };
+}
+
+impl InfallibleClone for ReportSummary {
+    ghost infallible = { λ _. tt };
 }
 
 impl EqByParts for ReportSummary {

@@ -3,7 +3,7 @@
 ghost use Rattle.std.specs.Prelude.{◌≡◌, refl};
 ghost use Rattle.simplex_inspect.specs.Validity.{validity_of_signature, validity_of_certificate};
 
-use simplex_base::values::{EqByParts, ExactClone};
+use simplex_base::values::{EqByParts, ExactClone, InfallibleClone};
 
 /// Whether a signature or a certificate is valid, and why not. It is public for contracts: no public call returns one.
 #[derive(Clone, Copy, Debug, PartialEq, Eq)]
@@ -25,6 +25,10 @@ pub enum Validity {
 
 impl ExactClone for Validity {
     ghost exact = { λ x y same. same };
+}
+
+impl InfallibleClone for Validity {
+    ghost infallible = { λ _. tt };
 }
 
 impl EqByParts for Validity {

@@ -5,7 +5,7 @@ ghost use Rattle.simplex_lead.specs.Windows.{FitsWindow, IsAdmitted, IsRetained,
 
 use crate::lookahead::Lookahead;
 use simplex_base::positions::{View, ViewDelta};
-use simplex_base::values::ExactClone;
+use simplex_base::values::{ExactClone, InfallibleClone};
 
 /// The views that a node looks at.
 #[derive(Clone, Copy, Debug)]
@@ -22,6 +22,10 @@ pub struct Viewport {
 
 impl ExactClone for Viewport {
     ghost exact = { λ x y same. same };
+}
+
+impl InfallibleClone for Viewport {
+    ghost infallible = { λ _. tt };
 }
 
 impl Viewport {

@@ -10,7 +10,7 @@ use crate::located::Counted;
 use simplex_base::codec::varint::size_u32;
 use simplex_base::codec::{EncodeSize, Encoding, Fixed, Read};
 use simplex_base::positions::{Round, Roundable};
-use simplex_base::values::{EqByParts, ExactClone};
+use simplex_base::values::{EqByParts, ExactClone, InfallibleClone};
 use simplex_evidence::types::Activity;
 use simplex_scheme::scheme::{Attestation, Digest, Proposal, SchemeTypes};
 use std::alloc::AllocError;
@@ -49,6 +49,10 @@ impl ExactClone for Suspect {
     ghost exact = { λ x y same. same };
 }
 
+impl InfallibleClone for Suspect {
+    ghost infallible = { λ _. tt };
+}
+
 impl EqByParts for Suspect {
     ghost same = { λ x y. nat_eq x.epoch y.epoch && (nat_eq x.view y.view &&
         (nat_eq x.verdict_place y.verdict_place && (nat_eq x.subject_place y.subject_place &&
@@ -69,6 +73,10 @@ pub struct Placed {
 
 impl ExactClone for Placed {
     ghost exact = { λ x y same. same };
+}
+
+impl InfallibleClone for Placed {
+    ghost infallible = { λ _. tt };
 }
 
 impl EqByParts for Placed {

@@ -14,7 +14,7 @@ use crate::located::Located;
 use crate::votes::{Key, VoteKey, first, second};
 use simplex_audit::audit::Report;
 use simplex_audit::basis::Audited;
-use simplex_base::values::{EqByParts, ExactClone};
+use simplex_base::values::{EqByParts, ExactClone, InfallibleClone};
 use simplex_detector::committees::Committees;
 use simplex_detector::evidence::Evidence;
 use simplex_scheme::scheme::{Digest, Listing, SchemeTypes};
@@ -51,6 +51,10 @@ pub struct Record {
 
 impl ExactClone for Record {
     ghost exact = { λ x y same. same };
+}
+
+impl InfallibleClone for Record {
+    ghost infallible = { λ _. tt };
 }
 
 impl EqByParts for Record {

@@ -23,7 +23,7 @@ use crate::plain::{PlainKey, PlainKeyRole, PlainSignatureRole};
 use simplex_base::codec::Read;
 use simplex_base::codec::fixed_bytes::FixedBytes;
 use simplex_base::positions::Participant;
-use simplex_base::values::{EqByParts, ExactClone};
+use simplex_base::values::{EqByParts, ExactClone, InfallibleClone};
 use simplex_scheme::scheme::{
     AssemblyError, Attestation, CertificateScheme, CertificateVerifier, Digest, Listing, Scheme,
     SchemeTypes, Set, Subject,
@@ -77,6 +77,10 @@ pub enum JudgedVote {
 
 impl ExactClone for JudgedVote {
     ghost exact = { λ x y same. same };
+}
+
+impl InfallibleClone for JudgedVote {
+    ghost infallible = { λ _. tt };
 }
 
 impl EqByParts for JudgedVote {

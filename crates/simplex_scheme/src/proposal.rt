@@ -10,7 +10,7 @@ use simplex_base::codec::{
     EncodeSize, Encoding, Error, Fixed, FixedSize, MaxEncodeSize, Read, ReadExt, Write,
 };
 use simplex_base::positions::{Round, Roundable, View};
-use simplex_base::values::{EqByParts, ExactClone, OrdByParts};
+use simplex_base::values::{EqByParts, ExactClone, InfallibleClone, OrdByParts};
 use std::alloc::{AllocError, Global};
 
 /// A payload that is proposed for a round, on top of the proposal of the parent's view. It is
@@ -66,6 +66,10 @@ impl<D: Copy> Copy for Proposal<D> {}
 
 impl<D: Copy> ExactClone for Proposal<D> {
     ghost exact = { λ x y same. same };
+}
+
+impl<D: Copy> InfallibleClone for Proposal<D> {
+    ghost infallible = { λ _. tt };
 }
 
 impl<D: Eq> EqByParts for Proposal<D> {

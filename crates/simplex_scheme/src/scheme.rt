@@ -18,7 +18,7 @@ use simplex_base::codec::{
     EncodeSize, Encoding, Error, Fixed, FixedSize, MaxEncodeSize, Read, ReadExt, Write,
 };
 use simplex_base::positions::Participant;
-use simplex_base::values::{EqByParts, ExactClone};
+use simplex_base::values::{EqByParts, ExactClone, InfallibleClone};
 use std::alloc::{AllocError, Global};
 use std::hash::Hash;
 
@@ -74,6 +74,10 @@ impl<S: SchemeTypes> ExactClone for Attestation<S> {
     ghost exact = { λ x y same. same };
 }
 
+impl<S: SchemeTypes> InfallibleClone for Attestation<S> {
+    ghost infallible = { λ _. tt };
+}
+
 impl<S: SchemeTypes> EqByParts for Attestation<S> {
     ghost same = { λ x y. nat_eq x.signer y.signer && S.Signature.eq x.signature y.signature };
 
@@ -93,6 +97,10 @@ pub enum AssemblyError {
 
 impl ExactClone for AssemblyError {
     ghost exact = { λ x y same. same };
+}
+
+impl InfallibleClone for AssemblyError {
+    ghost infallible = { λ _. tt };
 }
 
 impl EqByParts for AssemblyError {

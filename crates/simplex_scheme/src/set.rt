@@ -3,7 +3,7 @@
 ghost use Rattle.std.specs.Prelude.{◌≡◌, ◌↔◌, ◌==◌, List, length, IsPermutation, IsOk, IsTrue, IfOk, IfSome, IfNone, IsSomeAnd, All, slice_get, option_copied, false, true};
 ghost use Rattle.std.specs.List.{IsDistinct};
 
-use simplex_base::values::{EqByParts, ExactClone};
+use simplex_base::values::{EqByParts, ExactClone, InfallibleClone};
 use std::marker::Model;
 use thiserror::Error;
 
@@ -17,6 +17,10 @@ pub enum SetError {
 
 impl ExactClone for SetError {
     ghost exact = { λ x y same. same };
+}
+
+impl InfallibleClone for SetError {
+    ghost infallible = { λ _. tt };
 }
 
 impl EqByParts for SetError {

@@ -10,7 +10,7 @@ use crate::scheme::Digest;
 use bytes::Bytes;
 use simplex_base::codec::{Encode, Read};
 use simplex_base::positions::{Round, Roundable};
-use simplex_base::values::ExactClone;
+use simplex_base::values::{ExactClone, InfallibleClone};
 use std::alloc::{AllocError, Global};
 
 /// What a vote or a certificate says.
@@ -45,6 +45,12 @@ impl<D: Clone> ExactClone for Subject<'_, D> {
         | Finalize q ↦ λ same. Prim.search rules
       ]
     ] };
+}
+
+impl<D: Clone> InfallibleClone for Subject<'_, D> {
+    ghost use Rattle.simplex_scheme.specs.declared.subject.Subject.TheVariants.{Notarize, Nullify, Finalize};
+
+    ghost infallible = { elim [ Notarize p ↦ tt | Nullify r ↦ tt | Finalize p ↦ tt ] };
 }
 
 impl<D> Subject<'_, D> {

@@ -1,6 +1,6 @@
 //! Why bytes are not read as a value.
 
-use crate::values::{EqByParts, ExactClone};
+use crate::values::{EqByParts, ExactClone, InfallibleClone};
 use thiserror::Error as ThisError;
 
 /// Why a value can't be read.
@@ -45,4 +45,8 @@ impl EqByParts for Error {
 
 impl ExactClone for Error {
     ghost exact = { λ x y same. same };
+}
+
+impl InfallibleClone for Error {
+    ghost infallible = { λ _. tt };
 }

@@ -1,11 +1,12 @@
 //! Values of a fixed number of bytes: digests, keys, signatures.
 
-ghost use Rattle.std.specs.Prelude.{ℕ, ◌<◌, ◌≤◌, refl};
+ghost use Rattle.std.specs.Prelude.{ℕ, ◌≡◌, ◌<◌, ◌≤◌, ⊤, refl};
 ghost use Rattle.std.proofs.lemmas.Slice.Eq.{bytes_eq-Decides};
 
 use crate::codec::parts::known_bytes;
 use crate::codec::{Fixed, FixedSize};
-use crate::values::ExactClone;
+use crate::values::{ExactClone, InfallibleClone};
+use std::alloc::AllocError;
 use std::marker::{Model, PhantomData};
 
 /// What `N` bytes stand for, as a digest of some hash. Types of one size differ by it.
@@ -15,7 +16,7 @@ pub trait Role<const N: usize> {
 }
 
 /// `N` bytes in the role `R`, ordered as bytes are.
-#[derive_where(Clone, Copy, Debug, PartialEq, Eq, PartialOrd, Ord, Hash)]
+#[derive_where(Debug, PartialEq, Eq, PartialOrd, Ord, Hash)]
 pub struct FixedBytes<R, const N: usize> {
     bytes: [u8; N],
     #[derive_where(skip)]
@@ -32,10 +33,27 @@ impl<R, const N: usize> Model for FixedBytes<R, N> {
     ghost inverse = { λ bytes. record { bytes = bytes; role = record {} } };
 }
 
-impl<R, const N: usize> ExactClone for FixedBytes<R, N> {
-    ghost use Rattle.std.proofs.Common.{rules};
+impl<R, const N: usize> Clone for FixedBytes<R, N> {
+    ghost is_clone = { λ bytes copy. copy ≡ bytes };
 
-    ghost exact = { λ x y same. Prim.search rules };
+    ghost is_infallible = { λ _. ⊤ };
+
+    fn clone(&self) -> Result<Self, AllocError> {
+        Ok(FixedBytes {
+            bytes: self.bytes,
+            role: PhantomData,
+        })
+    }
+}
+
+impl<R, const N: usize> Copy for FixedBytes<R, N> {}
+
+impl<R, const N: usize> ExactClone for FixedBytes<R, N> {
+    ghost exact = { λ x y same. same };
+}
+
+impl<R, const N: usize> InfallibleClone for FixedBytes<R, N> {
+    ghost infallible = { λ _. tt };
 }
 
 impl<R: Role<N>, const N: usize> FixedSize for FixedBytes<R, N> {

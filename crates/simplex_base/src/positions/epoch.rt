@@ -8,7 +8,7 @@ ghost use Rattle.simplex_base.specs.VarintLaws.{number_64_lawful, longest_64, gr
 
 use crate::codec::varint::{read_u64, size_u64, write_u64};
 use crate::codec::{EncodeSize, Encoding, Error, MaxEncodeSize, Read, ReadExt, Write};
-use crate::values::{EqByParts, ExactClone, OrdByParts};
+use crate::values::{EqByParts, ExactClone, InfallibleClone, OrdByParts};
 use std::alloc::{AllocError, Global};
 use std::marker::Model;
 
@@ -38,6 +38,10 @@ impl OrdByParts for Epoch {
 
 impl ExactClone for Epoch {
     ghost exact = { λ x y same. same };
+}
+
+impl InfallibleClone for Epoch {
+    ghost infallible = { λ _. tt };
 }
 
 impl Epoch {

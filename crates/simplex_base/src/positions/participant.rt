@@ -8,7 +8,7 @@ ghost use Rattle.simplex_base.specs.VarintLaws.{number_32_lawful, longest_32, gr
 
 use crate::codec::varint::{read_u32, size_u32, write_u32};
 use crate::codec::{EncodeSize, Encoding, Error, MaxEncodeSize, Read, ReadExt, Write};
-use crate::values::{EqByParts, ExactClone, OrdByParts};
+use crate::values::{EqByParts, ExactClone, InfallibleClone, OrdByParts};
 use std::alloc::{AllocError, Global};
 use std::marker::Model;
 
@@ -38,6 +38,10 @@ impl OrdByParts for Participant {
 
 impl ExactClone for Participant {
     ghost exact = { λ x y same. same };
+}
+
+impl InfallibleClone for Participant {
+    ghost infallible = { λ _. tt };
 }
 
 impl Participant {

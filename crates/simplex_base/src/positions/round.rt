@@ -8,7 +8,7 @@ use crate::codec::parts::{size_both, write_both};
 use crate::codec::{EncodeSize, Encoding, Error, MaxEncodeSize, Read, ReadExt, Write};
 use crate::positions::epoch::{Epoch, Epochable};
 use crate::positions::view::{View, Viewable};
-use crate::values::{EqByParts, ExactClone, OrdByParts};
+use crate::values::{EqByParts, ExactClone, InfallibleClone, OrdByParts};
 use std::alloc::{AllocError, Global};
 use std::marker::Model;
 
@@ -43,6 +43,10 @@ impl OrdByParts for Round {
 
 impl ExactClone for Round {
     ghost exact = { λ x y same. same };
+}
+
+impl InfallibleClone for Round {
+    ghost infallible = { λ _. tt };
 }
 
 impl Round {

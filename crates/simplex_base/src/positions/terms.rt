@@ -8,7 +8,7 @@ ghost use Rattle.std.specs.Ordering.{nat_cmp};
 ghost use Rattle.simplex_base.specs.Terms.{first_view, last_view, HoldsView, term_of, term_start, term_end};
 
 use crate::positions::view::View;
-use crate::values::{EqByParts, ExactClone, OrdByParts};
+use crate::values::{EqByParts, ExactClone, InfallibleClone, OrdByParts};
 use std::marker::Model;
 
 /// How many views a term has, from 1 to 2^32 - 1.
@@ -41,6 +41,10 @@ impl OrdByParts for TermLength {
 
 impl ExactClone for TermLength {
     ghost exact = { λ x y same. same };
+}
+
+impl InfallibleClone for TermLength {
+    ghost infallible = { λ _. tt };
 }
 
 impl TermLength {

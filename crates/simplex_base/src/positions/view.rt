@@ -9,7 +9,7 @@ ghost use Rattle.simplex_base.specs.VarintLaws.{number_64_lawful, longest_64, gr
 use crate::codec::varint::{read_u64, size_u64, write_u64};
 use crate::codec::{EncodeSize, Encoding, Error, MaxEncodeSize, Read, ReadExt, Write};
 use crate::positions::view_delta::ViewDelta;
-use crate::values::{EqByParts, ExactClone, OrdByParts};
+use crate::values::{EqByParts, ExactClone, InfallibleClone, OrdByParts};
 use std::alloc::{AllocError, Global};
 use std::marker::Model;
 
@@ -40,6 +40,10 @@ impl OrdByParts for View {
 
 impl ExactClone for View {
     ghost exact = { λ x y same. same };
+}
+
+impl InfallibleClone for View {
+    ghost infallible = { λ _. tt };
 }
 
 impl View {

@@ -3,7 +3,7 @@
 ghost use Rattle.std.specs.Prelude.{◌≡◌, ℕ, nat_eq, refl};
 ghost use Rattle.std.specs.Ordering.{nat_cmp};
 
-use crate::values::{EqByParts, ExactClone, OrdByParts};
+use crate::values::{EqByParts, ExactClone, InfallibleClone, OrdByParts};
 use std::marker::Model;
 
 /// A number of views, from 0 to 2^64 - 1.
@@ -32,6 +32,10 @@ impl OrdByParts for ViewDelta {
 
 impl ExactClone for ViewDelta {
     ghost exact = { λ x y same. same };
+}
+
+impl InfallibleClone for ViewDelta {
+    ghost infallible = { λ _. tt };
 }
 
 impl ViewDelta {

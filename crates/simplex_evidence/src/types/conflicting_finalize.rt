@@ -10,7 +10,7 @@ use crate::types::conflict::{Conflict, read_conflict};
 use simplex_base::codec::parts::{size_both, write_both};
 use simplex_base::codec::{EncodeSize, Encoding, Error, Fixed, Read, ReadExt, Write};
 use simplex_base::positions::{Participant, Round, Roundable};
-use simplex_base::values::{EqByParts, ExactClone};
+use simplex_base::values::{EqByParts, ExactClone, InfallibleClone};
 use simplex_scheme::scheme::{Digest, Scheme, SchemeTypes};
 use simplex_votes::types::{Attributable, Finalize};
 use std::alloc::{AllocError, Global};
@@ -119,6 +119,10 @@ impl<S: SchemeTypes, D: Digest> Clone for ConflictingFinalize<S, D> {
 
 impl<S: SchemeTypes, D: Digest> ExactClone for ConflictingFinalize<S, D> {
     ghost exact = { λ x y same. same };
+}
+
+impl<S: SchemeTypes, D: Digest> InfallibleClone for ConflictingFinalize<S, D> {
+    ghost infallible = { λ _. tt };
 }
 
 impl<S: SchemeTypes, D: Digest> EqByParts for ConflictingFinalize<S, D> {

@@ -3,7 +3,7 @@
 ghost use Rattle.std.specs.Prelude.{◌≡◌, refl};
 ghost use Rattle.std.specs.Option.{option_copied};
 
-use simplex_base::values::{EqByParts, ExactClone};
+use simplex_base::values::{EqByParts, ExactClone, InfallibleClone};
 
 /// How an elector uses the certificate that leads to a view.
 #[derive(Clone, Copy, Debug, PartialEq, Eq)]
@@ -16,6 +16,10 @@ pub enum Mode {
 
 impl ExactClone for Mode {
     ghost exact = { λ x y same. same };
+}
+
+impl InfallibleClone for Mode {
+    ghost infallible = { λ _. tt };
 }
 
 impl EqByParts for Mode {

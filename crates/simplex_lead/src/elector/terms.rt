@@ -5,7 +5,7 @@ ghost use Rattle.std.specs.Option.{option_eq};
 ghost use Rattle.simplex_lead.specs.Terms.{CanBeStable, rotating};
 
 use simplex_base::positions::{TermLength, ViewDelta};
-use simplex_base::values::{EqByParts, ExactClone};
+use simplex_base::values::{EqByParts, ExactClone, InfallibleClone};
 use std::marker::Model;
 use std::time::Duration;
 
@@ -44,6 +44,10 @@ impl Model for Terms {
 
 impl ExactClone for Terms {
     ghost exact = { λ x y same. same };
+}
+
+impl InfallibleClone for Terms {
+    ghost infallible = { λ _. tt };
 }
 
 impl EqByParts for Terms {

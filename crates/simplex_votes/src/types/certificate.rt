@@ -12,7 +12,7 @@ use simplex_base::codec::{
     EncodeSize, Encoding, Error, Fixed, FixedSize, MaxEncodeSize, Read, Write,
 };
 use simplex_base::positions::{Round, Roundable};
-use simplex_base::values::{EqByParts, ExactClone};
+use simplex_base::values::{EqByParts, ExactClone, InfallibleClone};
 use simplex_scheme::scheme::{CertificateScheme, CertificateVerifier, Digest, Proposal};
 use std::alloc::{AllocError, Global};
 use std::fmt;
@@ -45,6 +45,10 @@ impl Kind {
 
 impl ExactClone for Kind {
     ghost exact = { λ x y same. same };
+}
+
+impl InfallibleClone for Kind {
+    ghost infallible = { λ _. tt };
 }
 
 impl EqByParts for Kind {

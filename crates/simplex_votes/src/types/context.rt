@@ -8,7 +8,7 @@ use simplex_base::codec::{
     EncodeSize, Encoding, Error, Fixed, FixedSize, MaxEncodeSize, Read, ReadExt, Write,
 };
 use simplex_base::positions::{Round, Roundable, View};
-use simplex_base::values::{EqByParts, ExactClone};
+use simplex_base::values::{EqByParts, ExactClone, InfallibleClone};
 use simplex_scheme::scheme::{Digest, PublicKey};
 use std::alloc::{AllocError, Global};
 
@@ -40,6 +40,10 @@ impl<D: Copy + Drop, P: Copy + Drop> Clone for Context<D, P> {
 
 impl<D: Copy + Drop, P: Copy + Drop> ExactClone for Context<D, P> {
     ghost exact = { λ x y same. same };
+}
+
+impl<D: Copy + Drop, P: Copy + Drop> InfallibleClone for Context<D, P> {
+    ghost infallible = { λ _. tt };
 }
 
 impl<D: Eq, P: Eq> EqByParts for Context<D, P> {

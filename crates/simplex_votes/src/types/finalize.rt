@@ -10,7 +10,7 @@ use simplex_base::codec::{
     EncodeSize, Encoding, Error, Fixed, FixedSize, MaxEncodeSize, Read, ReadExt, Write,
 };
 use simplex_base::positions::{Participant, Round, Roundable};
-use simplex_base::values::{EqByParts, ExactClone};
+use simplex_base::values::{EqByParts, ExactClone, InfallibleClone};
 use simplex_scheme::scheme::{Attestation, Digest, Proposal, Scheme, SchemeTypes, Subject};
 use std::alloc::{AllocError, Global};
 
@@ -91,6 +91,10 @@ impl<S: Scheme<D>, D: Digest> Finalize<S, D> {
 
 impl<S: SchemeTypes, D: Digest> ExactClone for Finalize<S, D> {
     ghost exact = { λ x y same. same };
+}
+
+impl<S: SchemeTypes, D: Digest> InfallibleClone for Finalize<S, D> {
+    ghost infallible = { λ _. tt };
 }
 
 impl<S: SchemeTypes, D: Digest> EqByParts for Finalize<S, D> {

@@ -10,7 +10,7 @@ use simplex_base::codec::{
     EncodeSize, Encoding, Error, Fixed, FixedSize, MaxEncodeSize, Read, ReadExt, Write,
 };
 use simplex_base::positions::{Participant, Round, Roundable};
-use simplex_base::values::{EqByParts, ExactClone};
+use simplex_base::values::{EqByParts, ExactClone, InfallibleClone};
 use simplex_scheme::scheme::{Attestation, Digest, Scheme, SchemeTypes, Subject};
 use std::alloc::{AllocError, Global};
 
@@ -86,6 +86,10 @@ impl<S: SchemeTypes> Clone for Nullify<S> {
 
 impl<S: SchemeTypes> ExactClone for Nullify<S> {
     ghost exact = { λ x y same. same };
+}
+
+impl<S: SchemeTypes> InfallibleClone for Nullify<S> {
+    ghost infallible = { λ _. tt };
 }
 
 impl<S: SchemeTypes> EqByParts for Nullify<S> {

@@ -13,7 +13,7 @@ use simplex_base::codec::{
     EncodeSize, Encoding, Error, Fixed, FixedSize, MaxEncodeSize, Read, ReadExt, Write,
 };
 use simplex_base::positions::{Participant, Round, Roundable};
-use simplex_base::values::{EqByParts, ExactClone};
+use simplex_base::values::{EqByParts, ExactClone, InfallibleClone};
 use simplex_scheme::scheme::{Digest, SchemeTypes};
 use std::alloc::{AllocError, Global};
 
@@ -46,6 +46,10 @@ impl<S: SchemeTypes, D: Digest> Clone for Vote<S, D> {
 
 impl<S: SchemeTypes, D: Digest> ExactClone for Vote<S, D> {
     ghost exact = { λ x y same. same };
+}
+
+impl<S: SchemeTypes, D: Digest> InfallibleClone for Vote<S, D> {
+    ghost infallible = { λ _. tt };
 }
 
 impl<S: SchemeTypes, D: Digest> EqByParts for Vote<S, D> {
