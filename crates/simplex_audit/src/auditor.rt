@@ -74,6 +74,9 @@ impl<'a, S: Listing<D>, D: Digest> Auditor<'a, S, D> {
 
     /// The auditor of the stream with this piece appended. `AllocError` is returned only after an allocation failed, and then
     /// there is no auditor.
+    ///
+    /// Each call reads the undecoded tail again from its start, so a message that comes in k pieces is read k times: a long
+    /// certificate byte by byte takes time quadratic in its length. Gather the pieces of long messages first; `run` does.
     pub fn feed(self, piece: &[u8]) -> Result<Self, AllocError>
         requires { fed_of self + length piece.now < 2 ^ 64 }
         ensures fed { IfOk result (λ next. fed_of next ≡ fed_of self.entry + length piece.now) }
