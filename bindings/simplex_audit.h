@@ -208,8 +208,14 @@ uint32_t simplex_suspects_vouched_96(const uint64_t *epochs, size_t epochs_len,
  * The status is SIMPLEX_WHOLE, SIMPLEX_ARGUMENTS, SIMPLEX_MEMORY or SIMPLEX_SHORT. `evidence` may
  * not overlap `stored`.
  *
+ * Each call reads all of `stored` again. So a stream of n batches with an evidence each, stored one
+ * behind the other, takes time in n^2. If no round comes in two batches, call with `stored` empty
+ * and append what each call writes to a file: each batch is then read once, and the evidence in the
+ * file is the same, in the order of the batches.
+ *
  * To learn what is new, call simplex_records_.. on `stored` with `batch` behind it: a record with
- * at least one place of `stored_len` or more is new, and any other was stored before.
+ * at least one place of `stored_len` or more is new, and any other was stored before. This too
+ * reads all of `stored`, however short the batch is.
  */
 SIMPLEX_NONNULL
 uint32_t simplex_store_vouched_48(const uint64_t *epochs, size_t epochs_len, const uint32_t *sizes,

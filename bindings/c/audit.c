@@ -63,27 +63,25 @@ static uint8_t *read_all(size_t *len)
     return bytes;
 }
 
-/* Audits with a buffer that the text fits into. NULL where an allocation failed, or with keys that
- * are refused. */
+/* Audits with a buffer that the text fits into: a vote takes at least 33 bytes of the stream, and
+ * the text has at most 200 for each (docs/BINDINGS.md). What is not written of it takes no memory
+ * where the system gives memory by the page. NULL where an allocation failed, or with keys that are
+ * refused. */
 static uint8_t *report(const char *name, const uint8_t *keys, size_t keys_len,
                        const uint8_t *stream, size_t len, uint32_t *status,
                        struct simplex_summary *summary)
 {
-    size_t room = 4096;
-    for (;;) {
-        uint8_t *text = malloc(room);
-        *status = SIMPLEX_MEMORY;
-        if (!text)
-            return NULL;
-        *status = simplex_audit_plain((const uint8_t *)name, strlen(name), keys, keys_len, stream,
-                                      len, text, room, summary);
-        if (*status == SIMPLEX_WHOLE || *status == SIMPLEX_FAULT)
-            return text;
-        free(text);
-        if (*status != SIMPLEX_SHORT)
-            return NULL;
-        room = summary->length;
-    }
+    size_t room = 200 * (len / 33) + 1;
+    uint8_t *text = malloc(room);
+    *status = SIMPLEX_MEMORY;
+    if (!text)
+        return NULL;
+    *status = simplex_audit_plain((const uint8_t *)name, strlen(name), keys, keys_len, stream, len,
+                                  text, room, summary);
+    if (*status == SIMPLEX_WHOLE || *status == SIMPLEX_FAULT)
+        return text;
+    free(text);
+    return NULL;
 }
 
 static int usage(void)

@@ -2,8 +2,8 @@
  * Tries what the contracts of the calls say of buffers and refusals, from C: buffers that fit, that
  * are a byte too short or empty, empty slices, arguments that are no committees, verdicts, stored
  * evidence with faulty batches and faulty stored bytes, each kind of record, records that are new,
- * calls at once in several threads, and each allocation failing in turn. Every buffer is a block of
- * its own, so that AddressSanitizer and valgrind see an access outside.
+ * committees of 65,536, calls at once in several threads, and each allocation failing in turn. Every
+ * buffer is a block of its own, so that AddressSanitizer and valgrind see an access outside.
  *
  *     border < STREAM             STREAM: the sample of crates/audit
  *     border --limit < STREAM     also what needs more memory than the process may have
@@ -500,21 +500,29 @@ static void plain(const uint8_t *sample, size_t len)
     free(keys);
 }
 
+/* A signer's number, seven bits a byte, with a signature of this size and a verdict. */
+static uint8_t *put_attestation(uint8_t *at, uint32_t signer, size_t signature, uint8_t verdict)
+{
+    for (; signer >= 128; signer >>= 7)
+        *at++ = (uint8_t)(signer | 128);
+    *at++ = (uint8_t)signer;
+    memset(at, 0xee, signature);
+    at[signature] = verdict;
+    return at + signature + 1;
+}
+
 /* A notarize in view 10 of an epoch, with a signature of this size and a verdict. */
-static uint8_t *put_notarize(uint8_t *at, uint8_t epoch, uint8_t signer, uint8_t payload,
+static uint8_t *put_notarize(uint8_t *at, uint8_t epoch, uint32_t signer, uint8_t payload,
                              size_t signature, uint8_t verdict)
 {
     const uint8_t head[] = {0, epoch, 10, 5};
     memcpy(at, head, 4);
     memset(at + 4, payload, 32);
-    at[36] = signer;
-    memset(at + 37, 0xee, signature);
-    at[37 + signature] = verdict;
-    return at + 38 + signature;
+    return put_attestation(at + 36, signer, signature, verdict);
 }
 
 /* A finalize in view 10 of an epoch, whose signature is valid. */
-static uint8_t *put_finalize(uint8_t *at, uint8_t epoch, uint8_t signer, uint8_t payload,
+static uint8_t *put_finalize(uint8_t *at, uint8_t epoch, uint32_t signer, uint8_t payload,
                              size_t signature)
 {
     uint8_t *end = put_notarize(at, epoch, signer, payload, signature, 1);
@@ -523,17 +531,16 @@ static uint8_t *put_finalize(uint8_t *at, uint8_t epoch, uint8_t signer, uint8_t
 }
 
 /* A nullify of view 10 of an epoch, whose signature is valid. */
-static uint8_t *put_nullify(uint8_t *at, uint8_t epoch, uint8_t signer, size_t signature)
+static uint8_t *put_nullify(uint8_t *at, uint8_t epoch, uint32_t signer, size_t signature)
 {
-    const uint8_t head[] = {3, epoch, 10, signer};
-    memcpy(at, head, 4);
-    memset(at + 4, 0xee, signature);
-    at[4 + signature] = 1;
-    return at + 5 + signature;
+    const uint8_t head[] = {3, epoch, 10};
+    memcpy(at, head, 3);
+    return put_attestation(at + 3, signer, signature, 1);
 }
 
 /* Two notarizes that contradict, the second with this verdict. */
-static size_t two(uint8_t *stream, uint8_t epoch, uint8_t signer, size_t signature, uint8_t verdict)
+static size_t two(uint8_t *stream, uint8_t epoch, uint32_t signer, size_t signature,
+                  uint8_t verdict)
 {
     uint8_t *end = put_notarize(stream, epoch, signer, 6, signature, 1);
     return (size_t)(put_notarize(end, epoch, signer, 7, signature, verdict) - stream);
@@ -802,6 +809,72 @@ static void renews(size_t signature)
     }
 }
 
+/* Two notarizes of a signer that contradict, under a committee of 65,536 for epoch 4 beside a larger
+ * one: whether the report, the records and the list of suspects have the signer, each or none. */
+static int is_member(uint32_t signer, size_t signature)
+{
+    static const uint64_t epochs[] = {3, 4};
+    static const uint32_t sizes[] = {65537, 65536};
+    uint8_t room[400];
+    size_t n = two(room, 4, signer, signature, 1), needed = 99;
+    struct input in = {.stored = room, .stream = room, .stream_len = n,
+                       .signature = (int)signature, .epochs = epochs, .epochs_len = 2,
+                       .sizes = sizes, .sizes_len = 2};
+    size_t lines = audits(&in, SIMPLEX_WHOLE, 2, 0);
+    struct simplex_record record[1];
+    struct simplex_suspect suspect[2];
+    struct simplex_summary summary;
+    CHECK(enlist(&in, record, 1, &summary) == SIMPLEX_WHOLE && summary.evidence == lines);
+    CHECK(suspects(&in, suspect, 2, &needed) == SIMPLEX_WHOLE && needed == 2 * lines);
+    if (!lines)
+        return 0;
+    CHECK(lines == 1 && record[0].signer == signer && suspect[1].signer == signer);
+    return 1;
+}
+
+/* A committee of 65,536: participant 65,535 is the last, and also where certificates list it. */
+static void many(size_t signature)
+{
+    static const uint32_t size[] = {65536};
+    static const uint64_t epoch[] = {0};
+    CHECK(is_member(65534, signature) && is_member(65535, signature));
+    CHECK(!is_member(65536, signature) && !is_member(65537, signature));
+    CHECK(!is_member(UINT32_MAX, signature));
+    for (uint32_t signer = 65535; signer < 65537; signer++) {
+        const uint8_t head[] = {4, 4, 10, 1}; /* a nullification that lists one signer */
+        uint8_t room[400], *end = room;
+        end = put_finalize(end, 4, signer, 6, signature);
+        const size_t vote = (size_t)(end - room);
+        memcpy(end, head, 4);
+        end = put_attestation(end + 4, signer, signature, 1);
+        struct input in = {.stored = room, .stream = room, .stream_len = (size_t)(end - room),
+                           .signature = (int)signature, .epochs = epoch, .sizes = size,
+                           .sizes_len = 1};
+        if (signer == 65535)
+            CHECK(audits(&in, SIMPLEX_WHOLE, 2, 0) == 1);
+        else
+            CHECK(audits(&in, SIMPLEX_FAULT, 1, vote) == 0);
+    }
+}
+
+/* Leaders of 65,536 participants: by numbers each is one view behind the one before it, and by a
+ * seed those of two views differ. */
+static void many_lead(void)
+{
+    uint32_t number = 99, next = 99;
+    uint8_t *seed = copy("seed", 4);
+    for (uint64_t view = 1; view < 140000; view += 65535) {
+        CHECK(simplex_leader(65536, 1, 0, view, &number) == SIMPLEX_WHOLE);
+        CHECK(number == view % 65536);
+    }
+    CHECK(simplex_leader(65536, 1, 1, 65534, &number) == SIMPLEX_WHOLE && number == 65535);
+    CHECK(simplex_leader(65536, 1, 1, 65535, &number) == SIMPLEX_WHOLE && number == 0);
+    CHECK(simplex_leader_shuffled(seed, 4, 65536, 1, 0, 65535, &number) == SIMPLEX_WHOLE);
+    CHECK(simplex_leader_shuffled(seed, 4, 65536, 1, 0, 65536, &next) == SIMPLEX_WHOLE);
+    CHECK(number < 65536 && next < 65536 && number != next);
+    free(seed);
+}
+
 static void numbers(void)
 {
     CHECK(simplex_version() == SIMPLEX_VERSION);
@@ -929,6 +1002,10 @@ int main(int argc, char **argv)
     renews(48);
     renews(64);
     renews(96);
+    many(48);
+    many(64);
+    many(96);
+    many_lead();
     numbers();
     threads();
     if (argc > 1 && !strcmp(argv[1], "--limit"))

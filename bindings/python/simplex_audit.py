@@ -9,10 +9,20 @@ who signed two contradictory votes. The caller verifies signatures by a library 
 ([(10, 2, 'conflicting-notarize')], None)
 
 It loads `bindings/out/simplex_audit.so`, or that of the folder that the variable SIMPLEX_AUDIT_LIB names. A call raises
-`ValueError` where its arguments are no valid committees or numbers, and `MemoryError` where an allocation failed.
+`ValueError` if its arguments are no valid committees or numbers, and `MemoryError` if an allocation failed.
+
+Streams, batches and stored evidence are bytes-like objects: `bytes`, `bytearray`, `memoryview`, `mmap.mmap`, `array.array`.
+They are read where they are, not copied. During a call they cannot be resized or closed, and no other thread may write them. A
+call raises `TypeError` for another object, and `BufferError` for a view with gaps, such as `memoryview(stream)[::2]`.
+
+A call audits its stream once. Its buffer is reserved for the longest result that a stream of its length can have: for a report
+with signatures of 64 bytes three times that length, of which only what is written takes memory. If so much cannot be reserved
+the buffer is shorter, and a result that does not fit takes a second audit.
 """
 import collections
+import contextlib
 import ctypes
+import mmap
 import os
 import pathlib
 
@@ -46,8 +56,8 @@ _KINDS_OF_EVIDENCE = ("conflicting-notarize", "conflicting-finalize", "nullify-f
 def _declare():
     """Declares the types of each call of the library, as the header has them."""
     u32, u64, size, out = ctypes.c_uint32, ctypes.c_uint64, ctypes.c_size_t, ctypes.POINTER
-    data, numbers = [ctypes.c_char_p, size], [out(u64), size, out(u32), size]
-    buffer = [ctypes.c_char_p, size]
+    data, numbers = [ctypes.c_void_p, size], [out(u64), size, out(u32), size]
+    buffer = [out(ctypes.c_char), size]
     window = [u32, u64, u64, u64]
     calls = {
         "version": [], "max_faults": [u32], "quorum": [u32], "admits": window, "admits_outbound": window,
@@ -67,6 +77,51 @@ def _declare():
 
 
 _declare()
+
+
+class _View(ctypes.Structure):
+    """`Py_buffer`."""
+
+    _fields_ = [("buf", ctypes.c_void_p), ("obj", ctypes.c_void_p), ("len", ctypes.c_ssize_t), ("itemsize", ctypes.c_ssize_t),
+                ("readonly", ctypes.c_int), ("ndim", ctypes.c_int),
+                *((name, ctypes.c_void_p) for name in ("format", "shape", "strides", "suboffsets", "internal"))]
+
+
+_SIMPLE = 0  # PyBUF_SIMPLE: bytes without gaps, which need not be writable
+_GET = ctypes.PYFUNCTYPE(ctypes.c_int, ctypes.py_object, ctypes.POINTER(_View), ctypes.c_int)
+_RELEASE = ctypes.PYFUNCTYPE(None, ctypes.POINTER(_View))
+_get_buffer = _GET(("PyObject_GetBuffer", ctypes.pythonapi))
+_release_buffer = _RELEASE(("PyBuffer_Release", ctypes.pythonapi))
+
+
+@contextlib.contextmanager
+def _borrowed(data):
+    """The address of a bytes-like object's bytes, which is never NULL, and their number, while it is borrowed."""
+    view = _View()
+    _get_buffer(data, ctypes.byref(view), _SIMPLE)
+    try:
+        yield view.buf or ctypes.addressof(view), view.len
+    finally:
+        _release_buffer(ctypes.byref(view))
+
+
+def _mapped(of, room):
+    """Memory for this many items, at least one. What is not written takes none."""
+    try:
+        return mmap.mmap(-1, max(1, room) * ctypes.sizeof(of), flags=mmap.MAP_PRIVATE)
+    except (OSError, OverflowError):
+        raise MemoryError from None
+
+
+def _reserved(of, most):
+    """Memory for this many items, or, if so much cannot be had, for half as many, and so on; and for how many."""
+    while True:
+        try:
+            return _mapped(of, most), most
+        except MemoryError:
+            if most == 0:
+                raise
+            most //= 2
 
 
 def _checked(number, bits, what):
@@ -93,6 +148,8 @@ class Committees:
 
     def __init__(self, suffix, arguments, size=None):
         self._suffix, self._arguments, self._size = suffix, arguments, size
+        # the bytes of a signature, with its verdict if there is one
+        self._signature = 32 if size is None else size + 1
 
     @staticmethod
     def every(size, participants):
@@ -123,34 +180,49 @@ class Committees:
             raise ValueError("a signature has 48, 64 or 96 bytes")
         return Committees(f"vouched_{size}", [*_numbers(ctypes.c_uint64, 64, epochs), *_numbers(ctypes.c_uint32, 32, sizes)], size)
 
-    def _suspects(self, stream):
-        """The attestations of a stream that have to be verified; under the plain scheme, which verifies its signatures itself, none."""
-        if self._size is None:
-            return []
-        return self._list("suspects", _Suspect, stream, ctypes.c_size_t(), lambda it: it.value)
+    def _most_votes(self, length):
+        """How many votes a stream of this length has at most, each as often as a message carries it: a vote takes at least a
+        byte for its signer, and its signature."""
+        return length // (1 + self._signature)
 
-    def _list(self, call, of, stream, written, needed):
-        """Makes a call that lists records of a stream, again with a longer buffer if the first is too short."""
-        function, room = getattr(_library, f"simplex_{call}_{self._suffix}"), 64
-        while True:
-            records = (of * room)()
-            status = function(*self._arguments, stream, len(stream), records, room, ctypes.byref(written))
-            _refused(status)
-            room = max(1, needed(written))
-            if status != _SHORT:
-                return records[: needed(written)]
+    def _most_evidence(self, length):
+        """How much evidence it has. Two votes of a signer in a round are one evidence at most, three are two, and five are all
+        three kinds."""
+        return 2 * self._most_votes(length) // 3
 
-    def _put(self, call, given, room, written, needed):
-        """Makes a call that puts something into a buffer, again with a longer buffer if the first is too short."""
+    def _most_text(self, length):
+        """The bytes of its report: a line of evidence has at most 246, one of a split 70, and a split at least two votes."""
+        return 246 * self._most_evidence(length) + 70 * (self._most_votes(length) // 2)
+
+    def _most_messages(self, length):
+        """The bytes of its evidence as messages: a tag and two votes, with proposals of at most 62 bytes and signers of 5."""
+        return (1 + 2 * (62 + 5 + self._signature)) * self._most_evidence(length)
+
+    def _fill(self, call, given, of, most, written, needed):
+        """The items that a call writes into a buffer. `most` says how many they are at most, by the number of bytes that are
+        given. The call is made again only if so many could not be reserved."""
         function = getattr(_library, f"simplex_{call}_{self._suffix}")
-        given = [part for data in map(bytes, given) for part in (data, len(data))]
-        while True:
-            buffer = ctypes.create_string_buffer(room)
-            status = function(*self._arguments, *given, buffer, room, ctypes.byref(written))
-            _refused(status)
-            room = needed(written)
-            if status != _SHORT:
-                return buffer.raw[:room]
+        with contextlib.ExitStack() as stack:
+            slices = [part for data in given for part in stack.enter_context(_borrowed(data))]
+            buffer, room = _reserved(of, most(sum(slices[1::2])))
+            while True:
+                to = ctypes.byref(of.from_buffer(buffer))
+                status = function(*self._arguments, *slices, to, room, ctypes.byref(written))
+                if status != _SHORT:
+                    break
+                room = needed(written)
+                buffer = _mapped(of, room)
+        _refused(status)
+        return (of * needed(written)).from_buffer(buffer)
+
+    def _store(self, stored, batch):
+        """The evidence of what was stored and of a batch behind it, as messages."""
+        size = ctypes.c_size_t()
+        return self._fill("store", [stored, batch], ctypes.c_char, self._most_messages, size, lambda it: it.value).raw
+
+    def _suspects(self, stream):
+        """The attestations of a stream that have to be verified."""
+        return self._fill("suspects", [stream], _Suspect, self._most_votes, ctypes.c_size_t(), lambda it: it.value)
 
 
 Evidence = collections.namedtuple("Evidence", "epoch view signer kind line")
@@ -166,7 +238,8 @@ Report.__doc__ = "How many messages were read, the evidence and the splits, the 
 def audit(committees, stream):
     """The report of a stream."""
     summary = _Summary()
-    text = committees._put("audit", [stream], 65536, summary, lambda it: it.length).decode()
+    text = committees._fill("audit", [stream], ctypes.c_char, committees._most_text, summary, lambda it: it.length)
+    text = text.raw.decode()
     lines = text.splitlines()
     evidence = [_evidence(line) for line in lines[: summary.evidence]]
     splits = [_split(line) for line in lines[summary.evidence :]]
@@ -188,7 +261,7 @@ def records(committees, stream):
     >>> records(Committees.every(64, 4), stream.encoded())
     [Record(epoch=3, view=10, signer=2, kind='conflicting-notarize', first_place=102, second_place=204)]
     """
-    found = committees._list("records", _Record, bytes(stream), _Summary(), lambda it: it.evidence)
+    found = committees._fill("records", [stream], _Record, committees._most_evidence, _Summary(), lambda it: it.evidence)
     return [Record(it.epoch, it.view, it.signer, _KINDS_OF_EVIDENCE[it.kind], it.first_place, it.second_place) for it in found]
 
 
@@ -196,7 +269,7 @@ def audit_deferred(committees, stream, verify):
     """The report of a stream whose signatures are not verified yet; its verdicts may be any bytes. Only the votes of suspects
     and the certificates of their rounds are verified. A suspect is a signer of the committee, in a round where two votes that
     claim to be that signer's contradict; an honest stream has none. The report is that of `audit` with every signature
-    verified. `verify` is as for an `Encoder`.
+    verified. `verify` is as for an `Encoder`. The stream is copied, for the verdicts.
 
     >>> stream = Encoder(64)
     >>> for view, signer, payload in ((9, 0, 6), (9, 1, 6), (10, 2, 6), (10, 2, 7)):
@@ -208,12 +281,14 @@ def audit_deferred(committees, stream, verify):
     >>> len(audit_deferred(Committees.every(64, 4), stream.encoded(), verify).evidence), verified
     (1, [(10, 2), (10, 2)])
     """
-    stream = bytearray(stream)
-    for it in committees._suspects(bytes(stream)):
-        subject = stream[it.subject_place : it.subject_place + it.subject_length]
-        signature = bytes(stream[it.verdict_place - committees._size : it.verdict_place])
-        stream[it.verdict_place] = bool(verify(_vote(_KINDS[it.kind], bytes(subject)), it.signer, signature))
-    return audit(committees, stream)
+    if committees._size is None:
+        return audit(committees, stream)  # the plain scheme verifies its signatures itself
+    suspects, verified = committees._suspects(stream), bytearray(stream)
+    for it in suspects:
+        subject = verified[it.subject_place : it.subject_place + it.subject_length]
+        signature = bytes(verified[it.verdict_place - committees._size : it.verdict_place])
+        verified[it.verdict_place] = bool(verify(_vote(_KINDS[it.kind], bytes(subject)), it.signer, signature))
+    return audit(committees, verified)
 
 
 def _vote(kind, subject):
@@ -242,14 +317,29 @@ def _split(line):
 
 def store(committees, stored, batch):
     """The evidence of what was stored and of a batch behind it, as messages. A batch has to hold every vote of its rounds.
-    `ValueError` where what was stored has a fault: nothing behind that would be read."""
-    size, stored = ctypes.c_size_t(), _undamaged(committees, stored)
-    return committees._put("store", [stored, batch], len(stored) + 65536, size, lambda it: it.value)
+    `ValueError` if what was stored has a fault: nothing behind that would be read.
+
+    Each call reads all that was stored, twice. So n batches with an evidence each, stored one behind the other, take time in
+    n^2. If no round comes in two batches, call `store(committees, b"", batch)` for each and append the results to each other:
+    that reads each batch once.
+
+    >>> committees, stored = Committees.every(64, 4), b""
+    >>> for view in (10, 11):
+    ...     batch = Encoder(64)
+    ...     for payload in (6, 7):
+    ...         batch.vote(Vote("notarize", 3, view, 5, bytes([payload] * 32)), 2, bytes(64), lambda vote, signer, signature: True)
+    ...     stored += store(committees, b"", batch.encoded())
+    >>> [(it.view, it.signer) for it in audit(committees, stored).evidence]
+    [(10, 2), (11, 2)]
+    """
+    _check_stored(committees, stored)
+    return committees._store(stored, batch)
 
 
 def new_records(committees, stored, batch):
-    """The new records of what was stored with a batch behind it: those with at least one place in the batch, at
-    `len(stored)` or above. All other evidence was stored before. `ValueError` as for `store`.
+    """The new records of what was stored with a batch behind it: those with at least one place in the batch, at or above the
+    length of what was stored in bytes. All other evidence was stored before. `ValueError` as for `store`. What was stored is
+    audited by itself, and then with the batch, however short the batch is. Both are copied into one stream.
 
     >>> committees, stored = Committees.every(64, 4), b""
     >>> for view in (10, 11):
@@ -261,16 +351,15 @@ def new_records(committees, stored, batch):
     [(10, 2)]
     [(11, 2)]
     """
-    stored = _undamaged(committees, stored)
-    found = records(committees, stored + bytes(batch))
-    return [it for it in found if max(it.first_place, it.second_place) >= len(stored)]
+    _check_stored(committees, stored)
+    with _borrowed(stored) as (_, length), _borrowed(batch):
+        stream = b"".join((stored, batch))
+    return [it for it in records(committees, stream) if max(it.first_place, it.second_place) >= length]
 
 
-def _undamaged(committees, stored):
-    stored = bytes(stored)
+def _check_stored(committees, stored):
     if audit(committees, stored).fault is not None:
         raise ValueError("what was stored is damaged")
-    return stored
 
 
 class Vote(collections.namedtuple("Vote", "kind epoch view parent payload", defaults=(None, None))):

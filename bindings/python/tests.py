@@ -1,8 +1,13 @@
 """Tests of the Python module."""
 import array
+import contextlib
+import ctypes
 import doctest
 import hashlib
+import mmap
+import tempfile
 import unittest
+import unittest.mock
 
 import simplex_audit
 from simplex_audit import Committees, Encoder, Vote, audit, audit_deferred, new_records, records, store
@@ -19,12 +24,33 @@ def two_votes(view, signer=2, size=64, verify=valid):
     return stream.encoded()
 
 
-def plain_vote(vote):
-    """A message with a vote of the participant whose key is 32 zero bytes, under the plain scheme with the base `test`."""
+def plain_signature(vote, key):
+    """Of the participant with this key, under the plain scheme with the base `test`."""
     signed = vote.signed_bytes(b"test")
     name = signed[: 1 + signed[0]]
-    signature = hashlib.sha256(name + bytes(32) + signed[len(name) :]).digest()
-    return bytes([Encoder._VOTES[vote.kind]]) + vote.message() + b"\0" + signature
+    return hashlib.sha256(name + key + signed[len(name) :]).digest()
+
+
+def plain_vote(vote):
+    """A message with a vote of the participant whose key is 32 zero bytes."""
+    return bytes([Encoder._VOTES[vote.kind]]) + vote.message() + b"\0" + plain_signature(vote, bytes(32))
+
+
+def certificates(size, participants):
+    """Committees, and a nullification and two finalizations that all of less than 128 participants sign; without a size under
+    the plain scheme. No stream of this length has more evidence."""
+    most = (1 << 64) - 1
+    votes = [Vote("nullify", most, most), *(Vote("finalize", most, most, most, bytes([it] * 32)) for it in (6, 7))]
+    if size:
+        stream = Encoder(size)
+        for vote in votes:
+            stream.certificate(vote, [(it, bytes(size)) for it in range(participants)], valid)
+        return Committees.every(size, participants), stream.encoded()
+    keys, stream = [bytes([it] * 32) for it in range(participants)], b""
+    for vote in votes:
+        listed = b"".join(bytes([it]) + plain_signature(vote, key) for it, key in enumerate(keys))
+        stream += bytes([Encoder._VOTES[vote.kind] + 1]) + vote.message() + bytes([participants]) + listed
+    return Committees.plain(b"test", keys), stream
 
 
 def contradictions():
@@ -34,6 +60,42 @@ def contradictions():
         yield Committees.every(size, 4), votes[: len(votes) // 2], votes[len(votes) // 2 :]
     votes = [plain_vote(Vote("notarize", 3, 10, 5, payload)) for payload in (b"\6" * 32, b"\7" * 32)]
     yield Committees.plain(b"test", [bytes(32)]), *votes
+
+
+def buffers(data):
+    """Bytes-like objects with these bytes, some that can be written and some that cannot."""
+    yield data
+    yield bytearray(data)
+    yield memoryview(data)
+    yield memoryview(bytearray(data))
+    yield memoryview(bytearray(b"\xff" + data + b"\xff"))[1:-1]
+    yield memoryview(b"\xff" + data + b"\xff")[1:-1]
+    yield array.array("B", data)
+    with tempfile.TemporaryFile() as file:
+        file.write(data)
+        file.flush()
+        for access in (mmap.ACCESS_READ, mmap.ACCESS_WRITE, mmap.ACCESS_COPY):
+            # it closes, so nothing holds it any longer
+            with mmap.mmap(file.fileno(), len(data), access=access) as mapped:
+                yield mapped
+
+
+def address(data):
+    """Where the bytes of a `bytearray` are."""
+    return ctypes.addressof(ctypes.c_char.from_buffer(data))
+
+
+@contextlib.contextmanager
+def counted():
+    """The names of the library's calls that are made meanwhile, in order."""
+    library, calls = simplex_audit._library, []
+
+    class Counting:
+        def __getattr__(self, name):
+            return lambda *arguments: calls.append(name) or getattr(library, name)(*arguments)
+
+    with unittest.mock.patch.object(simplex_audit, "_library", Counting()):
+        yield calls
 
 
 class Tests(unittest.TestCase):
@@ -104,6 +166,95 @@ class Tests(unittest.TestCase):
         longer = array.array("H", stream + (b"" if len(stream) % 2 == 0 else b"\0"))
         self.assertEqual(len(audit(Committees.every(64, 4), longer).evidence), 1)
 
+    def test_bytes_like_objects(self):
+        committees, stream = Committees.every(64, 4), two_votes(10)
+        stored = store(committees, b"", two_votes(9))
+        for of in buffers(stream):
+            self.assertEqual(audit(committees, of), audit(committees, stream))
+            self.assertEqual(records(committees, of), records(committees, stream))
+            self.assertEqual(store(committees, stored, of), store(committees, stored, stream))
+            self.assertEqual(new_records(committees, stored, of), new_records(committees, stored, stream))
+            self.assertEqual(audit_deferred(committees, of, valid), audit(committees, stream))
+        for of in buffers(stored):
+            self.assertEqual(store(committees, of, stream), store(committees, stored, stream))
+            self.assertEqual(new_records(committees, of, stream), new_records(committees, stored, stream))
+        for of in (bytearray(), memoryview(b""), array.array("B"), memoryview(bytearray(b"\xff"))[1:]):
+            self.assertEqual(audit(committees, of), audit(committees, b""))
+            self.assertEqual(store(committees, of, of), b"")
+
+    def test_what_is_not_bytes_like(self):
+        committees = Committees.every(64, 4)
+        released = memoryview(b"")
+        released.release()
+        wrong = [(of, TypeError) for of in ("", [255], 9, None)]
+        for of, error in (*wrong, (memoryview(bytes(9))[::2], BufferError), (released, ValueError)):
+            for call in (
+                lambda: audit(committees, of),
+                lambda: audit_deferred(committees, of, valid),
+                lambda: records(committees, of),
+                lambda: store(committees, of, b""),
+                lambda: store(committees, b"", of),
+                lambda: new_records(committees, of, b""),
+                lambda: new_records(committees, b"", of),
+            ):
+                self.assertRaises(error, call)
+
+    def test_streams_are_not_copied_and_not_held(self):
+        committees, stream = Committees.every(64, 4), bytearray(two_votes(10))
+        seen = []
+
+        def call(*arguments):
+            seen.append(arguments[4])
+            # during the call the stream cannot be resized
+            self.assertRaises(BufferError, stream.append, 0)
+            return library.simplex_audit_vouched_64(*arguments)
+
+        library = simplex_audit._library
+        with unittest.mock.patch.object(simplex_audit, "_library", unittest.mock.Mock(simplex_audit_vouched_64=call)):
+            self.assertEqual(len(audit(committees, stream).evidence), 1)
+            self.assertEqual(len(audit(committees, memoryview(stream)[102:].toreadonly()).evidence), 0)
+        self.assertEqual(seen, [address(stream), address(stream) + 102])
+        # afterwards it can be, also after an error
+        self.assertRaises(ValueError, audit, Committees.every(64, 0), stream)
+        stream.append(0)
+        self.assertEqual(audit(committees, stream).fault, len(stream) - 1)
+
+    def test_one_call_for_a_stream(self):
+        for size in (48, 64, 96, None):
+            for n in (1, 2, 100):
+                committees, stream = certificates(size, n)
+                with counted() as calls:
+                    report = audit(committees, stream)
+                    self.assertEqual((len(report.evidence), len(report.splits)), (2 * n, 1))
+                    self.assertEqual(len(records(committees, stream)), 2 * n)
+                    stored = committees._store(b"", stream)
+                    self.assertEqual(committees._store(stored, stream), stored)
+                    if size:
+                        self.assertEqual(len(committees._suspects(stream)), 3 * n)
+                made = ["audit", "records", "store", "store"] + ["suspects"] * bool(size)
+                self.assertEqual(calls, [f"simplex_{it}_{committees._suffix}" for it in made])
+                # with many signers no more is reserved than twice what is needed
+                text, messages = committees._most_text(len(stream)), committees._most_messages(len(stream))
+                self.assertTrue(n < 100 or (text < 2 * len(report.text) and messages < 2 * len(stored)))
+
+    def test_less_is_reserved_than_cannot_be(self):
+        committees, stream = Committees.every(64, 4), b"".join(two_votes(view) for view in range(1, 101))
+        report, real = audit(committees, stream), mmap.mmap
+        refused = []
+
+        def mapped(at, size, **how):
+            # more than 8 kilobytes are refused the first times
+            if size > 8192 and len(refused) < 3:
+                refused.append(size)
+                raise OSError
+            return real(at, size, **how)
+
+        with counted() as calls, unittest.mock.patch.object(mmap, "mmap", mapped):
+            self.assertEqual(audit(committees, stream), report)
+        self.assertEqual((refused, len(calls)), ([refused[0], refused[0] // 2, refused[0] // 4], 2))
+        with unittest.mock.patch.object(mmap, "mmap", side_effect=OSError):
+            self.assertRaises(MemoryError, audit, committees, stream)
+
     def test_a_long_report(self):
         stream = b"".join(two_votes(view) for view in range(1, 1001))
         report = audit(Committees.every(64, 4), stream)
@@ -119,6 +270,25 @@ class Tests(unittest.TestCase):
         committees = Committees.every(64, 4)
         stored = store(committees, store(committees, b"", two_votes(10)), two_votes(11, signer=1))
         self.assertEqual([(it.view, it.signer) for it in audit(committees, stored).evidence], [(10, 2), (11, 1)])
+
+    def test_batches_of_their_own_rounds(self):
+        committees, stored, appended = Committees.every(64, 4), b"", b""
+        for view in (11, 10, 12):
+            stored = store(committees, stored, two_votes(view))
+            appended += store(committees, b"", two_votes(view))
+        self.assertEqual(audit(committees, appended), audit(committees, stored))
+        self.assertEqual([it.view for it in audit(committees, appended).evidence], [10, 11, 12])
+
+    def test_65_536_participants(self):
+        committees = Committees.every(64, 65536)
+        for signer in (65534, 65535, 65536, 65537):
+            report = audit(committees, two_votes(10, signer=signer))
+            self.assertEqual((report.read, [it.signer for it in report.evidence]), (2, [signer] if signer < 65536 else []))
+        self.assertEqual((simplex_audit.max_faults(65536), simplex_audit.quorum(65536)), (21845, 43691))
+        order = sorted(range(65536), key=lambda it: (hashlib.sha256(b"seed" + it.to_bytes(4, "big")).digest(), it))
+        for view in (1, 65535, 65536):
+            self.assertEqual(simplex_audit.leader(65536, 1, 0, view), view % 65536)
+            self.assertEqual(simplex_audit.leader(65536, 1, 0, view, seed=b"seed"), order[view % 65536])
 
     def test_what_was_stored_stays(self):
         for committees, one, other in contradictions():

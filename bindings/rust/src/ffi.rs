@@ -1,10 +1,13 @@
 //! The calls of the C library (bindings/simplex_audit.h), over slices.
 //!
 //! Each pointer that is passed is that of a slice or a value that lives through the call, with the slice's length beside it; such
-//! a pointer is never null. What is written is borrowed by nothing else.
+//! a pointer is never null. What is written is borrowed by nothing else. A buffer is the unused capacity of a vector: a call
+//! reads nothing of it, and writes the items that it counts.
 
+use crate::bounds::Bounds;
 use crate::committees::{Committees, Members, Size};
 use crate::Error;
+use std::mem::MaybeUninit;
 
 const WHOLE: u32 = 0;
 const FAULT: u32 = 1;
@@ -32,7 +35,6 @@ pub(crate) struct Summary {
 
 /// `struct simplex_suspect`.
 #[repr(C)]
-#[derive(Clone, Copy, Default)]
 pub(crate) struct Suspect {
     pub epoch: u64,
     pub view: u64,
@@ -45,7 +47,6 @@ pub(crate) struct Suspect {
 
 /// `struct simplex_record`.
 #[repr(C)]
-#[derive(Clone, Copy, Default)]
 pub(crate) struct Record {
     pub epoch: u64,
     pub view: u64,
@@ -169,22 +170,30 @@ extern "C" {
     ) -> u32;
 }
 
-/// Calls with a buffer, and again with a longer one while the call asks for it. Beside its status the call returns how many
-/// items it wrote, or needs.
-fn filled<T: Clone + Default>(first: usize, mut call: impl FnMut(&mut [T]) -> (u32, usize)) -> Result<Vec<T>, Error> {
-    let mut buffer = vec![T::default(); first];
+/// A vector with capacity for this many items, or, if an allocation of so many fails, for half as many, and so on. Systems that
+/// give memory by the page, when it is written, give none for the rest.
+fn reserved<T>(most: usize) -> Vec<T> {
+    let (mut buffer, mut room) = (Vec::new(), most);
+    while buffer.try_reserve_exact(room).is_err() {
+        room /= 2;
+    }
+    buffer
+}
+
+/// Calls with a buffer for `most` items, which is never too short if so many can be allocated. Calls again with a longer one if
+/// the call asks for it. Beside its status the call returns how many items it wrote, or needs.
+fn filled<T>(most: usize, mut call: impl FnMut(&mut [MaybeUninit<T>]) -> (u32, usize)) -> Result<Vec<T>, Error> {
+    let mut buffer = reserved(most);
     loop {
-        let (status, length) = call(&mut buffer);
+        let (status, length) = call(buffer.spare_capacity_mut());
         match status {
             WHOLE | FAULT => {
-                buffer.truncate(length);
+                // SAFETY: the call wrote this many items.
+                unsafe { buffer.set_len(length) };
+                buffer.shrink_to_fit();
                 return Ok(buffer);
             }
-            SHORT => {
-                let more = length.saturating_sub(buffer.len());
-                buffer.try_reserve_exact(more).map_err(|_| Error::OutOfMemory)?;
-                buffer.resize(length, T::default());
-            }
+            SHORT => buffer.try_reserve_exact(length).map_err(|_| Error::OutOfMemory)?,
             MEMORY => return Err(Error::OutOfMemory),
             _ => return Err(Error::Arguments),
         }
@@ -199,7 +208,15 @@ struct BySize<T, W> {
 }
 
 impl<T, W> BySize<T, W> {
-    fn call(&self, size: Size, epochs: &[u64], sizes: &[u32], stream: &[u8], buffer: &mut [T], written: &mut W) -> u32 {
+    fn call(
+        &self,
+        size: Size,
+        epochs: &[u64],
+        sizes: &[u32],
+        stream: &[u8],
+        buffer: &mut [MaybeUninit<T>],
+        written: &mut W,
+    ) -> u32 {
         let call = match size {
             Size::Bytes48 => self.bytes48,
             Size::Bytes64 => self.bytes64,
@@ -214,7 +231,7 @@ impl<T, W> BySize<T, W> {
                 sizes.len(),
                 stream.as_ptr(),
                 stream.len(),
-                buffer.as_mut_ptr(),
+                buffer.as_mut_ptr().cast(),
                 buffer.len(),
                 written,
             )
@@ -229,7 +246,7 @@ struct ByScheme<T, W> {
 }
 
 impl<T, W> ByScheme<T, W> {
-    fn call(&self, committees: &Committees, stream: &[u8], buffer: &mut [T], written: &mut W) -> u32 {
+    fn call(&self, committees: &Committees, stream: &[u8], buffer: &mut [MaybeUninit<T>], written: &mut W) -> u32 {
         match &committees.members {
             Members::Vouched { size, epochs, sizes } => self.vouched.call(*size, epochs, sizes, stream, buffer, written),
             // SAFETY: see this module.
@@ -241,7 +258,7 @@ impl<T, W> ByScheme<T, W> {
                     keys.len(),
                     stream.as_ptr(),
                     stream.len(),
-                    buffer.as_mut_ptr(),
+                    buffer.as_mut_ptr().cast(),
                     buffer.len(),
                     written,
                 )
@@ -270,13 +287,14 @@ const SUSPECTS: BySize<Suspect, usize> =
 /// The text of a stream's report, and its numbers.
 pub(crate) fn audit(committees: &Committees, stream: &[u8]) -> Result<(Vec<u8>, Summary), Error> {
     let mut summary = Summary::default();
-    let text = filled(4096, |text| (AUDIT.call(committees, stream, text, &mut summary), summary.length))?;
+    let most = Bounds::of(committees, stream.len()).text();
+    let text = filled(most, |text| (AUDIT.call(committees, stream, text, &mut summary), summary.length))?;
     Ok((text, summary))
 }
 
 /// What a ledger stores that held `stored` and was fed `batch`.
 pub(crate) fn store(committees: &Committees, stored: &[u8], batch: &[u8]) -> Result<Vec<u8>, Error> {
-    filled(stored.len() + 1024, |evidence| {
+    filled(Bounds::of(committees, stored.len() + batch.len()).messages(), |evidence| {
         let mut length = 0;
         let status = match &committees.members {
             Members::Vouched { size, epochs, sizes } => {
@@ -296,7 +314,7 @@ pub(crate) fn store(committees: &Committees, stored: &[u8], batch: &[u8]) -> Res
                         stored.len(),
                         batch.as_ptr(),
                         batch.len(),
-                        evidence.as_mut_ptr(),
+                        evidence.as_mut_ptr().cast(),
                         evidence.len(),
                         &mut length,
                     )
@@ -313,7 +331,7 @@ pub(crate) fn store(committees: &Committees, stored: &[u8], batch: &[u8]) -> Res
                     stored.len(),
                     batch.as_ptr(),
                     batch.len(),
-                    evidence.as_mut_ptr(),
+                    evidence.as_mut_ptr().cast(),
                     evidence.len(),
                     &mut length,
                 )
@@ -328,7 +346,7 @@ pub(crate) fn suspects(committees: &Committees, stream: &[u8]) -> Result<Vec<Sus
     let Members::Vouched { size, epochs, sizes } = &committees.members else {
         return Ok(Vec::new());
     };
-    filled(64, |records| {
+    filled(Bounds::of(committees, stream.len()).votes(), |records| {
         let mut needed = 0;
         (SUSPECTS.call(*size, epochs, sizes, stream, records, &mut needed), needed)
     })
@@ -336,7 +354,7 @@ pub(crate) fn suspects(committees: &Committees, stream: &[u8]) -> Result<Vec<Sus
 
 /// The evidence of a stream's report, as records.
 pub(crate) fn records(committees: &Committees, stream: &[u8]) -> Result<Vec<Record>, Error> {
-    filled(64, |records| {
+    filled(Bounds::of(committees, stream.len()).evidence(), |records| {
         let mut summary = Summary::default();
         (RECORDS.call(committees, stream, records, &mut summary), summary.evidence)
     })
@@ -396,5 +414,34 @@ pub(crate) fn leader(seed: Option<&[u8]>, participants: u32, term_length: u32, e
         WHOLE => Ok(number),
         MEMORY => Err(Error::OutOfMemory),
         _ => Err(Error::Arguments),
+    }
+}
+
+#[cfg(test)]
+mod tests {
+    use super::*;
+
+    #[test]
+    fn less_is_reserved_than_cannot_be() {
+        assert!(reserved::<u64>(3).capacity() >= 3);
+        assert!(reserved::<u64>(usize::MAX).capacity() >= 3);
+    }
+
+    #[test]
+    fn a_short_buffer_is_made_longer() {
+        for most in [0, 2, 3] {
+            let mut calls = 0;
+            let filled = filled(most, |buffer| {
+                calls += 1;
+                if buffer.len() < 3 {
+                    return (SHORT, 3);
+                }
+                buffer[..3].copy_from_slice(&[6, 7, 8].map(MaybeUninit::new));
+                (FAULT, 3)
+            });
+            assert_eq!((filled, calls), (Ok(vec![6_u8, 7, 8]), if most < 3 { 2 } else { 1 }));
+        }
+        assert_eq!(filled::<u8>(3, |_| (MEMORY, 3)), Err(Error::OutOfMemory));
+        assert_eq!(filled::<u8>(0, |_| (SHORT, usize::MAX)), Err(Error::OutOfMemory));
     }
 }

@@ -2,6 +2,10 @@ use crate::{audit, ffi, Committees, Error, Report};
 
 /// Holds the evidence of a stream that comes in batches, each of which holds every vote of its rounds.
 ///
+/// Each [`feed`](Self::feed) and each [`new_records`](crate::new_records) reads all stored evidence again. So n batches with an
+/// evidence each take time in n^2. If no round comes in two batches, give each batch a ledger of its own and append what it
+/// stores to a file: that reads each batch once, and `resume` takes the file.
+///
 /// ```
 /// use simplex_audit::{Committees, Encoder, Ledger, Size, Vote};
 ///
@@ -37,7 +41,7 @@ impl Ledger {
     }
 
     /// Adds the evidence of a batch. What is behind a fault of the batch is ignored. After an error the ledger is as before. To
-    /// learn what a batch adds, call [`new_records`](crate::new_records) with what is stored before.
+    /// learn what a batch adds, call [`new_records`](crate::new_records) with what is stored before. It reads all that is stored.
     pub fn feed(&mut self, batch: &[u8]) -> Result<(), Error> {
         self.stored = ffi::store(&self.committees, &self.stored, batch)?;
         Ok(())

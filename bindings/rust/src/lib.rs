@@ -17,6 +17,7 @@
 //! # Ok::<(), simplex_audit::Error>(())
 //! ```
 
+mod bounds;
 mod committees;
 mod deferred;
 mod encoder;

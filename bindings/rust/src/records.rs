@@ -43,8 +43,8 @@ pub fn records(committees: &Committees, stream: &[u8]) -> Result<Vec<Record>, Er
 }
 
 /// The new records of what was stored with a batch behind it: those with at least one place in the batch, at
-/// `stored.len()` or above. All other evidence was stored before. `Error::Arguments` where what was stored has a fault, behind
-/// which nothing would be read.
+/// `stored.len()` or above. All other evidence was stored before. `Error::Arguments` if what was stored has a fault, behind
+/// which nothing would be read. What was stored is audited by itself, and then with the batch, however short the batch is.
 ///
 /// ```
 /// use simplex_audit::{new_records, Committees, Encoder, Ledger, Size, Vote};

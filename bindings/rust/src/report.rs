@@ -54,7 +54,11 @@ pub struct Report {
     pub text: String,
 }
 
-/// Audits a stream. Where the caller verifies signatures, it is one that an [`Encoder`](crate::Encoder) writes.
+/// Audits a stream. If the caller verifies signatures, it is one that an [`Encoder`](crate::Encoder) writes.
+///
+/// The stream is audited once. The buffer is reserved for the longest text that a stream of its length can have: about three
+/// times that length for signatures of 64 bytes, of which only what is written takes memory. If so much cannot be reserved the
+/// buffer is shorter, and a text that does not fit takes a second audit. The same holds of each call here that audits.
 ///
 /// ```
 /// use simplex_audit::{audit, Committees};

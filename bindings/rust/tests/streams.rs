@@ -138,7 +138,7 @@ fn deferred_certificates() {
 }
 
 #[test]
-fn more_suspects_than_the_first_buffer() {
+fn many_suspects() {
     let mut stream = Encoder::new(Size::Bytes64);
     for signer in 0..100 {
         for payload in [[6; 32], [7; 32]] {
@@ -152,7 +152,7 @@ fn more_suspects_than_the_first_buffer() {
 }
 
 #[test]
-fn more_than_the_first_buffer() {
+fn many_lines() {
     let mut stream = Encoder::new(Size::Bytes64);
     for signer in 0..100 {
         for payload in [[6; 32], [7; 32]] {
@@ -188,6 +188,53 @@ fn what_was_stored_stays() {
             assert_eq!(ledger.stored(), stored);
         }
     }
+}
+
+#[test]
+fn batches_of_their_own_rounds() {
+    for size in SIZES {
+        let committees = Committees::every(size, 4).unwrap();
+        let (mut one_ledger, mut appended) = (Ledger::resume(committees.clone(), Vec::new()).unwrap(), Vec::new());
+        for view in [11, 10, 12] {
+            let mut batch = Encoder::new(size);
+            let (epoch, parent, payload) = (3, 5, [6; 32]);
+            for vote in [Vote::Nullify { epoch, view }, Vote::Finalize { epoch, view, parent, payload }] {
+                batch.vote(&vote, 2, &vec![9; size.bytes()], &every).unwrap();
+            }
+            one_ledger.feed(batch.as_bytes()).unwrap();
+            let mut ledger = Ledger::resume(committees.clone(), Vec::new()).unwrap();
+            ledger.feed(batch.as_bytes()).unwrap();
+            appended.extend_from_slice(ledger.stored());
+        }
+        let report = Ledger::resume(committees, appended).unwrap().report().unwrap();
+        assert_eq!(report, one_ledger.report().unwrap());
+        assert_eq!(report.evidence.iter().map(|one| one.view).collect::<Vec<_>>(), [10, 11, 12]);
+    }
+}
+
+#[test]
+fn a_fork_of_65_536_participants() {
+    let (size, n) = (Size::Bytes64, 65_536);
+    let (committees, quorum) = (Committees::every(size, n).unwrap(), views::quorum(n));
+    assert_eq!((views::max_faults(n), quorum), (21_845, 43_691));
+    let fork = |first: std::ops::Range<u32>, second: std::ops::Range<u32>| {
+        let mut stream = Encoder::new(size);
+        for (payload, signers) in [([6; 32], first), ([7; 32], second)] {
+            let listed: Vec<(u32, &[u8])> = signers.map(|signer| (signer, &[9; 64][..])).collect();
+            stream.certificate(&Vote::Finalize { epoch: 3, view: 10, parent: 5, payload }, &listed, &every).unwrap();
+        }
+        stream.as_bytes().to_vec()
+    };
+    // two quorums that share f + 1 participants, up to the last participant
+    let report = audit(&committees, &fork(0..quorum, n - quorum..n)).unwrap();
+    assert_eq!(report.splits, [Split { epoch: 3, view: 10, accused: 21_846, enough: 21_846 }]);
+    assert!(report.evidence.iter().map(|one| one.signer).eq(n - quorum..quorum));
+    // a certificate of one signer fewer certifies nothing, and its votes count
+    let report = audit(&committees, &fork(0..quorum, n - quorum + 1..n)).unwrap();
+    assert_eq!((report.evidence.len(), report.splits.len()), (21_845, 0));
+    // participant 65,536 is none, so what lists it is no message
+    let report = audit(&committees, &fork(n - 1..n, n - 1..n + 1)).unwrap();
+    assert_eq!((report.read, report.evidence.len(), report.fault), (1, 0, Some(37 + 3 + 65)));
 }
 
 #[test]
@@ -260,5 +307,7 @@ fn numbers() {
         leaders.sort_unstable();
         assert_eq!(leaders, [0, 1, 2, 3]);
         assert_eq!(views::leader(seed, 0, 1, 0, 1), Err(Error::Arguments));
+        assert!(views::leader(seed, 65_536, 1, 0, 1).unwrap() < 65_536);
     }
+    assert_eq!(views::leader(None, 65_536, 1, 0, 65_535), Ok(65_535));
 }
