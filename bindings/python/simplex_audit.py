@@ -1,5 +1,5 @@
-"""The proved auditor of `simplex_messages`, by ctypes: it reads a stream of consensus messages and reports exactly the participants
-who signed two contradictory votes. The caller verifies signatures by a library of its own.
+"""The proved auditor of `simplex_messages`, by ctypes: it reads a stream of consensus messages and reports exactly the
+participants who signed two contradictory votes. The caller verifies signatures by a library of its own.
 
 >>> stream = Encoder(64)
 >>> for payload in (bytes([6] * 32), bytes([7] * 32)):
@@ -26,8 +26,8 @@ import mmap
 import os
 import pathlib
 
-__all__ = ["Committees", "Encoder", "Evidence", "Record", "Report", "Split", "Vote", "admits", "admits_outbound", "audit", "audit_deferred",
-           "issuance_floor", "leader", "max_faults", "new_records", "quorum", "records", "store", "version"]
+__all__ = ["Committees", "Encoder", "Evidence", "Record", "Report", "Split", "Vote", "admits", "admits_outbound", "audit",
+           "audit_deferred", "issuance_floor", "leader", "max_faults", "new_records", "quorum", "records", "store", "version"]
 
 _FOLDER = os.environ.get("SIMPLEX_AUDIT_LIB") or pathlib.Path(__file__).resolve().parent.parent / "out"
 _library = ctypes.CDLL(os.path.join(_FOLDER, "simplex_audit.so"))
@@ -40,13 +40,14 @@ class _Summary(ctypes.Structure):
 
 
 class _Suspect(ctypes.Structure):
-    _fields_ = [("epoch", ctypes.c_uint64), ("view", ctypes.c_uint64), ("verdict_place", ctypes.c_size_t), ("subject_place", ctypes.c_size_t),
-                ("subject_length", ctypes.c_size_t), ("signer", ctypes.c_uint32), ("kind", ctypes.c_uint32)]
+    _fields_ = [("epoch", ctypes.c_uint64), ("view", ctypes.c_uint64), ("verdict_place", ctypes.c_size_t),
+                ("subject_place", ctypes.c_size_t), ("subject_length", ctypes.c_size_t), ("signer", ctypes.c_uint32),
+                ("kind", ctypes.c_uint32)]
 
 
 class _Record(ctypes.Structure):
-    _fields_ = [("epoch", ctypes.c_uint64), ("view", ctypes.c_uint64), ("first_place", ctypes.c_size_t), ("second_place", ctypes.c_size_t),
-                ("signer", ctypes.c_uint32), ("kind", ctypes.c_uint32)]
+    _fields_ = [("epoch", ctypes.c_uint64), ("view", ctypes.c_uint64), ("first_place", ctypes.c_size_t),
+                ("second_place", ctypes.c_size_t), ("signer", ctypes.c_uint32), ("kind", ctypes.c_uint32)]
 
 
 _KINDS = ("notarize", "nullify", "finalize")
@@ -63,7 +64,8 @@ def _declare():
         "version": [], "max_faults": [u32], "quorum": [u32], "admits": window, "admits_outbound": window,
         "issuance_floor": [u32, u64, u64, out(u64)],
         "leader": [u32, u32, u64, u64, out(u32)], "leader_shuffled": [*data, u32, u32, u64, u64, out(u32)],
-        "audit_plain": [*data, *data, *data, *buffer, out(_Summary)], "store_plain": [*data, *data, *data, *data, *buffer, out(size)],
+        "audit_plain": [*data, *data, *data, *buffer, out(_Summary)],
+        "store_plain": [*data, *data, *data, *data, *buffer, out(size)],
         "records_plain": [*data, *data, *data, out(_Record), size, out(_Summary)],
     }
     for bytes_of in (48, 64, 96):
@@ -166,8 +168,8 @@ class Committees:
 
     @staticmethod
     def plain(namespace, keys):
-        """One committee for every epoch, under the plain scheme, by its keys of 32 bytes in any order. A participant's number is
-        the place of its key in ascending order."""
+        """One committee for every epoch, under the plain scheme, by its keys of 32 bytes in any order. A participant's number
+        is the place of its key in ascending order."""
         namespace, keys = bytes(namespace), [bytes(key) for key in keys]
         if not all(len(key) == 32 for key in keys):
             raise ValueError("a key has 32 bytes")
@@ -178,7 +180,8 @@ class Committees:
     def _vouched(size, epochs, sizes):
         if size not in (48, 64, 96):
             raise ValueError("a signature has 48, 64 or 96 bytes")
-        return Committees(f"vouched_{size}", [*_numbers(ctypes.c_uint64, 64, epochs), *_numbers(ctypes.c_uint32, 32, sizes)], size)
+        arguments = [*_numbers(ctypes.c_uint64, 64, epochs), *_numbers(ctypes.c_uint32, 32, sizes)]
+        return Committees(f"vouched_{size}", arguments, size)
 
     def _most_votes(self, length):
         """How many votes a stream of this length has at most, each as often as a message carries it: a vote takes at least a
@@ -226,13 +229,13 @@ class Committees:
 
 
 Evidence = collections.namedtuple("Evidence", "epoch view signer kind line")
-Evidence.__doc__ = "A participant who signed two contradictory votes in a round, the kind, and the line of the report, with the votes."
+Evidence.__doc__ = "A participant who signed two contradictory votes in a round, their kind, and the report's line with both."
 
 Split = collections.namedtuple("Split", "epoch view accused enough")
-Split.__doc__ = "A round whose certificates contradict, how many evidence accuses there, and f + 1; it accuses at least as many."
+Split.__doc__ = "A round whose certificates contradict, how many the evidence accuses there, and f + 1, which is no more."
 
 Report = collections.namedtuple("Report", "read evidence splits fault text")
-Report.__doc__ = "How many messages were read, the evidence and the splits, the offset of the fault or `None`, and the lines of both."
+Report.__doc__ = "How many messages were read, evidence and splits, the offset of the fault or `None`, and the lines of both."
 
 
 def audit(committees, stream):
@@ -255,9 +258,9 @@ def records(committees, stream):
     of a vote is the offset of the first message that carries it: the vote on its own, a certificate that lists it, or evidence
     with it. Of a nullify and a finalize the nullify is the first.
 
-    >>> stream = Encoder(64)
+    >>> stream, valid = Encoder(64), lambda vote, signer, signature: True
     >>> for signer, payload in ((1, 6), (2, 6), (2, 7)):
-    ...     stream.vote(Vote("notarize", 3, 10, 5, bytes([payload] * 32)), signer, bytes(64), lambda vote, signer, signature: True)
+    ...     stream.vote(Vote("notarize", 3, 10, 5, bytes([payload] * 32)), signer, bytes(64), valid)
     >>> records(Committees.every(64, 4), stream.encoded())
     [Record(epoch=3, view=10, signer=2, kind='conflicting-notarize', first_place=102, second_place=204)]
     """
@@ -323,11 +326,11 @@ def store(committees, stored, batch):
     n^2. If no round comes in two batches, call `store(committees, b"", batch)` for each and append the results to each other:
     that reads each batch once.
 
-    >>> committees, stored = Committees.every(64, 4), b""
+    >>> committees, stored, valid = Committees.every(64, 4), b"", lambda vote, signer, signature: True
     >>> for view in (10, 11):
     ...     batch = Encoder(64)
     ...     for payload in (6, 7):
-    ...         batch.vote(Vote("notarize", 3, view, 5, bytes([payload] * 32)), 2, bytes(64), lambda vote, signer, signature: True)
+    ...         batch.vote(Vote("notarize", 3, view, 5, bytes([payload] * 32)), 2, bytes(64), valid)
     ...     stored += store(committees, b"", batch.encoded())
     >>> [(it.view, it.signer) for it in audit(committees, stored).evidence]
     [(10, 2), (11, 2)]
@@ -341,11 +344,11 @@ def new_records(committees, stored, batch):
     length of what was stored in bytes. All other evidence was stored before. `ValueError` as for `store`. What was stored is
     audited by itself, and then with the batch, however short the batch is. Both are copied into one stream.
 
-    >>> committees, stored = Committees.every(64, 4), b""
+    >>> committees, stored, valid = Committees.every(64, 4), b"", lambda vote, signer, signature: True
     >>> for view in (10, 11):
     ...     batch = Encoder(64)
     ...     for payload in (6, 7):
-    ...         batch.vote(Vote("notarize", 3, view, 5, bytes([payload] * 32)), 2, bytes(64), lambda vote, signer, signature: True)
+    ...         batch.vote(Vote("notarize", 3, view, 5, bytes([payload] * 32)), 2, bytes(64), valid)
     ...     print([(it.view, it.signer) for it in new_records(committees, stored, batch.encoded())])
     ...     stored = store(committees, stored, batch.encoded())
     [(10, 2)]
@@ -462,7 +465,8 @@ def quorum(n):
 
 
 def _window(call, term_length, *views):
-    status = getattr(_library, f"simplex_{call}")(_checked(term_length, 32, "a term length"), *(_checked(it, 64, "a view") for it in views))
+    numbers = _checked(term_length, 32, "a term length"), *(_checked(it, 64, "a view") for it in views)
+    status = getattr(_library, f"simplex_{call}")(*numbers)
     if status == _NONE:
         raise ValueError("terms have no views, or views are past 2^64 - 1")
     return status == _YES
@@ -481,8 +485,8 @@ def admits_outbound(term_length, optimistic_views, current, pending):
 def issuance_floor(term_length, optimistic_views, view):
     """The earliest view from which messages of a view may be issued, or `None` where no lookahead bounds it."""
     floor = ctypes.c_uint64()
-    numbers = _checked(term_length, 32, "a term length"), _checked(optimistic_views, 64, "a number of views"), _checked(view, 64, "a view")
-    status = _library.simplex_issuance_floor(*numbers, ctypes.byref(floor))
+    views = _checked(optimistic_views, 64, "a number of views"), _checked(view, 64, "a view")
+    status = _library.simplex_issuance_floor(_checked(term_length, 32, "a term length"), *views, ctypes.byref(floor))
     if status == _NONE:
         raise ValueError("terms have no views")
     return floor.value if status == _YES else None

@@ -101,8 +101,8 @@ def counted():
 class Tests(unittest.TestCase):
     def test_sizes(self):
         for size in (48, 64, 96):
-            report = audit(Committees.every(size, 4), two_votes(10, size=size))
-            self.assertEqual([(it.epoch, it.view, it.signer, it.kind) for it in report.evidence], [(3, 10, 2, "conflicting-notarize")])
+            (found,) = audit(Committees.every(size, 4), two_votes(10, size=size)).evidence
+            self.assertEqual((found.epoch, found.view, found.signer, found.kind), (3, 10, 2, "conflicting-notarize"))
 
     def test_what_is_not_verified_accuses_nobody(self):
         report = audit(Committees.every(64, 4), two_votes(10, verify=lambda vote, signer, signature: False))
@@ -120,7 +120,8 @@ class Tests(unittest.TestCase):
 
     def test_what_is_signed_is_what_the_plain_scheme_verifies(self):
         for one, other in (("notarize", "notarize"), ("nullify", "finalize"), ("finalize", "finalize")):
-            votes = [Vote(one, 3, 10) if one == "nullify" else Vote(one, 3, 10, 5, b"\6" * 32), Vote(other, 3, 10, 5, b"\7" * 32)]
+            first = Vote(one, 3, 10) if one == "nullify" else Vote(one, 3, 10, 5, b"\6" * 32)
+            votes = [first, Vote(other, 3, 10, 5, b"\7" * 32)]
             report = audit(Committees.plain(b"test", [bytes(32)]), b"".join(map(plain_vote, votes)))
             self.assertEqual((report.read, len(report.evidence)), (2, 1))
 
@@ -143,14 +144,17 @@ class Tests(unittest.TestCase):
             self.assertEqual((report, len(report.splits)), (audit(committees, streams[1]), 1))
             self.assertEqual(asked, [(vote, it, b"\11" * size) for vote in (nullify, finalize) for it in range(3)])
             self.assertEqual(audit_deferred(committees, streams[1], lambda *what: False).text, "")
-        self.assertEqual(audit_deferred(Committees.every(64, 4), two_votes(10, verify=None), valid), audit(Committees.every(64, 4), two_votes(10)))
+        committees = Committees.every(64, 4)
+        self.assertEqual(audit_deferred(committees, two_votes(10, verify=None), valid), audit(committees, two_votes(10)))
 
     def test_places(self):
         for size in (48, 64, 96):
             committees, vote = Committees.every(size, 4), 38 + size
-            stream = two_votes(10, signer=1, size=size) + two_votes(11, size=size) + two_votes(10, size=size) + two_votes(11, size=size)
+            votes = ((10, 1), (11, 2), (10, 2), (11, 2))
+            stream = b"".join(two_votes(view, signer, size) for view, signer in votes)
             found = records(committees, stream)
-            self.assertEqual([it[:4] for it in found], [(it.epoch, it.view, it.signer, it.kind) for it in audit(committees, stream).evidence])
+            reported = [(it.epoch, it.view, it.signer, it.kind) for it in audit(committees, stream).evidence]
+            self.assertEqual([it[:4] for it in found], reported)
             self.assertEqual([it[4:] for it in found], [(0, vote), (4 * vote, 5 * vote), (2 * vote, 3 * vote)])
         self.assertEqual(records(Committees.plain(b"test", [bytes(32)]), b"\xff"), [])
         self.assertRaises(ValueError, records, Committees.every(64, 0), b"")
@@ -307,7 +311,8 @@ class Tests(unittest.TestCase):
 
     def test_new_records(self):
         committees = Committees.every(64, 4)
-        finalize, other, nullify = Vote("finalize", 3, 10, 5, b"\6" * 32), Vote("finalize", 3, 10, 5, b"\7" * 32), Vote("nullify", 3, 10)
+        finalize, other = (Vote("finalize", 3, 10, 5, payload) for payload in (b"\6" * 32, b"\7" * 32))
+        nullify = Vote("nullify", 3, 10)
 
         def batch(*votes):
             stream = Encoder(64)

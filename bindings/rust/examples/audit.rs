@@ -1,5 +1,6 @@
-//! Audits standard input under the plain scheme: `audit NAMESPACE KEY... < STREAM`. Each key has 64 hexadecimal digits. It ends with 0
-//! where the whole stream was read, 1 at a fault, 2 where the arguments are invalid, and 3 where reading, writing or memory fails.
+//! Audits standard input under the plain scheme: `audit NAMESPACE KEY... < STREAM`. Each key has 64 hexadecimal digits. It ends
+//! with 0 if the whole stream was read, 1 at a fault, 2 if the arguments are invalid, and 3 if reading, writing or memory
+//! fails.
 
 use simplex_audit::{audit, Committees, Error};
 use std::ffi::{OsStr, OsString};

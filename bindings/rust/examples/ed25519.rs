@@ -1,7 +1,7 @@
-//! Four participants sign votes by Ed25519. One notarizes two payloads, one nullifies a round and finalizes in it, and one forges a
-//! vote of another. Signatures are made and verified by OpenSSL's libcrypto. Then verification is deferred: of the same votes with
-//! an honest round before them those of suspects alone are verified. With an argument the program prints the first stream, and
-//! nothing else.
+//! Four participants sign votes by Ed25519. One notarizes two payloads, one nullifies a round and finalizes in it, and one
+//! forges a vote of another. Signatures are made and verified by OpenSSL's libcrypto. Then verification is deferred: of the
+//! same votes with an honest round before them those of suspects alone are verified. With an argument the program prints the
+//! first stream, and nothing else.
 
 use simplex_audit::{audit, audit_deferred, records, Committees, Deferred, Encoder, Error, Report, Size, Verifier, Vote};
 use std::cell::Cell;

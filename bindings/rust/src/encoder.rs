@@ -12,8 +12,8 @@ pub enum Vote {
 }
 
 impl Vote {
-    /// The bytes that are signed: the length of the namespace as a number, the namespace, and the vote's message. The namespace is
-    /// the base and behind it `_NOTARIZE`, `_NULLIFY` or `_FINALIZE`.
+    /// The bytes that are signed: the length of the namespace as a number, the namespace, and the vote's message. The namespace
+    /// is the base and behind it `_NOTARIZE`, `_NULLIFY` or `_FINALIZE`.
     pub fn signed_bytes(&self, base: &[u8]) -> Vec<u8> {
         let kind: &[u8] = match self {
             Vote::Notarize { .. } => b"_NOTARIZE",
@@ -89,8 +89,8 @@ impl Encoder {
         Ok(())
     }
 
-    /// Appends a certificate that lists these signers, in ascending order, with the signatures. `Error::Arguments` where there is no
-    /// signer, they do not ascend, or a signature has another size; nothing is written then.
+    /// Appends a certificate that lists these signers, in ascending order, with the signatures. `Error::Arguments` if there is
+    /// no signer, they do not ascend, or a signature has another size; nothing is written then.
     pub fn certificate(&mut self, vote: &Vote, listed: &[(u32, &[u8])], verifier: &dyn Verifier) -> Result<(), Error> {
         self.put_certificate(certificate_tag(vote), vote, listed, verifier)
     }

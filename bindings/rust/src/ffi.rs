@@ -1,8 +1,8 @@
 //! The calls of the C library (bindings/simplex_audit.h), over slices.
 //!
-//! Each pointer that is passed is that of a slice or a value that lives through the call, with the slice's length beside it; such
-//! a pointer is never null. What is written is borrowed by nothing else. A buffer is the unused capacity of a vector: a call
-//! reads nothing of it, and writes the items that it counts.
+//! Each pointer that is passed is that of a slice or a value that lives through the call, with the slice's length beside it;
+//! such a pointer is never null. What is written is borrowed by nothing else. A buffer is the unused capacity of a vector: a
+//! call reads nothing of it, and writes the items that it counts.
 
 use crate::bounds::Bounds;
 use crate::committees::{Committees, Members, Size};
@@ -407,7 +407,9 @@ pub(crate) fn leader(seed: Option<&[u8]>, participants: u32, term_length: u32, e
     let status = unsafe {
         match seed {
             None => simplex_leader(participants, term_length, epoch, view, &mut number),
-            Some(seed) => simplex_leader_shuffled(seed.as_ptr(), seed.len(), participants, term_length, epoch, view, &mut number),
+            Some(seed) => {
+                simplex_leader_shuffled(seed.as_ptr(), seed.len(), participants, term_length, epoch, view, &mut number)
+            }
         }
     };
     match status {

@@ -31,7 +31,7 @@ pub struct Ledger {
 }
 
 impl Ledger {
-    /// A ledger that begins with what an earlier one stored, or with no bytes. `Error::Arguments` where these bytes have a fault,
+    /// A ledger that begins with what an earlier one stored, or with no bytes. `Error::Arguments` if these bytes have a fault,
     /// behind which nothing would be read.
     pub fn resume(committees: Committees, stored: Vec<u8>) -> Result<Self, Error> {
         match audit(&committees, &stored)?.fault {
@@ -40,8 +40,9 @@ impl Ledger {
         }
     }
 
-    /// Adds the evidence of a batch. What is behind a fault of the batch is ignored. After an error the ledger is as before. To
-    /// learn what a batch adds, call [`new_records`](crate::new_records) with what is stored before. It reads all that is stored.
+    /// Adds the evidence of a batch, and reads all that is stored. What is behind a fault of the batch is ignored. After an
+    /// error the ledger is as before. To learn what a batch adds, call [`new_records`](crate::new_records) with what is stored
+    /// before.
     pub fn feed(&mut self, batch: &[u8]) -> Result<(), Error> {
         self.stored = ffi::store(&self.committees, &self.stored, batch)?;
         Ok(())

@@ -11,8 +11,8 @@ pub struct Record {
     pub signer: u32,
     /// How the votes contradict.
     pub kind: Kind,
-    /// The offset of the first message that carries the first vote: the vote on its own, a certificate that lists it, or evidence
-    /// with it. Of a nullify and a finalize the nullify is the first.
+    /// The offset of the first message that carries the first vote: the vote on its own, a certificate that lists it, or
+    /// evidence with it. Of a nullify and a finalize the nullify is the first.
     pub first_place: usize,
     /// The offset of the first message that carries the second vote. It may be before `first_place`, or the same.
     pub second_place: usize,

@@ -17,7 +17,7 @@ pub fn quorum(n: u32) -> u32 {
     ffi::quorum(n)
 }
 
-/// Whether a node in view `current` takes votes of the view `pending`. `Error::Arguments` where terms have no views, or the next
+/// Whether a node in view `current` takes votes of the view `pending`. `Error::Arguments` if terms have no views, or the next
 /// term's start plus the term length plus 1 is above 2^64 - 1.
 ///
 /// ```

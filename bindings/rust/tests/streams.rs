@@ -1,8 +1,8 @@
 //! Streams that an `Encoder` writes, and what is refused.
 
 use simplex_audit::{
-    audit, audit_deferred, new_records, records, version, views, Committees, Deferred, Encoder, Error, Kind, Ledger, Size, Split,
-    Vote,
+    audit, audit_deferred, new_records, records, version, views, Committees, Deferred, Encoder, Error, Kind, Ledger, Size,
+    Split, Vote,
 };
 use std::cell::RefCell;
 
@@ -75,7 +75,7 @@ fn places_of_votes() {
         let stream = fork(size, &every);
         let report = audit(&committees, stream.as_bytes()).unwrap();
         let found = records(&committees, stream.as_bytes()).unwrap();
-        // the finalization stands behind the nullification: its tag, round and count, and three signers with signatures and verdicts
+        // the finalization stands behind the nullification: tag, round and count, and three signers, signatures and verdicts
         let second = 5 + 3 * (2 + size.bytes());
         let places: Vec<_> = found.iter().map(|one| (one.first_place, one.second_place)).collect();
         assert_eq!(places, [(0, second); 3]);
