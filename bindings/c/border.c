@@ -821,6 +821,7 @@ static int is_member(uint32_t signer, size_t signature)
                        .signature = (int)signature, .epochs = epochs, .epochs_len = 2,
                        .sizes = sizes, .sizes_len = 2};
     size_t lines = audits(&in, SIMPLEX_WHOLE, 2, 0);
+    stores(&in);
     struct simplex_record record[1];
     struct simplex_suspect suspect[2];
     struct simplex_summary summary;
