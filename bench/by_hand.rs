@@ -118,9 +118,28 @@ fn compress(state: &mut [u32; 8], block: &[u8; 64]) {
     }
 }
 
+/// Appends a number in groups of seven bits.
+pub fn push_number(bytes: &mut Vec<u8>, mut number: u64) {
+    while number >= 128 {
+        bytes.push(number as u8 | 0x80);
+        number >>= 7;
+    }
+    bytes.push(number as u8);
+}
+
+/// What a stream holds.
+pub enum Message<'a> {
+    Vote(Subject<'a>, Attestation<'a>),
+    Certificate(Subject<'a>, Vec<Attestation<'a>>),
+    Evidence([(Subject<'a>, Attestation<'a>); 2]),
+}
+
+/// Reads messages, with signatures of this many bytes and certificates of at most this many participants.
 #[derive(Clone, Copy)]
-struct Reader<'a> {
-    rest: &'a [u8],
+pub struct Reader<'a> {
+    pub rest: &'a [u8],
+    signature_bytes: usize,
+    bound: u64,
 }
 
 impl<'a> Reader<'a> {
@@ -148,7 +167,7 @@ impl<'a> Reader<'a> {
     }
 
     fn attestation(&mut self) -> Option<Attestation<'a>> {
-        Some((self.number(32)? as u32, self.take(32)?))
+        Some((self.number(32)? as u32, self.take(self.signature_bytes)?))
     }
 
     /// What is signed: a round, and for any sort but a nullify a proposal.
@@ -164,16 +183,16 @@ impl<'a> Reader<'a> {
         Some(Subject { sort, round, proposal, message })
     }
 
-    fn certificate(&mut self, bound: u64) -> Option<Vec<Attestation<'a>>> {
+    fn certificate(&mut self) -> Option<Vec<Attestation<'a>>> {
         let count = self.number(32)?;
-        if count == 0 || count > bound {
+        if count == 0 || count > self.bound {
             return None;
         }
-        let mut listed = Vec::with_capacity((count as usize).min(self.rest.len() / 33));
+        let mut listed = Vec::with_capacity((count as usize).min(self.rest.len() / (1 + self.signature_bytes)));
         let mut next = 0;
         for _ in 0..count {
             let (signer, signature) = self.attestation()?;
-            if u64::from(signer) < next || u64::from(signer) >= bound {
+            if u64::from(signer) < next || u64::from(signer) >= self.bound {
                 return None;
             }
             next = u64::from(signer) + 1;
@@ -181,22 +200,63 @@ impl<'a> Reader<'a> {
         }
         Some(listed)
     }
+
+    fn message(&mut self) -> Option<Message<'a>> {
+        let tag = self.take(1)?[0];
+        Some(match tag {
+            0 | 3 | 5 => {
+                let subject = self.subject([Sort::Notarize, Sort::Nullify, Sort::Finalize][tag as usize / 2])?;
+                Message::Vote(subject, self.attestation()?)
+            }
+            1 | 2 | 4 | 6 => {
+                let subject = self.subject([Sort::Notarize, Sort::Notarize, Sort::Nullify, Sort::Finalize][tag as usize / 2])?;
+                Message::Certificate(subject, self.certificate()?)
+            }
+            7 | 8 | 9 => {
+                let (one, other) = match tag {
+                    7 => (Sort::Notarize, Sort::Notarize),
+                    8 => (Sort::Finalize, Sort::Finalize),
+                    _ => (Sort::Nullify, Sort::Finalize),
+                };
+                let first = (self.subject(one)?, self.attestation()?);
+                let second = (self.subject(other)?, self.attestation()?);
+                let is_same = one == other && first.0.proposal == second.0.proposal;
+                if first.0.round != second.0.round || first.1.0 != second.1.0 || is_same {
+                    return None;
+                }
+                Message::Evidence([first, second])
+            }
+            _ => return None,
+        })
+    }
+}
+
+/// The messages at the front. Where there is none, the rest stays as it is.
+impl<'a> Iterator for Reader<'a> {
+    type Item = Message<'a>;
+
+    fn next(&mut self) -> Option<Message<'a>> {
+        let mut behind = *self;
+        let message = behind.message()?;
+        *self = behind;
+        Some(message)
+    }
 }
 
 /// A signer and a signature.
-type Attestation<'a> = (u32, &'a [u8]);
+pub type Attestation<'a> = (u32, &'a [u8]);
 
-type Round = (u64, u64);
+pub type Round = (u64, u64);
 
 #[derive(Clone, Copy, PartialEq)]
-enum Sort {
+pub enum Sort {
     Notarize,
     Nullify,
     Finalize,
 }
 
 #[derive(Clone, Copy, PartialEq)]
-struct Proposal {
+pub struct Proposal {
     parent: u64,
     payload: [u8; 32],
 }
@@ -205,11 +265,11 @@ struct Proposal {
 const NONE: Proposal = Proposal { parent: 0, payload: [0; 32] };
 
 #[derive(Clone, Copy)]
-struct Subject<'a> {
-    sort: Sort,
-    round: Round,
-    proposal: Proposal,
-    message: &'a [u8],
+pub struct Subject<'a> {
+    pub sort: Sort,
+    pub round: Round,
+    pub proposal: Proposal,
+    pub message: &'a [u8],
 }
 
 struct Kept {
@@ -266,14 +326,36 @@ impl Tally {
     }
 }
 
-struct Committee {
+/// A committee, and how its signatures are verified.
+pub trait Scheme {
+    fn signature_bytes(&self) -> usize;
+
+    fn participants(&self) -> usize;
+
+    fn is_good(&self, hashed: &mut Vec<u8>, subject: &Subject, attestation: Attestation) -> bool;
+
+    fn faults(&self) -> usize {
+        (self.participants() - 1) / 3
+    }
+
+    fn is_certified(&self, hashed: &mut Vec<u8>, subject: &Subject, listed: &[Attestation]) -> bool {
+        listed.len() + self.faults() >= self.participants() && listed.iter().all(|one| self.is_good(hashed, subject, *one))
+    }
+}
+
+/// A committee under the plain scheme: the namespaces of the sorts, each with its length before it, and the keys.
+pub struct Plain {
     names: [Vec<u8>; 3],
     keys: Vec<[u8; 32]>,
 }
 
-impl Committee {
-    fn faults(&self) -> usize {
-        (self.keys.len() - 1) / 3
+impl Scheme for Plain {
+    fn signature_bytes(&self) -> usize {
+        32
+    }
+
+    fn participants(&self) -> usize {
+        self.keys.len()
     }
 
     fn is_good(&self, hashed: &mut Vec<u8>, subject: &Subject, (signer, signature): Attestation) -> bool {
@@ -287,41 +369,48 @@ impl Committee {
         hashed.extend_from_slice(subject.message);
         sha256(hashed) == signature
     }
-
-    fn is_certified(&self, hashed: &mut Vec<u8>, subject: &Subject, listed: &[Attestation]) -> bool {
-        listed.len() + self.faults() >= self.keys.len() && listed.iter().all(|one| self.is_good(hashed, subject, *one))
-    }
 }
 
-enum Committees {
-    Every(Committee),
-    Listed(BTreeMap<u64, Committee>),
+pub enum Committees<S> {
+    Every(S),
+    Listed(BTreeMap<u64, S>),
 }
 
-impl Committees {
-    fn get(&self, epoch: u64) -> Option<&Committee> {
+impl<S: Scheme> Committees<S> {
+    pub fn get(&self, epoch: u64) -> Option<&S> {
         match self {
             Committees::Every(committee) => Some(committee),
             Committees::Listed(committees) => committees.get(&epoch),
         }
     }
 
-    fn bound(&self) -> u64 {
+    fn greatest(&self) -> &S {
         match self {
-            Committees::Every(committee) => committee.keys.len() as u64,
-            Committees::Listed(committees) => committees.values().map(|committee| committee.keys.len()).max().unwrap() as u64,
+            Committees::Every(committee) => committee,
+            Committees::Listed(committees) => committees.values().max_by_key(|committee| committee.participants()).unwrap(),
         }
+    }
+
+    pub fn reader<'a>(&self, bytes: &'a [u8]) -> Reader<'a> {
+        let greatest = self.greatest();
+        Reader { rest: bytes, signature_bytes: greatest.signature_bytes(), bound: greatest.participants() as u64 }
     }
 }
 
-struct Auditor {
-    committees: Committees,
-    bound: u64,
+pub struct Auditor<S> {
+    committees: Committees<S>,
     rounds: BTreeMap<Round, Tally>,
     hashed: Vec<u8>,
+    /// How many messages were read, and the bytes that they take.
+    pub read: usize,
+    pub place: usize,
 }
 
-impl Auditor {
+impl<S: Scheme> Auditor<S> {
+    pub fn new(committees: Committees<S>) -> Self {
+        Auditor { committees, rounds: BTreeMap::new(), hashed: Vec::new(), read: 0, place: 0 }
+    }
+
     fn vote(&mut self, subject: &Subject, attestation: Attestation) {
         let Some(committee) = self.committees.get(subject.round.0) else {
             return;
@@ -353,54 +442,31 @@ impl Auditor {
         }
     }
 
-    /// Reads one message; `None` where there is none.
-    fn message(&mut self, reader: &mut Reader) -> Option<()> {
-        let tag = reader.take(1)?[0];
-        match tag {
-            0 | 3 | 5 => {
-                let subject = reader.subject([Sort::Notarize, Sort::Nullify, Sort::Finalize][tag as usize / 2])?;
-                let attestation = reader.attestation()?;
-                self.vote(&subject, attestation);
-            }
-            1 | 2 | 4 | 6 => {
-                let subject = reader.subject([Sort::Notarize, Sort::Notarize, Sort::Nullify, Sort::Finalize][tag as usize / 2])?;
-                let listed = reader.certificate(self.bound)?;
-                self.certificate(&subject, &listed);
-            }
-            7 | 8 | 9 => {
-                let (one, other) = match tag {
-                    7 => (Sort::Notarize, Sort::Notarize),
-                    8 => (Sort::Finalize, Sort::Finalize),
-                    _ => (Sort::Nullify, Sort::Finalize),
-                };
-                let (first, signed) = (reader.subject(one)?, reader.attestation()?);
-                let (second, signed_too) = (reader.subject(other)?, reader.attestation()?);
-                let is_same = one == other && first.proposal == second.proposal;
-                if first.round != second.round || signed.0 != signed_too.0 || is_same {
-                    return None;
+    fn message(&mut self, message: &Message) {
+        match message {
+            Message::Vote(subject, attestation) => self.vote(subject, *attestation),
+            Message::Certificate(subject, listed) => self.certificate(subject, listed),
+            Message::Evidence(votes) => {
+                for (subject, attestation) in votes {
+                    self.vote(subject, *attestation);
                 }
-                self.vote(&first, signed);
-                self.vote(&second, signed_too);
             }
-            _ => return None,
         }
-        Some(())
     }
 
-    /// Reads the messages at the front, and answers how many bytes they take.
-    fn messages(&mut self, bytes: &[u8]) -> usize {
-        let mut reader = Reader { rest: bytes };
-        while !reader.rest.is_empty() {
-            let mut next = reader;
-            if self.message(&mut next).is_none() {
-                break;
-            }
-            reader = next;
+    /// Reads the messages at the front of what is held, and drops their bytes.
+    pub fn advance(&mut self, held: &mut Vec<u8>) {
+        let mut reader = self.committees.reader(held);
+        for message in reader.by_ref() {
+            self.message(&message);
+            self.read += 1;
         }
-        bytes.len() - reader.rest.len()
+        let count = held.len() - reader.rest.len();
+        held.drain(..count);
+        self.place += count;
     }
 
-    fn text(&self) -> String {
+    pub fn text(&self) -> String {
         let (mut text, mut splits) = (String::new(), String::new());
         for ((epoch, view), tally) in &self.rounds {
             let [notarizes, nullifies, finalizes] = &tally.votes;
@@ -442,6 +508,22 @@ fn push(text: &mut String, proposal: &Proposal) {
     }
 }
 
+/// The committee of these keys, or nothing where there is none or one comes twice.
+pub fn plain(base: &[u8], mut keys: Vec<[u8; 32]>) -> Option<Plain> {
+    keys.sort();
+    if keys.is_empty() || keys.windows(2).any(|pair| pair[0] == pair[1]) {
+        return None;
+    }
+    let names = ["_NOTARIZE", "_NULLIFY", "_FINALIZE"].map(|suffix| {
+        let mut name = Vec::new();
+        push_number(&mut name, (base.len() + suffix.len()) as u64);
+        name.extend_from_slice(base);
+        name.extend_from_slice(suffix.as_bytes());
+        name
+    });
+    Some(Plain { names, keys })
+}
+
 fn key(text: &str) -> Option<[u8; 32]> {
     if text.len() != 64 || !text.bytes().all(|byte| byte.is_ascii_hexdigit()) {
         return None;
@@ -450,28 +532,11 @@ fn key(text: &str) -> Option<[u8; 32]> {
 }
 
 /// The committee whose keys these texts are.
-fn committee(base: &str, texts: &[String]) -> Option<Committee> {
-    let mut keys = texts.iter().map(|text| key(text)).collect::<Option<Vec<_>>>()?;
-    keys.sort();
-    if keys.is_empty() || keys.windows(2).any(|pair| pair[0] == pair[1]) {
-        return None;
-    }
-    let names = ["_NOTARIZE", "_NULLIFY", "_FINALIZE"].map(|suffix| {
-        let mut name = Vec::new();
-        let mut length = base.len() + suffix.len();
-        while length >= 128 {
-            name.push(length as u8 | 0x80);
-            length >>= 7;
-        }
-        name.push(length as u8);
-        name.extend_from_slice(base.as_bytes());
-        name.extend_from_slice(suffix.as_bytes());
-        name
-    });
-    Some(Committee { names, keys })
+fn committee(base: &str, texts: &[String]) -> Option<Plain> {
+    plain(base.as_bytes(), texts.iter().map(|text| key(text)).collect::<Option<_>>()?)
 }
 
-fn committees(arguments: &[String]) -> Option<Committees> {
+fn committees(arguments: &[String]) -> Option<Committees<Plain>> {
     let (base, mut texts) = arguments.split_first()?;
     if !texts.first()?.starts_with('@') {
         return Some(Committees::Every(committee(base, texts)?));
@@ -490,16 +555,6 @@ fn committees(arguments: &[String]) -> Option<Committees> {
     Some(Committees::Listed(listed))
 }
 
-/// The text of a whole stream, and the offset of its fault, for `bench/fuzz.rs`.
-#[allow(dead_code)]
-pub fn audit(base: &str, keys: &[String], stream: &[u8]) -> (String, Option<usize>) {
-    let committees = Committees::Every(committee(base, keys).unwrap());
-    let bound = committees.bound();
-    let mut auditor = Auditor { committees, bound, rounds: BTreeMap::new(), hashed: Vec::new() };
-    let place = auditor.messages(stream);
-    (auditor.text(), (place < stream.len()).then_some(place))
-}
-
 /// Ends with a status, and says why.
 fn end(status: i32, said: &str) -> ! {
     let _ = writeln!(std::io::stderr(), "{said}");
@@ -511,10 +566,8 @@ fn main() {
     let Some(committees) = arguments.and_then(|arguments| committees(&arguments)) else {
         end(2, "usage: audit NAMESPACE KEY...");
     };
-    let bound = committees.bound();
-    let mut auditor = Auditor { committees, bound, rounds: BTreeMap::new(), hashed: Vec::new() };
+    let mut auditor = Auditor::new(committees);
     let mut held: Vec<u8> = Vec::new();
-    let mut place = 0;
     loop {
         let piece = held.len().max(65536) as u64;
         match std::io::stdin().take(piece).read_to_end(&mut held) {
@@ -522,15 +575,13 @@ fn main() {
             Ok(_) => {}
             Err(_) => end(3, "audit: read failed"),
         }
-        let count = auditor.messages(&held);
-        held.drain(..count);
-        place += count;
+        auditor.advance(&mut held);
     }
     let mut output = std::io::stdout();
     if output.write_all(auditor.text().as_bytes()).and_then(|()| output.flush()).is_err() {
         end(3, "audit: write failed");
     }
     if !held.is_empty() {
-        end(1, &format!("audit: fault at byte {place}"));
+        end(1, &format!("audit: fault at byte {}", auditor.place));
     }
 }

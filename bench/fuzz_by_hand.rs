@@ -1,0 +1,217 @@
+//! The calls of the library by hand: an audit by the auditor of `by_hand.rs`, and the rest as docs/BINDINGS.md defines it, over the
+//! votes that its reader finds.
+
+#[allow(dead_code)]
+#[path = "by_hand.rs"]
+mod by_hand;
+
+use super::calls::{Committees, Record, Report, Summary, Suspect};
+use by_hand::{Attestation, Auditor, Message, Plain, Reader, Round, Scheme, Sort, Subject};
+use std::collections::{BTreeMap, HashMap, HashSet};
+
+pub use by_hand::{push_number, sha256};
+
+enum Committee {
+    Plain(Plain),
+    Vouched { signature: usize, participants: usize },
+}
+
+impl Scheme for Committee {
+    fn signature_bytes(&self) -> usize {
+        match self {
+            Committee::Plain(plain) => plain.signature_bytes(),
+            Committee::Vouched { signature, .. } => signature + 1,
+        }
+    }
+
+    fn participants(&self) -> usize {
+        match self {
+            Committee::Plain(plain) => plain.participants(),
+            Committee::Vouched { participants, .. } => *participants,
+        }
+    }
+
+    fn is_good(&self, hashed: &mut Vec<u8>, subject: &Subject, (signer, signature): Attestation) -> bool {
+        match self {
+            Committee::Plain(plain) => plain.is_good(hashed, subject, (signer, signature)),
+            Committee::Vouched { participants, .. } => (signer as usize) < *participants && signature.last() == Some(&1),
+        }
+    }
+}
+
+fn committees(of: &Committees) -> by_hand::Committees<Committee> {
+    let vouched = |signature: usize, size: u32| Committee::Vouched { signature, participants: size as usize };
+    match of {
+        Committees::Plain { base, keys } => by_hand::Committees::Every(Committee::Plain(by_hand::plain(base, keys.clone()).unwrap())),
+        Committees::Vouched { signature, epochs, sizes } if epochs.is_empty() => by_hand::Committees::Every(vouched(*signature, sizes[0])),
+        Committees::Vouched { signature, epochs, sizes } => {
+            by_hand::Committees::Listed(epochs.iter().copied().zip(sizes.iter().map(|size| vouched(*signature, *size))).collect())
+        }
+    }
+}
+
+/// The report of a stream, which is read in pieces, as the program reads it.
+pub fn audit(of: &Committees, stream: &[u8]) -> Report {
+    let (mut auditor, mut held) = (Auditor::new(committees(of)), Vec::new());
+    for piece in stream.chunks(1 + stream.len() / 3) {
+        held.extend_from_slice(piece);
+        auditor.advance(&mut held);
+    }
+    let (text, is_fault) = (auditor.text(), !held.is_empty());
+    let splits = text.lines().filter(|line| line.contains("split")).count();
+    let summary = Summary {
+        read: auditor.read,
+        evidence: text.lines().count() - splits,
+        splits,
+        faulted: usize::from(is_fault),
+        fault_place: if is_fault { auditor.place } else { 0 },
+        length: text.len(),
+    };
+    Report { text, summary }
+}
+
+/// A vote of a stream, where its message begins, and whether a certificate lists it.
+#[derive(Clone, Copy)]
+struct Vote<'a> {
+    subject: Subject<'a>,
+    attestation: Attestation<'a>,
+    place: usize,
+    is_listed: bool,
+}
+
+impl<'a> Vote<'a> {
+    fn key(&self) -> (Round, u32) {
+        (self.subject.round, self.attestation.0)
+    }
+
+    fn is_valid(&self, committees: &by_hand::Committees<Committee>) -> bool {
+        committees.get(self.subject.round.0).is_some_and(|it| it.is_good(&mut Vec::new(), &self.subject, self.attestation))
+    }
+
+    /// What two equal votes have in common.
+    fn value(&self) -> (u8, &'a [u8], Attestation<'a>) {
+        (self.subject.sort as u8, self.subject.message, self.attestation)
+    }
+
+    fn contradicts(&self, other: &Vote) -> bool {
+        match (self.subject.sort, other.subject.sort) {
+            (Sort::Nullify, Sort::Finalize) | (Sort::Finalize, Sort::Nullify) => true,
+            (Sort::Notarize, Sort::Notarize) | (Sort::Finalize, Sort::Finalize) => self.subject.message != other.subject.message,
+            _ => false,
+        }
+    }
+}
+
+/// The votes that a reader finds in a stream, in order, and the bytes behind its last message.
+fn votes<'a>(mut reader: Reader<'a>) -> (Vec<Vote<'a>>, &'a [u8]) {
+    let (length, mut votes) = (reader.rest.len(), Vec::new());
+    loop {
+        let place = length - reader.rest.len();
+        let mut put = |subject, attestation, is_listed| votes.push(Vote { subject, attestation, place, is_listed });
+        match reader.next() {
+            None => return (votes, reader.rest),
+            Some(Message::Vote(subject, attestation)) => put(subject, attestation, false),
+            Some(Message::Certificate(subject, listed)) => listed.iter().for_each(|one| put(subject, *one, true)),
+            Some(Message::Evidence(both)) => both.iter().for_each(|(subject, one)| put(*subject, *one, false)),
+        }
+    }
+}
+
+/// The votes by round and signer, each list in the order of the stream.
+fn by_signer<'a>(votes: impl Iterator<Item = Vote<'a>>) -> BTreeMap<(Round, u32), Vec<Vote<'a>>> {
+    let mut lists: BTreeMap<_, Vec<_>> = BTreeMap::new();
+    for vote in votes {
+        lists.entry(vote.key()).or_default().push(vote);
+    }
+    lists
+}
+
+/// The evidence of one signer in a round: its kind, and both votes, the earliest among those that contradict.
+fn evidence_of<'a>(votes: &[Vote<'a>]) -> Vec<(u32, [Vote<'a>; 2])> {
+    let first = |sort: Sort| votes.iter().find(|vote| vote.subject.sort == sort);
+    let twice = |sort: Sort| {
+        let earliest = first(sort)?;
+        votes.iter().find(|vote| vote.subject.sort == sort && vote.contradicts(earliest)).map(|other| [*earliest, *other])
+    };
+    let both = || Some([*first(Sort::Nullify)?, *first(Sort::Finalize)?]);
+    let kinds = [twice(Sort::Notarize), twice(Sort::Finalize), both()];
+    kinds.into_iter().zip(0..).filter_map(|(votes, kind)| Some((kind, votes?))).collect()
+}
+
+/// The evidence of some votes, in the order of a report.
+fn evidence<'a>(committees: &by_hand::Committees<Committee>, votes: &[Vote<'a>]) -> Vec<(u32, [Vote<'a>; 2])> {
+    let valid = votes.iter().copied().filter(|vote| vote.is_valid(committees));
+    by_signer(valid).values().flat_map(|of_signer| evidence_of(of_signer)).collect()
+}
+
+/// The evidence of a stream as records, and the numbers of its report.
+pub fn records(of: &Committees, stream: &[u8]) -> (Vec<Record>, Summary) {
+    let committees = committees(of);
+    let (votes, _) = votes(committees.reader(stream));
+    let mut places = HashMap::new();
+    for vote in &votes {
+        places.entry(vote.value()).or_insert(vote.place);
+    }
+    let record = |(kind, [first, second]): (u32, [Vote; 2])| {
+        let ((epoch, view), signer) = first.key();
+        Record { epoch, view, first_place: places[&first.value()], second_place: places[&second.value()], signer, kind }
+    };
+    (evidence(&committees, &votes).into_iter().map(record).collect(), audit(of, stream).summary)
+}
+
+/// Where the verdicts of a stream stand.
+pub fn verdict_places(of: &Committees, stream: &[u8]) -> Vec<usize> {
+    let Committees::Vouched { signature, .. } = of else {
+        return Vec::new();
+    };
+    let (votes, _) = votes(committees(of).reader(stream));
+    votes.iter().map(|vote| offset(stream, vote.attestation.1) + signature).collect()
+}
+
+/// Where a part of a stream begins.
+fn offset(stream: &[u8], part: &[u8]) -> usize {
+    part.as_ptr() as usize - stream.as_ptr() as usize
+}
+
+/// The attestations of a stream that have to be verified: those of suspects in their rounds, and of certificates of these rounds.
+pub fn suspects(of: &Committees, stream: &[u8]) -> Vec<Suspect> {
+    let Committees::Vouched { signature, .. } = of else {
+        return Vec::new();
+    };
+    let committees = committees(of);
+    let (mut votes, _) = votes(committees.reader(stream));
+    votes.retain(|vote| of.size(vote.subject.round.0).is_some_and(|size| vote.attestation.0 < size));
+    let is_suspect = |votes: &&Vec<Vote>| votes.iter().any(|one| votes.iter().any(|other| one.contradicts(other)));
+    let suspects: HashSet<_> = by_signer(votes.iter().copied()).values().filter(is_suspect).map(|votes| votes[0].key()).collect();
+    let rounds: HashSet<_> = suspects.iter().map(|(round, _)| *round).collect();
+    votes.retain(|vote| suspects.contains(&vote.key()) || vote.is_listed && rounds.contains(&vote.subject.round));
+    let suspect = |vote: &Vote| Suspect {
+        epoch: vote.subject.round.0,
+        view: vote.subject.round.1,
+        verdict_place: offset(stream, vote.attestation.1) + signature,
+        subject_place: offset(stream, vote.subject.message),
+        subject_length: vote.subject.message.len(),
+        signer: vote.attestation.0,
+        kind: vote.subject.sort as u32,
+    };
+    votes.iter().map(suspect).collect()
+}
+
+/// The evidence of what is stored and of a batch behind it, as messages.
+pub fn store(of: &Committees, stored: &[u8], batch: &[u8]) -> Vec<u8> {
+    let committees = committees(of);
+    let (mut all, behind) = votes(committees.reader(stored));
+    if behind.is_empty() {
+        all.extend(votes(committees.reader(batch)).0);
+    }
+    let mut messages = Vec::new();
+    for (kind, both) in evidence(&committees, &all) {
+        messages.push(7 + kind as u8);
+        for vote in both {
+            messages.extend_from_slice(vote.subject.message);
+            push_number(&mut messages, u64::from(vote.attestation.0));
+            messages.extend_from_slice(vote.attestation.1);
+        }
+    }
+    messages
+}

@@ -1,0 +1,137 @@
+//! The calls of the static library (bindings/simplex_audit.h) that take streams. A call gets a short buffer, and where that does not
+//! suffice, once more one that just does.
+
+use super::calls::{Committees, Record, Report, Summary, Suspect};
+
+/// An audit or a list of records: the committees in two slices, the stream, a buffer and the summary.
+type Read<A, B, T> = unsafe extern "C" fn(*const A, usize, *const B, usize, *const u8, usize, *mut T, usize, *mut Summary) -> u32;
+/// A list of suspects, whose number is written last.
+type List = unsafe extern "C" fn(*const u64, usize, *const u32, usize, *const u8, usize, *mut Suspect, usize, *mut usize) -> u32;
+/// What is stored and a batch, a buffer, and the number of its bytes that is written.
+type Store<A, B> = unsafe extern "C" fn(*const A, usize, *const B, usize, *const u8, usize, *const u8, usize, *mut u8, usize, *mut usize) -> u32;
+
+macro_rules! declare {
+    ($first:ty, $second:ty, $audit:ident, $records:ident, $store:ident) => {
+        unsafe extern "C" {
+            fn $audit(
+                a: *const $first, a_len: usize, b: *const $second, b_len: usize, stream: *const u8, stream_len: usize,
+                text: *mut u8, text_len: usize, summary: *mut Summary,
+            ) -> u32;
+            fn $records(
+                a: *const $first, a_len: usize, b: *const $second, b_len: usize, stream: *const u8, stream_len: usize,
+                records: *mut Record, records_len: usize, summary: *mut Summary,
+            ) -> u32;
+            fn $store(
+                a: *const $first, a_len: usize, b: *const $second, b_len: usize, stored: *const u8, stored_len: usize,
+                batch: *const u8, batch_len: usize, evidence: *mut u8, evidence_len: usize, size: *mut usize,
+            ) -> u32;
+        }
+    };
+    ($suspects:ident) => {
+        unsafe extern "C" {
+            fn $suspects(
+                epochs: *const u64, epochs_len: usize, sizes: *const u32, sizes_len: usize, stream: *const u8, stream_len: usize,
+                records: *mut Suspect, records_len: usize, needed: *mut usize,
+            ) -> u32;
+        }
+    };
+}
+
+declare!(u8, u8, simplex_audit_plain, simplex_records_plain, simplex_store_plain);
+declare!(u64, u32, simplex_audit_vouched_48, simplex_records_vouched_48, simplex_store_vouched_48);
+declare!(u64, u32, simplex_audit_vouched_64, simplex_records_vouched_64, simplex_store_vouched_64);
+declare!(u64, u32, simplex_audit_vouched_96, simplex_records_vouched_96, simplex_store_vouched_96);
+declare!(simplex_suspects_vouched_48);
+declare!(simplex_suspects_vouched_64);
+declare!(simplex_suspects_vouched_96);
+
+/// What a call writes to a buffer, and its status. The call returns the status and the length that is needed.
+fn written<T: Clone + Default>(length: usize, mut call: impl FnMut(&mut [T]) -> (u32, usize)) -> (u32, Vec<T>) {
+    const SHORT: u32 = 4;
+    let mut buffer = vec![T::default(); length];
+    let (status, needed) = call(&mut buffer);
+    assert_eq!(status == SHORT, needed > length);
+    buffer.resize(needed, T::default());
+    (if status == SHORT { call(&mut buffer).0 } else { status }, buffer)
+}
+
+fn read<A, B, T: Clone + Default>(call: Read<A, B, T>, (a, b): (&[A], &[B]), stream: &[u8], count: fn(&Summary) -> usize) -> (Vec<T>, Summary) {
+    let mut summary = Summary::default();
+    let (status, buffer) = written(20, |buffer| {
+        let (stream, length) = (stream.as_ptr(), stream.len());
+        let status =
+            unsafe { call(a.as_ptr(), a.len(), b.as_ptr(), b.len(), stream, length, buffer.as_mut_ptr(), buffer.len(), &mut summary) };
+        (status, count(&summary))
+    });
+    assert!(status == summary.faulted as u32 && status < 2, "status {status}");
+    (buffer, summary)
+}
+
+fn store_by<A, B>(call: Store<A, B>, (a, b): (&[A], &[B]), stored: &[u8], batch: &[u8]) -> Vec<u8> {
+    let (status, evidence) = written(20, |buffer: &mut [u8]| {
+        let (old, old_length, new, new_length) = (stored.as_ptr(), stored.len(), batch.as_ptr(), batch.len());
+        let (to, room, mut size) = (buffer.as_mut_ptr(), buffer.len(), 0);
+        let status = unsafe { call(a.as_ptr(), a.len(), b.as_ptr(), b.len(), old, old_length, new, new_length, to, room, &mut size) };
+        (status, size)
+    });
+    assert_eq!(status, 0);
+    evidence
+}
+
+/// That of three which has signatures of this many bytes.
+fn of_size<T>(signature: usize, [of_48, of_64, of_96]: [T; 3]) -> T {
+    match signature {
+        48 => of_48,
+        64 => of_64,
+        _ => of_96,
+    }
+}
+
+pub fn audit(committees: &Committees, stream: &[u8]) -> Report {
+    let count = |summary: &Summary| summary.length;
+    let (text, summary) = match committees {
+        Committees::Plain { base, keys } => read(simplex_audit_plain, (base, keys.as_flattened()), stream, count),
+        Committees::Vouched { signature, epochs, sizes } => {
+            let calls: [Read<_, _, _>; 3] = [simplex_audit_vouched_48, simplex_audit_vouched_64, simplex_audit_vouched_96];
+            read(of_size(*signature, calls), (epochs, sizes), stream, count)
+        }
+    };
+    Report { text: String::from_utf8(text).unwrap(), summary }
+}
+
+pub fn records(committees: &Committees, stream: &[u8]) -> (Vec<Record>, Summary) {
+    let count = |summary: &Summary| summary.evidence;
+    match committees {
+        Committees::Plain { base, keys } => read(simplex_records_plain, (base, keys.as_flattened()), stream, count),
+        Committees::Vouched { signature, epochs, sizes } => {
+            let calls: [Read<_, _, _>; 3] = [simplex_records_vouched_48, simplex_records_vouched_64, simplex_records_vouched_96];
+            read(of_size(*signature, calls), (epochs, sizes), stream, count)
+        }
+    }
+}
+
+/// The plain scheme has no such call.
+pub fn suspects(committees: &Committees, stream: &[u8]) -> Vec<Suspect> {
+    let Committees::Vouched { signature, epochs, sizes } = committees else {
+        return Vec::new();
+    };
+    let calls: [List; 3] = [simplex_suspects_vouched_48, simplex_suspects_vouched_64, simplex_suspects_vouched_96];
+    let call = of_size(*signature, calls);
+    let (status, suspects) = written(20, |buffer: &mut [Suspect]| {
+        let (stream, length, to, room, mut needed) = (stream.as_ptr(), stream.len(), buffer.as_mut_ptr(), buffer.len(), 0);
+        let status = unsafe { call(epochs.as_ptr(), epochs.len(), sizes.as_ptr(), sizes.len(), stream, length, to, room, &mut needed) };
+        (status, needed)
+    });
+    assert_eq!(status, 0);
+    suspects
+}
+
+pub fn store(committees: &Committees, stored: &[u8], batch: &[u8]) -> Vec<u8> {
+    match committees {
+        Committees::Plain { base, keys } => store_by(simplex_store_plain, (base, keys.as_flattened()), stored, batch),
+        Committees::Vouched { signature, epochs, sizes } => {
+            let calls: [Store<_, _>; 3] = [simplex_store_vouched_48, simplex_store_vouched_64, simplex_store_vouched_96];
+            store_by(of_size(*signature, calls), (epochs, sizes), stored, batch)
+        }
+    }
+}
