@@ -1,6 +1,6 @@
-//! Compares the static library with the auditor by hand, on random and mutated streams: `fuzz SECONDS THREADS SEED`. It ends with
-//! status 1 at the first stream on which they differ, and prints it. Built with `--cfg alone` it compares the auditor by hand with that
-//! of the folder `right`, so that an auditor that is wrong can be tried without the library.
+//! Compares the static library with the auditor by hand, on random and mutated streams: `fuzz SECONDS THREADS SEED`. It ends
+//! with status 1 at the first stream on which they differ, and prints it. Built with `--cfg alone` it compares the auditor by
+//! hand with that of the folder `right`, so that a wrong auditor can be tried without the library.
 
 #[path = "fuzz_by_hand.rs"]
 mod by_hand;
@@ -73,8 +73,8 @@ fn compare_report(committees: &Committees, stream: &[u8], counts: &Counts) -> Re
     equal("audit what is stored", (evidence(&again), again.summary.faulted), (evidence(&report), 0))
 }
 
-/// What is stored of a stream in two batches, and of a second batch where what is stored was cut, with the rest before the batch, or
-/// damaged. Nothing is read behind a fault in what is stored.
+/// What is stored of a stream in two batches, and of a second batch where what is stored was cut, with the rest before the
+/// batch, or damaged. Nothing is read behind a fault in what is stored.
 fn compare_batches(random: &mut Random, committees: &Committees, stream: &[u8]) -> Result<(), String> {
     let (first, second) = stream.split_at(random.below(stream.len() as u64 + 1) as usize);
     let mut stored = library::store(committees, &[], first);

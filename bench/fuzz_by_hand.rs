@@ -1,5 +1,5 @@
-//! The calls of the library by hand: an audit by the auditor of `by_hand.rs`, and the rest as docs/BINDINGS.md defines it, over the
-//! votes that its reader finds.
+//! The calls of the library by hand: an audit by the auditor of `by_hand.rs`, and the rest as docs/BINDINGS.md defines it, over
+//! the votes that its reader finds.
 
 #[allow(dead_code)]
 #[path = "by_hand.rs"]
@@ -42,11 +42,15 @@ impl Scheme for Committee {
 fn committees(of: &Committees) -> by_hand::Committees<Committee> {
     let vouched = |signature: usize, size: u32| Committee::Vouched { signature, participants: size as usize };
     match of {
-        Committees::Plain { base, keys } => by_hand::Committees::Every(Committee::Plain(by_hand::plain(base, keys.clone()).unwrap())),
-        Committees::Vouched { signature, epochs, sizes } if epochs.is_empty() => by_hand::Committees::Every(vouched(*signature, sizes[0])),
-        Committees::Vouched { signature, epochs, sizes } => {
-            by_hand::Committees::Listed(epochs.iter().copied().zip(sizes.iter().map(|size| vouched(*signature, *size))).collect())
+        Committees::Plain { base, keys } => {
+            by_hand::Committees::Every(Committee::Plain(by_hand::plain(base, keys.clone()).unwrap()))
         }
+        Committees::Vouched { signature, epochs, sizes } if epochs.is_empty() => {
+            by_hand::Committees::Every(vouched(*signature, sizes[0]))
+        }
+        Committees::Vouched { signature, epochs, sizes } => by_hand::Committees::Listed(
+            epochs.iter().copied().zip(sizes.iter().map(|size| vouched(*signature, *size))).collect(),
+        ),
     }
 }
 
@@ -96,7 +100,9 @@ impl<'a> Vote<'a> {
     fn contradicts(&self, other: &Vote) -> bool {
         match (self.subject.sort, other.subject.sort) {
             (Sort::Nullify, Sort::Finalize) | (Sort::Finalize, Sort::Nullify) => true,
-            (Sort::Notarize, Sort::Notarize) | (Sort::Finalize, Sort::Finalize) => self.subject.message != other.subject.message,
+            (Sort::Notarize, Sort::Notarize) | (Sort::Finalize, Sort::Finalize) => {
+                self.subject.message != other.subject.message
+            }
             _ => false,
         }
     }
@@ -173,7 +179,8 @@ fn offset(stream: &[u8], part: &[u8]) -> usize {
     part.as_ptr() as usize - stream.as_ptr() as usize
 }
 
-/// The attestations of a stream that have to be verified: those of suspects in their rounds, and of certificates of these rounds.
+/// The attestations of a stream that have to be verified: those of suspects in their rounds, and of certificates of these
+/// rounds.
 pub fn suspects(of: &Committees, stream: &[u8]) -> Vec<Suspect> {
     let Committees::Vouched { signature, .. } = of else {
         return Vec::new();
@@ -182,7 +189,8 @@ pub fn suspects(of: &Committees, stream: &[u8]) -> Vec<Suspect> {
     let (mut votes, _) = votes(committees.reader(stream));
     votes.retain(|vote| of.size(vote.subject.round.0).is_some_and(|size| vote.attestation.0 < size));
     let is_suspect = |votes: &&Vec<Vote>| votes.iter().any(|one| votes.iter().any(|other| one.contradicts(other)));
-    let suspects: HashSet<_> = by_signer(votes.iter().copied()).values().filter(is_suspect).map(|votes| votes[0].key()).collect();
+    let suspects: HashSet<_> =
+        by_signer(votes.iter().copied()).values().filter(is_suspect).map(|votes| votes[0].key()).collect();
     let rounds: HashSet<_> = suspects.iter().map(|(round, _)| *round).collect();
     votes.retain(|vote| suspects.contains(&vote.key()) || vote.is_listed && rounds.contains(&vote.subject.round));
     let suspect = |vote: &Vote| Suspect {

@@ -1,14 +1,18 @@
-//! The calls of the static library (bindings/simplex_audit.h) that take streams. A call gets a short buffer, and where that does not
-//! suffice, once more one that just does.
+//! The calls of the static library (bindings/simplex_audit.h) that take streams. A call gets a short buffer first. If that does
+//! not suffice, it is made again with one that just does.
 
 use super::calls::{Committees, Record, Report, Summary, Suspect};
 
 /// An audit or a list of records: the committees in two slices, the stream, a buffer and the summary.
-type Read<A, B, T> = unsafe extern "C" fn(*const A, usize, *const B, usize, *const u8, usize, *mut T, usize, *mut Summary) -> u32;
+type Read<A, B, T> =
+    unsafe extern "C" fn(*const A, usize, *const B, usize, *const u8, usize, *mut T, usize, *mut Summary) -> u32;
 /// A list of suspects, whose number is written last.
-type List = unsafe extern "C" fn(*const u64, usize, *const u32, usize, *const u8, usize, *mut Suspect, usize, *mut usize) -> u32;
+type List =
+    unsafe extern "C" fn(*const u64, usize, *const u32, usize, *const u8, usize, *mut Suspect, usize, *mut usize) -> u32;
 /// What is stored and a batch, a buffer, and the number of its bytes that is written.
-type Store<A, B> = unsafe extern "C" fn(*const A, usize, *const B, usize, *const u8, usize, *const u8, usize, *mut u8, usize, *mut usize) -> u32;
+type Store<A, B> = unsafe extern "C" fn(
+    *const A, usize, *const B, usize, *const u8, usize, *const u8, usize, *mut u8, usize, *mut usize,
+) -> u32;
 
 macro_rules! declare {
     ($first:ty, $second:ty, $audit:ident, $records:ident, $store:ident) => {
@@ -30,8 +34,8 @@ macro_rules! declare {
     ($suspects:ident) => {
         unsafe extern "C" {
             fn $suspects(
-                epochs: *const u64, epochs_len: usize, sizes: *const u32, sizes_len: usize, stream: *const u8, stream_len: usize,
-                records: *mut Suspect, records_len: usize, needed: *mut usize,
+                epochs: *const u64, epochs_len: usize, sizes: *const u32, sizes_len: usize,
+                stream: *const u8, stream_len: usize, records: *mut Suspect, records_len: usize, needed: *mut usize,
             ) -> u32;
         }
     };
@@ -55,12 +59,14 @@ fn written<T: Clone + Default>(length: usize, mut call: impl FnMut(&mut [T]) -> 
     (if status == SHORT { call(&mut buffer).0 } else { status }, buffer)
 }
 
-fn read<A, B, T: Clone + Default>(call: Read<A, B, T>, (a, b): (&[A], &[B]), stream: &[u8], count: fn(&Summary) -> usize) -> (Vec<T>, Summary) {
+/// What an audit or a list of records writes. The summary has the length that it needs at `count`.
+fn read<A, B, T: Clone + Default>(
+    call: Read<A, B, T>, (a, b): (&[A], &[B]), stream: &[u8], count: fn(&Summary) -> usize,
+) -> (Vec<T>, Summary) {
     let mut summary = Summary::default();
     let (status, buffer) = written(20, |buffer| {
-        let (stream, length) = (stream.as_ptr(), stream.len());
-        let status =
-            unsafe { call(a.as_ptr(), a.len(), b.as_ptr(), b.len(), stream, length, buffer.as_mut_ptr(), buffer.len(), &mut summary) };
+        let (stream, length, to, room) = (stream.as_ptr(), stream.len(), buffer.as_mut_ptr(), buffer.len());
+        let status = unsafe { call(a.as_ptr(), a.len(), b.as_ptr(), b.len(), stream, length, to, room, &mut summary) };
         (status, count(&summary))
     });
     assert!(status == summary.faulted as u32 && status < 2, "status {status}");
@@ -71,7 +77,8 @@ fn store_by<A, B>(call: Store<A, B>, (a, b): (&[A], &[B]), stored: &[u8], batch:
     let (status, evidence) = written(20, |buffer: &mut [u8]| {
         let (old, old_length, new, new_length) = (stored.as_ptr(), stored.len(), batch.as_ptr(), batch.len());
         let (to, room, mut size) = (buffer.as_mut_ptr(), buffer.len(), 0);
-        let status = unsafe { call(a.as_ptr(), a.len(), b.as_ptr(), b.len(), old, old_length, new, new_length, to, room, &mut size) };
+        let (a, a_length, b, b_length) = (a.as_ptr(), a.len(), b.as_ptr(), b.len());
+        let status = unsafe { call(a, a_length, b, b_length, old, old_length, new, new_length, to, room, &mut size) };
         (status, size)
     });
     assert_eq!(status, 0);
@@ -104,7 +111,8 @@ pub fn records(committees: &Committees, stream: &[u8]) -> (Vec<Record>, Summary)
     match committees {
         Committees::Plain { base, keys } => read(simplex_records_plain, (base, keys.as_flattened()), stream, count),
         Committees::Vouched { signature, epochs, sizes } => {
-            let calls: [Read<_, _, _>; 3] = [simplex_records_vouched_48, simplex_records_vouched_64, simplex_records_vouched_96];
+            let calls: [Read<_, _, _>; 3] =
+                [simplex_records_vouched_48, simplex_records_vouched_64, simplex_records_vouched_96];
             read(of_size(*signature, calls), (epochs, sizes), stream, count)
         }
     }
@@ -118,8 +126,9 @@ pub fn suspects(committees: &Committees, stream: &[u8]) -> Vec<Suspect> {
     let calls: [List; 3] = [simplex_suspects_vouched_48, simplex_suspects_vouched_64, simplex_suspects_vouched_96];
     let call = of_size(*signature, calls);
     let (status, suspects) = written(20, |buffer: &mut [Suspect]| {
+        let (epochs, epochs_length, sizes, sizes_length) = (epochs.as_ptr(), epochs.len(), sizes.as_ptr(), sizes.len());
         let (stream, length, to, room, mut needed) = (stream.as_ptr(), stream.len(), buffer.as_mut_ptr(), buffer.len(), 0);
-        let status = unsafe { call(epochs.as_ptr(), epochs.len(), sizes.as_ptr(), sizes.len(), stream, length, to, room, &mut needed) };
+        let status = unsafe { call(epochs, epochs_length, sizes, sizes_length, stream, length, to, room, &mut needed) };
         (status, needed)
     });
     assert_eq!(status, 0);

@@ -42,7 +42,10 @@ impl Random {
         match self.below(6) {
             0 | 1 => self.below(4),
             2 => (1 << (7 * (1 + self.below(9)))) - 1 + self.below(2),
-            3 => self.pick(&[1 << 31, 1 << 32, 1 << 53, 1 << 62, 1 << 63, u64::MAX]).wrapping_sub(1).saturating_add(self.below(3)),
+            3 => self
+                .pick(&[1 << 31, 1 << 32, 1 << 53, 1 << 62, 1 << 63, u64::MAX])
+                .wrapping_sub(1)
+                .saturating_add(self.below(3)),
             4 => u64::MAX - self.below(3),
             _ => self.next() >> self.below(64),
         }
@@ -131,7 +134,13 @@ fn scene<'a>(random: &mut Random, committees: &'a Committees) -> Scene<'a> {
     let rounds = (0..1 + random.below(3)).map(|_| (epoch(random, committees), random.pick(&views))).collect();
     let mut other = payload;
     other[random.below(32) as usize] ^= 1 << random.below(8);
-    Scene { committees, keys, rounds, parents: [parent, random.pick(&[parent, parent ^ (1 << 63), parent ^ 1])], payloads: [payload, other] }
+    Scene {
+        committees,
+        keys,
+        rounds,
+        parents: [parent, random.pick(&[parent, parent ^ (1 << 63), parent ^ 1])],
+        payloads: [payload, other],
+    }
 }
 
 impl Scene<'_> {
@@ -161,7 +170,11 @@ impl Scene<'_> {
             }
             Committees::Plain { base, .. } => {
                 let of = if is_valid || random.one_in(2) { signer } else { random.below(self.keys.len() as u64) };
-                let kind = if is_valid || random.one_in(2) { kind } else { random.pick(&[Kind::Notarize, Kind::Nullify, Kind::Finalize]) };
+                let kind = if is_valid || random.one_in(2) {
+                    kind
+                } else {
+                    random.pick(&[Kind::Notarize, Kind::Nullify, Kind::Finalize])
+                };
                 let name = [&b"_NOTARIZE"[..], b"_NULLIFY", b"_FINALIZE"][kind as usize];
                 let mut signed = Vec::new();
                 push_number(&mut signed, (base.len() + name.len()) as u64);
@@ -176,7 +189,15 @@ impl Scene<'_> {
         }
     }
 
-    fn put_attestation(&self, random: &mut Random, bytes: &mut Vec<u8>, kind: Kind, signer: u64, subject: &[u8], is_valid: bool) {
+    fn put_attestation(
+        &self,
+        random: &mut Random,
+        bytes: &mut Vec<u8>,
+        kind: Kind,
+        signer: u64,
+        subject: &[u8],
+        is_valid: bool,
+    ) {
         put_number(random, bytes, signer);
         bytes.extend(self.signature(random, kind, signer, subject, is_valid));
     }
@@ -251,7 +272,9 @@ impl Scene<'_> {
                 let (signer, subject) = (self.signer(random, round), self.subject(random, kind, round));
                 self.put_vote(random, bytes, kind, signer, &subject);
             }
-            1 | 2 | 4 | 6 => self.put_certificate(random, bytes, [Notarize, Notarize, Nullify, Finalize][tag as usize / 2], round),
+            1 | 2 | 4 | 6 => {
+                self.put_certificate(random, bytes, [Notarize, Notarize, Nullify, Finalize][tag as usize / 2], round)
+            }
             7 => self.put_evidence(random, bytes, [Notarize, Notarize], round),
             8 => self.put_evidence(random, bytes, [Finalize, Finalize], round),
             _ => self.put_evidence(random, bytes, [Nullify, Finalize], round),
