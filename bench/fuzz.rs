@@ -41,7 +41,7 @@ fn hexadecimal(bytes: &[u8]) -> String {
     })
 }
 
-/// Nothing where both are equal, and else what shows the difference.
+/// Nothing if both are equal, else what shows the difference.
 fn equal<T: PartialEq + Debug>(call: &str, library: T, by_hand: T) -> Result<(), String> {
     if library == by_hand { Ok(()) } else { Err(format!("{call}\nlibrary: {library:?}\nby hand: {by_hand:?}")) }
 }
@@ -73,8 +73,8 @@ fn compare_report(committees: &Committees, stream: &[u8], counts: &Counts) -> Re
     equal("audit what is stored", (evidence(&again), again.summary.faulted), (evidence(&report), 0))
 }
 
-/// What is stored of a stream in two batches, and of a second batch where what is stored was cut, with the rest before the
-/// batch, or damaged. Nothing is read behind a fault in what is stored.
+/// What is stored of a stream in two batches; and of the second batch if what is stored was damaged, or cut and the rest of it
+/// stands before the batch. Nothing is read behind a fault in what is stored.
 fn compare_batches(random: &mut Random, committees: &Committees, stream: &[u8]) -> Result<(), String> {
     let (first, second) = stream.split_at(random.below(stream.len() as u64 + 1) as usize);
     let mut stored = library::store(committees, &[], first);
@@ -88,7 +88,7 @@ fn compare_batches(random: &mut Random, committees: &Committees, stream: &[u8]) 
     equal("store behind damage", library::store(committees, &stored, second), by_hand::store(committees, &stored, second))
 }
 
-/// The attestations that have to be verified; and the report, with other verdicts of all others.
+/// The attestations that have to be verified, and the report with any verdicts of the others.
 fn compare_suspects(random: &mut Random, committees: &Committees, stream: &[u8]) -> Result<(), String> {
     let suspects = library::suspects(committees, stream);
     equal("suspects", &suspects, &by_hand::suspects(committees, stream))?;
@@ -103,7 +103,7 @@ fn compare_suspects(random: &mut Random, committees: &Committees, stream: &[u8])
     equal("audit with other verdicts", library::audit(committees, &others), by_hand::audit(committees, stream))
 }
 
-/// What a thread does until there is a difference, which it returns, or the others are over.
+/// Compares until there is a difference, which it returns, or it is over.
 fn compare(seed: u64, is_over: impl Fn() -> bool, counts: &Counts) -> Result<(), String> {
     let mut random = Random(seed);
     while !is_over() {

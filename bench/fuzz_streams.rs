@@ -102,6 +102,8 @@ enum Kind {
     Finalize,
 }
 
+const KINDS: [Kind; 3] = [Kind::Notarize, Kind::Nullify, Kind::Finalize];
+
 /// What the messages of a stream are about: few rounds and few proposals, so that votes contradict and certificates too.
 struct Scene<'a> {
     committees: &'a Committees,
@@ -161,45 +163,35 @@ impl Scene<'_> {
         bytes
     }
 
-    /// The hash that a participant signs with, or the bytes and the verdict of a signature.
+    /// A signature under the plain scheme, or any bytes and a verdict. One that is not valid is of any participant, of any kind
+    /// or changed in a bit.
     fn signature(&self, random: &mut Random, kind: Kind, signer: u64, subject: &[u8], is_valid: bool) -> Vec<u8> {
         match self.committees {
             Committees::Vouched { signature, .. } => {
                 let verdict = if is_valid { 1 } else { random.pick(&[0, 2, 255]) };
                 [vec![8 + u8::from(random.one_in(4)); *signature], vec![verdict]].concat()
             }
-            Committees::Plain { base, .. } => {
-                let of = if is_valid || random.one_in(2) { signer } else { random.below(self.keys.len() as u64) };
-                let kind = if is_valid || random.one_in(2) {
-                    kind
-                } else {
-                    random.pick(&[Kind::Notarize, Kind::Nullify, Kind::Finalize])
-                };
-                let name = [&b"_NOTARIZE"[..], b"_NULLIFY", b"_FINALIZE"][kind as usize];
-                let mut signed = Vec::new();
-                push_number(&mut signed, (base.len() + name.len()) as u64);
-                signed.extend_from_slice(base);
-                signed.extend_from_slice(name);
-                signed.extend(self.keys.get(of as usize).unwrap_or(&[0; 32]));
-                signed.extend(subject);
-                let mut hash = sha256(&signed);
-                hash[random.below(32) as usize] ^= u8::from(!is_valid && random.one_in(2));
-                hash.to_vec()
-            }
+            Committees::Plain { base, .. } if is_valid => self.hash(base, kind, signer, subject).to_vec(),
+            Committees::Plain { base, .. } => match random.below(3) {
+                0 => self.hash(base, kind, random.below(self.keys.len() as u64), subject).to_vec(),
+                1 => self.hash(base, random.pick(&KINDS), signer, subject).to_vec(),
+                _ => {
+                    let mut hash = self.hash(base, kind, signer, subject);
+                    hash[random.below(32) as usize] ^= 1 << random.below(8);
+                    hash.to_vec()
+                }
+            },
         }
     }
 
-    fn put_attestation(
-        &self,
-        random: &mut Random,
-        bytes: &mut Vec<u8>,
-        kind: Kind,
-        signer: u64,
-        subject: &[u8],
-        is_valid: bool,
-    ) {
-        put_number(random, bytes, signer);
-        bytes.extend(self.signature(random, kind, signer, subject, is_valid));
+    /// The signature of the plain scheme.
+    fn hash(&self, base: &[u8], kind: Kind, signer: u64, subject: &[u8]) -> [u8; 32] {
+        let name = [&b"_NOTARIZE"[..], b"_NULLIFY", b"_FINALIZE"][kind as usize];
+        let mut signed = Vec::new();
+        push_number(&mut signed, (base.len() + name.len()) as u64);
+        let key = self.keys.get(signer as usize).unwrap_or(&[0; 32]);
+        signed.extend([base, name, key, subject].concat());
+        sha256(&signed)
     }
 
     /// A participant of a committee, or now and then one behind the last.
@@ -211,7 +203,8 @@ impl Scene<'_> {
     fn put_vote(&self, random: &mut Random, bytes: &mut Vec<u8>, kind: Kind, signer: u64, subject: &[u8]) {
         let is_valid = !random.one_in(8);
         bytes.extend(subject);
-        self.put_attestation(random, bytes, kind, signer, subject, is_valid);
+        put_number(random, bytes, signer);
+        bytes.extend(self.signature(random, kind, signer, subject, is_valid));
     }
 
     /// Two votes of a signer in a round, which mostly contradict; now and then of two signers, two rounds or one proposal.
@@ -258,7 +251,8 @@ impl Scene<'_> {
         put_number(random, bytes, signers.len() as u64);
         for signer in signers {
             let is_valid = is_sound || !random.one_in(4);
-            self.put_attestation(random, bytes, kind, signer, &subject, is_valid);
+            put_number(random, bytes, signer);
+            bytes.extend(self.signature(random, kind, signer, &subject, is_valid));
         }
     }
 
@@ -268,7 +262,7 @@ impl Scene<'_> {
         bytes.push(tag as u8);
         match tag {
             0 | 3 | 5 => {
-                let kind = [Notarize, Nullify, Finalize][tag as usize / 2];
+                let kind = KINDS[tag as usize / 2];
                 let (signer, subject) = (self.signer(random, round), self.subject(random, kind, round));
                 self.put_vote(random, bytes, kind, signer, &subject);
             }
@@ -282,7 +276,8 @@ impl Scene<'_> {
     }
 }
 
-/// Encodes a number; now and then as no number may be encoded, or cut or exceeded where its last group ends.
+/// Encodes a number, and now and then breaks the encoding: by a needless last group, by a last byte of ten or of five that is
+/// too large, by too many bytes, or by a bit.
 fn put_number(random: &mut Random, bytes: &mut Vec<u8>, number: u64) {
     let start = bytes.len();
     push_number(bytes, number);
