@@ -16,8 +16,8 @@ def needed(name, of):
 
 
 class Proving:
-    """While it is entered it says each second, below all lines, how many of these crates are done. The pattern says which is done, by a
-    line of `rt`."""
+    """While it is entered it says each second, below all lines, how many of these crates are done. The pattern says which is
+    done, by a line of `rt`."""
 
     def __init__(self, names, pattern):
         self.names, self.pattern, self.done = set(names), pattern, set()

@@ -1,12 +1,12 @@
-// Makes allocations of a program fail: preloaded, it answers calls of malloc, calloc and realloc with a null pointer, and passes
-// on every other.
+// Makes allocations of a program fail: preloaded, it answers calls of malloc, calloc and realloc with a null pointer, and
+// passes on every other.
 //
 // REFUSED is the number of the one call that fails (the first is 1). Only calls for at least as many bytes as LEAST says are
 // counted; without it all are. Where a call fails, a byte is written to descriptor 9.
 //
-// A program says where it needs no memory by two signals: a call for exactly ENDS bytes, and one for exactly RETURNS bytes. With
-// SIGNALS set each call from the first on fails until one for RETURNS bytes, which does not, and again from the next for ENDS bytes
-// on. Neither signal is counted, and without SIGNALS neither fails.
+// A program says where it needs no memory by two signals: a call for exactly ENDS bytes, and one for exactly RETURNS bytes.
+// With SIGNALS set each call from the first on fails until one for RETURNS bytes, which does not, and again from the next for
+// ENDS bytes on. Neither signal is counted, and without SIGNALS neither fails.
 //
 //     cc -shared -fPIC -o refuse.so refuse.c
 //     REFUSED=3 LD_PRELOAD=./refuse.so ./program 9>refused
@@ -57,6 +57,11 @@ static int is_refused(size_t size) {
 
 void *malloc(size_t size) { return is_refused(size) ? NULL : __libc_malloc(size); }
 
-void *calloc(size_t count, size_t size) { return is_refused(count * size) ? NULL : __libc_calloc(count, size); }
+void *calloc(size_t count, size_t size) {
+    size_t bytes;
+    // What a size_t does not count is no request: the C library refuses it.
+    if (__builtin_mul_overflow(count, size, &bytes)) return __libc_calloc(count, size);
+    return is_refused(bytes) ? NULL : __libc_calloc(count, size);
+}
 
 void *realloc(void *old, size_t size) { return is_refused(size) ? NULL : __libc_realloc(old, size); }
