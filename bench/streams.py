@@ -15,6 +15,7 @@ nullify and two finalizes), `unsigned` (a notarize of participant 0 in each roun
 first vote of `member`, so many times), and `zeros` and `random` (1000 such bytes for each round).
 """
 import hashlib
+import os
 import random
 import sys
 
@@ -142,4 +143,10 @@ def main():
 
 
 if __name__ == "__main__":
-    main()
+    try:
+        main()
+        sys.stdout.flush()
+    except BrokenPipeError:
+        # whoever read the stream has enough of it
+        os.dup2(os.open(os.devnull, os.O_WRONLY), sys.stdout.fileno())
+        sys.exit(1)
