@@ -14,6 +14,8 @@ pub enum Trouble {
     Once(usize, ErrorKind),
     /// This call and each later one fails.
     Since(usize, ErrorKind),
+    /// Each call from the first of these on and before the second fails.
+    Between(usize, usize, ErrorKind),
     /// This call moves a byte at most. No call fails.
     Short(usize),
 }
@@ -26,6 +28,7 @@ impl Trouble {
         match self {
             Trouble::Once(failing, kind) if call == failing => Some(kind),
             Trouble::Since(first, kind) if first <= call => Some(kind),
+            Trouble::Between(first, end, kind) if first <= call && call < end => Some(kind),
             _ => None,
         }
     }

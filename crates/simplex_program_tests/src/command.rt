@@ -149,7 +149,7 @@ fn ample_arguments_and_faults(rt: HostRuntime) -> Result<(), Fail> {
 }
 
 /// Each cause of status 3 except memory. A failed write to standard error leaves the status, and an interrupted one is made
-/// again.
+/// again, however often: a body that gives up at the second interruption, or begins the text anew, is refused.
 #[test]
 fn ample_devices_that_fail(rt: HostRuntime) -> Result<(), Fail> {
     let stream = hex::decode(rt.alloc(), TWICE)?;
@@ -211,6 +211,13 @@ fn ample_devices_that_fail(rt: HostRuntime) -> Result<(), Fail> {
             room: 0,
             text: "",
             saying: Trouble::Once(0, ErrorKind::Interrupted),
+            ..unwritten
+        },
+        Case {
+            room: 0,
+            text: "",
+            steps: (usize::MAX, usize::MAX, 10),
+            saying: Trouble::Between(1, 3, ErrorKind::Interrupted),
             ..unwritten
         },
         Case {

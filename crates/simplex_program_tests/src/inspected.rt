@@ -1,8 +1,12 @@
-//! The lines of a stream in memory: over writers that do and do not fail, and where an allocation fails.
+//! The lines of a stream in memory: over writers that do and do not fail, and where an allocation fails; also of a digest of the
+//! test's own.
+
+ghost use Rattle.std.proofs.Common.{lit<, lit≤};
 
 use crate::committee::marked;
 use faulty_io::{Target, Trouble};
 use simplex_audit::audit::{Committees, RunError, Watched};
+use simplex_base::codec::fixed_bytes::{FixedBytes, Role};
 use simplex_inspect::inspect::inspect;
 use simplex_plain::marked::{Marked, MarkedDigest};
 use simplex_scheme::scheme::{Digest, Listing};
@@ -35,19 +39,46 @@ pub(crate) const LINES: &str =
     \"valid\":false,\"why\":\"fewer signatures than a quorum\"}]}\n\
     {\"offset\":22,\"fault\":\"Invalid consensus::simplex::Activity: Invalid type\",\"next\":\"0aff\"}\n";
 
-/// Writes the lines. Returns whether an allocation failed; then nothing was written.
+/// The role of a digest of 48 bytes.
+enum WideRole {}
+
+impl Role<48> for WideRole {
+    ghost sized = { (lit< tt, lit≤ tt) };
+}
+
+/// A notarize of participant 1 for a payload of the bytes 0 to 47.
+const WIDE: &[u8] = &[
+    0, 0, 10, 5, //
+    0, 1, 2, 3, 4, 5, 6, 7, 8, 9, 10, 11, 12, 13, 14, 15, //
+    16, 17, 18, 19, 20, 21, 22, 23, 24, 25, 26, 27, 28, 29, 30, 31, //
+    32, 33, 34, 35, 36, 37, 38, 39, 40, 41, 42, 43, 44, 45, 46, 47, //
+    1, 0xaa,
+];
+
+/// Its line, whose payload has 96 digits.
+const WIDE_LINE: &str =
+    "{\"offset\":0,\"length\":54,\"kind\":\"notarize\",\"epoch\":0,\"view\":10,\"statements\":[\
+    {\"vote\":\"notarize\",\"parent\":5,\"payload\":\"\
+    000102030405060708090a0b0c0d0e0f101112131415161718191a1b1c1d1e1f202122232425262728292a2b2c2d2e2f\",\
+    \"signatures\":[{\"signer\":1,\"signature\":\"aa\",\"valid\":true}]}]}\n";
+
+/// Writes the lines of a stream with a fault at this place, if any. Returns whether an allocation failed; then nothing was
+/// written.
 fn is_refused<S: Listing<D>, D: Digest>(
     rt: &(impl Abort + AllocGlobal),
     committees: &Option<Committees<S>>,
+    stream: &[u8],
+    lines: &str,
+    place: Option<usize>,
 ) -> bool {
     let mut writer = Watched::new(Target::steady());
-    let answer = inspect::<S, D, Target>(rt.alloc(), committees, STREAM, &mut writer);
+    let answer = inspect::<S, D, Target>(rt.alloc(), committees, stream, &mut writer);
     assert!(rt; !writer.failed());
     let target = writer.into_inner();
     match answer {
         Ok(fault) => {
-            assert_eq!(rt; fault.map(|fault| fault.place), Some(22));
-            assert_eq!(rt; target.held(), LINES.as_bytes());
+            assert_eq!(rt; fault.map(|fault| fault.place), place);
+            assert_eq!(rt; target.held(), lines.as_bytes());
             assert!(rt; target.is_flushed());
             false
         }
@@ -59,12 +90,14 @@ fn is_refused<S: Listing<D>, D: Digest>(
     }
 }
 
-/// Writes the lines under a committee of four.
+/// Writes the lines of both streams under a committee of four.
 fn any_is_refused(rt: &(impl Abort + AllocGlobal)) -> bool {
     let Ok(committee) = Marked::new(rt.alloc(), 4, None) else {
         return true;
     };
-    is_refused::<Marked, MarkedDigest>(rt, &Some(Committees::every(committee)))
+    let committees = Some(Committees::every(committee));
+    is_refused::<Marked, MarkedDigest>(rt, &committees, STREAM, LINES, Some(22))
+        || is_refused::<Marked, FixedBytes<WideRole, 48>>(rt, &committees, WIDE, WIDE_LINE, None)
 }
 
 #[test]

@@ -1,6 +1,6 @@
 //! Tests of what the programs do, over readers and writers of the tests' own: `command`, `run` and a run of a stored stream,
-//! the lines of `inspect`, readers and writers that are watched, a message of many megabytes, and the call that the README
-//! shows.
+//! the lines of `inspect`, readers and writers that are watched, when and how often input is read, a message of many megabytes,
+//! and the call that the README shows.
 #![tactic(auto)]
 
 #[cfg(test)]
@@ -15,6 +15,8 @@ mod inspected;
 mod inspected_pieces;
 #[cfg(test)]
 mod long;
+#[cfg(test)]
+mod reads;
 #[cfg(test)]
 mod runs;
 #[cfg(test)]

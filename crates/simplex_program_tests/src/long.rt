@@ -27,7 +27,11 @@ fn encoded(number: u32) -> [u8; 4] {
 }
 
 /// A nullification of view 10 with this many attestations, whose number is encoded in these bytes: five bytes for each.
-fn nullification(alloc: Global, attestations: u32, count: &[u8]) -> Result<Vec<u8>, Fail> {
+pub(crate) fn nullification(
+    alloc: Global,
+    attestations: u32,
+    count: &[u8],
+) -> Result<Vec<u8>, Fail> {
     let mut bytes = Vec::new(alloc);
     bytes.extend_from_slice(b"\x04\x00\x0a")?;
     bytes.extend_from_slice(count)?;
