@@ -1,5 +1,5 @@
 -- Which groups texts name.
-use Rattle.std.proofs.Common.{Ordering, Less, Equal, Greater, inl, inr, ◌≡◌, ℕ, zero, suc, List, [], ◌∷◌, ◌++◌, ◌-◌, ◌<◌, ◌≤◌, ◌^◌, Bool, true, false, Option, None, Some, Result, Err, take, drop, map, length, get_or, refl, arith, sym, ap, subst, ◌∙◌, drop-cons}
+use Rattle.std.proofs.Common.{Ordering, Less, Equal, Greater, inl, inr, ◌≡◌, ℕ, zero, suc, List, [], ◌∷◌, ◌++◌, ◌-◌, ◌<◌, ◌≤◌, ◌^◌, Bool, true, false, Option, None, Some, Result, Err, take, drop, map, length, get_or, refl, arith, sym, ap, subst, ◌∙◌, append_assoc, append-nil, drop-cons}
 use Rattle.std.specs.Prelude.{String, string_bytes, All, if◌then◌else◌, decimal}
 use Rattle.std.specs.Global.{Global}
 use Rattle.std.proofs.lemmas.List.{take-append-drop, map-append, take-map, drop-map, take_all, get_or_append_left, length-map, length-append, get_or_default}
@@ -15,7 +15,7 @@ use Rattle.hex.specs.declared.error.FromHexError.{FromHexError}
 use Rattle.hex.specs.declared.error.FromHexError.TheVariants.{OddLength, InvalidStringLength}
 use Rattle.simplex_plain.specs.Plain.{PlainScheme}
 use Rattle.simplex_detector.specs.Committees.{AreRising}
-use Rattle.audit_cli.specs.Arguments.{IsNamedCommittee, AreGroups, BeginsGroup, StandsBeforeGroup, epoch_text, key_of, key_named, keys_named, with_key}
+use Rattle.audit_cli.specs.Arguments.{IsNamedCommittee, NameKeys, AreGroups, BeginAsGroups, BeginsGroup, StandsBeforeGroup, epoch_text, key_of, key_named, keys_named, with_key}
 
 -- ---- keys and groups
 
@@ -162,20 +162,68 @@ risen {S} pairs before more p rising same k d lt =
 
 -- ---- one group more
 
+-- the texts of a group and of what is behind it
+pub split_group : (rest behind keys after : List (String Global)) (first : String Global) (n epoch : ℕ)
+    → rest ≡ first ∷ behind → string_bytes first ≡ epoch_text epoch → keys ≡ take n behind → after ≡ drop n behind
+    → map string_bytes rest ≡ epoch_text epoch ∷ (map string_bytes keys ++ map string_bytes after)
+split_group rest behind keys after first n epoch whole begins front back =
+    let parts : behind ≡ keys ++ after = sym (take-append-drop n behind) ∙ (λ i. sym front i ++ sym back i) in
+    let split : map string_bytes behind ≡ map string_bytes keys ++ map string_bytes after = ap (map string_bytes) parts ∙ map-append string_bytes keys after in
+    ap (map string_bytes) whole ∙ (ap (λ (w : List ℕ). w ∷ map string_bytes behind) begins ∙ ap (λ (ws : List (List ℕ)). epoch_text epoch ∷ ws) split)
+
 -- the next group in front of more
 pub next_group : (namespace : List ℕ) (rest behind keys after : List (String Global)) (first : String Global) (n epoch : ℕ) (committee : PlainScheme) (more : List (ℕ × PlainScheme))
     → rest ≡ first ∷ behind → string_bytes first ≡ epoch_text epoch → epoch < 2 ^ 64 → keys ≡ take n behind → after ≡ drop n behind
     → IsNamedCommittee namespace (map string_bytes keys) committee → AreGroups namespace (map string_bytes after) more → AreGroups namespace (map string_bytes rest) ((epoch, committee) ∷ more)
 next_group namespace rest behind keys after first n epoch committee more whole begins small front back is others =
-    let parts : behind ≡ keys ++ after = sym (take-append-drop n behind) ∙ (λ i. sym front i ++ sym back i) in
-    let split : map string_bytes behind ≡ map string_bytes keys ++ map string_bytes after = ap (map string_bytes) parts ∙ map-append string_bytes keys after in (
-      map string_bytes keys,
-      map string_bytes after,
-      ap (map string_bytes) whole ∙ (ap (λ (w : List ℕ). w ∷ map string_bytes behind) begins ∙ ap (λ (ws : List (List ℕ)). epoch_text epoch ∷ ws) split),
-      small,
-      is,
-      others,
+    (map string_bytes keys, map string_bytes after, split_group rest behind keys after first n epoch whole begins front back, small, is, others)
+
+-- one group more behind groups
+one_group_more : (namespace : List ℕ) (before keys : List (List ℕ)) (pairs : List (ℕ × PlainScheme)) (epoch : ℕ) (committee : PlainScheme) → AreGroups namespace before pairs → epoch < 2 ^ 64
+    → IsNamedCommittee namespace keys committee → AreGroups namespace (before ++ epoch_text epoch ∷ keys) (pairs ++ (epoch, committee) ∷ [])
+one_group_more namespace before keys [] epoch committee none small is =
+    let texts : before ++ epoch_text epoch ∷ keys ≡ epoch_text epoch ∷ (keys ++ []) =
+    ap (λ (ts : List (List ℕ)). ts ++ epoch_text epoch ∷ keys) none ∙ ap (λ (ts : List (List ℕ)). epoch_text epoch ∷ ts) (sym (append-nil keys)) in
+    (keys, [], texts, small, is, refl)
+one_group_more namespace before keys (pair ∷ pairs) epoch committee (front, rest, e, below, named, others) small is =
+    let texts : before ++ epoch_text epoch ∷ keys ≡ epoch_text pair.0 ∷ (front ++ (rest ++ epoch_text epoch ∷ keys)) =
+    ap (λ (ts : List (List ℕ)). ts ++ epoch_text epoch ∷ keys) e ∙ ap (λ (ts : List (List ℕ)). epoch_text pair.0 ∷ ts) (append_assoc front rest (epoch_text epoch ∷ keys)) in
+    (front, rest ++ epoch_text epoch ∷ keys, texts, below, named, one_group_more namespace rest keys pairs epoch committee others small is)
+
+-- the texts are groups of these pairs, and then the rest
+abbrev pub AreRead : List ℕ → List (List ℕ) → List (List ℕ) → List (ℕ × PlainScheme) → Type 0
+AreRead namespace texts rest pairs = (before : List (List ℕ)) × (texts ≡ before ++ rest) × AreGroups namespace before pairs
+
+-- one group more was read
+pub read_next : (namespace : List ℕ) (texts : List (List ℕ)) (rest behind keys after : List (String Global)) (first : String Global) (n epoch : ℕ) (pairs : List (ℕ × PlainScheme)) (committee : PlainScheme)
+    → AreRead namespace texts (map string_bytes rest) pairs → rest ≡ first ∷ behind → string_bytes first ≡ epoch_text epoch → epoch < 2 ^ 64 → keys ≡ take n behind → after ≡ drop n behind
+    → IsNamedCommittee namespace (map string_bytes keys) committee → AreRead namespace texts (map string_bytes after) (pairs ++ (epoch, committee) ∷ [])
+read_next namespace texts rest behind keys after first n epoch pairs committee (before, e, are) whole begins small front back is =
+    let group = epoch_text epoch ∷ map string_bytes keys in (
+      before ++ group,
+      e ∙ (ap (λ (ts : List (List ℕ)). before ++ ts) (split_group rest behind keys after first n epoch whole begins front back) ∙ sym (append_assoc before group (map string_bytes after))),
+      one_group_more namespace before (map string_bytes keys) pairs epoch committee are small is,
     )
+
+-- the keys of the next group were read
+pub begun : (namespace : List ℕ) (texts : List (List ℕ)) (rest behind keys after : List (String Global)) (first : String Global) (n epoch : ℕ) (pairs : List (ℕ × PlainScheme))
+    → AreRead namespace texts (map string_bytes rest) pairs → AreRising pairs → All (λ q. q.0 < epoch) pairs
+    → rest ≡ first ∷ behind → string_bytes first ≡ epoch_text epoch → epoch < 2 ^ 64 → keys ≡ take n behind → after ≡ drop n behind
+    → StandsBeforeGroup (map string_bytes after) → NameKeys (map string_bytes keys) → BeginAsGroups namespace texts
+begun namespace texts rest behind keys after first n epoch pairs (before, e, are) rising above whole begins small front back ends named = record {
+  before = before;
+  pairs = pairs;
+  epoch = epoch;
+  keys = map string_bytes keys;
+  rest = map string_bytes after;
+  texts_are = e ∙ ap (λ (ts : List (List ℕ)). before ++ ts) (split_group rest behind keys after first n epoch whole begins front back);
+  groups = are;
+  rising = rising;
+  above = above;
+  small = small;
+  named = named;
+  ends = ends;
+}
 
 -- no text is left
 pub no_texts : (texts : List (String Global)) → length texts ≡ 0 → map string_bytes texts ≡ []

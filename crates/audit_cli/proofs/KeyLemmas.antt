@@ -4,7 +4,7 @@ use Rattle.std.specs.Prelude.{◌≢◌, AllPairs, IsPermutation, String, string
 use Rattle.std.specs.Global.{Global}
 use Rattle.std.proofs.lemmas.List.{length-map}
 use Rattle.std.proofs.lemmas.List.Sorted.{length_permutation}
-use Rattle.audit_cli.specs.Arguments.{key_named, keys_named, with_key, AreNoKeys}
+use Rattle.audit_cli.specs.Arguments.{key_named, keys_named, with_key, AreNoKeys, IsCommitteeSize, NameKeys}
 
 -- some keys in front of others, where these are there
 abbrev pub with_keys : List (List ℕ) → Option (List (List ℕ)) → Option (List (List ℕ))
@@ -60,10 +60,22 @@ size-named texts keys set named permuted size =
     ((omega arith, omega arith), (omega arith, omega arith))
 
 -- too few texts, or too many
-pub no_keys-size : (texts : List (String Global)) → ((1 ≤ length texts) × (length texts < 2 ^ 32) → ⊥) → AreNoKeys (map string_bytes texts)
+pub no_keys-size : (texts : List (String Global)) → (IsCommitteeSize (length texts) → ⊥) → AreNoKeys (map string_bytes texts)
 no_keys-size texts wrong = λ keys named.
     let size : length keys ≡ length texts = length-keys_named _ _ named.named ∙ length-map texts string_bytes in
-    wrong (subst (λ n. 1 ≤ n) size named.some, subst (λ n. n < 2 ^ 32) size named.few)
+    wrong (subst IsCommitteeSize size named.size)
+
+-- some text names no key
+pub no_keys-unnamed : (texts : List (String Global)) → keys_named (map string_bytes texts) ≡ None → AreNoKeys (map string_bytes texts)
+no_keys-unnamed texts none = λ keys are.
+    let both : Some keys ≡ None = sym are.named ∙ none in
+    absurd cc
+
+-- each text names a key, and a committee may have as many
+pub keys-named : (texts : List (String Global)) (keys : List (List ℕ)) → keys_named (map string_bytes texts) ≡ Some keys → IsCommitteeSize (length texts) → NameKeys (map string_bytes texts)
+keys-named texts keys named size =
+    let same : length keys ≡ length texts = length-keys_named _ _ named ∙ length-map texts string_bytes in
+    (keys, named, subst IsCommitteeSize (sym same) size)
 
 -- a key is named twice
 pub no_keys-repeated : (texts : List (String Global)) (keys : List (List ℕ)) → keys_named (map string_bytes texts) ≡ Some keys → (AllPairs (λ a b. a ≢ b) keys → ⊥) → AreNoKeys (map string_bytes texts)

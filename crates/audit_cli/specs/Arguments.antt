@@ -2,7 +2,7 @@
 use Rattle.std.specs.Cmp.Lexicographic.{slice_cmp}
 use Rattle.std.specs.List.Sorted.{IsStrictlySortedBy}
 use Rattle.std.specs.Ordering.{nat_cmp}
-use Rattle.std.specs.Prelude.{⊤, ◌≡◌, ◌≢◌, ℕ, ◌<◌, ◌≤◌, ◌^◌, List, [], ◌∷◌, ◌++◌, length, Option, Some, None, Result, Ok, Err, AllPairs, IsPermutation, String, string_bytes, codes, decimal, drop, map}
+use Rattle.std.specs.Prelude.{⊤, ◌≡◌, ◌≢◌, ◌⊎◌, ℕ, ◌<◌, ◌≤◌, ◌^◌, List, [], ◌∷◌, ◌++◌, length, Option, Some, None, Result, Ok, Err, All, AllPairs, IsPermutation, String, string_bytes, codes, decimal, drop, map}
 use Rattle.std.specs.Global.{Global}
 use Rattle.hex.specs.Hex.{decode_sized}
 use Rattle.hex.specs.declared.error.FromHexError.{FromHexError}
@@ -34,11 +34,18 @@ abbrev pub keys_named : List (List ℕ) → Option (List (List ℕ))
 keys_named [] = Some []
 keys_named (text ∷ texts) = with_key (key_named text) (keys_named texts)
 
--- the texts name these keys: at least one, fewer than 2^32, and none twice
+-- a committee may have this many keys: at least one, fewer than 2^32
+abbrev pub IsCommitteeSize : ℕ → Type 0
+IsCommitteeSize count = (1 ≤ count) × (count < 2 ^ 32)
+
+-- each text names a key, and a committee may have as many
+abbrev pub NameKeys : List (List ℕ) → Type 0
+NameKeys texts = (keys : List (List ℕ)) × (keys_named texts ≡ Some keys) × IsCommitteeSize (length keys)
+
+-- the texts name these keys: as many as a committee may have, and none twice
 pub record AreKeyTexts (texts : List (List ℕ)) (keys : List (List ℕ)) : Type 0 where
   pub named : keys_named texts ≡ Some keys
-  pub some : 1 ≤ length keys
-  pub few : length keys < 2 ^ 32
+  pub size : IsCommitteeSize (length keys)
   pub distinct : AllPairs (λ a b. a ≢ b) keys
 
 -- the texts name no such keys
@@ -90,3 +97,22 @@ AreArguments words committees = (namespace : List ℕ) × (texts : List (List �
 -- the words are no namespace and texts that name committees
 abbrev pub AreNoArguments : List (List ℕ) → Type 0
 AreNoArguments words = (committees : Schedule PlainScheme) → ¬ AreArguments words committees
+
+-- the texts begin with groups whose epochs rise, and behind them come the text of an epoch above theirs and texts that name keys
+pub record BeginAsGroups (namespace : List ℕ) (texts : List (List ℕ)) : Type 0 where
+  pub before : List (List ℕ)
+  pub pairs : List (ℕ × PlainScheme)
+  pub epoch : ℕ
+  pub keys : List (List ℕ)
+  pub rest : List (List ℕ)
+  pub texts_are : texts ≡ before ++ epoch_text epoch ∷ (keys ++ rest)
+  pub groups : AreGroups namespace before pairs
+  pub rising : AreRising pairs
+  pub above : All (λ pair. pair.0 < epoch) pairs
+  pub small : epoch < 2 ^ 64
+  pub named : NameKeys keys
+  pub ends : StandsBeforeGroup rest
+
+-- the words are a namespace and texts that name keys, or that begin as groups do
+abbrev pub BeginAsArguments : List (List ℕ) → Type 0
+BeginAsArguments words = (namespace : List ℕ) × (texts : List (List ℕ)) × (words ≡ namespace ∷ texts) × (NameKeys texts ⊎ BeginAsGroups namespace texts)

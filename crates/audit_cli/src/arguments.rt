@@ -1,7 +1,7 @@
 //! The arguments of the program: a namespace, and the keys of one committee or of one for each of some epochs.
 
 ghost use Rattle.std.specs.Prelude.{◌≡◌, ◌⊎◌, Err, IfOk, IfErr, map, string_bytes};
-ghost use Rattle.audit_cli.specs.Arguments.{AreArguments, AreNoArguments};
+ghost use Rattle.audit_cli.specs.Arguments.{AreArguments, AreNoArguments, BeginAsArguments};
 
 use crate::groups::{count_keys, parse_groups};
 use crate::keys::parse_committee;
@@ -16,6 +16,9 @@ use std::alloc::Global;
 pub fn parse(alloc: Global, arguments: &[String]) -> Result<Committees<Plain>, Failure>
     ensures committees { IfOk result (AreArguments (map string_bytes arguments.now)) }
     ensures usage { result ≡ Err Failure.Usage → AreNoArguments (map string_bytes arguments.now) }
+    // An allocation failed only once there were a namespace and keys, and all before it was right.
+    ensures memory { result ≡ Err Failure.OutOfMemory →
+        BeginAsArguments (map string_bytes arguments.now) }
     ensures failure { IfErr result (λ e. (e ≡ Failure.Usage) ⊎ (e ≡ Failure.OutOfMemory)) }
 {
     let Some((namespace, texts)) = arguments.split_first() else {

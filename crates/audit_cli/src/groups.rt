@@ -3,10 +3,11 @@
 ghost use Rattle.std.specs.Prelude.{◌≡◌, ◌≢◌, ◌↔◌, ◌≤◌, ◌<◌, ◌^◌, ◌⊎◌, ℕ, List, Ok, Err, All, IfOk, IfErr, map, length, take, drop, string_bytes, IsTrue};
 ghost use Rattle.simplex_detector.specs.Committees.{AreRising};
 ghost use Rattle.simplex_plain.specs.Plain.{PlainScheme};
-ghost use Rattle.audit_cli.specs.Arguments.{AreGroups, BeginsGroup, StandsBeforeGroup, epoch_text};
+ghost use Rattle.audit_cli.specs.Arguments.{AreGroups, BeginAsGroups, BeginsGroup, StandsBeforeGroup, epoch_text};
 
 use crate::keys::parse_committee;
 use crate::status::Failure;
+use itoa::Buffer;
 use simplex_base::positions::Epoch;
 use simplex_plain::plain::Plain;
 use std::alloc::{AllocError, Global};
@@ -33,11 +34,11 @@ pub fn count_keys(texts: &[String]) -> usize
 }
 
 /// The epoch whose group a text begins: `@` and decimal digits, without sign or leading zeros.
-fn parse_epoch(alloc: Global, text: &str) -> Result<Epoch, Failure>
+fn parse_epoch(text: &str) -> Result<Epoch, Failure>
     ensures epoch { IfOk result (λ epoch. text.now ≡ epoch_text epoch) }
-    ensures usage { result ≡ Err Failure.Usage → (epoch : ℕ) → epoch < 2 ^ 64 →
-        text.now ≢ epoch_text epoch }
-    ensures failure { IfErr result (λ e. (e ≡ Failure.Usage) ⊎ (e ≡ Failure.OutOfMemory)) }
+    ensures usage { IfErr result (λ e. (epoch : ℕ) → epoch < 2 ^ 64 →
+        text.now ≢ epoch_text epoch) }
+    ensures failure { IfErr result (λ e. e ≡ Failure.Usage) }
 {
     let Some(digits) = text.strip_prefix('@') else {
         return Err(Failure::Usage);
@@ -45,8 +46,7 @@ fn parse_epoch(alloc: Global, text: &str) -> Result<Epoch, Failure>
     let Ok(epoch) = digits.parse::<u64>() else {
         return Err(Failure::Usage);
     };
-    let encoded = format!(in alloc; "@{epoch}")?;
-    if encoded.as_str() != text {
+    if Buffer::new().format(epoch) != digits {
         return Err(Failure::Usage);
     }
     Ok(Epoch::new(epoch))
@@ -76,12 +76,14 @@ pub fn parse_groups(
     ensures rising { IfOk result (λ pairs. AreRising pairs.items) }
     ensures usage { result ≡ Err Failure.Usage → (pairs : List (ℕ × PlainScheme)) →
         AreGroups namespace.now (map string_bytes texts.now) pairs → ¬ AreRising pairs }
+    ensures memory { result ≡ Err Failure.OutOfMemory →
+        BeginAsGroups namespace.now (map string_bytes texts.now) }
     ensures failure { IfErr result (λ e. (e ≡ Failure.Usage) ⊎ (e ≡ Failure.OutOfMemory)) }
 {
     let mut pairs = Vec::new(alloc);
     let mut rest: &[String] = texts;
     'groups: while let Some((first, behind)) = rest.split_first() {
-        let epoch = parse_epoch(alloc, first.as_str())?;
+        let epoch = parse_epoch(first.as_str())?;
         if !is_above(pairs.as_slice(), epoch) {
             return Err(Failure::Usage);
         }

@@ -16,7 +16,7 @@
 //! as before.
 #![tactic(auto)]
 
-ghost use Rattle.std.specs.Prelude.{◌≡◌, ◌≢◌, ◌⊎◌, ◌-◌, ◌≤◌, ◌++◌, None, Some};
+ghost use Rattle.std.specs.Prelude.{◌≡◌, ◌≢◌, ◌⊎◌, ◌-◌, ◌≤◌, ◌++◌, None, Some, length};
 ghost use Rattle.simplex_base.specs.Terms.{term_start};
 ghost use Rattle.simplex_scheme.specs.Committee.{faults_of, quorum_of};
 ghost use Rattle.simplex_lead.specs.Windows.{FitsWindow, IsAdmitted, IsOutbound};
@@ -24,9 +24,9 @@ ghost use Rattle.simplex_plain.specs.Plain.{PlainScheme};
 ghost use Rattle.simplex_detector.specs.Committees.{Schedule};
 ghost use Rattle.simplex_vouched.specs.Vouched.{VouchedScheme};
 ghost use Rattle.simplex_ffi.specs.Answer.{AreRecorded, AreStored, AreSuspectsGiven, IsAudited};
-ghost use Rattle.simplex_ffi.specs.Keys.{AreKeys, AreOfKeys};
+ghost use Rattle.simplex_ffi.specs.Keys.{AreKeys, AreOfKeys, IsLengthOfKeys};
 ghost use Rattle.simplex_ffi.specs.Leaders.{LeadsRound};
-ghost use Rattle.simplex_ffi.specs.Sizes.{AreSizes};
+ghost use Rattle.simplex_ffi.specs.Sizes.{AreSizes, AreCommitteeSizes};
 
 use simplex_audit::basis::Audited;
 use simplex_base::codec::Fixed;
@@ -70,6 +70,7 @@ pub extern "C" fn simplex_audit_vouched_48(
         ⟦<Sha256Digest as Fixed>⟧.bytes_of stream.now text.old text.new summary.new result }
     ensures refused { result ≡ 2 → (committees : Schedule VouchedScheme) →
         ¬ AreSizes epochs.now sizes.now committees }
+    ensures memory { result ≡ 3 → AreCommitteeSizes epochs.now sizes.now }
     ensures untouched { (result ≡ 2) ⊎ (result ≡ 3) →
         (text.new ≡ text.old) × (summary.new ≡ summary.old) }
 {
@@ -96,6 +97,7 @@ pub extern "C" fn simplex_records_vouched_48(
         stream.now records.old records.new summary.new result }
     ensures refused { result ≡ 2 → (committees : Schedule VouchedScheme) →
         ¬ AreSizes epochs.now sizes.now committees }
+    ensures memory { result ≡ 3 → AreCommitteeSizes epochs.now sizes.now }
     ensures untouched { (result ≡ 2) ⊎ (result ≡ 3) →
         (records.new ≡ records.old) × (summary.new ≡ summary.old) }
 {
@@ -121,6 +123,7 @@ pub extern "C" fn simplex_store_vouched_48(
         (stored.now ++ batch.now) evidence.old evidence.new size.new result }
     ensures refused { result ≡ 2 → (committees : Schedule VouchedScheme) →
         ¬ AreSizes epochs.now sizes.now committees }
+    ensures memory { result ≡ 3 → AreCommitteeSizes epochs.now sizes.now }
     ensures untouched { (result ≡ 2) ⊎ (result ≡ 3) →
         (evidence.new ≡ evidence.old) × (size.new ≡ size.old) }
 {
@@ -146,6 +149,7 @@ pub extern "C" fn simplex_suspects_vouched_48(
         stream.now records.old records.new needed.new result }
     ensures refused { result ≡ 2 → (committees : Schedule VouchedScheme) →
         ¬ AreSizes epochs.now sizes.now committees }
+    ensures memory { result ≡ 3 → AreCommitteeSizes epochs.now sizes.now }
     ensures untouched { (result ≡ 2) ⊎ (result ≡ 3) →
         (records.new ≡ records.old) × (needed.new ≡ needed.old) }
 {
@@ -170,6 +174,7 @@ pub extern "C" fn simplex_audit_vouched_64(
         ⟦<Sha256Digest as Fixed>⟧.bytes_of stream.now text.old text.new summary.new result }
     ensures refused { result ≡ 2 → (committees : Schedule VouchedScheme) →
         ¬ AreSizes epochs.now sizes.now committees }
+    ensures memory { result ≡ 3 → AreCommitteeSizes epochs.now sizes.now }
     ensures untouched { (result ≡ 2) ⊎ (result ≡ 3) →
         (text.new ≡ text.old) × (summary.new ≡ summary.old) }
 {
@@ -196,6 +201,7 @@ pub extern "C" fn simplex_records_vouched_64(
         stream.now records.old records.new summary.new result }
     ensures refused { result ≡ 2 → (committees : Schedule VouchedScheme) →
         ¬ AreSizes epochs.now sizes.now committees }
+    ensures memory { result ≡ 3 → AreCommitteeSizes epochs.now sizes.now }
     ensures untouched { (result ≡ 2) ⊎ (result ≡ 3) →
         (records.new ≡ records.old) × (summary.new ≡ summary.old) }
 {
@@ -221,6 +227,7 @@ pub extern "C" fn simplex_store_vouched_64(
         (stored.now ++ batch.now) evidence.old evidence.new size.new result }
     ensures refused { result ≡ 2 → (committees : Schedule VouchedScheme) →
         ¬ AreSizes epochs.now sizes.now committees }
+    ensures memory { result ≡ 3 → AreCommitteeSizes epochs.now sizes.now }
     ensures untouched { (result ≡ 2) ⊎ (result ≡ 3) →
         (evidence.new ≡ evidence.old) × (size.new ≡ size.old) }
 {
@@ -246,6 +253,7 @@ pub extern "C" fn simplex_suspects_vouched_64(
         stream.now records.old records.new needed.new result }
     ensures refused { result ≡ 2 → (committees : Schedule VouchedScheme) →
         ¬ AreSizes epochs.now sizes.now committees }
+    ensures memory { result ≡ 3 → AreCommitteeSizes epochs.now sizes.now }
     ensures untouched { (result ≡ 2) ⊎ (result ≡ 3) →
         (records.new ≡ records.old) × (needed.new ≡ needed.old) }
 {
@@ -270,6 +278,7 @@ pub extern "C" fn simplex_audit_vouched_96(
         ⟦<Sha256Digest as Fixed>⟧.bytes_of stream.now text.old text.new summary.new result }
     ensures refused { result ≡ 2 → (committees : Schedule VouchedScheme) →
         ¬ AreSizes epochs.now sizes.now committees }
+    ensures memory { result ≡ 3 → AreCommitteeSizes epochs.now sizes.now }
     ensures untouched { (result ≡ 2) ⊎ (result ≡ 3) →
         (text.new ≡ text.old) × (summary.new ≡ summary.old) }
 {
@@ -296,6 +305,7 @@ pub extern "C" fn simplex_records_vouched_96(
         stream.now records.old records.new summary.new result }
     ensures refused { result ≡ 2 → (committees : Schedule VouchedScheme) →
         ¬ AreSizes epochs.now sizes.now committees }
+    ensures memory { result ≡ 3 → AreCommitteeSizes epochs.now sizes.now }
     ensures untouched { (result ≡ 2) ⊎ (result ≡ 3) →
         (records.new ≡ records.old) × (summary.new ≡ summary.old) }
 {
@@ -321,6 +331,7 @@ pub extern "C" fn simplex_store_vouched_96(
         (stored.now ++ batch.now) evidence.old evidence.new size.new result }
     ensures refused { result ≡ 2 → (committees : Schedule VouchedScheme) →
         ¬ AreSizes epochs.now sizes.now committees }
+    ensures memory { result ≡ 3 → AreCommitteeSizes epochs.now sizes.now }
     ensures untouched { (result ≡ 2) ⊎ (result ≡ 3) →
         (evidence.new ≡ evidence.old) × (size.new ≡ size.old) }
 {
@@ -346,6 +357,7 @@ pub extern "C" fn simplex_suspects_vouched_96(
         stream.now records.old records.new needed.new result }
     ensures refused { result ≡ 2 → (committees : Schedule VouchedScheme) →
         ¬ AreSizes epochs.now sizes.now committees }
+    ensures memory { result ≡ 3 → AreCommitteeSizes epochs.now sizes.now }
     ensures untouched { (result ≡ 2) ⊎ (result ≡ 3) →
         (records.new ≡ records.old) × (needed.new ≡ needed.old) }
 {
@@ -369,6 +381,7 @@ pub extern "C" fn simplex_audit_plain(
         IsAudited (⟦<Plain as Audited<Sha256Digest>>⟧.basis committees)
         ⟦<Sha256Digest as Fixed>⟧.bytes_of stream.now text.old text.new summary.new result }
     ensures refused { result ≡ 2 → ¬ AreKeys keys.now }
+    ensures memory { result ≡ 3 → IsLengthOfKeys (length keys.now) }
     ensures untouched { (result ≡ 2) ⊎ (result ≡ 3) →
         (text.new ≡ text.old) × (summary.new ≡ summary.old) }
 {
@@ -392,6 +405,7 @@ pub extern "C" fn simplex_records_plain(
         ⟦<Sha256Digest as Fixed>⟧.bytes_of ⟦<Plain as Located<Sha256Digest>>⟧.carries
         stream.now records.old records.new summary.new result }
     ensures refused { result ≡ 2 → ¬ AreKeys keys.now }
+    ensures memory { result ≡ 3 → IsLengthOfKeys (length keys.now) }
     ensures untouched { (result ≡ 2) ⊎ (result ≡ 3) →
         (records.new ≡ records.old) × (summary.new ≡ summary.old) }
 {
@@ -415,6 +429,7 @@ pub extern "C" fn simplex_store_plain(
         AreStored (⟦<Plain as Audited<Sha256Digest>>⟧.basis committees)
         (stored.now ++ batch.now) evidence.old evidence.new size.new result }
     ensures refused { result ≡ 2 → ¬ AreKeys keys.now }
+    ensures memory { result ≡ 3 → IsLengthOfKeys (length keys.now) }
     ensures untouched { (result ≡ 2) ⊎ (result ≡ 3) →
         (evidence.new ≡ evidence.old) × (size.new ≡ size.old) }
 {

@@ -1,5 +1,5 @@
 -- Keys, one after the other.
-use Rattle.std.proofs.Common.{◌≡◌, ℕ, ◌+◌, ◌/◌, ◌%◌, ◌<◌, ◌≤◌, ◌^◌, List, [], ◌∷◌, ◌++◌, length, arith}
+use Rattle.std.proofs.Common.{◌≡◌, ℕ, ◌+◌, ◌/◌, ◌<◌, ◌≤◌, ◌^◌, List, [], ◌∷◌, ◌++◌, length, arith}
 use Rattle.std.specs.Prelude.{IsPermutation, map}
 use Rattle.std.specs.List.{IsDistinct, range_with_len}
 use Rattle.std.specs.Str.{bytes_eq}
@@ -7,7 +7,7 @@ use Rattle.std.proofs.lemmas.List.FromFn.{length-map-range_with_len, map-range_w
 use Rattle.std.proofs.lemmas.List.Sorted.{length_permutation}
 use Rattle.std.proofs.lemmas.Map.Made.{AllPairs-from_IsDistinct, IsDistinct-from_AllPairs}
 use Rattle.std.proofs.lemmas.Slice.Eq.{bytes_eq-Decides}
-use Rattle.simplex_ffi.specs.Keys.{AreKeys, key_at, keys_in}
+use Rattle.simplex_ffi.specs.Keys.{AreKeys, IsLengthOfKeys, key_at, keys_in}
 
 -- one more key
 pub one_more : (bytes : List ℕ) (place : ℕ) → map (key_at bytes) (range_with_len 0 (place + 1)) ≡ map (key_at bytes) (range_with_len 0 place) ++ key_at bytes place ∷ []
@@ -21,11 +21,9 @@ size bytes set same some few =
     (omega arith, omega arith)
 
 -- keys that are distinct by their bytes are those of a committee
-pub are_keys : (bytes : List ℕ) → (length bytes % 32 ≡ 0) × (1 ≤ length bytes / 32) × (length bytes / 32 < 2 ^ 32) → IsDistinct bytes_eq (keys_in bytes) → AreKeys bytes
-are_keys bytes (whole, some, few) distinct = record {
-  whole = whole;
-  some = some;
-  few = few;
+pub are_keys : (bytes : List ℕ) → IsLengthOfKeys (length bytes) → IsDistinct bytes_eq (keys_in bytes) → AreKeys bytes
+are_keys bytes size distinct = record {
+  length_is = size;
   distinct = AllPairs-from_IsDistinct bytes_eq-Decides (keys_in bytes) distinct;
 }
 

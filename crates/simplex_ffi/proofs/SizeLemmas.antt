@@ -1,13 +1,20 @@
 -- Committees by their sizes.
-use Rattle.std.proofs.Common.{◌≡◌, ℕ, ◌+◌, ◌<◌, ◌≤◌, List, [], ◌∷◌, ◌++◌, length, get_or, drop, refl, sym, ap, ◌∙◌, append_assoc, append-nil, subst, false}
-use Rattle.std.specs.Prelude.{◌==◌}
-use Rattle.std.proofs.lemmas.Bool.{eqb-false}
-use Rattle.std.proofs.lemmas.List.{drop_more, drop_all}
+use Rattle.std.proofs.Common.{◌≡◌, ℕ, zero, suc, ◌+◌, ◌<◌, ◌≤◌, List, [], ◌∷◌, ◌++◌, length, get_or, drop, refl, sym, ap, ◌∙◌, append_assoc, append-nil, subst, true, false, not, nat_eq, IsTrue, arith}
+use Rattle.std.specs.List.Sorted.{IsStrictlySortedBy}
+use Rattle.std.specs.Ordering.{nat_cmp}
+use Rattle.std.specs.Prelude.{◌==◌, All, map}
+use Rattle.std.specs.List.{list_any}
+use Rattle.std.proofs.Math.ListN.{get_or-map}
+use Rattle.std.proofs.lemmas.Bool.{eqb-false, eqb-true, false≢true}
+use Rattle.std.proofs.lemmas.Bool.Decides.{nat_tests}
+use Rattle.std.proofs.lemmas.List.Elements.{All-nil, All-cons, All-head, All-tail}
+use Rattle.std.proofs.lemmas.List.{drop_more, drop_all, length-map}
+use Rattle.std.proofs.lemmas.Map.Keys.{below_from_sorted, sorted_from_strictly_increasing}
 use Rattle.simplex_vouched.specs.Vouched.{VouchedScheme}
 use Rattle.simplex_detector.specs.Committees.{Schedule, Every, Listed, AreRising}
 use Rattle.simplex_detector.specs.declared.committees.CommitteesError.{CommitteesError}
 use Rattle.simplex_detector.specs.declared.committees.CommitteesError.TheVariants as errors
-use Rattle.simplex_ffi.specs.Sizes.{AreSizes, of_size, pairs_of}
+use Rattle.simplex_ffi.specs.Sizes.{AreSizes, AreCommitteeSizes, of_size, pairs_of}
 
 -- one more epoch
 pub pairs_more : (epochs sizes : List ℕ) (i : ℕ) (before whole : List (ℕ × VouchedScheme)) → i < length epochs → i < length sizes →
@@ -43,3 +50,76 @@ refused epochs sizes pairs errors.Unordered is some empty unordered (Listed othe
 -- there are epochs
 pub some_epochs : (epochs : List ℕ) → false ≡ (length epochs == 0) → epochs ≡ [] → ⊥
 some_epochs epochs is e = eqb-false (length epochs) 0 (sym is) (ap length e)
+
+-- the epochs of the pairs
+epochs_of : (epochs sizes : List ℕ) → length epochs ≡ length sizes → map (λ p. p.0) (pairs_of epochs sizes) ≡ epochs
+epochs_of [] sizes same = refl
+epochs_of (e ∷ es) [] same = absurd (omega (arith, same))
+epochs_of (e ∷ es) (n ∷ ns) same = ap (λ (l : List ℕ). e ∷ l) (epochs_of es ns (omega (arith, same)))
+
+-- the epoch of a pair, and how many pairs there are
+pairs_at : (epochs sizes : List ℕ) → length epochs ≡ length sizes →
+    (length (pairs_of epochs sizes) ≡ length epochs) × ((k : ℕ) (d : ℕ × VouchedScheme) → (get_or (pairs_of epochs sizes) k d).0 ≡ get_or epochs k d.0)
+pairs_at epochs sizes same =
+    let epoch : ℕ × VouchedScheme → ℕ = λ p. p.0 in
+    let pairs = pairs_of epochs sizes in
+    let is = epochs_of epochs sizes same in
+    (sym (length-map pairs epoch) ∙ ap length is, λ k d. sym (get_or-map epoch pairs k d) ∙ ap (λ ns. get_or ns k d.0) is)
+
+-- the pairs rise if the epochs do
+rising_pairs : (epochs sizes : List ℕ) → length epochs ≡ length sizes → IsStrictlySortedBy nat_cmp epochs → AreRising (pairs_of epochs sizes)
+rising_pairs epochs sizes same rising i j d lt within =
+    let at = pairs_at epochs sizes same in
+    omega (arith, at.1 i d, at.1 j d, below_from_sorted epochs i j d.0 rising lt (omega (arith, within, at.0)))
+
+-- the epochs rise if the pairs do
+rising_epochs : (epochs sizes : List ℕ) → length epochs ≡ length sizes → AreRising (pairs_of epochs sizes) → IsStrictlySortedBy nat_cmp epochs
+rising_epochs epochs sizes same rising =
+    let at = pairs_at epochs sizes same in
+    let d : ℕ × VouchedScheme = (0, of_size 0) in
+    sorted_from_strictly_increasing epochs (λ k within. omega (arith, at.1 k d, at.1 (k + 1) d, rising k (k + 1) d (omega arith) (omega (arith, within, at.0))))
+
+-- there are no epochs
+pub no_epochs : (epochs : List ℕ) → true ≡ (length epochs == 0) → epochs ≡ []
+no_epochs [] is = refl
+no_epochs (e ∷ es) is = absurd (omega (arith, eqb-true (length (e ∷ es)) 0 (sym is)))
+
+-- a number above 0 is not 0
+not_zero : (n : ℕ) → nat_eq (suc n) 0 ≡ false
+not_zero n = grind (arith, nat_tests)
+
+-- no size is 0
+pub some_sizes : (sizes : List ℕ) → list_any (λ n. nat_eq n 0) sizes ≡ false → All (λ n. 1 ≤ n) sizes
+some_sizes [] none = All-nil _
+some_sizes (zero ∷ ns) none = absurd (false≢true (sym none))
+some_sizes (suc n ∷ ns) none = All-cons (λ n. 1 ≤ n) (suc n) ns (omega arith) (some_sizes ns (rw (not_zero n) at none))
+
+-- a size is 0
+pub no_size : (sizes : List ℕ) → list_any (λ n. nat_eq n 0) sizes ≡ true → All (λ n. 1 ≤ n) sizes → ⊥
+no_size [] any all = false≢true any
+no_size (zero ∷ ns) any all = absurd (omega (arith, All-head (λ n. 1 ≤ n) zero ns all))
+no_size (suc n ∷ ns) any all = no_size ns (rw (not_zero n) at any) (All-tail (λ n. 1 ≤ n) (suc n) ns all)
+
+-- without epochs there is one size
+pub size_of_one : (epochs sizes : List ℕ) → epochs ≡ [] → AreCommitteeSizes epochs sizes → (n : ℕ) × (sizes ≡ n ∷ []) × (1 ≤ n)
+size_of_one epochs sizes none (Every committee, are) = (are.1.0, are.1.1, are.1.2)
+size_of_one epochs sizes none (Listed pairs, are) = absurd (are.0 none)
+
+-- one size for every epoch
+pub one_size : (epochs sizes : List ℕ) → epochs ≡ [] → length sizes ≡ 1
+    → (IsTrue (not (nat_eq (get_or sizes 0 0) 0)) → AreCommitteeSizes epochs sizes) × (AreCommitteeSizes epochs sizes → IsTrue (not (nat_eq (get_or sizes 0 0) 0)))
+one_size epochs [] none many = absurd (omega (arith, many))
+one_size epochs (m ∷ n ∷ ns) none many = absurd (omega (arith, many))
+one_size epochs (zero ∷ []) none many = (λ yes. absurd (false≢true yes), λ are.
+    let (n, is, some) = size_of_one epochs (zero ∷ []) none are in
+    absurd (omega (arith, some, ap (λ ns. get_or ns 0 0) is)))
+one_size epochs (suc n ∷ []) none many = (λ yes. (Every (of_size (suc n)), (none, (suc n, refl, omega arith, refl))), λ are. ap not (not_zero n))
+
+-- with epochs there is a size for each
+pub sizes_of_listed : (epochs sizes : List ℕ) → (epochs ≡ [] → ⊥) → AreCommitteeSizes epochs sizes → (length epochs ≡ length sizes) × All (λ n. 1 ≤ n) sizes × IsStrictlySortedBy nat_cmp epochs
+sizes_of_listed epochs sizes listed (Every committee, are) = absurd (listed are.0)
+sizes_of_listed epochs sizes listed (Listed pairs, are) = (are.1, are.2, rising_epochs epochs sizes are.1 (subst (λ (ps : List (ℕ × VouchedScheme)). AreRising ps) are.4 are.3))
+
+-- sizes of listed epochs
+pub listed_sizes : (epochs sizes : List ℕ) → (epochs ≡ [] → ⊥) → length epochs ≡ length sizes → All (λ n. 1 ≤ n) sizes → IsStrictlySortedBy nat_cmp epochs → AreCommitteeSizes epochs sizes
+listed_sizes epochs sizes listed same some rising = (Listed (pairs_of epochs sizes), (listed, same, some, rising_pairs epochs sizes same rising, refl))

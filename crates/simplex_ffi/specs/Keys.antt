@@ -16,11 +16,13 @@ key_at bytes place = take 32 (drop (32 * place) bytes)
 abbrev pub keys_in : List ℕ → List (List ℕ)
 keys_in bytes = map (key_at bytes) (range_with_len 0 (length bytes / 32))
 
--- The bytes are keys of a committee, of 32 bytes each: at least one, fewer than 2^32, and none twice.
+-- The keys of a committee can have this many bytes, 32 each: at least one key, and fewer than 2^32.
+abbrev pub IsLengthOfKeys : ℕ → Type 0
+IsLengthOfKeys size = (size % 32 ≡ 0) × (1 ≤ size / 32) × (size / 32 < 2 ^ 32)
+
+-- The bytes are keys of a committee: as many as keys can have, and no key stands twice.
 pub record AreKeys (bytes : List ℕ) : Type 0 where
-  pub whole : length bytes % 32 ≡ 0
-  pub some : 1 ≤ length bytes / 32
-  pub few : length bytes / 32 < 2 ^ 32
+  pub length_is : IsLengthOfKeys (length bytes)
   pub distinct : AllPairs (λ a b. a ≢ b) (keys_in bytes)
 
 -- The scheme verifies for the committee of the keys, which may stand in any order: a participant's number is the place of its

@@ -1,8 +1,8 @@
 //! Committees of the plain scheme by their keys, one after the other.
 
-ghost use Rattle.std.specs.Prelude.{◌≡◌, ◌+◌, ◌*◌, ◌/◌, ◌%◌, ◌↔◌, ◌<◌, ◌≤◌, ◌^◌, None, Ok, IsTrue, IfOk, IfSome, IsPermutation, length};
+ghost use Rattle.std.specs.Prelude.{◌≡◌, ◌+◌, ◌*◌, ◌/◌, ◌%◌, ◌↔◌, ◌<◌, ◌≤◌, ◌^◌, None, Ok, IsTrue, IfOk, IfErr, IfSome, IsPermutation, length};
 ghost use Rattle.std.specs.List.Sorted.{IsStrictlySortedBy};
-ghost use Rattle.simplex_ffi.specs.Keys.{AreKeys, AreOfKeys, key_at, keys_in};
+ghost use Rattle.simplex_ffi.specs.Keys.{AreKeys, AreOfKeys, IsLengthOfKeys, key_at, keys_in};
 
 use simplex_base::codec::Fixed;
 use simplex_detector::committees::Committees;
@@ -24,7 +24,7 @@ fn key_at(bytes: &[u8], place: usize) -> PlainKey
 
 /// Whether this many bytes can be the keys of a committee, 32 bytes each: at least one, and fewer than 2^32.
 fn have_keys(size: usize) -> bool
-    ensures { IsTrue result ↔ ((size % 32 ≡ 0) × (1 ≤ size / 32) × (size / 32 < 2 ^ 32)) }
+    ensures { IsTrue result ↔ IsLengthOfKeys size }
 {
     size % 32 == 0 && size >= 32 && size / 32 <= MOST_KEYS
 }
@@ -51,6 +51,7 @@ fn read_set(alloc: Global, bytes: &[u8]) -> Result<Option<Set<PlainKey>>, AllocE
     ensures size { IfOk result (λ answer. IfSome answer (λ set.
         (1 ≤ length set) × (length set < 2 ^ 32))) }
     ensures none { result ≡ Ok None → ¬ AreKeys bytes.now }
+    ensures memory { IfErr result (λ _. IsLengthOfKeys (length bytes.now)) }
 {
     if !have_keys(bytes.len()) {
         return Ok(None);
@@ -64,8 +65,8 @@ fn read_set(alloc: Global, bytes: &[u8]) -> Result<Option<Set<PlainKey>>, AllocE
 
 /// The committee of these keys, of 32 bytes each and in any order, under this base, for every epoch. A
 /// participant's number is the place of its key in ascending order. `None` where they are not the keys
-/// of a committee: at least one, fewer than 2^32, and none twice. `AllocError` only where an allocation
-/// failed.
+/// of a committee: at least one, fewer than 2^32, and none twice. Their number is judged before memory is
+/// allocated. `AllocError` only where an allocation failed.
 pub fn committees(
     alloc: Global,
     namespace: &[u8],
@@ -73,6 +74,7 @@ pub fn committees(
 ) -> Result<Option<Committees<Plain>>, AllocError>
     ensures some { IfOk result (λ answer. IfSome answer (AreOfKeys namespace.now keys.now)) }
     ensures none { result ≡ Ok None → ¬ AreKeys keys.now }
+    ensures memory { IfErr result (λ _. IsLengthOfKeys (length keys.now)) }
 {
     let Some(participants) = read_set(alloc, keys)? else {
         return Ok(None);

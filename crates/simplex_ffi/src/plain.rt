@@ -1,10 +1,10 @@
 //! Audits of streams of the plain scheme.
 
-ghost use Rattle.std.specs.Prelude.{◌≡◌, ◌≢◌, ◌⊎◌, ◌++◌};
+ghost use Rattle.std.specs.Prelude.{◌≡◌, ◌≢◌, ◌⊎◌, ◌++◌, length};
 ghost use Rattle.simplex_plain.specs.Plain.{PlainScheme};
 ghost use Rattle.simplex_detector.specs.Committees.{Schedule};
 ghost use Rattle.simplex_ffi.specs.Answer.{AreStored, IsAudited};
-ghost use Rattle.simplex_ffi.specs.Keys.{AreKeys, AreOfKeys};
+ghost use Rattle.simplex_ffi.specs.Keys.{AreKeys, AreOfKeys, IsLengthOfKeys};
 
 use crate::answer::{ARGUMENTS, MEMORY, ReportSummary, answer};
 use crate::keys::committees;
@@ -31,6 +31,7 @@ pub fn answer_plain(
         IsAudited (⟦<Plain as Audited<Sha256Digest>>⟧.basis committees)
         ⟦<Sha256Digest as Fixed>⟧.bytes_of stream.now buffer.old buffer.new summary.new result }
     ensures refused { result ≡ 2 → ¬ AreKeys keys.now }
+    ensures memory { result ≡ 3 → IsLengthOfKeys (length keys.now) }
     ensures untouched { (result ≡ 2) ⊎ (result ≡ 3) →
         (buffer.new ≡ buffer.old) × (summary.new ≡ summary.old) }
 {
@@ -60,6 +61,7 @@ pub fn store_plain(
         AreStored (⟦<Plain as Audited<Sha256Digest>>⟧.basis committees) (stored.now ++ batch.now)
         buffer.old buffer.new size.new result }
     ensures refused { result ≡ 2 → ¬ AreKeys keys.now }
+    ensures memory { result ≡ 3 → IsLengthOfKeys (length keys.now) }
     ensures untouched { (result ≡ 2) ⊎ (result ≡ 3) →
         (buffer.new ≡ buffer.old) × (size.new ≡ size.old) }
 {

@@ -1,6 +1,6 @@
 //! The evidence of a stream's report as records, put into a buffer.
 
-ghost use Rattle.std.specs.Prelude.{◌≡◌, ◌≢◌, ◌⊎◌, IfOk, string_bytes};
+ghost use Rattle.std.specs.Prelude.{◌≡◌, ◌≢◌, ◌⊎◌, IfOk, length, string_bytes};
 ghost use Rattle.simplex_audit.specs.Guarantees.{IsAudit};
 ghost use Rattle.simplex_audit.specs.Run.{report_text};
 ghost use Rattle.simplex_detector.specs.Committees.{Schedule};
@@ -8,8 +8,8 @@ ghost use Rattle.simplex_places.specs.Records.{AreRecords};
 ghost use Rattle.simplex_plain.specs.Plain.{PlainScheme};
 ghost use Rattle.simplex_vouched.specs.Vouched.{VouchedScheme};
 ghost use Rattle.simplex_ffi.specs.Answer.{AreRecorded};
-ghost use Rattle.simplex_ffi.specs.Keys.{AreKeys, AreOfKeys};
-ghost use Rattle.simplex_ffi.specs.Sizes.{AreSizes};
+ghost use Rattle.simplex_ffi.specs.Keys.{AreKeys, AreOfKeys, IsLengthOfKeys};
+ghost use Rattle.simplex_ffi.specs.Sizes.{AreSizes, AreCommitteeSizes};
 
 use crate::answer::{ARGUMENTS, MEMORY, ReportSummary, SHORT, account, ended, put, summarize};
 use crate::{keys, sizes};
@@ -87,6 +87,7 @@ pub fn records_vouched<R: Role<N>, const N: usize>(
         stream.now buffer.old buffer.new summary.new result }
     ensures refused { result ≡ 2 → (committees : Schedule VouchedScheme) →
         ¬ AreSizes epochs.now sizes.now committees }
+    ensures memory { result ≡ 3 → AreCommitteeSizes epochs.now sizes.now }
     ensures untouched { (result ≡ 2) ⊎ (result ≡ 3) →
         (buffer.new ≡ buffer.old) × (summary.new ≡ summary.old) }
 {
@@ -119,6 +120,7 @@ pub fn records_plain(
         ⟦<Sha256Digest as Fixed>⟧.bytes_of ⟦<Plain as Located<Sha256Digest>>⟧.carries
         stream.now buffer.old buffer.new summary.new result }
     ensures refused { result ≡ 2 → ¬ AreKeys keys.now }
+    ensures memory { result ≡ 3 → IsLengthOfKeys (length keys.now) }
     ensures untouched { (result ≡ 2) ⊎ (result ≡ 3) →
         (buffer.new ≡ buffer.old) × (summary.new ≡ summary.old) }
 {

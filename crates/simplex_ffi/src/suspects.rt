@@ -4,7 +4,7 @@ ghost use Rattle.std.specs.Prelude.{◌≡◌, ◌≢◌, ◌⊎◌};
 ghost use Rattle.simplex_detector.specs.Committees.{Schedule};
 ghost use Rattle.simplex_vouched.specs.Vouched.{VouchedScheme};
 ghost use Rattle.simplex_ffi.specs.Answer.{AreSuspectsGiven};
-ghost use Rattle.simplex_ffi.specs.Sizes.{AreSizes};
+ghost use Rattle.simplex_ffi.specs.Sizes.{AreSizes, AreCommitteeSizes};
 
 use crate::answer::{ARGUMENTS, MEMORY, SHORT, WHOLE, put};
 use crate::sizes::committees;
@@ -59,6 +59,7 @@ pub fn suspects_vouched<R: Role<N>, const N: usize>(
         stream.now records.old records.new needed.new result }
     ensures refused { result ≡ 2 → (committees : Schedule VouchedScheme) →
         ¬ AreSizes epochs.now sizes.now committees }
+    ensures memory { result ≡ 3 → AreCommitteeSizes epochs.now sizes.now }
     ensures untouched { (result ≡ 2) ⊎ (result ≡ 3) →
         (records.new ≡ records.old) × (needed.new ≡ needed.old) }
 {

@@ -5,7 +5,7 @@ ghost use Rattle.std.proofs.Common.{lit<, lit≤};
 ghost use Rattle.simplex_detector.specs.Committees.{Schedule};
 ghost use Rattle.simplex_vouched.specs.Vouched.{VouchedScheme};
 ghost use Rattle.simplex_ffi.specs.Answer.{AreStored, IsAudited};
-ghost use Rattle.simplex_ffi.specs.Sizes.{AreSizes};
+ghost use Rattle.simplex_ffi.specs.Sizes.{AreSizes, AreCommitteeSizes};
 
 use crate::answer::{ARGUMENTS, MEMORY, ReportSummary, answer};
 use crate::sizes::committees;
@@ -55,6 +55,7 @@ pub fn answer_vouched<R: Role<N>, const N: usize>(
         ⟦<Sha256Digest as Fixed>⟧.bytes_of stream.now buffer.old buffer.new summary.new result }
     ensures refused { result ≡ 2 → (committees : Schedule VouchedScheme) →
         ¬ AreSizes epochs.now sizes.now committees }
+    ensures memory { result ≡ 3 → AreCommitteeSizes epochs.now sizes.now }
     ensures untouched { (result ≡ 2) ⊎ (result ≡ 3) →
         (buffer.new ≡ buffer.old) × (summary.new ≡ summary.old) }
 {
@@ -86,6 +87,7 @@ pub fn store_vouched<R: Role<N>, const N: usize>(
         (stored.now ++ batch.now) buffer.old buffer.new size.new result }
     ensures refused { result ≡ 2 → (committees : Schedule VouchedScheme) →
         ¬ AreSizes epochs.now sizes.now committees }
+    ensures memory { result ≡ 3 → AreCommitteeSizes epochs.now sizes.now }
     ensures untouched { (result ≡ 2) ⊎ (result ≡ 3) →
         (buffer.new ≡ buffer.old) × (size.new ≡ size.old) }
 {

@@ -1,7 +1,7 @@
-use Rattle.std.proofs.Common.{◌≡◌, [], ap, map, string_bytes, sym, subst, List, ℕ, ◌∙◌, Err}
+use Rattle.std.proofs.Common.{◌≡◌, [], ap, map, string_bytes, sym, subst, List, ℕ, ◌∙◌, Err, inl, inr}
 use Rattle.std.proofs.lemmas.Result.{err_from_is_err_and}
 use Rattle.simplex_plain.specs.Plain.{PlainScheme}
-use Rattle.audit_cli.specs.Arguments.{IsNamedCommittee, NameCommittees, AreGroups}
+use Rattle.audit_cli.specs.Arguments.{IsNamedCommittee, NameCommittees, AreGroups, BeginAsGroups}
 use Rattle.audit_cli.specs.declared.status.Failure.TheVariants as failures
 use Rattle.audit_cli.proofs.ArgumentLemmas.{no_keys, no_rising, no_texts_named, no_arguments, refused_empty}
 use Rattle.audit_cli.proofs.arguments.parse.Goals as goal
@@ -58,3 +58,22 @@ returns-in-Err-clause-usage c = λ usage.
     let namespace = string_bytes c.in-Some.namespace.now in
     no_arguments _ namespace texts (ap (map string_bytes) c.in-Some.ensures.cases.0)
     (no_texts_named namespace texts (subst (λ (ps : List (ℕ × PlainScheme)). AreGroups c.as_str-2.result.now texts ps) none c.in_ok-pairs.ensures.groups))
+
+pub returns-in_err-committee-clause-memory : goal.returns-in_err-committee-clause-memory
+returns-in_err-committee-clause-memory c = λ memory.
+    let p = err_from_is_err_and c.from_residual.result c.from_residual.ensures.1 in
+    let failed = sym (p.1 ∙ ap Err p.2) ∙ memory in
+    let is : c.in_err-committee.field-0.0 ≡ failures.OutOfMemory = cc in
+    (string_bytes c.in-Some.namespace.now, map string_bytes c.in-Some.texts.now, ap (map string_bytes) c.in-Some.ensures.cases.0, inl (c.in_err-committee.ensures.memory (ap Err is)))
+
+pub returns-in_err-pairs-clause-memory : goal.returns-in_err-pairs-clause-memory
+returns-in_err-pairs-clause-memory c = λ memory.
+    let p = err_from_is_err_and c.from_residual-in_err-pairs.result c.from_residual-in_err-pairs.ensures.1 in
+    let failed = sym (p.1 ∙ ap Err p.2) ∙ memory in
+    let is : c.in_err-pairs.field-0.0 ≡ failures.OutOfMemory = cc in
+    let texts = map string_bytes c.in-Some.texts.now in (
+      string_bytes c.in-Some.namespace.now,
+      texts,
+      ap (map string_bytes) c.in-Some.ensures.cases.0,
+      inr (subst (λ (name : List ℕ). BeginAsGroups name texts) c.as_str-2.ensures.value (c.in_err-pairs.ensures.memory (ap Err is))),
+    )

@@ -5,9 +5,9 @@ use Rattle.std.proofs.lemmas.List.{take-map, drop-map}
 use Rattle.std.proofs.lemmas.Result.{err_from_is_err_and}
 use Rattle.simplex_plain.specs.Plain.{PlainScheme}
 use Rattle.simplex_detector.specs.Committees.{AreRising}
-use Rattle.audit_cli.specs.Arguments.{AreGroups, AreNoKeys}
+use Rattle.audit_cli.specs.Arguments.{AreGroups, AreNoKeys, StandsBeforeGroup}
 use Rattle.audit_cli.specs.declared.status.Failure.TheVariants as failures
-use Rattle.audit_cli.proofs.GroupLemmas.{next_group, no_texts, rising_push}
+use Rattle.audit_cli.proofs.GroupLemmas.{AreRead, begun, next_group, no_texts, read_next, rising_push}
 use Rattle.audit_cli.proofs.NoGroups.{Continues, no_epoch, no_rise, no_committee, continues_next}
 use Rattle.audit_cli.proofs.groups.parse_groups.Goals as goal
 
@@ -30,12 +30,40 @@ groups-preserved c =
           (next_group namespace c.groups.rest.now c.in-Some.behind.now c.split_at.result.0.now c.split_at.result.1.now c.in-Some.first.now c.count_keys.result c.in_ok-epoch.epoch c.in_ok-committee.committee more
           next text_is small c.split_at.ensures.front c.split_at.ensures.back c.in_ok-committee.ensures.committee others));
       rising = subst (λ (ps : List (ℕ × PlainScheme)). AreRising ps) (sym items) (rising_push before p c.groups.invariant.rising above);
+      read =
+          subst (λ (ps : List (ℕ × PlainScheme)). AreRead namespace texts (map string_bytes c.split_at.result.1.now) ps) (sym items)
+          (read_next namespace texts c.groups.rest.now c.in-Some.behind.now c.split_at.result.0.now c.split_at.result.1.now c.in-Some.first.now c.count_keys.result c.in_ok-epoch.epoch before c.in_ok-committee.committee
+          c.groups.invariant.read next text_is small c.split_at.ensures.front c.split_at.ensures.back c.in_ok-committee.ensures.committee);
       only =
           subst (λ (ps : List (ℕ × PlainScheme)). Continues namespace texts (map string_bytes c.split_at.result.1.now) ps) (sym items)
           (subst (λ (ts : List (List ℕ)). Continues namespace texts ts (before ++ p ∷ [])) after
           (continues_next namespace texts (map string_bytes c.groups.rest.now) (map string_bytes c.in-Some.behind.now) before (string_bytes c.in-Some.first.now) c.count_keys.result c.in_ok-epoch.epoch c.in_ok-committee.committee
           c.groups.invariant.only (ap (map string_bytes) next) text_is small c.count_keys.ensures.keys c.count_keys.ensures.group));
     }
+
+pub returns-in_err-committee-clause-memory : goal.returns-in_err-committee-clause-memory
+returns-in_err-committee-clause-memory c = λ memory.
+    let p = err_from_is_err_and c.from_residual-in_err-committee.result c.from_residual-in_err-committee.ensures.1 in
+    let failed = sym (p.1 ∙ ap Err p.2) ∙ memory in
+    let is : c.in_err-committee.field-0.0 ≡ failures.OutOfMemory = cc in
+    let small : c.in_ok-epoch.epoch < 2 ^ 64 = search rules in
+    begun c.args.namespace.now (map string_bytes c.args.texts.now) c.groups.rest.now c.in-Some.behind.now c.split_at.result.0.now c.split_at.result.1.now c.in-Some.first.now c.count_keys.result c.in_ok-epoch.epoch c.groups.pairs.items
+    c.groups.invariant.read c.groups.invariant.rising
+    (subst (All (λ (q : ℕ × PlainScheme). q.0 < c.in_ok-epoch.epoch)) c.as_slice.ensures.value (c.is_above.ensures.0 c.if-not-is_above.false))
+    c.in-Some.ensures.cases.0 (sym c.as_str.ensures.value ∙ c.in_ok-epoch.ensures.epoch) small c.split_at.ensures.front c.split_at.ensures.back
+    (subst StandsBeforeGroup (drop-map string_bytes c.count_keys.result c.in-Some.behind.now ∙ ap (map string_bytes) (sym c.split_at.ensures.back)) c.count_keys.ensures.group)
+    (c.in_err-committee.ensures.memory (ap Err is))
+
+pub returns-in_err-map_err-clause-memory : goal.returns-in_err-map_err-clause-memory
+returns-in_err-map_err-clause-memory c = λ memory.
+    let small : c.in_ok-epoch.epoch < 2 ^ 64 = search rules in
+    let is = c.in_ok-committee.ensures.committee in
+    begun c.args.namespace.now (map string_bytes c.args.texts.now) c.groups.rest.now c.in-Some.behind.now c.split_at.result.0.now c.split_at.result.1.now c.in-Some.first.now c.count_keys.result c.in_ok-epoch.epoch c.groups.pairs.items
+    c.groups.invariant.read c.groups.invariant.rising
+    (subst (All (λ (q : ℕ × PlainScheme). q.0 < c.in_ok-epoch.epoch)) c.as_slice.ensures.value (c.is_above.ensures.0 c.if-not-is_above.false))
+    c.in-Some.ensures.cases.0 (sym c.as_str.ensures.value ∙ c.in_ok-epoch.ensures.epoch) small c.split_at.ensures.front c.split_at.ensures.back
+    (subst StandsBeforeGroup (drop-map string_bytes c.count_keys.result c.in-Some.behind.now ∙ ap (map string_bytes) (sym c.split_at.ensures.back)) c.count_keys.ensures.group)
+    (is.keys, is.named.named, is.named.size)
 
 pub returns-clause-groups : goal.returns-clause-groups
 returns-clause-groups c =
@@ -44,11 +72,8 @@ returns-clause-groups c =
 
 pub returns-in_err-epoch-clause-usage : goal.returns-in_err-epoch-clause-usage
 returns-in_err-epoch-clause-usage c = λ usage pairs are rising.
-    let p = err_from_is_err_and c.from_residual.result c.from_residual.ensures.1 in
-    let failed = sym (p.1 ∙ ap Err p.2) ∙ usage in
-    let is : c.in_err-epoch.field-0.0 ≡ failures.Usage = cc in
     no_epoch c.args.namespace.now (map string_bytes c.args.texts.now) (map string_bytes c.groups.rest.now) (map string_bytes c.in-Some.behind.now) c.groups.pairs.items (string_bytes c.in-Some.first.now)
-    c.groups.invariant.only (ap (map string_bytes) c.in-Some.ensures.cases.0) (λ epoch small e. c.in_err-epoch.ensures.usage (ap Err is) epoch small (c.as_str.ensures.value ∙ e)) pairs are
+    c.groups.invariant.only (ap (map string_bytes) c.in-Some.ensures.cases.0) (λ epoch small e. c.in_err-epoch.ensures.usage epoch small (c.as_str.ensures.value ∙ e)) pairs are
 
 pub returns-then-not-is_above-clause-usage : goal.returns-then-not-is_above-clause-usage
 returns-then-not-is_above-clause-usage c = λ usage pairs are rising.

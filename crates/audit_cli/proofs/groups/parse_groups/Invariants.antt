@@ -2,6 +2,7 @@ use Rattle.std.proofs.Common.{List, ℕ, ◌++◌, map, length, string_bytes}
 use Rattle.simplex_plain.specs.Plain.{PlainScheme}
 use Rattle.simplex_detector.specs.Committees.{AreRising}
 use Rattle.audit_cli.specs.Arguments.{AreGroups}
+use Rattle.audit_cli.proofs.GroupLemmas.{AreRead}
 use Rattle.audit_cli.proofs.NoGroups.{Continues}
 use Rattle.audit_cli.proofs.groups.parse_groups.Given as goal
 
@@ -9,6 +10,7 @@ abbrev pub invariant-groups : goal.invariant-groups
 invariant-groups l = record {
   named : (more : List (ℕ × PlainScheme)) → AreGroups l.namespace (map string_bytes l.rest) more → AreGroups l.namespace (map string_bytes l.texts) (l.pairs.items ++ more);
   rising : AreRising l.pairs.items;
+  read : AreRead l.namespace (map string_bytes l.texts) (map string_bytes l.rest) l.pairs.items;
   only : Continues l.namespace (map string_bytes l.texts) (map string_bytes l.rest) l.pairs.items;
 }
 

@@ -1,7 +1,6 @@
-use Rattle.std.proofs.Common.{◌≡◌, ◌≤◌, ◌++◌, take, drop}
-use Rattle.std.specs.Prelude.{All}
+use Rattle.std.proofs.Common.{◌≡◌, ◌++◌, drop}
 use Rattle.simplex_ffi.specs.Sizes.{pairs_of}
 use Rattle.simplex_ffi.proofs.sizes.pairs.Given as goal
 
 abbrev pub invariant-epochs : goal.invariant-epochs
-invariant-epochs g l = (l.pairs.items ++ pairs_of (drop l.i l.epochs) (drop l.i l.sizes) ≡ pairs_of l.epochs l.sizes) × All (λ n. 1 ≤ n) (take l.i l.sizes)
+invariant-epochs g l = l.pairs.items ++ pairs_of (drop l.i l.epochs) (drop l.i l.sizes) ≡ pairs_of l.epochs l.sizes
