@@ -9,13 +9,14 @@ use Rattle.std.proofs.lemmas.List.FromFn.{length-map-range_with_len, get_or-map-
 use Rattle.std.proofs.lemmas.List.Sorted.{IsPermutation-trans, IsPermutation-append_comm, length_permutation, sorted_far, ranks_by, IsPermutation-refl, All-permutation}
 use Rattle.std.proofs.lemmas.List.Elements.{All-contains, All-from_all_within, Contains-get_or}
 use Rattle.std.specs.List.{All}
+use Rattle.std.specs.Option.{option_map, ForSome}
 use Rattle.std.proofs.lemmas.Cmp.{then_total, on_total, nat_cmp_total}
 use Rattle.std.proofs.lemmas.Map.Keys.{apart_from_distinct, IsDistinct-from_apart, IsDistinct-IsPermutation}
 use Rattle.std.specs.Cmp.{IsTotalOrder}
 use Rattle.std.specs.Ordering.{nat_cmp, ordering_then, is_lt}
 use Rattle.std.specs.List.{range_with_len, IsDistinct}
 use Rattle.std.specs.List.Sorted.{IsPermutation, IsSortedByKey}
-use Rattle.simplex_lead.specs.Rotation.{IsArrangement, ticket, Precedes, RisesByHash, IsOrder, leader, EachLeadsOnce}
+use Rattle.simplex_lead.specs.Rotation.{IsArrangement, ticket, Precedes, RisesByHash, IsOrder, leader, EachLeadsOnce, entries}
 
 -- one more number
 pub range_more : (a n : ℕ) → range_with_len a (n + 1) ≡ range_with_len a n ++ (a + n) ∷ []
@@ -105,3 +106,8 @@ arranged_below n order i d arranged within =
 -- what is read from it too
 pub arranged_read : (order : List ℕ) (i x : ℕ) → IsArrangement (length order) order → x ≡ get_or order i x → i < length order → x < length order
 arranged_read order i x arranged is within = let below = arranged_below (length order) order i x arranged within in omega (arith, is, below)
+
+-- an order has as many entries as there are participants, where the one that is stored has
+pub entries_long : {V : Type 0} (items : V → List ℕ) (n : ℕ) (stored : Option V) → ForSome stored (λ order. (length (items order) ≡ n) × ¬ (items order ≡ range_with_len 0 n)) → length (entries n (option_map items stored)) ≡ n
+entries_long items n None holds = length-range_with_len 0 n
+entries_long items n (Some order) holds = (holds order refl).0

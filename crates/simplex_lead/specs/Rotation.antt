@@ -18,6 +18,11 @@ pub record Settings : Type 0 where
   pub seed : Option (List ℕ)
   pub terms : Terms
 
+-- the order of n participants: the one that is stored, if there is one, or else that of their numbers
+abbrev pub entries : ℕ → Option (List ℕ) → List ℕ
+entries n None = range_with_len 0 n
+entries n (Some order) = order
+
 -- a rotation: the order, and the structure of terms
 pub record Rotation : Type 0 where
   pub order : List ℕ

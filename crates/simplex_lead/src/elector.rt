@@ -2,6 +2,7 @@
 
 mod electing;
 mod mode;
+mod order;
 mod round_robin;
 mod terms;
 

@@ -1,6 +1,6 @@
 //! Electors that go round the participants, term after term.
 
-ghost use Rattle.std.specs.Prelude.{◌≡◌, ℕ, ◌+◌, ◌<◌, ◌≤◌, ◌^◌, ◌++◌, List, None, length, IfOk, OnOk, IsPermutation};
+ghost use Rattle.std.specs.Prelude.{◌≡◌, ℕ, ◌+◌, ◌<◌, ◌≤◌, ◌^◌, ◌++◌, List, None, length, IfOk, IsOk, OnOk, IsPermutation, Some};
 ghost use Rattle.std.specs.List.{range_with_len};
 ghost use Rattle.std.specs.List.Sorted.{IsSortedByKey};
 ghost use Rattle.std.specs.Int.{to_be_bytes, w32};
@@ -12,6 +12,7 @@ ghost use Rattle.simplex_lead.specs.Rotation.{IsOrder, IsRotation, leader_of_rou
 
 use crate::elector::electing::{Config, Elector};
 use crate::elector::mode::Mode;
+use crate::elector::order::Order;
 use crate::elector::terms::Terms;
 use simplex_base::positions::{Participant, Round, TermLength, ViewDelta};
 use simplex_base::values::ExactClone;
@@ -94,8 +95,42 @@ impl<H: Hasher> RoundRobin<H> {
     }
 }
 
+impl<H: Hasher> RoundRobin<H> {
+    /// The elector of this many participants, 1 to 2^32 - 1. Without a seed it takes no memory, and constant time. With
+    /// one it hashes once for each participant and sorts. `AllocError` only where there is a seed and an allocation failed.
+    pub fn build_for<S>(
+        self,
+        alloc: Global,
+        participants: u32,
+    ) -> Result<RoundRobinElector<S>, AllocError>
+        requires { 1 ≤ participants }
+        ensures participants { IfOk result (λ elector. length elector.order ≡ participants) }
+        ensures order { IfOk result (λ elector.
+            IsOrder H.Digest.cmp H.digest_of self.seed participants elector.order) }
+        // There is no other such order.
+        ensures single { (other : List ℕ) →
+            IsOrder H.Digest.cmp H.digest_of self.seed participants other →
+            IfOk result (λ elector. elector.order ≡ other) }
+        ensures terms { IfOk result (λ elector. elector.terms ≡ self.terms) }
+        // Each leads once in as many terms as there are participants, where no sum of epoch and term wraps.
+        ensures once { IfOk result (λ elector. (epoch first : ℕ) →
+            epoch + first + participants ≤ 2 ^ 64 →
+            EachLeadsOnce elector.order epoch first) }
+        ensures infallible { self.seed ≡ None → IsOk result }
+    {
+        let order = order_of::<H>(alloc, self.seed.as_deref(), participants)?;
+        Ok(RoundRobinElector {
+            order,
+            terms: self.terms,
+            scheme: PhantomData,
+        })
+    }
+}
+
 impl<H: Hasher> Clone for RoundRobin<H> {
     ghost is_clone = { λ settings copy. copy ≡ settings };
+
+    ghost is_infallible = { λ settings. settings.seed ≡ None };
 
     fn clone(&self) -> Result<Self, AllocError> {
         Ok(RoundRobin {
@@ -141,21 +176,24 @@ fn shuffle<H: Hasher>(order: &mut Vec<Participant>, seed: &[u8]) -> Result<(), A
     Ok(())
 }
 
-/// The order of n participants by a seed, if there is one.
-fn order_of<H: Hasher>(
-    alloc: Global,
-    seed: Option<&[u8]>,
-    n: u32,
-) -> Result<Vec<Participant>, AllocError>
-    ensures { IfOk result (λ order.
-        IsOrder H.Digest.cmp H.digest_of (option_copied seed.entry) n order.items) }
+/// The order of n participants by a seed.
+fn shuffled_order<H: Hasher>(alloc: Global, seed: &[u8], n: u32) -> Result<Order, AllocError>
+    ensures { IfOk result (IsOrder H.Digest.cmp H.digest_of (Some seed.now) n) }
 {
     let mut order = numbered(alloc, n)?;
-    let Some(seed) = seed else {
-        return Ok(order);
-    };
     shuffle::<H>(&mut order, seed)?;
-    Ok(order)
+    Ok(Order::of(order))
+}
+
+/// The order of n participants by a seed, if there is one.
+fn order_of<H: Hasher>(alloc: Global, seed: Option<&[u8]>, n: u32) -> Result<Order, AllocError>
+    ensures order { IfOk result (IsOrder H.Digest.cmp H.digest_of (option_copied seed.entry) n) }
+    ensures infallible { option_copied seed.entry ≡ None → IsOk result }
+{
+    match seed {
+        Some(seed) => shuffled_order::<H>(alloc, seed, n),
+        None => Ok(Order::ascending(n)),
+    }
 }
 
 impl<S: CertificateScheme, H: Hasher> Config<S> for RoundRobin<H> {
@@ -187,13 +225,9 @@ impl<S: CertificateScheme, H: Hasher> Config<S> for RoundRobin<H> {
         ensures once { IfOk result (λ elector. (epoch first : ℕ) →
             epoch + first + length participants.now ≤ 2 ^ 64 →
             EachLeadsOnce elector.order epoch first) }
+        ensures infallible { self.seed ≡ None → IsOk result }
     {
-        let order = order_of::<H>(alloc, self.seed.as_deref(), participants.len() as u32)?;
-        Ok(RoundRobinElector {
-            order,
-            terms: self.terms,
-            scheme: PhantomData,
-        })
+        self.build_for(alloc, participants.len() as u32)
     }
 
     ghost agree = { λ settings keys one other is_one is_other. one_alike _ _ _ _ one other
@@ -207,7 +241,7 @@ impl<S: CertificateScheme, H: Hasher> Config<S> for RoundRobin<H> {
 /// The elector that goes round the participants in one order, term after term.
 #[derive(Drop)]
 pub struct RoundRobinElector<S> {
-    order: Vec<Participant>,
+    order: Order,
     terms: Terms,
     scheme: PhantomData<S>,
 }
@@ -218,15 +252,17 @@ impl<S> Model for RoundRobinElector<S> {
 
     ghost Value = { Rotation };
 
-    ghost view = { λ elector. record { order = elector.order.items; terms = elector.terms } };
+    ghost view = { λ elector. record { order = elector.order; terms = elector.terms } };
 
     ghost invariant = { λ elector.
-        IsArrangement (length elector.order.items) elector.order.items ×
-        (0 < length elector.order.items) };
+        IsArrangement (length elector.order) elector.order × (0 < length elector.order) };
 }
 
 impl<S> Clone for RoundRobinElector<S> {
     ghost is_clone = { λ elector copy. copy ≡ elector };
+
+    // The order of the numbers is cloned without an allocation.
+    ghost is_infallible = { λ elector. elector.order ≡ range_with_len 0 (length elector.order) };
 
     fn clone(&self) -> Result<Self, AllocError> {
         Ok(RoundRobinElector {
@@ -249,7 +285,7 @@ impl<S> RoundRobinElector<S> {
     {
         let term = round.view().term_index(self.terms.length());
         let place = round.epoch().get().wrapping_add(term) % self.order.len() as u64;
-        self.order[place as usize]
+        self.order.get(place as u32)
     }
 }
 
