@@ -1,44 +1,48 @@
 //! Which attestations make a certificate.
 
-ghost use Rattle.std.specs.Prelude.{◌≡◌, ◌↔◌, ◌<◌, IsTrue, All, length, nat_eq};
+ghost use Rattle.std.specs.Prelude.{◌≡◌, ◌↔◌, ◌<◌, IsTrue, All, length, map, nat_eq};
 ghost use Rattle.std.specs.List.{IsDistinct, list_any};
 ghost use Rattle.simplex_scheme.specs.Committee.{signers_of};
 
-use crate::scheme::{Attestation, CertificateScheme, SchemeTypes};
+use crate::scheme::{Attestation, Attributable, CertificateScheme};
 use simplex_base::positions::Participant;
 
 /// Whether the signers are distinct and in the committee: the condition of
-/// [`assemble`](crate::scheme::Scheme::assemble). Each signer is compared to those after it, so the time is quadratic
-/// in their number.
+/// [`assemble`](crate::scheme::Scheme::assemble). It takes the time of [`are_distinct`].
 pub fn can_assemble<S: CertificateScheme>(scheme: &S, attestations: &[Attestation<S>]) -> bool
     ensures { IsTrue result ↔
         (IsDistinct nat_eq (signers_of attestations.now) ×
         All (λ a. a.signer < length (S.keys scheme.now)) attestations.now) }
 {
-    let participants = scheme.participants().len();
-    attestations
-        .iter()
-        .all(|one| (one.signer.get() as usize) < participants)
-        && are_distinct(attestations)
+    are_distinct(attestations, scheme.participants().len())
 }
 
-/// Whether the signer is that of one of these.
-fn has_signer<S: SchemeTypes>(attestations: &[Attestation<S>], signer: Participant) -> bool
-    ensures { result ≡ list_any (λ a. nat_eq signer a.signer) attestations.now }
+/// Whether some of these are signed by this participant.
+fn has_signer<T: Attributable>(signed: &[T], signer: Participant) -> bool
+    ensures { result ≡ list_any (λ one. nat_eq (T.signer_of one) signer) signed.now }
 {
-    attestations.iter().any(|one| signer == one.signer)
+    signed.iter().any(|one| one.signer() == signer)
 }
 
-/// Whether no two have the same signer.
-fn are_distinct<S: SchemeTypes>(attestations: &[Attestation<S>]) -> bool
-    ensures { IsTrue result ↔ IsDistinct nat_eq (signers_of attestations.now) }
+/// Whether the signers are distinct and below this number of participants. It allocates nothing. Signers in ascending
+/// order take linear time; each one that is below an earlier one is compared to all before it.
+pub fn are_distinct<T: Attributable>(signed: &[T], participants: usize) -> bool
+    ensures { IsTrue result ↔
+        (IsDistinct nat_eq (map T.signer_of signed.now) ×
+        All (λ one. T.signer_of one < participants) signed.now) }
 {
-    let mut rest = attestations;
-    'rest: while let Some((first, others)) = rest.split_first() {
-        if has_signer(others, first.signer) {
+    let mut above = 0;
+    'signed: for place in 0..signed.len() {
+        let signer = signed[place].signer();
+        let number = signer.get() as usize;
+        if number >= participants {
             return false;
         }
-        rest = others;
+        if number >= above {
+            above = number + 1;
+        } else if has_signer(&signed[..place], signer) {
+            return false;
+        }
     }
     true
 }

@@ -14,6 +14,7 @@
 #![tactic(auto)]
 
 pub mod assembly;
+mod attributable;
 mod faults;
 mod hash;
 mod message;

@@ -6,6 +6,7 @@ ghost use Rattle.simplex_base.specs.Format.{format_of};
 ghost use Rattle.simplex_scheme.specs.Subject.{SubjectValue, subject_value};
 ghost use Rattle.simplex_scheme.specs.Committee.{IsQuorum, IsInOrder, signers_of, RefusesFew, AssemblesQuorum};
 
+pub use crate::attributable::Attributable;
 pub use crate::faults::{max_faults, quorum};
 pub use crate::hash::{Hasher, Sha256, Sha256Digest, Sha256Role};
 pub use crate::namespace::{CertificateNamespace, Namespace};
@@ -76,6 +77,14 @@ impl<S: SchemeTypes> ExactClone for Attestation<S> {
 
 impl<S: SchemeTypes> InfallibleClone for Attestation<S> {
     ghost infallible = { λ _. tt };
+}
+
+impl<S: SchemeTypes> Attributable for Attestation<S> {
+    ghost signer_of = { λ attestation. attestation.signer };
+
+    fn signer(&self) -> Participant {
+        self.signer
+    }
 }
 
 impl<S: SchemeTypes> EqByParts for Attestation<S> {

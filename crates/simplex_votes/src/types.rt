@@ -2,7 +2,6 @@
 
 mod artifact;
 mod assembly;
-mod attributable;
 mod certificate;
 mod context;
 mod finalization;
@@ -14,7 +13,6 @@ mod nullify;
 mod vote;
 
 pub use artifact::Artifact;
-pub use attributable::Attributable;
 pub use certificate::{Certificate, Kind};
 pub use context::Context;
 pub use finalization::Finalization;
@@ -23,4 +21,5 @@ pub use notarization::Notarization;
 pub use notarize::Notarize;
 pub use nullification::Nullification;
 pub use nullify::Nullify;
+pub use simplex_scheme::scheme::Attributable;
 pub use vote::Vote;

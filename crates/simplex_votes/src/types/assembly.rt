@@ -1,18 +1,18 @@
 //! How certificates are assembled from votes.
 
 ghost use Rattle.std.specs.Prelude.{◌≡◌, ◌↔◌, ◌<◌, true, IsTrue, IfOk, All, length, map, nat_eq, refl};
-ghost use Rattle.std.specs.List.{IsDistinct, list_any};
+ghost use Rattle.std.specs.List.{IsDistinct};
 ghost use Rattle.simplex_scheme.specs.Committee.{signers_of, RefusesFew, AssemblesQuorum};
 ghost use Rattle.simplex_scheme.specs.Subject.{SubjectValue};
 ghost use Rattle.simplex_votes.specs.Assembly.{CanAssemble};
 
-use crate::types::attributable::Attributable;
 use crate::types::finalize::Finalize;
 use crate::types::notarize::Notarize;
 use crate::types::nullify::Nullify;
-use simplex_base::positions::{Participant, Round};
+use simplex_base::positions::Round;
+use simplex_scheme::assembly::are_distinct;
 use simplex_scheme::scheme::{
-    AssemblyError, Attestation, Digest, Proposal, Scheme, SchemeTypes, quorum,
+    AssemblyError, Attestation, Attributable, Digest, Proposal, Scheme, SchemeTypes, quorum,
 };
 use std::alloc::{AllocError, Global};
 
@@ -101,36 +101,6 @@ fn agree_with<S: SchemeTypes, V: Attested<S>>(votes: &[V], first: &V) -> bool
 {
     'votes: for vote in votes {
         if !vote.agrees_with(first) {
-            return false;
-        }
-    }
-    true
-}
-
-/// Whether some of these are signed by this participant.
-fn has_signer<T: Attributable>(signed: &[T], signer: Participant) -> bool
-    ensures { result ≡ list_any (λ one. nat_eq (T.signer_of one) signer) signed.now }
-{
-    signed.iter().any(|one| one.signer() == signer)
-}
-
-/// Whether the signers are distinct and below this number of participants. It allocates nothing. Signers in ascending
-/// order take linear time; each one that is below an earlier one is compared to all before it.
-fn are_distinct<T: Attributable>(signed: &[T], participants: usize) -> bool
-    ensures { IsTrue result ↔
-        (IsDistinct nat_eq (map T.signer_of signed.now) ×
-        All (λ one. T.signer_of one < participants) signed.now) }
-{
-    let mut above = 0;
-    'signed: for place in 0..signed.len() {
-        let signer = signed[place].signer();
-        let number = signer.get() as usize;
-        if number >= participants {
-            return false;
-        }
-        if number >= above {
-            above = number + 1;
-        } else if has_signer(&signed[..place], signer) {
             return false;
         }
     }

@@ -4,14 +4,15 @@ ghost use Rattle.std.specs.Prelude.{◌≡◌, ⊤, ◌+◌, false, true, Ok, No
 ghost use Rattle.simplex_base.specs.Format.{format_of};
 ghost use Rattle.simplex_scheme.specs.Subject.{Notarizes};
 
-use crate::types::attributable::Attributable;
 use simplex_base::codec::parts::{size_both, write_both};
 use simplex_base::codec::{
     EncodeSize, Encoding, Error, Fixed, FixedSize, MaxEncodeSize, Read, ReadExt, Write,
 };
 use simplex_base::positions::{Participant, Round, Roundable};
 use simplex_base::values::{EqByParts, ExactClone, InfallibleClone};
-use simplex_scheme::scheme::{Attestation, Digest, Proposal, Scheme, SchemeTypes, Subject};
+use simplex_scheme::scheme::{
+    Attestation, Attributable, Digest, Proposal, Scheme, SchemeTypes, Subject,
+};
 use std::alloc::{AllocError, Global};
 
 /// A vote to notarize a proposal, encoded as the proposal and the attestation: at most 35 bytes,

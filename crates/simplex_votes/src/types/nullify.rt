@@ -4,14 +4,13 @@ ghost use Rattle.std.specs.Prelude.{◌≡◌, ⊤, ◌+◌, false, true, Ok, No
 ghost use Rattle.simplex_base.specs.Format.{format_of};
 ghost use Rattle.simplex_scheme.specs.Subject.{Nullifies};
 
-use crate::types::attributable::Attributable;
 use simplex_base::codec::parts::{size_both, write_both};
 use simplex_base::codec::{
     EncodeSize, Encoding, Error, Fixed, FixedSize, MaxEncodeSize, Read, ReadExt, Write,
 };
 use simplex_base::positions::{Participant, Round, Roundable};
 use simplex_base::values::{EqByParts, ExactClone, InfallibleClone};
-use simplex_scheme::scheme::{Attestation, Digest, Scheme, SchemeTypes, Subject};
+use simplex_scheme::scheme::{Attestation, Attributable, Digest, Scheme, SchemeTypes, Subject};
 use std::alloc::{AllocError, Global};
 
 /// A vote to nullify a round, encoded as the round and the attestation: at most 25 bytes and the

@@ -4,7 +4,6 @@ ghost use Rattle.std.specs.Prelude.{◌≡◌, ⊤, ◌+◌, false};
 ghost use Rattle.simplex_base.specs.Format.{format_of};
 
 use crate::map_ok;
-use crate::types::attributable::Attributable;
 use crate::types::finalize::Finalize;
 use crate::types::notarize::Notarize;
 use crate::types::nullify::Nullify;
@@ -14,7 +13,7 @@ use simplex_base::codec::{
 };
 use simplex_base::positions::{Participant, Round, Roundable};
 use simplex_base::values::{EqByParts, ExactClone, InfallibleClone};
-use simplex_scheme::scheme::{Digest, SchemeTypes};
+use simplex_scheme::scheme::{Attributable, Digest, SchemeTypes};
 use std::alloc::{AllocError, Global};
 
 /// A vote: one byte of tag, and then the parts of the vote with that tag, at most 36 bytes, the

@@ -1,6 +1,0 @@
-use Rattle.std.proofs.Common.{take}
-use Rattle.simplex_votes.proofs.AssemblyLemmas.{AreDistinctBelow}
-use Rattle.simplex_votes.proofs.types.assembly.are_distinct.Given as goal
-
-abbrev pub invariant-signed : goal.invariant-signed
-invariant-signed g l = AreDistinctBelow g.T.Attributable.signer_of l.fn.participants l.above (take l.place l.fn.signed)
