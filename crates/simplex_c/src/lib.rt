@@ -528,6 +528,7 @@ pub extern "C" fn simplex_leader(
         participants term_length epoch view number.new }
     ensures arguments { result ≡ 2 → (participants ≡ 0) ⊎ (term_length ≡ 0) }
     ensures memory { result ≡ 3 → (1 ≤ participants) × (1 ≤ term_length) }
+    ensures infallible { result ≢ 3 }
     ensures untouched { result ≢ 0 → number.new ≡ number.old }
     ensures status { (result ≡ 0) ⊎ (result ≡ 2) ⊎ (result ≡ 3) }
 {

@@ -1,14 +1,14 @@
 //! Who leads a round, as a function of numbers.
 
-ghost use Rattle.std.specs.Prelude.{◌≡◌, ◌≢◌, ◌⊎◌, ◌≤◌, IfOk};
+ghost use Rattle.std.specs.Prelude.{◌≡◌, ◌≢◌, ◌⊎◌, ◌≤◌, None, IfOk, IsOk};
 ghost use Rattle.std.specs.Option.{option_copied};
 ghost use Rattle.simplex_ffi.specs.Leaders.{LeadsRound};
 
 use crate::answer::{ARGUMENTS, MEMORY, WHOLE};
 use simplex_base::positions::{Epoch, Round, TermLength, View, ViewDelta};
-use simplex_lead::elector::{Config, Elector, RoundRobin, can_be_stable};
+use simplex_lead::elector::{Elector, RoundRobin, can_be_stable};
 use simplex_plain::marked::Marked;
-use simplex_scheme::scheme::{CertificateScheme, Hasher, Sha256, Sha256Digest};
+use simplex_scheme::scheme::{Hasher, Sha256, Sha256Digest};
 use std::alloc::{AllocError, Global};
 use std::time::Duration;
 
@@ -16,6 +16,7 @@ use std::time::Duration;
 fn rotation(alloc: Global, seed: Option<&[u8]>) -> Result<RoundRobin<Sha256>, AllocError>
     ensures seed { IfOk result (λ rotation. rotation.seed ≡ option_copied seed.entry) }
     ensures terms { IfOk result (λ rotation. rotation.terms.term_length ≡ 1) }
+    ensures infallible { option_copied seed.entry ≡ None → IsOk result }
 {
     match seed {
         Some(seed) => RoundRobin::shuffled(alloc, seed),
@@ -31,6 +32,7 @@ fn rotation_of(
 ) -> Result<RoundRobin<Sha256>, AllocError>
     ensures seed { IfOk result (λ rotation. rotation.seed ≡ option_copied seed.entry) }
     ensures terms { IfOk result (λ rotation. rotation.terms.term_length ≡ length) }
+    ensures infallible { option_copied seed.entry ≡ None → IsOk result }
 {
     let rotation = rotation(alloc, seed)?;
     // The timeout and the lookahead have no part in who leads.
@@ -51,20 +53,22 @@ fn elected(
 ) -> Result<u32, AllocError>
     requires some { 1 ≤ participants }
     requires length { 1 ≤ term_length }
-    ensures { IfOk result (LeadsRound ⟦<Sha256Digest as Ord>⟧.cmp ⟦<Sha256 as Hasher>⟧.digest_of
+    ensures leads { IfOk result (LeadsRound ⟦<Sha256Digest as Ord>⟧.cmp ⟦<Sha256 as Hasher>⟧.digest_of
         (option_copied seed.entry) participants term_length round.epoch round.view) }
+    ensures infallible { option_copied seed.entry ≡ None → IsOk result }
 {
     let rotation = rotation_of(alloc, seed, TermLength::new(term_length))?;
-    let committee = Marked::new(alloc, participants, None)?;
-    let elector = Config::<Marked>::build(rotation, alloc, committee.participants())?;
-    Ok(Elector::<Marked>::elect(&elector, round, None).get())
+    // A rotation elects without a certificate, so any scheme serves.
+    let elector = rotation.build_for::<Marked>(alloc, participants)?;
+    Ok(elector.elect(round, None).get())
 }
 
 /// Writes to `number` the participant who leads a view of an epoch: of this many participants, in the
 /// order that the seed determines, if there is one, and in terms of this many views. The status is
-/// [`WHOLE`]; [`ARGUMENTS`] where `participants` or `term_length` is 0; or [`MEMORY`] where an
-/// allocation failed: the order of the participants takes 8 bytes for each, and more with a seed.
-/// Where it is not [`WHOLE`] nothing is written.
+/// [`WHOLE`]; [`ARGUMENTS`] where `participants` or `term_length` is 0; or [`MEMORY`] where there is
+/// a seed and an allocation failed. Without a seed it takes no memory, and constant time. With one
+/// the order takes 4 bytes for each participant, and SORTING more while it is sorted. Where the
+/// status is not [`WHOLE`] nothing is written.
 pub fn leader(
     alloc: Global,
     seed: Option<&[u8]>,
@@ -79,6 +83,7 @@ pub fn leader(
         (option_copied seed.entry) participants term_length epoch view number.new }
     ensures arguments { result ≡ 2 → (participants ≡ 0) ⊎ (term_length ≡ 0) }
     ensures memory { result ≡ 3 → (1 ≤ participants) × (1 ≤ term_length) }
+    ensures infallible { option_copied seed.entry ≡ None → result ≢ 3 }
     ensures untouched { result ≢ 0 → number.new ≡ number.old }
     ensures status { (result ≡ 0) ⊎ (result ≡ 2) ⊎ (result ≡ 3) }
 {
