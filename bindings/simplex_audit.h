@@ -18,6 +18,12 @@
  *   threads.
  * Memory: malloc, realloc and free of the process. The library never aborts, never unwinds, and
  *   does no input or output.
+ * Sizes: a number in `sizes` decides how much is allocated, so bound it if it comes from a network.
+ *   A committee takes 4 bytes for each of its participants, in each call; the greatest size, 2^32 -
+ *   1, takes 16 gigabytes. A round of an audit takes 8 bytes more for each of them when its first
+ *   vote of a sort is recorded, at most 40 for the five sorts (docs/MEMORY.md).
+ *   simplex_leader_shuffled takes up to 100 bytes for each participant while it sorts them.
+ *   simplex_leader and the calls of views and quorums take no memory.
  */
 #ifndef SIMPLEX_AUDIT_H
 #define SIMPLEX_AUDIT_H
@@ -73,8 +79,7 @@ struct simplex_summary {
  * the size at its place. Other epochs have no committee, and nothing is valid in them.
  *
  * The first `summary->length` bytes of `text` are then the lines of the report (docs/FORMAT.md),
- * with no zero byte behind them; the bytes behind them are as before. A committee takes 4 bytes of
- * memory for each participant.
+ * with no zero byte behind them; the bytes behind them are as before.
  */
 SIMPLEX_NONNULL
 uint32_t simplex_audit_vouched_48(const uint64_t *epochs, size_t epochs_len, const uint32_t *sizes,
@@ -290,9 +295,10 @@ uint32_t simplex_issuance_floor(uint32_t term_length, uint64_t optimistic_views,
 /*
  * The number of the participant who leads a view of an epoch, in terms of `term_length` views: in
  * the order of the numbers, or in the order that a seed gives. SIMPLEX_WHOLE: it is written to
- * `number`. SIMPLEX_ARGUMENTS: there is no participant, or terms have no views. SIMPLEX_MEMORY: an
- * allocation failed. In the last two `number` is as before. A call takes memory and time for each
- * participant.
+ * `number`. SIMPLEX_ARGUMENTS: there is no participant, or terms have no views. SIMPLEX_MEMORY, with
+ * a seed alone: an allocation failed. In the last two `number` is as before. simplex_leader takes no
+ * memory and constant time. simplex_leader_shuffled copies the seed, hashes it once with each
+ * participant and sorts the hashes.
  */
 SIMPLEX_NONNULL
 uint32_t simplex_leader(uint32_t participants, uint32_t term_length, uint64_t epoch, uint64_t view,

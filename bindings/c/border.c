@@ -919,7 +919,8 @@ static void numbers(void)
             allowed = -1;
             CHECK(blocks == before);
             if (over) {
-                CHECK(status == SIMPLEX_WHOLE && number < 4 && k > 1);
+                /* without a seed nothing is allocated */
+                CHECK(status == SIMPLEX_WHOLE && number < 4 && (k > 1) == shuffled);
                 break;
             }
             CHECK(status == SIMPLEX_MEMORY && number == 99);
@@ -943,7 +944,8 @@ static void limited(const uint8_t *sample, size_t len)
         CHECK(status == SIMPLEX_MEMORY && is_untouched(&summary) && all(text, sizeof text, 7));
     }
     uint32_t number = 99;
-    CHECK(simplex_leader(UINT32_MAX, 1, 3, 10, &number) == SIMPLEX_MEMORY && number == 99);
+    CHECK(simplex_leader_shuffled(sample, 0, UINT32_MAX, 1, 3, 10, &number) == SIMPLEX_MEMORY && number == 99);
+    CHECK(simplex_leader(UINT32_MAX, 1, 3, 10, &number) == SIMPLEX_WHOLE && number == 13);
 }
 
 /* Many audits of a thread's own. */

@@ -513,7 +513,8 @@ pub extern "C" fn simplex_issuance_floor(
 }
 
 /// The participant who leads a view of an epoch, in the order of the numbers. The number is written
-/// to `number`. Returns 0, 2 or 3 as above; after 2 and 3 `number` is as before.
+/// to `number`. Returns 0 or 2 as above; after 2 `number` is as before. It takes no memory, and
+/// constant time.
 #[unsafe(no_mangle)]
 pub extern "C" fn simplex_leader(
     alloc: Global,

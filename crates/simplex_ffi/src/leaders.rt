@@ -67,8 +67,8 @@ fn elected(
 /// order that the seed determines, if there is one, and in terms of this many views. The status is
 /// [`WHOLE`]; [`ARGUMENTS`] where `participants` or `term_length` is 0; or [`MEMORY`] where there is
 /// a seed and an allocation failed. Without a seed it takes no memory, and constant time. With one
-/// the order takes 4 bytes for each participant, and SORTING more while it is sorted. Where the
-/// status is not [`WHOLE`] nothing is written.
+/// it copies the seed; the order takes 4 bytes for each participant, and 96 more while it is sorted.
+/// Where the status is not [`WHOLE`] nothing is written.
 pub fn leader(
     alloc: Global,
     seed: Option<&[u8]>,

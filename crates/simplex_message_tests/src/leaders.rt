@@ -242,21 +242,27 @@ fn without_memory_leaders(rt: HostRuntime) -> Result<(), Fail> {
     check(&rt, rt.alloc(), &four, rotation, wanted, &[0, 1, 2, 3, 0])
 }
 
-/// A rotation in terms of 20 views is made without an allocation. Its elector allocates.
+/// A rotation in terms of 20 views without a seed, its elector, and clones of both are made without an allocation.
 #[test]
 fn without_memory_rotation(rt: HostRuntime) -> Result<(), Fail> {
     let four = Marked::new(rt.alloc(), 4, None)?;
-    let is_out = is_out(rt.alloc());
+    let _ = is_out(rt.alloc());
     let (length, second) = (TermLength::new(20), Duration::from_secs(1));
     assert!(rt; can_be_stable(length, second));
     let rotation = RoundRobin::<Sha256>::default().with_term(length, second, ViewDelta::new(2));
-    match Config::<Marked>::build(rotation, rt.alloc(), four.participants()) {
-        Ok(elector) => {
-            let terms = Elector::<Marked>::terms(&elector);
-            assert!(rt; terms == Terms::stable(length, second, ViewDelta::new(2)));
-        }
-        Err(_) => assert!(rt; is_out),
-    }
+    let elector = Config::<Marked>::build(rotation.clone()?, rt.alloc(), four.participants())?;
+    let terms = Elector::<Marked>::terms(&elector.clone()?);
+    assert!(rt; terms == Terms::stable(length, second, ViewDelta::new(2)));
+    Ok(())
+}
+
+/// The elector of the most participants is made without an allocation if there is no seed.
+#[test]
+fn without_memory_most_participants(rt: HostRuntime) -> Result<(), Fail> {
+    let _ = is_out(rt.alloc());
+    let elector = RoundRobin::<Sha256>::default().build_for::<Marked>(rt.alloc(), u32::MAX)?;
+    let round = Round::new(Epoch::new(3), View::new(10));
+    assert!(rt; elector.elect(round, None).get() == 13);
     Ok(())
 }
 

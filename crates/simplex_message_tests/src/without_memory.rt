@@ -10,7 +10,7 @@ use simplex_base::codec::{EncodeSize, Fixed, MaxEncodeSize, Read, ReadExt, decod
 use simplex_base::positions::{Epoch, Epochable, Participant, Round, Roundable, View, Viewable};
 use simplex_evidence::types::{ConflictingFinalize, ConflictingNotarize, NullifyFinalize};
 use simplex_plain::listed::Listed;
-use simplex_plain::marked::{Marked, MarkedDigest, MarkedKey};
+use simplex_plain::marked::{Marked, MarkedDigest, MarkedKey, MarkedSignature};
 use simplex_plain::plain::{Plain, PlainKey};
 use simplex_scheme::assembly::can_assemble;
 use simplex_scheme::scheme::{
@@ -380,6 +380,28 @@ fn are_distinct_assembled<S: CertificateScheme>(alloc: Global, scheme: &S) -> Re
 fn without_memory_assembly(rt: HostRuntime) -> Result<(), Fail> {
     let scheme = Marked::new(rt.alloc(), 4, None)?;
     assert!(rt; are_distinct_assembled(rt.alloc(), &scheme)?);
+    Ok(())
+}
+
+/// The mark of this participant.
+fn mark_of(number: u32) -> Attestation<Marked> {
+    Attestation {
+        signer: Participant::new(number),
+        signature: MarkedSignature::from_bytes(&[0xaa]),
+    }
+}
+
+/// A hundred thousand attestations in the order of their signers, and then one more of the first.
+#[test]
+fn ample_many_signers(rt: HostRuntime) -> Result<(), Fail> {
+    let scheme = Marked::new(rt.alloc(), 100_000, None)?;
+    let mut attestations = Vec::new(rt.alloc());
+    for number in 0..100_000 {
+        attestations.push(mark_of(number))?;
+    }
+    assert!(rt; can_assemble(&scheme, attestations.as_slice()));
+    attestations.push(mark_of(0))?;
+    assert!(rt; !can_assemble(&scheme, attestations.as_slice()));
     Ok(())
 }
 
