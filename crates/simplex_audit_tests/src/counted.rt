@@ -1,4 +1,4 @@
-//! A scheme that counts what it verifies.
+//! A scheme that counts what it verifies, and how often it is asked about a list of certificates.
 
 ghost use Rattle.std.specs.Prelude.{◌≡◌, ◌+◌, ◌*◌, ◌<◌, ◌≤◌, ◌^◌, ◌&&◌, ◌∷◌, [], None, Some, Ok, IsOk, IfOk, MatchOption, All, length, nat_eq, nat_lt, true, refl};
 ghost use Rattle.std.specs.List.{IsDistinct};
@@ -24,12 +24,15 @@ use simplex_scheme::scheme::{
 use std::alloc::{AllocError, Global};
 use std::cell::Cell;
 use std::marker::Model;
+use std::process::Abort;
+use std::test::Fail;
 
-/// A marked committee that verifies only, and counts how many attestations it has verified.
+/// A marked committee that verifies only, and counts how many attestations it has verified, and how many lists of certificates.
 #[derive(Drop)]
 pub(crate) struct Counted {
     participants: Set<MarkedKey>,
     verified: Cell<usize>,
+    lists: Cell<usize>,
 }
 
 impl Model for Counted {
@@ -52,12 +55,29 @@ impl Counted {
         Counted {
             participants,
             verified: Cell::new(0),
+            lists: Cell::new(0),
         }
+    }
+
+    /// A committee of four that has verified nothing.
+    pub(crate) fn four(rt: &impl Abort, alloc: Global) -> Result<Self, Fail> {
+        let mut keys = Vec::with_capacity(alloc, 4)?;
+        for number in 0_u32..4 {
+            keys.push(MarkedKey::from_bytes(&number.to_be_bytes()))?;
+        }
+        let participants = Set::try_from_vec(keys)?;
+        assert_eq!(rt; participants.len(), 4);
+        Ok(Counted::new(participants))
     }
 
     /// How many attestations were verified.
     pub(crate) fn verified(&self) -> usize {
         self.verified.get()
+    }
+
+    /// How many calls of `verify_all` were made.
+    pub(crate) fn lists(&self) -> usize {
+        self.lists.get()
     }
 
     /// Whether the signer is in the committee and the signature is the mark. The call is counted.
@@ -140,6 +160,7 @@ impl<D: Digest> CertificateVerifier<D> for Counted {
     }
 
     fn verify_all<'a>(&self, items: &[(Subject<'a, D>, &'a Listed<Counted>)]) -> bool {
+        self.lists.set(self.lists.get().saturating_add(1));
         are_certified(self, items)
     }
 }

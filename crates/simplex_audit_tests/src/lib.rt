@@ -6,6 +6,8 @@
 #[cfg(test)]
 mod against_model;
 #[cfg(test)]
+mod bisected;
+#[cfg(test)]
 mod counted;
 #[cfg(test)]
 mod deferred;
@@ -17,6 +19,8 @@ mod outcome;
 mod recorded;
 #[cfg(test)]
 mod records;
+#[cfg(test)]
+mod sizes;
 #[cfg(test)]
 mod suspects;
 #[cfg(test)]

@@ -7,13 +7,11 @@ use crate::counted::Counted;
 use audit_cli::stored::run_deferred;
 use faulty_io::{Source, Target, Trouble};
 use simplex_audit::audit::{Auditor, Committees, Watched, audit, audit_deferred, run};
-use simplex_base::codec::Fixed;
 use simplex_base::positions::Epoch;
 use simplex_clients::ledger::store_batch;
 use simplex_places::records::records;
 use simplex_places::suspects::suspects;
-use simplex_plain::marked::{MarkedDigest, MarkedKey};
-use simplex_scheme::scheme::Set;
+use simplex_plain::marked::MarkedDigest;
 use std::alloc::{AllocError, Global};
 use std::process::Abort;
 use std::test::Fail;
@@ -53,15 +51,9 @@ const VIEW_11: [&[u8]; 2] = [
     &[1, 0, 11, 5, 7, 3, 0, 0xaa, 1, 0xaa, 2, 0xaa],
 ];
 
-/// A committee of four that has verified nothing.
+/// A committee of four for every epoch that has verified nothing.
 fn four(rt: &impl Abort, alloc: Global) -> Result<Committees<Counted>, Fail> {
-    let mut keys = Vec::with_capacity(alloc, 4)?;
-    for number in 0_u32..4 {
-        keys.push(MarkedKey::from_bytes(&number.to_be_bytes()))?;
-    }
-    let participants = Set::try_from_vec(keys)?;
-    assert_eq!(rt; participants.len(), 4);
-    Ok(Committees::every(Counted::new(participants)))
+    Ok(Committees::every(Counted::four(rt, alloc)?))
 }
 
 /// How many attestations these committees have verified.

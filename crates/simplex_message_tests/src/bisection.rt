@@ -11,6 +11,7 @@ use simplex_plain::plain::{Plain, PlainKey};
 use simplex_scheme::scheme::{CertificateVerifier, Digest, Proposal, Set, Sha256Digest, Subject};
 use std::alloc::Global;
 use std::process::Abort;
+use std::test::Fail;
 
 /// The value with this encoding in hexadecimal.
 fn value<T: Read + Drop>(alloc: Global, cfg: &T::Cfg, encoding: &str) -> Option<T> {
@@ -148,6 +149,33 @@ fn judged_is_refused(rt: &(impl Abort + AllocGlobal)) -> bool {
 #[test]
 fn ample(rt: HostRuntime) {
     assert!(rt; !marked_is_refused(&rt) && !plain_is_refused(&rt) && !judged_is_refused(&rt));
+}
+
+/// A hundred certificates, of which the one at place 12 is of a participant too few and the one at place 77 has an invalid
+/// signature. A body that does not go on in a half once it found an invalid certificate, or takes the second half for the first, is
+/// refused.
+fn are_hundred_verified<S: CertificateVerifier<D>, D: Digest>(
+    rt: &(impl Abort + AllocGlobal),
+    scheme: &S,
+    payload: D,
+    [few, good, bad]: [&str; 3],
+) {
+    let mut encodings = [good; 100];
+    let mut wanted = [true; 100];
+    (encodings[12], wanted[12]) = (few, false);
+    (encodings[77], wanted[77]) = (bad, false);
+    assert!(rt; !is_refused(rt, scheme, payload, &encodings, &wanted));
+}
+
+#[test]
+fn ample_two_of_a_hundred_are_invalid(rt: HostRuntime) -> Result<(), Fail> {
+    let alloc = rt.alloc();
+    let six = MarkedDigest::from_bytes(&[6]);
+    let sixes = Sha256Digest::from_bytes(&[6; 32]);
+    are_hundred_verified(&rt, &Marked::new(alloc, 4, None)?, six, MARKED);
+    are_hundred_verified(&rt, &plain(alloc).ok_or("no committee")?, sixes, PLAIN);
+    are_hundred_verified(&rt, &judged(alloc).ok_or("no committee")?, six, CERTIFICATES);
+    Ok(())
 }
 
 /// Where the allocation for the answers fails there are none.

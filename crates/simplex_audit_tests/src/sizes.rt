@@ -1,0 +1,139 @@
+//! A committee of more participants than 16 bits count, and payloads of 48 bytes.
+
+ghost use Rattle.std.proofs.Common.{lit<, lit≤};
+
+use crate::outcome::outcome_of;
+use crate::suspects::Committee;
+use simplex_audit::audit::{Committees, audit};
+use simplex_base::codec::fixed_bytes::{FixedBytes, Role};
+use simplex_base::codec::{Fixed, Write, decode_cfg};
+use simplex_base::positions::{Epoch, Participant, Round, View};
+use simplex_plain::listed::Listed;
+use simplex_plain::marked::MarkedDigest;
+use simplex_scheme::scheme::{Attestation, CertificateScheme, Digest, Scheme, Subject, quorum};
+use simplex_vouched::vouched::Vouched;
+use std::alloc::{AllocError, Global};
+use std::test::Fail;
+
+/// The role of a payload of 48 bytes.
+enum Long {}
+
+impl Role<48> for Long {
+    ghost sized = { (lit< tt, lit≤ tt) };
+}
+
+/// The bytes from 0 to 46, in hexadecimal: all but the last of a payload of 48 bytes.
+const BYTES: &str = "000102030405060708090a0b0c0d0e0f101112131415161718191a1b1c1d1e1f202122232425262728292a2b2c2d2e";
+
+/// A vote with this tag of participant 1 in view 10 for a payload of the bytes from 0 to 46 and this last one.
+fn push_vote(stream: &mut Vec<u8>, tag: u8, last: u8) -> Result<(), AllocError> {
+    stream.extend_from_slice(&[tag, 0, 10, 5])?;
+    for byte in 0_u8..47 {
+        stream.push(byte)?;
+    }
+    stream.extend_from_slice(&[last, 1, 1])
+}
+
+/// A payload of 48 bytes is compared and printed whole. A body that takes the first 32 bytes is refused.
+#[test]
+fn ample_payloads_of_48_bytes(rt: HostRuntime) -> Result<(), Fail> {
+    let alloc = rt.alloc();
+    let committees: Committees<Committee> = Committees::every(Vouched::new(alloc, 4)?);
+    let mut stream = Vec::new(alloc);
+    for tag in [0, 5] {
+        push_vote(&mut stream, tag, 0xfe)?;
+        push_vote(&mut stream, tag, 0xff)?;
+    }
+    stream.extend_from_slice(&[3, 0, 10, 1, 1])?;
+    let found = outcome_of::<Committee, FixedBytes<Long, 48>>(alloc, &committees, &stream)?;
+    let two = format!(in alloc; "5 {BYTES}fe 5 {BYTES}ff")?;
+    let mut wanted = format!(in alloc; "0 10 1 conflicting-notarize {two}\n")?;
+    wanted.push_str(format!(in alloc; "0 10 1 conflicting-finalize {two}\n")?.as_str())?;
+    wanted.push_str(format!(in alloc; "0 10 1 nullify-finalize 5 {BYTES}fe\n")?.as_str())?;
+    assert_eq!(rt; found.text, wanted);
+    Ok(())
+}
+
+/// How many participants the large committee has, and how many are a quorum of it: 21,845 may lie.
+const PARTICIPANTS: u32 = 65_536;
+const QUORUM: u32 = 43_691;
+
+/// A committee of 65,536 participants.
+fn large(alloc: Global) -> Result<Committee, AllocError> {
+    Vouched::new(alloc, PARTICIPANTS)
+}
+
+/// The certificate of this many participants from the first on, with valid signatures.
+fn certificate(alloc: Global, first: u32, count: u32) -> Result<Vec<u8>, AllocError> {
+    let mut bytes = Vec::new(alloc);
+    Participant::new(count).write(&mut bytes)?;
+    for number in 0..count {
+        Participant::new(first.saturating_add(number)).write(&mut bytes)?;
+        bytes.push(1)?;
+    }
+    Ok(bytes)
+}
+
+/// Whether a signature of a participant, with this verdict, is valid for the nullify of round (0, 10), and whether the certificate
+/// of this many participants up to the last one is.
+fn are_valid<S: Scheme<D>, D: Digest>(
+    scheme: &S,
+    signer: u32,
+    signature: S::Signature,
+    certificate: &S::Certificate,
+) -> (bool, bool) {
+    let round = Round::new(Epoch::new(0), View::new(10));
+    let attestation = Attestation {
+        signer: Participant::new(signer),
+        signature,
+    };
+    (
+        scheme.verify_attestation(Subject::Nullify { round }, &attestation),
+        scheme.verify_certificate(Subject::Nullify { round }, certificate),
+    )
+}
+
+/// The last of 65,536 participants can vote and one behind it cannot, and a quorum is certified, and a participant fewer is not. A
+/// body that counts participants in 16 bits is refused.
+#[test]
+fn ample_many_participants(rt: HostRuntime) -> Result<(), Fail> {
+    let alloc = rt.alloc();
+    let committee = large(alloc)?;
+    assert_eq!(rt; committee.participants().len(), 65_536);
+    assert_eq!(rt; committee.certificate_codec_config(), PARTICIPANTS);
+    assert_eq!(rt; quorum(PARTICIPANTS), QUORUM);
+    let cases = [
+        (65_535, 1, QUORUM, (true, true)),
+        (65_535, 0, QUORUM - 1, (false, false)),
+        (65_536, 1, QUORUM, (false, true)),
+    ];
+    for (signer, verdict, count, wanted) in cases {
+        let bytes = certificate(alloc, PARTICIPANTS - count, count)?;
+        let listed = decode_cfg::<Listed<Committee>>(alloc, &bytes, &PARTICIPANTS)?;
+        let signature = FixedBytes::from_bytes(&[verdict]);
+        let found = are_valid::<_, MarkedDigest>(&committee, signer, signature, &listed);
+        assert_eq!(rt; found, wanted, "of {signer} and {count}");
+    }
+    Ok(())
+}
+
+/// Two quorums of 65,536 participants accuse exactly those in both, f + 1 of them.
+#[test]
+fn ample_two_large_quorums(rt: HostRuntime) -> Result<(), Fail> {
+    let alloc = rt.alloc();
+    let committees = Committees::every(large(alloc)?);
+    let mut stream = Vec::new(alloc);
+    for (payload, first) in [(6, 0), (7, PARTICIPANTS - QUORUM)] {
+        stream.extend_from_slice(&[1, 0, 10, 5, payload])?;
+        stream.extend_from_slice(&certificate(alloc, first, QUORUM)?)?;
+    }
+    let report = audit::<Committee, MarkedDigest>(alloc, &committees, &stream)?;
+    assert_eq!(rt; (report.read, report.evidence.len(), report.splits.len()), (2, 21_846, 1));
+    let signers = (21_845_u32..).map(Participant::new);
+    for (evidence, signer) in report.evidence.iter().zip(signers) {
+        assert!(rt; evidence.signer() == signer);
+    }
+    let split = report.splits[0].line(alloc)?;
+    assert_eq!(rt; split.as_str(), "0 10 split 21846 21846");
+    Ok(())
+}
