@@ -523,6 +523,16 @@ def vectors_of_signing(base):
     yield f"sign {scheme_word(base, 4, 1)} nobody 000a", "no row"
 
 
+def vectors_of_the_first_view(base):
+    """What is signed in view 0 is valid there, and by the plain scheme not in view 1."""
+    for tag, kind in ((b"\x00", "notarize"), (b"\x03", "nullify"), (b"\x05", "finalize")):
+        here, there = subjects(base, 0)[kind], subjects(base, 1)[kind]
+        yield f"sign {scheme_word(base, 4, 1)} {kind} {here.hex()}", sign(base, 1, kind, here)
+        signed = vote(base, 1, kind, here)
+        for data in (signed, *(() if base is None else (there + signed[len(here) :],))):
+            yield f"verify {scheme_word(base, 4)} {(tag + data).hex()}", verify(base, 4, tag + data)
+
+
 def vectors_of_assembling(base):
     calls = {"notarize": "notarizes", "nullify": "nullifies", "finalize": "finalizes"}
     for kind, message in subjects(base).items():
@@ -847,6 +857,7 @@ def vectors():
     yield from vectors_of_names()
     for base in (None, b"test"):
         yield from vectors_of_signing(base)
+        yield from vectors_of_the_first_view(base)
         yield from vectors_of_assembling(base)
         yield from vectors_of_many(base)
         yield from vectors_of_verifying(base)
