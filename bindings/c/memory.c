@@ -1,11 +1,14 @@
 /*
- * What memory the calls take that read a stream: for each of them how many results there are, and the most bytes that the library
- * held at once, as it asked for them. What the C library adds to a block is not counted, nor a block's copy while it grows.
+ * What memory the calls take that read a stream: the most bytes that the library held at once, as
+ * it asked for them. What the C library adds to a block is not counted, nor the old block while one
+ * grows.
  *
  *     memory PARTICIPANTS < STREAM
  *
- * STREAM has signatures of 48 bytes with verdicts, under one committee for every epoch. For each call there is a line: its name,
- * the number of its results, and the bytes.
+ * STREAM has signatures of 48 bytes with verdicts, under one committee for every epoch. For each of
+ * simplex_audit_.., simplex_records_.. and simplex_suspects_.. a line is printed: its word, the
+ * number of evidence, records or suspects, and the bytes. The status is 0 where each call ended
+ * well and gave back all that it held.
  *
  * Linked with -Wl,--wrap=malloc,--wrap=realloc,--wrap=free.
  */
@@ -62,7 +65,7 @@ void __wrap_free(void *p)
     __real_free(block_of(p));
 }
 
-/* Standard input to its end. */
+/* Standard input to its end; NULL where there is no memory for it. */
 static uint8_t *read_all(size_t *len)
 {
     size_t room = 1 << 16, more;
@@ -93,7 +96,7 @@ static int shown(const char *call, uint32_t status, size_t results, size_t befor
 int main(int argc, char **argv)
 {
     const uint32_t participants = argc == 2 ? (uint32_t)strtoul(argv[1], NULL, 10) : 0;
-    size_t len, before, results = 0;
+    size_t len, before, needed = 0;
     uint8_t *stream = read_all(&len);
     if (!participants || !stream)
         return 2;
@@ -111,8 +114,8 @@ int main(int argc, char **argv)
     status = simplex_records_vouched_48(epochs, 0, sizes, 1, stream, len, records, 0, &summary);
     is_well &= shown("records", status, summary.evidence, before);
     before = begin();
-    status = simplex_suspects_vouched_48(epochs, 0, sizes, 1, stream, len, suspects, 0, &results);
-    is_well &= shown("suspects", status, results, before);
+    status = simplex_suspects_vouched_48(epochs, 0, sizes, 1, stream, len, suspects, 0, &needed);
+    is_well &= shown("suspects", status, needed, before);
     free(stream);
     return !is_well;
 }

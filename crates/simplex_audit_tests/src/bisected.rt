@@ -1,5 +1,5 @@
-//! How often a scheme is asked about a list of certificates that are verified at once: about the whole list, and then about both
-//! halves of each part that it refuses, down to single certificates.
+//! How often a scheme is asked about certificates that are verified at once: about all of them, and then about both halves of
+//! each part that it refuses, down to single certificates.
 
 use crate::counted::Counted;
 use simplex_base::codec::decode_cfg;
@@ -12,13 +12,17 @@ use std::alloc::Global;
 use std::process::Abort;
 use std::test::Fail;
 
-/// The nullification of a view, alternately with a signer too few and with an invalid signature, and a valid one.
+/// A certificate with a signer too few.
 const FEW: &[u8] = &[2, 0, 0xaa, 1, 0xaa];
+
+/// A certificate in which a signature is invalid.
 const UNSIGNED: &[u8] = &[3, 0, 0xaa, 1, 0, 2, 0xaa];
+
+/// A valid certificate.
 const VALID: &[u8] = &[3, 0, 0xaa, 1, 0xaa, 2, 0xaa];
 
-/// How often a scheme is asked about this many certificates, of which those at the given places are invalid, while it is found
-/// which are: the first of these has a signer too few, and each other an invalid signature.
+/// How often a scheme is asked about this many certificates, of which those at the given places are found to be invalid: the
+/// first of these has a signer too few, and each other an invalid signature.
 fn asked(
     rt: &impl Abort,
     alloc: Global,
@@ -49,8 +53,8 @@ fn asked(
     Ok(scheme.lists())
 }
 
-/// No contract says how often a scheme is asked. A body that asks about each certificate by itself, that asks about the second half
-/// only where the first is valid, or again about a part that it knows, is refused here.
+/// No contract states how often a scheme is asked. A body that asks about each certificate by itself, or again about a part
+/// that is known, is refused here.
 #[test]
 fn ample_few_parts_are_verified(rt: HostRuntime) -> Result<(), Fail> {
     let alloc = rt.alloc();

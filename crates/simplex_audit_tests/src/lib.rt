@@ -1,6 +1,6 @@
 //! Tests of the audit and of the calls over it: the audit beside an auditor by its definition, which is written plainly, how
-//! many attestations are verified, how many votes are recorded, who is suspect, the records of a report, what a ledger stores,
-//! and calls that allocate nothing.
+//! many attestations are verified, and how often a scheme is asked about certificates, how many votes are recorded, a large
+//! committee, long payloads, who is suspect, the records of a report, what a ledger stores, and calls that allocate nothing.
 #![tactic(auto)]
 
 #[cfg(test)]

@@ -23,7 +23,8 @@ impl Role<48> for Long {
 }
 
 /// The bytes from 0 to 46, in hexadecimal: all but the last of a payload of 48 bytes.
-const BYTES: &str = "000102030405060708090a0b0c0d0e0f101112131415161718191a1b1c1d1e1f202122232425262728292a2b2c2d2e";
+const BYTES: &str =
+    "000102030405060708090a0b0c0d0e0f101112131415161718191a1b1c1d1e1f202122232425262728292a2b2c2d2e";
 
 /// A vote with this tag of participant 1 in view 10 for a payload of the bytes from 0 to 46 and this last one.
 fn push_vote(stream: &mut Vec<u8>, tag: u8, last: u8) -> Result<(), AllocError> {
@@ -54,8 +55,10 @@ fn ample_payloads_of_48_bytes(rt: HostRuntime) -> Result<(), Fail> {
     Ok(())
 }
 
-/// How many participants the large committee has, and how many are a quorum of it: 21,845 may lie.
+/// How many participants the large committee has.
 const PARTICIPANTS: u32 = 65_536;
+
+/// How many of them are a quorum: 21,845 may lie.
 const QUORUM: u32 = 43_691;
 
 /// A committee of 65,536 participants.
@@ -74,8 +77,7 @@ fn certificate(alloc: Global, first: u32, count: u32) -> Result<Vec<u8>, AllocEr
     Ok(bytes)
 }
 
-/// Whether a signature of a participant, with this verdict, is valid for the nullify of round (0, 10), and whether the certificate
-/// of this many participants up to the last one is.
+/// Whether this signature of a participant, and whether a certificate, is valid for the nullify of round (0, 10).
 fn are_valid<S: Scheme<D>, D: Digest>(
     scheme: &S,
     signer: u32,
@@ -93,8 +95,8 @@ fn are_valid<S: Scheme<D>, D: Digest>(
     )
 }
 
-/// The last of 65,536 participants can vote and one behind it cannot, and a quorum is certified, and a participant fewer is not. A
-/// body that counts participants in 16 bits is refused.
+/// The last of 65,536 participants can vote and one behind it cannot; a quorum is certified, and one participant fewer is not.
+/// A body that counts participants in 16 bits is refused.
 #[test]
 fn ample_many_participants(rt: HostRuntime) -> Result<(), Fail> {
     let alloc = rt.alloc();
@@ -128,7 +130,10 @@ fn ample_two_large_quorums(rt: HostRuntime) -> Result<(), Fail> {
         stream.extend_from_slice(&certificate(alloc, first, QUORUM)?)?;
     }
     let report = audit::<Committee, MarkedDigest>(alloc, &committees, &stream)?;
-    assert_eq!(rt; (report.read, report.evidence.len(), report.splits.len()), (2, 21_846, 1));
+    assert_eq!(rt;
+        (report.read, report.evidence.len(), report.splits.len()),
+        (2, 21_846, 1)
+    );
     let signers = (21_845_u32..).map(Participant::new);
     for (evidence, signer) in report.evidence.iter().zip(signers) {
         assert!(rt; evidence.signer() == signer);

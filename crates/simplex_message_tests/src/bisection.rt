@@ -151,9 +151,8 @@ fn ample(rt: HostRuntime) {
     assert!(rt; !marked_is_refused(&rt) && !plain_is_refused(&rt) && !judged_is_refused(&rt));
 }
 
-/// A hundred certificates, of which the one at place 12 is of a participant too few and the one at place 77 has an invalid
-/// signature. A body that does not go on in a half once it found an invalid certificate, or takes the second half for the first, is
-/// refused.
+/// A hundred certificates, of which the one at place 12 has a participant too few and the one at place 77 an invalid signature.
+/// A body that does not go on once it found an invalid certificate is refused.
 fn are_hundred_verified<S: CertificateVerifier<D>, D: Digest>(
     rt: &(impl Abort + AllocGlobal),
     scheme: &S,
@@ -174,7 +173,12 @@ fn ample_two_of_a_hundred_are_invalid(rt: HostRuntime) -> Result<(), Fail> {
     let sixes = Sha256Digest::from_bytes(&[6; 32]);
     are_hundred_verified(&rt, &Marked::new(alloc, 4, None)?, six, MARKED);
     are_hundred_verified(&rt, &plain(alloc).ok_or("no committee")?, sixes, PLAIN);
-    are_hundred_verified(&rt, &judged(alloc).ok_or("no committee")?, six, CERTIFICATES);
+    are_hundred_verified(
+        &rt,
+        &judged(alloc).ok_or("no committee")?,
+        six,
+        CERTIFICATES,
+    );
     Ok(())
 }
 
