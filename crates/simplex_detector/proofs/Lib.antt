@@ -12,3 +12,4 @@ pub mod CountLemmas
 pub mod AgainLemmas
 pub mod RoomLemmas
 pub mod SuspectLemmas
+pub mod AgreementLemmas

@@ -232,5 +232,5 @@ module _ {S D C P G : Type 0} (rules : Rules S D C P G) (messages : List (Activi
       subst (λ (x : Split). x.least ≤ x.named) made (enough_in_split l _ is)
 
 -- messages that have the same split of each round have the same splits
-pub moved_splits : {S D C P G : Type 0} (rules others : Rules S D C P G) (messages : List (Activity S D C P G)) → ((round : Round) → split_of others messages round ≡ split_of rules messages round) → (ss : List Split) → AreSplits others messages ss → AreSplits rules messages ss
-moved_splits rules others messages same ss are = splits_from_listing rules messages ss (subst (λ f. IsListing (λ s. s.round) round_cmp f ss) (λ i r. same r i) (splits_listing others messages ss are))
+pub moved_splits : {S D C P G : Type 0} (rules others : Rules S D C P G) (messages later : List (Activity S D C P G)) → ((round : Round) → split_of others later round ≡ split_of rules messages round) → (ss : List Split) → AreSplits others later ss → AreSplits rules messages ss
+moved_splits rules others messages later same ss are = splits_from_listing rules messages ss (subst (λ f. IsListing (λ s. s.round) round_cmp f ss) (λ i r. same r i) (splits_listing others later ss are))

@@ -35,7 +35,7 @@ find_filtered p q weaker (x ∷ xs) =
     ]) refl
 
 -- whether a vote is of a suspect in its round
-abbrev here : {D G : Type 0} → (Round → ℕ → Bool) → SignedVote D G → Bool
+abbrev pub here : {D G : Type 0} → (Round → ℕ → Bool) → SignedVote D G → Bool
 here f v = f (round_of v.subject) v.signer
 
 module _ {D G : Type 0} (eq : D → D → Bool) (l : IsEquivalence eq) (vs : List (SignedVote D G)) (f : Round → ℕ → Bool) (covers : (n : Accusation) → is_accused eq vs n ≡ true → f n.round n.signer ≡ true) where
@@ -92,7 +92,7 @@ module _ {S D C P G : Type 0} (rules : Rules S D C P G) (l : AreLawful rules) (m
       ]
 
   -- the certified subjects among suspects are those of suspect rounds
-  certified_among : (ms : List (Activity S D C P G)) → certified_subjects (among rules s) ms ≡ filter (λ x. s.rounds (round_of x)) (certified_subjects rules ms)
+  pub certified_among : (ms : List (Activity S D C P G)) → certified_subjects (among rules s) ms ≡ filter (λ x. s.rounds (round_of x)) (certified_subjects rules ms)
   certified_among [] = refl
   certified_among (m ∷ ms) = elim (subject_and_certificate m) as (λ o. cons_option (if_certified (among rules s) o) (certified_subjects (among rules s) ms) ≡ filter (λ x. s.rounds (round_of x)) (cons_option (if_certified rules o) (certified_subjects rules ms))) [
     | None ↦ certified_among ms
@@ -130,7 +130,7 @@ module _ {S D C P G : Type 0} (rules : Rules S D C P G) (l : AreLawful rules) (m
       let split : (r : Round) → split_of (among rules s) messages r ≡ split_of rules messages r = λ r i. cond (same_splits r i) (Some (record { round = r; named = same_count rules.eq vs us names r i; least = faults_of (rules.size r.epoch) + 1 })) None in
       record {
         evidence = λ es. (moved_evidence rules.eq l.payloads vs us evidence es, moved_evidence rules.eq l.payloads us vs (λ n. sym (evidence n)) es);
-        splits = λ splits. (moved_splits rules (among rules s) messages split splits, moved_splits (among rules s) rules messages (λ r. sym (split r)) splits);
+        splits = λ splits. (moved_splits rules (among rules s) messages messages split splits, moved_splits (among rules s) rules messages messages (λ r. sym (split r)) splits);
       }
 
 -- ---- claims
@@ -196,11 +196,11 @@ module _ {S D C P G : Type 0} (eq : D → D → Bool) (keys : S → List P) (goo
 -- ---- the suspects of messages
 
 module _ {S D C P G : Type 0} (rules : Rules S D C P G) (messages : List (Activity S D C P G)) where
-  abbrev suspected : Suspected
+  abbrev pub suspected : Suspected
   suspected = record { signers = is_suspect rules messages; rounds = is_suspect_round rules messages }
 
   -- a signer whom the claims accuse is suspect, and so is the round
-  claimed_is_suspect : (n : Accusation) → is_accused rules.eq (valid_votes (claimed rules) messages) n ≡ true → (is_suspect rules messages n.round n.signer ≡ true) × (is_suspect_round rules messages n.round ≡ true)
+  pub claimed_is_suspect : (n : Accusation) → is_accused rules.eq (valid_votes (claimed rules) messages) n ≡ true → (is_suspect rules messages n.round n.signer ≡ true) × (is_suspect_round rules messages n.round ≡ true)
   claimed_is_suspect n h =
       let vs = valid_votes (claimed rules) messages in
       let suspect = accused_in rules.eq vs n.round n.signer n.kind h in

@@ -16,3 +16,4 @@ pub mod Detector
 pub mod Judging
 pub mod SplitLaws
 pub mod Suspects
+pub mod Agreement

@@ -17,6 +17,7 @@ ghost use Rattle.simplex_detector.specs.Recorded.{RecordedAreSlots, FewAreRecord
 ghost use Rattle.simplex_detector.specs.Laws.{EvidenceIsUnique, AccusesExactly, ReorderingAccusesSame, AccusedStay, IsEvidenceAgain};
 ghost use Rattle.simplex_detector.specs.Rules.{Rules, AreLawful, HaveCommittees, valid_votes};
 ghost use Rattle.simplex_detector.specs.Splits.{AreSplits};
+ghost use Rattle.simplex_detector.specs.Agreement.{SuspectsDecide};
 ghost use Rattle.simplex_detector.specs.Suspects.{claimed, suspect_of, is_suspect, is_suspect_round, NobodyIsSuspect, SuspectsDetermineReports, SuspectsSuffice};
 ghost use Rattle.simplex_detector.specs.SplitLaws.{EnoughAreAccused, SignersAreAccountable, SplitsAreUnique, SplitsHaveAccused};
 ghost use Rattle.simplex_detector.specs.Values.{evidence_value};
@@ -142,4 +143,11 @@ pub fn suspects_suffice<S: CertificateScheme, D: Digest>()
         IsEvidence rules.eq (valid_votes (claimed rules) messages) claims →
         (round : Round) (signer : ℕ) → Contains (map suspect_of claims) (round, signer) ↔
         IsTrue (is_suspect rules messages round signer) }
+{}
+
+/// Messages that claim the same votes have the same suspects. If the votes of suspects have the same signatures, too, and the
+/// same subjects are certified in suspect rounds, they have the same evidence and the same splits.
+pub fn suspects_decide<S: CertificateScheme, D: Digest>()
+    ensures { (rules : Rules S D S.Certificate S.PublicKey S.Signature) → AreLawful rules →
+        SuspectsDecide rules }
 {}
