@@ -3,3 +3,5 @@ pub mod SuspectLemmas
 pub mod PlaceLemmas
 pub mod RecordLemmas
 pub mod ByteLemmas
+pub mod VerdictLemmas
+pub mod RewrittenLemmas

@@ -31,7 +31,7 @@ pub record AreAlike (s t : Suspected) : Type 0 where
   pub rounds : (round : Round) → s.rounds round ≡ t.rounds round
 
 -- one attestation is sought for the same suspects
-one_alike : (s t : Suspected) (size : ℕ → ℕ) → AreAlike s t → (p : Placed) → is_sought s size p ≡ is_sought t size p
+pub one_alike : (s t : Suspected) (size : ℕ → ℕ) → AreAlike s t → (p : Placed) → is_sought s size p ≡ is_sought t size p
 one_alike s t size same p =
     let round = round_at p.suspect in
     ap (λ (b : Bool). if p.is_listed then b && nat_lt p.suspect.signer (size p.suspect.epoch) else s.signers round p.suspect.signer) (same.rounds round)

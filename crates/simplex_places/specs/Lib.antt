@@ -1,5 +1,6 @@
 pub mod Places
 pub mod Suspects
+pub mod Verdicts
 pub mod Bytes
 pub mod Votes
 pub mod KeyLaws

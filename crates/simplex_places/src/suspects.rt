@@ -12,6 +12,7 @@ ghost use Rattle.simplex_detector.specs.Suspects.{is_suspect, is_suspect_round};
 ghost use Rattle.simplex_detector.specs.declared.judging.Judging.TheVariants.{Claimed};
 ghost use Rattle.simplex_places.specs.Bytes.{AreVotesAt};
 ghost use Rattle.simplex_places.specs.Suspects.{AreSuspects, is_sought, sought_of, suspected_by};
+ghost use Rattle.simplex_places.specs.Verdicts.{DetermineTheReport};
 ghost use Rattle.simplex_places.specs.declared.places.Suspect as suspect;
 ghost use Rattle.simplex_base.specs.Format.{format_of};
 
@@ -20,12 +21,14 @@ use crate::places::{Placed, Suspect};
 use crate::reading::{read_claims, reading_bound};
 use simplex_audit::basis::Audited;
 use simplex_base::codec::Read;
+use simplex_base::codec::fixed_bytes::Role;
 use simplex_base::positions::{Epoch, Participant, Round, View};
 use simplex_detector::committees::Committees;
 use simplex_detector::detector::Detector;
 use simplex_detector::judging::{SuspectSigners, suspects_of};
-use simplex_detector::laws::suspects_suffice;
+use simplex_detector::laws::{suspects_decide, suspects_suffice};
 use simplex_scheme::scheme::{CertificateScheme, Digest};
+use simplex_vouched::vouched::Vouched;
 use std::alloc::{AllocError, Global};
 
 /// The suspects and the suspect rounds, from the claimed evidence.
@@ -112,16 +115,31 @@ pub fn suspects_are_votes<S: Counted<D>, D: Digest>()
         (format_of ⟦<S::Signature as Read>⟧) stream found }
 {}
 
+/// For signatures that the caller verified, the verdicts of the attestations that have to be verified determine the report:
+/// streams that differ from this one in other verdicts alone have the same report. The list itself depends on no verdict.
+pub fn suspects_are_enough<D: Digest, R: Role<N>, const N: usize>(
+    committees: &Committees<Vouched<R, N>>,
+)
+    ensures { (stream : List ℕ) (found : List suspect.Suspect) →
+        AreSuspects (⟦<Vouched<R, N> as Audited<D>>⟧.basis committees.now)
+        ⟦<Vouched<R, N> as Located<D>>⟧.places stream found →
+        DetermineTheReport (⟦<Vouched<R, N> as Audited<D>>⟧.basis committees.now)
+        ⟦<Vouched<R, N> as Located<D>>⟧.places stream found }
+{
+    let _bound = reading_bound::<Vouched<R, N>, D>(committees);
+    suspects_decide::<Vouched<R, N>, D>();
+}
+
 /// The attestations of a stream that have to be verified before it is audited, in the order of the
 /// stream. A signer of a committee is suspect in a round where two votes that claim to be that
 /// signer's contradict, and then the round is suspect, too. Listed are the votes of suspects in
 /// their rounds, standalone and in evidence, and, for each certificate of a suspect round, all
 /// attestations whose signers are in the committee of the epoch. That no other vote and no other
-/// certificate has a part in the evidence and the splits is proved of the judging
-/// (`suspects_suffice` in `simplex_detector::laws`); that no other verdict has one is tested, and
-/// no clause here says it. Nothing is verified here, so the stream may hold any verdicts. It is
-/// read once, in memory that is bounded by the stream and the sizes of the committees. `AllocError`
-/// is returned only after an allocation failed.
+/// certificate has a part in the evidence and the splits is a law of the judging (`suspects_suffice`
+/// in `simplex_detector::laws`). That no other verdict has one is [`suspects_are_enough`]. Nothing is
+/// verified here, so the stream may hold any verdicts. It is read once, in memory that is bounded by
+/// the stream and the sizes of the committees. `AllocError` is returned only after an allocation
+/// failed.
 pub fn suspects<S: Counted<D>, D: Digest>(
     alloc: Global,
     committees: &Committees<S>,
