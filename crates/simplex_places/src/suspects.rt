@@ -126,7 +126,7 @@ pub fn suspects_are_enough<D: Digest, R: Role<N>, const N: usize>(
         DetermineTheReport (⟦<Vouched<R, N> as Audited<D>>⟧.basis committees.now)
         ⟦<Vouched<R, N> as Located<D>>⟧.places stream found }
 {
-    let _bound = reading_bound::<Vouched<R, N>, D>(committees);
+    reading_bound::<Vouched<R, N>, D>(committees);
     suspects_decide::<Vouched<R, N>, D>();
 }
 
