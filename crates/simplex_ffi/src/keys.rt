@@ -74,6 +74,7 @@ pub fn committees(
 ) -> Result<Option<Committees<Plain>>, AllocError>
     ensures some { IfOk result (λ answer. IfSome answer (AreOfKeys namespace.now keys.now)) }
     ensures none { result ≡ Ok None → ¬ AreKeys keys.now }
+    ensures length { IfOk result (λ answer. IfSome answer (λ _. IsLengthOfKeys (length keys.now))) }
     ensures memory { IfErr result (λ _. IsLengthOfKeys (length keys.now)) }
 {
     let Some(participants) = read_set(alloc, keys)? else {
