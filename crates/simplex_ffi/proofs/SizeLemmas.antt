@@ -7,7 +7,7 @@ use Rattle.std.specs.List.{list_any}
 use Rattle.std.proofs.Math.ListN.{get_or-map}
 use Rattle.std.proofs.lemmas.Bool.{eqb-false, eqb-true, false≢true}
 use Rattle.std.proofs.lemmas.Bool.Decides.{nat_tests}
-use Rattle.std.proofs.lemmas.List.Elements.{All-nil, All-cons, All-head, All-tail}
+use Rattle.std.proofs.lemmas.List.Elements.{All-nil, All-cons}
 use Rattle.std.proofs.lemmas.List.{drop_more, drop_all, length-map}
 use Rattle.std.proofs.lemmas.Map.Keys.{below_from_sorted, sorted_from_strictly_increasing}
 use Rattle.simplex_vouched.specs.Vouched.{VouchedScheme}
@@ -93,12 +93,6 @@ pub some_sizes : (sizes : List ℕ) → list_any (λ n. nat_eq n 0) sizes ≡ fa
 some_sizes [] none = All-nil _
 some_sizes (zero ∷ ns) none = absurd (false≢true (sym none))
 some_sizes (suc n ∷ ns) none = All-cons (λ n. 1 ≤ n) (suc n) ns (omega arith) (some_sizes ns (rw (not_zero n) at none))
-
--- a size is 0
-pub no_size : (sizes : List ℕ) → list_any (λ n. nat_eq n 0) sizes ≡ true → All (λ n. 1 ≤ n) sizes → ⊥
-no_size [] any all = false≢true any
-no_size (zero ∷ ns) any all = absurd (omega (arith, All-head (λ n. 1 ≤ n) zero ns all))
-no_size (suc n ∷ ns) any all = no_size ns (rw (not_zero n) at any) (All-tail (λ n. 1 ≤ n) (suc n) ns all)
 
 -- without epochs there is one size
 pub size_of_one : (epochs sizes : List ℕ) → epochs ≡ [] → AreCommitteeSizes epochs sizes → (n : ℕ) × (sizes ≡ n ∷ []) × (1 ≤ n)

@@ -1,5 +1,5 @@
 use Rattle.std.proofs.Common.{◌∙◌, sym}
-use Rattle.simplex_ffi.proofs.SizeLemmas.{listed_sizes, no_epochs, no_size, one_size, sizes_of_listed, some_epochs, some_sizes}
+use Rattle.simplex_ffi.proofs.SizeLemmas.{listed_sizes, no_epochs, one_size, sizes_of_listed, some_epochs, some_sizes}
 use Rattle.simplex_ffi.proofs.sizes.are_committee_sizes.Goals as goal
 
 pub returns-then-sizes-eq1 : goal.returns-then-sizes-eq1

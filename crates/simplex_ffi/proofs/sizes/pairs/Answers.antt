@@ -1,6 +1,4 @@
-use Rattle.std.proofs.Common.{◌<◌, ◌≤◌, length, arith}
-use Rattle.std.specs.Prelude.{All}
-use Rattle.std.proofs.lemmas.List.Elements.{All-get_or}
+use Rattle.std.proofs.Common.{◌<◌, length, arith}
 use Rattle.simplex_ffi.proofs.SizeLemmas.{pairs_more, pairs_whole}
 use Rattle.simplex_ffi.proofs.sizes.pairs.Goals as goal
 
