@@ -104,9 +104,12 @@ pub one_size : (epochs sizes : List ℕ) → epochs ≡ [] → length sizes ≡ 
     → (IsTrue (not (nat_eq (get_or sizes 0 0) 0)) → AreCommitteeSizes epochs sizes) × (AreCommitteeSizes epochs sizes → IsTrue (not (nat_eq (get_or sizes 0 0) 0)))
 one_size epochs [] none many = absurd (omega (arith, many))
 one_size epochs (m ∷ n ∷ ns) none many = absurd (omega (arith, many))
-one_size epochs (zero ∷ []) none many = (λ yes. absurd (false≢true yes), λ are.
-    let (n, is, some) = size_of_one epochs (zero ∷ []) none are in
-    absurd (omega (arith, some, ap (λ ns. get_or ns 0 0) is)))
+one_size epochs (zero ∷ []) none many = (
+  λ yes. absurd (false≢true yes),
+  λ are.
+      let (n, is, some) = size_of_one epochs (zero ∷ []) none are in
+      absurd (omega (arith, some, ap (λ ns. get_or ns 0 0) is)),
+)
 one_size epochs (suc n ∷ []) none many = (λ yes. (Every (of_size (suc n)), (none, (suc n, refl, omega arith, refl))), λ are. ap not (not_zero n))
 
 -- with epochs there is a size for each

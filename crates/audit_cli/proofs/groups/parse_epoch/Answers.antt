@@ -2,7 +2,6 @@ use Rattle.std.proofs.Common.{Ok, not, ◌≡◌, ◌∙◌, sym, ap, drop, deci
 use Rattle.std.proofs.lemmas.Bool.{false≢true}
 use Rattle.std.proofs.lemmas.Fmt.{parse-decimal}
 use Rattle.std.proofs.lemmas.Slice.Eq.{bytes_eq-Decides}
-use Rattle.audit_cli.specs.Arguments.{epoch_text}
 use Rattle.audit_cli.proofs.groups.parse_epoch.Goals as goal
 
 pub returns-in_default-clause-usage : goal.returns-in_default-clause-usage
