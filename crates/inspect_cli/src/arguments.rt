@@ -1,6 +1,7 @@
 //! The arguments of the program: none, or the namespace and the committees that `audit` takes.
 
 ghost use Rattle.std.specs.Prelude.{◌≡◌, ◌⊎◌, Err, IfOk, IfErr, map, string_bytes};
+ghost use Rattle.audit_cli.specs.Arguments.{BeginAsArguments};
 ghost use Rattle.inspect_cli.specs.Arguments.{AreGiven, AreNotGiven};
 
 use audit_cli::arguments::parse;
@@ -14,6 +15,8 @@ use std::alloc::Global;
 pub fn parse_any(alloc: Global, arguments: &[String]) -> Result<Option<Committees<Plain>>, Failure>
     ensures given { IfOk result (AreGiven (map string_bytes arguments.now)) }
     ensures usage { result ≡ Err Failure.Usage → AreNotGiven (map string_bytes arguments.now) }
+    ensures memory { result ≡ Err Failure.OutOfMemory →
+        BeginAsArguments (map string_bytes arguments.now) }
     ensures failure { IfErr result (λ e. (e ≡ Failure.Usage) ⊎ (e ≡ Failure.OutOfMemory)) }
 {
     if arguments.is_empty() {
