@@ -1,5 +1,5 @@
-//! The lines of a stream in memory: over writers that do and do not fail, and where an allocation fails; also of a digest of the
-//! test's own.
+//! The lines of a stream in memory: over writers that do and do not fail, and where an allocation fails; also for a digest of
+//! the test's own.
 
 ghost use Rattle.std.proofs.Common.{lit<, lit≤};
 
