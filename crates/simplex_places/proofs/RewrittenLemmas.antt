@@ -1,12 +1,12 @@
 -- Streams with other verdicts: the same attestations have to be verified, and their verdicts determine the report.
 use Rattle.std.proofs.Common.{◌≡◌, ℕ, ◌+◌, ◌<◌, ◌≤◌, Bool, true, false, List, [], ◌∷◌, ◌++◌, length, map, get_or, inl, inr, set, true≢false, refl, sym, ap, subst, ◌∙◌, arith}
-use Rattle.std.specs.Prelude.{◌⊎◌, ◌&&◌, if◌then◌else◌, All, Contains, IsTrue, filter, nat_lt}
+use Rattle.std.specs.Prelude.{◌⊎◌, ◌&&◌, if◌then◌else◌, All, Contains, filter, nat_lt}
 use Rattle.std.specs.List.{flat_map}
 use Rattle.std.proofs.lemmas.Bool.{cases_eq, cases_lt, lt-ltb}
 use Rattle.std.proofs.lemmas.List.{get_or_default, get_or_past, get_or-set_other, get_or-set_same, length-set, same_lists, set-get_or}
 use Rattle.std.proofs.lemmas.List.Elements.{All-contains, All-map, Contains-append_right, Contains-get_or}
-use Rattle.simplex_base.specs.Format.{Format, IsLawful, fixed}
-use Rattle.simplex_base.specs.Reading.{IsBytes, Reading}
+use Rattle.simplex_base.specs.Format.{Format, IsLawful}
+use Rattle.simplex_base.specs.Reading.{Reading}
 use Rattle.simplex_base.specs.Positions.{Round}
 use Rattle.simplex_scheme.specs.Subject.{SubjectValue, round_of}
 use Rattle.simplex_scheme.specs.declared.scheme.Attestation.{Attestation}
