@@ -2,8 +2,8 @@
  * Tries what the contracts of the calls say of buffers and refusals, from C: buffers that fit, that
  * are a byte too short or empty, empty slices, arguments that are no committees, verdicts, stored
  * evidence with faulty batches and faulty stored bytes, each kind of record, records that are new,
- * committees of 65,536, calls at once in several threads, and each allocation failing in turn. Every
- * buffer is a block of its own, so that AddressSanitizer and valgrind see an access outside.
+ * a committee of 65,536, calls at once in several threads, and each allocation failing in turn.
+ * Every buffer is a block of its own, so that AddressSanitizer and valgrind see an access outside.
  *
  *     border < STREAM             STREAM: the sample of crates/audit
  *     border --limit < STREAM     also what needs more memory than the process may have
@@ -809,52 +809,52 @@ static void renews(size_t signature)
     }
 }
 
-/* Two notarizes of a signer that contradict, under a committee of 65,536 for epoch 4 beside a larger
- * one: whether the report, the records and the list of suspects have the signer, each or none. */
-static int is_member(uint32_t signer, size_t signature)
+/* Two notarizes of a signer that contradict, under a committee of 65,536: whether the report, the
+ * records, what is stored and the list of suspects have the signer, each or none. One call of each,
+ * as a call sorts as many participants. */
+static int is_member(uint32_t signer)
 {
-    static const uint64_t epochs[] = {3, 4};
-    static const uint32_t sizes[] = {65537, 65536};
-    uint8_t room[400];
-    size_t n = two(room, 4, signer, signature, 1), needed = 99;
-    struct input in = {.stored = room, .stream = room, .stream_len = n,
-                       .signature = (int)signature, .epochs = epochs, .epochs_len = 2,
-                       .sizes = sizes, .sizes_len = 2};
-    size_t lines = audits(&in, SIMPLEX_WHOLE, 2, 0);
-    stores(&in);
+    static const uint64_t epoch[] = {4};
+    static const uint32_t size[] = {65536};
+    uint8_t room[400], buffer[500];
+    size_t n = two(room, 4, signer, 64, 1), stored = 99, needed = 99;
+    const struct input in = {.stored = room, .stream = room, .stream_len = n, .signature = 64,
+                             .epochs = epoch, .epochs_len = 1, .sizes = size, .sizes_len = 1};
     struct simplex_record record[1];
     struct simplex_suspect suspect[2];
-    struct simplex_summary summary;
-    CHECK(enlist(&in, record, 1, &summary) == SIMPLEX_WHOLE && summary.evidence == lines);
-    CHECK(suspects(&in, suspect, 2, &needed) == SIMPLEX_WHOLE && needed == 2 * lines);
-    if (!lines)
+    struct simplex_summary summary, of_records;
+    CHECK(audit(&in, buffer, sizeof buffer, &summary) == SIMPLEX_WHOLE && summary.read == 2);
+    CHECK(enlist(&in, record, 1, &of_records) == SIMPLEX_WHOLE);
+    CHECK(!memcmp(&summary, &of_records, sizeof summary));
+    CHECK(store(&in, buffer, sizeof buffer, &stored) == SIMPLEX_WHOLE);
+    CHECK(suspects(&in, suspect, 2, &needed) == SIMPLEX_WHOLE && needed == 2 * summary.evidence);
+    CHECK(stored == (summary.evidence ? n - 1 : 0));
+    if (!summary.evidence)
         return 0;
-    CHECK(lines == 1 && record[0].signer == signer && suspect[1].signer == signer);
+    CHECK(summary.evidence == 1 && record[0].signer == signer && suspect[1].signer == signer);
     return 1;
 }
 
-/* A committee of 65,536: participant 65,535 is the last, and also where certificates list it. */
-static void many(size_t signature)
+/* A committee of 65,536: participant 65,535 is the last, also of those that certificates list. */
+static void many(void)
 {
     static const uint32_t size[] = {65536};
     static const uint64_t epoch[] = {0};
-    CHECK(is_member(65534, signature) && is_member(65535, signature));
-    CHECK(!is_member(65536, signature) && !is_member(65537, signature));
-    CHECK(!is_member(UINT32_MAX, signature));
+    CHECK(is_member(65535) && !is_member(65536));
     for (uint32_t signer = 65535; signer < 65537; signer++) {
         const uint8_t head[] = {4, 4, 10, 1}; /* a nullification that lists one signer */
-        uint8_t room[400], *end = room;
-        end = put_finalize(end, 4, signer, 6, signature);
+        uint8_t room[400], text[500], *end = put_finalize(room, 4, signer, 6, 64);
         const size_t vote = (size_t)(end - room);
         memcpy(end, head, 4);
-        end = put_attestation(end + 4, signer, signature, 1);
-        struct input in = {.stored = room, .stream = room, .stream_len = (size_t)(end - room),
-                           .signature = (int)signature, .epochs = epoch, .sizes = size,
-                           .sizes_len = 1};
+        end = put_attestation(end + 4, signer, 64, 1);
+        const struct input in = {.stream = room, .stream_len = (size_t)(end - room),
+                                 .signature = 64, .epochs = epoch, .sizes = size, .sizes_len = 1};
+        struct simplex_summary summary;
+        uint32_t status = audit(&in, text, sizeof text, &summary);
         if (signer == 65535)
-            CHECK(audits(&in, SIMPLEX_WHOLE, 2, 0) == 1);
+            CHECK(status == SIMPLEX_WHOLE && summary.read == 2 && summary.evidence == 1);
         else
-            CHECK(audits(&in, SIMPLEX_FAULT, 1, vote) == 0);
+            CHECK(status == SIMPLEX_FAULT && summary.fault_place == vote && !summary.evidence);
     }
 }
 
@@ -1005,9 +1005,7 @@ int main(int argc, char **argv)
     renews(48);
     renews(64);
     renews(96);
-    many(48);
-    many(64);
-    many(96);
+    many();
     many_lead();
     numbers();
     threads();
