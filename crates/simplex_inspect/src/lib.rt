@@ -13,4 +13,4 @@ mod left;
 pub mod line;
 mod parts;
 pub mod reading;
-pub mod validity;
+mod validity;

@@ -5,7 +5,7 @@ ghost use Rattle.simplex_inspect.specs.Validity.{validity_of_signature, validity
 
 use simplex_base::values::{EqByParts, ExactClone, InfallibleClone};
 
-/// Whether a signature or a certificate is valid, and why not. It is public for contracts: no public call returns one.
+/// Whether a signature or a certificate is valid, and why not.
 #[derive(Clone, Copy, Debug, PartialEq, Eq)]
 pub enum Validity {
     /// It is valid.

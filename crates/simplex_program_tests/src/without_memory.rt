@@ -5,7 +5,6 @@
 use audit_cli::status::{Failure, Status};
 use faulty_io::{Source, Target, Trouble};
 use simplex_audit::audit::Watched;
-use simplex_inspect::validity::Validity;
 use std::alloc::Global;
 use std::io::{ErrorKind, Read};
 
@@ -27,16 +26,6 @@ fn is_cloned<T: Copy + PartialEq>(value: &T) -> bool {
 #[test]
 fn without_memory_clones(rt: HostRuntime) {
     memory_ends(rt.alloc());
-    for validity in [
-        Validity::Valid,
-        Validity::NoCommittee,
-        Validity::OutsideSigner,
-        Validity::WrongSignature,
-        Validity::TooFew,
-        Validity::WrongAttestation,
-    ] {
-        assert!(rt; is_cloned(&validity));
-    }
     for status in [Status::Whole, Status::Fault, Status::Usage, Status::Failed] {
         assert!(rt; is_cloned(&status));
     }
