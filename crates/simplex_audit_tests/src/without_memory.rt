@@ -5,7 +5,7 @@
 use crate::outcome::marked;
 use simplex_audit::audit::{Auditor, Committees, CommitteesError, audit};
 use simplex_base::positions::{Epoch, Participant, Round, View};
-use simplex_places::places::{FINALIZE, Placed, Suspect};
+use simplex_places::places::{FINALIZE, Suspect};
 use simplex_places::records::{NULLIFY_FINALIZE, Record};
 use simplex_plain::marked::{Marked, MarkedDigest};
 use simplex_scheme::scheme::{CertificateScheme, Digest, Listing};
@@ -138,7 +138,4 @@ fn without_memory_clones(rt: HostRuntime) {
         kind: NULLIFY_FINALIZE,
     };
     assert!(rt; is_cloned(&suspect) && is_cloned(&record));
-    for is_listed in [false, true] {
-        assert!(rt; is_cloned(&Placed { suspect, is_listed }));
-    }
 }

@@ -62,9 +62,9 @@ impl EqByParts for Suspect {
     ghost equal = { λ x y. refl };
 }
 
-/// An attestation of the stream. It is public for contracts: no public call returns one.
+/// An attestation of the stream.
 #[derive(Clone, Copy, Debug, PartialEq, Eq)]
-pub struct Placed {
+pub(crate) struct Placed {
     /// Where it stands, whether it has to be verified or not.
     pub suspect: Suspect,
     /// Whether a certificate lists it. If not, it is a standalone vote or one in evidence.
