@@ -161,8 +161,10 @@ fn are_hundred_verified<S: CertificateVerifier<D>, D: Digest>(
 ) {
     let mut encodings = [good; 100];
     let mut wanted = [true; 100];
-    (encodings[12], wanted[12]) = (few, false);
-    (encodings[77], wanted[77]) = (bad, false);
+    encodings[12] = few;
+    wanted[12] = false;
+    encodings[77] = bad;
+    wanted[77] = false;
     assert!(rt; !is_refused(rt, scheme, payload, &encodings, &wanted));
 }
 
