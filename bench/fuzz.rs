@@ -74,7 +74,7 @@ fn compare_report(committees: &Committees, stream: &[u8], counts: &Counts) -> Re
 }
 
 /// What is stored of a stream in two batches; and of the second batch if what is stored was damaged, or cut and the rest of it
-/// stands before the batch. Nothing is read behind a fault in what is stored.
+/// stands before the batch.
 fn compare_batches(random: &mut Random, committees: &Committees, stream: &[u8]) -> Result<(), String> {
     let (first, second) = stream.split_at(random.below(stream.len() as u64 + 1) as usize);
     let mut stored = library::store(committees, &[], first);

@@ -205,13 +205,12 @@ pub fn suspects(of: &Committees, stream: &[u8]) -> Vec<Suspect> {
     votes.iter().map(suspect).collect()
 }
 
-/// The evidence of what is stored and of a batch behind it, as messages.
+/// The evidence of what is stored with a batch behind it, as messages. They are one stream: a message that is cut off at the end
+/// of what is stored goes on in the batch, and behind a fault nothing is read.
 pub fn store(of: &Committees, stored: &[u8], batch: &[u8]) -> Vec<u8> {
     let committees = committees(of);
-    let (mut all, behind) = votes(committees.reader(stored));
-    if behind.is_empty() {
-        all.extend(votes(committees.reader(batch)).0);
-    }
+    let both = [stored, batch].concat();
+    let (all, _) = votes(committees.reader(&both));
     let mut messages = Vec::new();
     for (kind, both) in evidence(&committees, &all) {
         messages.push(7 + kind as u8);
