@@ -2,13 +2,13 @@
 //! each part that it refuses, down to single certificates.
 
 use crate::counted::Counted;
-use simplex_base::codec::decode_cfg;
+use simplex_base::codec::{Fixed, decode_cfg};
 use simplex_base::positions::{Epoch, Round, View};
 use simplex_evidence::types::verify_certificates;
 use simplex_plain::listed::Listed;
 use simplex_plain::marked::MarkedDigest;
-use simplex_scheme::scheme::Subject;
-use std::alloc::Global;
+use simplex_scheme::scheme::{CertificateVerifier, Digest, Proposal, Subject};
+use std::alloc::{AllocError, Global};
 use std::process::Abort;
 use std::test::Fail;
 
@@ -21,35 +21,75 @@ const UNSIGNED: &[u8] = &[3, 0, 0xaa, 1, 0, 2, 0xaa];
 /// A valid certificate.
 const VALID: &[u8] = &[3, 0, 0xaa, 1, 0xaa, 2, 0xaa];
 
-/// How often a scheme is asked about this many certificates, of which those at the given places are found to be invalid: the
-/// first of these has a signer too few, and each other an invalid signature.
-fn asked(
-    rt: &impl Abort,
+/// This many certificates, of which those at the given places are invalid: the first of these has a signer too few, and each
+/// other an invalid signature.
+fn certificates(
     alloc: Global,
-    certificates: usize,
+    count: usize,
     invalid: &[usize],
-) -> Result<usize, Fail> {
-    let scheme = Counted::four(rt, alloc)?;
-    let valid = decode_cfg::<Listed<Counted>>(alloc, VALID, &4)?;
-    let few = decode_cfg::<Listed<Counted>>(alloc, FEW, &4)?;
-    let unsigned = decode_cfg::<Listed<Counted>>(alloc, UNSIGNED, &4)?;
-    let round = Round::new(Epoch::new(0), View::new(10));
-    let mut items = Vec::new(alloc);
-    let mut wanted = Vec::new(alloc);
-    for place in 0..certificates {
-        let is_valid = !invalid.contains(&place);
-        let certificate = if is_valid {
-            &valid
+) -> Result<Vec<Listed<Counted>>, Fail> {
+    let mut made = Vec::with_capacity(alloc, count)?;
+    for place in 0..count {
+        let bytes = if !invalid.contains(&place) {
+            VALID
         } else if invalid.first() == Some(&place) {
-            &few
+            FEW
         } else {
-            &unsigned
+            UNSIGNED
         };
-        items.push((Subject::Nullify { round }, certificate))?;
-        wanted.push(is_valid)?;
+        made.push(decode_cfg::<Listed<Counted>>(alloc, bytes, &4)?)?;
     }
-    let answers = verify_certificates::<_, MarkedDigest>(alloc, &scheme, items.as_slice())?;
-    assert_eq!(rt; answers.as_slice(), wanted.as_slice(), "with {invalid:?}");
+    Ok(made)
+}
+
+/// Whether each of these certificates is valid for the subject beside it.
+fn answered<'a, S: CertificateVerifier<D>, D: Digest>(
+    alloc: Global,
+    scheme: &S,
+    pairs: &[(Subject<'a, D>, &'a S::Certificate)],
+) -> Result<Vec<bool>, AllocError> {
+    verify_certificates(alloc, scheme, pairs)
+}
+
+/// Whether each of these certificates is valid for the notarize of this payload in round (0, 10).
+fn verified<S: CertificateVerifier<D>, D: Digest>(
+    alloc: Global,
+    scheme: &S,
+    payload: D,
+    certificates: &[S::Certificate],
+) -> Result<Vec<bool>, AllocError> {
+    let round = Round::new(Epoch::new(0), View::new(10));
+    let proposal = Proposal::new(round, View::new(5), payload);
+    let items = certificates.iter().map(|certificate| {
+        let subject = Subject::Notarize {
+            proposal: &proposal,
+        };
+        (subject, certificate)
+    });
+    let Ok(mut pairs) = Vec::with_capacity(alloc, certificates.len()) else {
+        return Err(AllocError);
+    };
+    if pairs.extend(items).is_err() {
+        return Err(AllocError);
+    }
+    answered(alloc, scheme, pairs.as_slice())
+}
+
+/// How often a scheme is asked about this many certificates, of which exactly those at the given places are found to be
+/// invalid.
+fn asked(rt: &impl Abort, alloc: Global, count: usize, invalid: &[usize]) -> Result<usize, Fail> {
+    let scheme = Counted::four(rt, alloc)?;
+    let certificates = certificates(alloc, count, invalid)?;
+    let payload = MarkedDigest::from_bytes(&[6]);
+    let answers = verified(alloc, &scheme, payload, certificates.as_slice())?;
+    assert_eq!(rt; answers.len(), count);
+    for (place, is_valid) in answers.iter().enumerate() {
+        assert_eq!(rt;
+            *is_valid,
+            !invalid.contains(&place),
+            "at {place} with {invalid:?}"
+        );
+    }
     Ok(scheme.lists())
 }
 

@@ -5,12 +5,10 @@ ghost use Rattle.std.proofs.Common.{lit<, lit≤};
 use crate::outcome::outcome_of;
 use crate::suspects::Committee;
 use simplex_audit::audit::{Committees, audit};
+use simplex_base::codec::Write;
 use simplex_base::codec::fixed_bytes::{FixedBytes, Role};
-use simplex_base::codec::{Fixed, Write, decode_cfg};
-use simplex_base::positions::{Epoch, Participant, Round, View};
-use simplex_plain::listed::Listed;
+use simplex_base::positions::Participant;
 use simplex_plain::marked::MarkedDigest;
-use simplex_scheme::scheme::{Attestation, CertificateScheme, Digest, Scheme, Subject, quorum};
 use simplex_vouched::vouched::Vouched;
 use std::alloc::{AllocError, Global};
 use std::test::Fail;
@@ -77,49 +75,8 @@ fn certificate(alloc: Global, first: u32, count: u32) -> Result<Vec<u8>, AllocEr
     Ok(bytes)
 }
 
-/// Whether this signature of a participant, and whether a certificate, is valid for the nullify of round (0, 10).
-fn are_valid<S: Scheme<D>, D: Digest>(
-    scheme: &S,
-    signer: u32,
-    signature: S::Signature,
-    certificate: &S::Certificate,
-) -> (bool, bool) {
-    let round = Round::new(Epoch::new(0), View::new(10));
-    let attestation = Attestation {
-        signer: Participant::new(signer),
-        signature,
-    };
-    (
-        scheme.verify_attestation(Subject::Nullify { round }, &attestation),
-        scheme.verify_certificate(Subject::Nullify { round }, certificate),
-    )
-}
-
-/// The last of 65,536 participants can vote and one behind it cannot; a quorum is certified, and one participant fewer is not.
-/// A body that counts participants in 16 bits is refused.
-#[test]
-fn ample_many_participants(rt: HostRuntime) -> Result<(), Fail> {
-    let alloc = rt.alloc();
-    let committee = large(alloc)?;
-    assert_eq!(rt; committee.participants().len(), 65_536);
-    assert_eq!(rt; committee.certificate_codec_config(), PARTICIPANTS);
-    assert_eq!(rt; quorum(PARTICIPANTS), QUORUM);
-    let cases = [
-        (65_535, 1, QUORUM, (true, true)),
-        (65_535, 0, QUORUM - 1, (false, false)),
-        (65_536, 1, QUORUM, (false, true)),
-    ];
-    for (signer, verdict, count, wanted) in cases {
-        let bytes = certificate(alloc, PARTICIPANTS.saturating_sub(count), count)?;
-        let listed = decode_cfg::<Listed<Committee>>(alloc, &bytes, &PARTICIPANTS)?;
-        let signature = FixedBytes::from_bytes(&[verdict]);
-        let found = are_valid::<_, MarkedDigest>(&committee, signer, signature, &listed);
-        assert_eq!(rt; found, wanted, "of {signer} and {count}");
-    }
-    Ok(())
-}
-
-/// Two quorums of 65,536 participants accuse exactly those in both, f + 1 of them.
+/// Two quorums of 65,536 participants, the last of them in the second, accuse exactly those in both, f + 1 of them. A body that
+/// counts participants in 16 bits is refused.
 #[test]
 fn ample_two_large_quorums(rt: HostRuntime) -> Result<(), Fail> {
     let alloc = rt.alloc();
