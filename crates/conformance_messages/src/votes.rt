@@ -151,7 +151,7 @@ fn notarization<S: Scheme<D>, D: Digest>(
     votes: Vec<Notarize<S, D>>,
 ) -> Result<String, Unanswered> {
     memory::ends(alloc);
-    if !Notarization::can_assemble(scheme, votes.as_slice()) {
+    if !Notarization::can_assemble(alloc, scheme, votes.as_slice()) {
         return no_assembly(alloc);
     }
     take_memory(alloc, scheme, votes.len());
@@ -173,7 +173,7 @@ fn nullification<S: Scheme<D>, D: Digest>(
     votes: Vec<Nullify<S>>,
 ) -> Result<String, Unanswered> {
     memory::ends(alloc);
-    if !Nullification::can_assemble::<D>(scheme, votes.as_slice()) {
+    if !Nullification::can_assemble::<D>(alloc, scheme, votes.as_slice()) {
         return no_assembly(alloc);
     }
     take_memory(alloc, scheme, votes.len());
@@ -195,7 +195,7 @@ fn finalization<S: Scheme<D>, D: Digest>(
     votes: Vec<Finalize<S, D>>,
 ) -> Result<String, Unanswered> {
     memory::ends(alloc);
-    if !Finalization::can_assemble(scheme, votes.as_slice()) {
+    if !Finalization::can_assemble(alloc, scheme, votes.as_slice()) {
         return no_assembly(alloc);
     }
     take_memory(alloc, scheme, votes.len());

@@ -371,9 +371,12 @@ fn without_memory_plain_schemes(rt: HostRuntime) -> Result<(), Fail> {
 /// Whether attestations of distinct participants can be assembled, and those of one participant cannot.
 fn are_distinct_assembled<S: CertificateScheme>(alloc: Global, scheme: &S) -> Result<bool, Fail> {
     let distinct = decoded::<Attestation<S>>(alloc, &(), &[&[1, 0xaa], &[2, 0xaa]])?;
+    let falling = decoded::<Attestation<S>>(alloc, &(), &[&[2, 0xaa], &[1, 0xaa]])?;
     let repeated = decoded::<Attestation<S>>(alloc, &(), &[&[1, 0xaa], &[1, 0xaa]])?;
     let _ = is_out(alloc);
-    Ok(can_assemble(scheme, distinct.as_slice()) && !can_assemble(scheme, repeated.as_slice()))
+    Ok(can_assemble(alloc, scheme, distinct.as_slice())
+        && can_assemble(alloc, scheme, falling.as_slice())
+        && !can_assemble(alloc, scheme, repeated.as_slice()))
 }
 
 #[test]
@@ -399,9 +402,23 @@ fn ample_many_signers(rt: HostRuntime) -> Result<(), Fail> {
     for number in 0..100_000 {
         attestations.push(mark_of(number))?;
     }
-    assert!(rt; can_assemble(&scheme, attestations.as_slice()));
+    assert!(rt; can_assemble(rt.alloc(), &scheme, attestations.as_slice()));
     attestations.push(mark_of(0))?;
-    assert!(rt; !can_assemble(&scheme, attestations.as_slice()));
+    assert!(rt; !can_assemble(rt.alloc(), &scheme, attestations.as_slice()));
+    Ok(())
+}
+
+/// The same in an order in which each signer is seven after the one before it, round the committee seven times.
+#[test]
+fn ample_many_signers_out_of_order(rt: HostRuntime) -> Result<(), Fail> {
+    let scheme = Marked::new(rt.alloc(), 100_000, None)?;
+    let mut attestations = Vec::new(rt.alloc());
+    for number in 0..100_000 {
+        attestations.push(mark_of(number * 7 % 100_000))?;
+    }
+    assert!(rt; can_assemble(rt.alloc(), &scheme, attestations.as_slice()));
+    attestations.push(mark_of(99_999))?;
+    assert!(rt; !can_assemble(rt.alloc(), &scheme, attestations.as_slice()));
     Ok(())
 }
 
@@ -425,7 +442,7 @@ fn signed<S: Scheme<D>, D: Digest>(
 /// Whether an empty list of attestations is refused as too few for a committee of one.
 fn is_refused_without_any<S: Scheme<D>, D: Digest>(alloc: Global, me: &S) -> bool {
     let none = Vec::new(alloc);
-    if !can_assemble(me, none.as_slice()) {
+    if !can_assemble(alloc, me, none.as_slice()) {
         return false;
     }
     let few = AssemblyError::InsufficientAttestations(1, 0);
@@ -444,7 +461,7 @@ fn is_assembled<S: Scheme<D>, D: Digest>(
     let Some(attestation) = signed(alloc, me, nobody, proposal) else {
         return false;
     };
-    if room.push(attestation).is_err() || !can_assemble(me, room.as_slice()) {
+    if room.push(attestation).is_err() || !can_assemble(alloc, me, room.as_slice()) {
         return false;
     }
     let Ok(certificate) = me.assemble(alloc, room) else {

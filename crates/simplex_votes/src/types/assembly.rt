@@ -109,11 +109,15 @@ fn agree_with<S: SchemeTypes, V: Attested<S>>(votes: &[V], first: &V) -> bool
 
 /// Whether a certificate can be assembled from the votes by a committee of this many, a quorum of votes provided:
 /// there is at least one, all are for one subject, and the signers are distinct and in the committee.
-pub fn stand_together<S: SchemeTypes, V: Attested<S>>(votes: &[V], participants: usize) -> bool
+pub fn stand_together<S: SchemeTypes, V: Attested<S>>(
+    alloc: Global,
+    votes: &[V],
+    participants: usize,
+) -> bool
     ensures { IsTrue result ↔ CanAssemble V.subject_of V.attestation_of participants votes.now }
 {
     match votes.first() {
-        Some(first) => agree_with(votes, first) && are_distinct(votes, participants),
+        Some(first) => agree_with(votes, first) && are_distinct(alloc, votes, participants),
         None => false,
     }
 }

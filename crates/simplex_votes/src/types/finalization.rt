@@ -80,15 +80,15 @@ impl<S: Scheme<D>, D: Digest> Finalization<S, D> {
     ghost use Rattle.simplex_votes.specs.Assembly.{CanFinalize, StandInOrder};
 
     /// Whether a finalization can be assembled from the votes, a quorum of them provided: there is at least one, all
-    /// are for one proposal, and the signers are distinct and in the committee. It allocates nothing. Votes in
-    /// ascending order of their signers take linear time; each vote out of that order is compared to all before it.
-    pub fn can_assemble(scheme: &S, votes: &[Finalize<S, D>]) -> bool
+    /// are for one proposal, and the signers are distinct and in the committee. It takes the time and the memory of
+    /// [`are_distinct`](simplex_scheme::assembly::are_distinct).
+    pub fn can_assemble(alloc: Global, scheme: &S, votes: &[Finalize<S, D>]) -> bool
         ensures can { IsTrue result ↔ CanFinalize (length (S.keys scheme.now)) votes.now }
         // It is so for votes for one proposal in ascending order of their signers.
         ensures ordered { StandInOrder (λ v. v.proposal) (λ v. v.attestation)
             (length (S.keys scheme.now)) votes.now → IsTrue result }
     {
-        stand_together(votes, scheme.participants().len())
+        stand_together(alloc, votes, scheme.participants().len())
     }
 
     /// Assembles a finalization from votes, for which [`can_assemble`](Finalization::can_assemble) has to hold.

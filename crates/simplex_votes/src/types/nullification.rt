@@ -70,9 +70,13 @@ impl<S: CertificateScheme> Nullification<S> {
     }
 
     /// Whether a nullification can be assembled from the votes, a quorum of them provided: there is at least one, all
-    /// are for one round, and the signers are distinct and in the committee. It allocates nothing. Votes in ascending
-    /// order of their signers take linear time; each vote out of that order is compared to all before it.
-    pub fn can_assemble<'a, D: Digest + 'a>(scheme: &'a S, votes: &[Nullify<S>]) -> bool
+    /// are for one round, and the signers are distinct and in the committee. It takes the time and the memory of
+    /// [`are_distinct`](simplex_scheme::assembly::are_distinct).
+    pub fn can_assemble<'a, D: Digest + 'a>(
+        alloc: Global,
+        scheme: &'a S,
+        votes: &[Nullify<S>],
+    ) -> bool
     where
         S: Scheme<D>,
         ensures can { IsTrue result ↔ CanNullify (length (S.keys scheme.now)) votes.now }
@@ -80,7 +84,7 @@ impl<S: CertificateScheme> Nullification<S> {
         ensures ordered { StandInOrder (λ v. v.round) (λ v. v.attestation)
             (length (S.keys scheme.now)) votes.now → IsTrue result }
     {
-        stand_together(votes, scheme.participants().len())
+        stand_together(alloc, votes, scheme.participants().len())
     }
 
     /// Assembles a nullification from votes, for which [`can_assemble`](Nullification::can_assemble) has to hold.
