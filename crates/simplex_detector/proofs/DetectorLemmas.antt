@@ -1,11 +1,12 @@
 -- What is recorded, round by round, after one more message.
-use Rattle.simplex_detector.proofs.Prelude.{Activity, All, All-from_recursion, All-map, AllByRecursion, Attestation, BTreeMap, Bool, Detector, HoldsRound, IsEquivalence, IsSized, IsTrue, EquivocationKind, List, None, Option, Recalls, RecallsAt, RecallsNothing, RecallsRound, RecordsFirsts, Round, RoundState, RoundVotes, Rules, Schedule, SignedVote, Some, Sort, SubjectValue, TakesIn, TakesMessage, [], activity_round, and_left, and_parts, and_right, ap, append-nil, append_assoc, arith, subject_and_certificate, certified_by, certified_subjects, clash, committee_of, cond, cond-false, contradicts, false, filter, filter-append, get, if_certified, is_at, is_key, is_news, is_of, is_valid, length, map, no_slot, nothing_certified, option_to_list, recorded_in, recursion_from_All, refl, round_cmp, round_count, round_of, rules_of, same_round, same_sort, size_by, slot_of, slots, sort_of, subst, sym, true, valid_by, valid_votes, vote_on, votes_in, ℕ, ◌++◌, ◌∙◌, ◌∷◌, ◌≡◌, Notarizes, Nullifies, Finalizes}
+use Rattle.simplex_detector.proofs.Prelude.{Activity, All, All-from_recursion, All-map, AllByRecursion, Attestation, BTreeMap, Bool, Detector, HoldsRound, IsEquivalence, IsSized, IsTrue, EquivocationKind, List, None, Option, Recalls, RecallsAt, RecallsNothing, RecallsRound, RecordsFirsts, Round, RoundState, RoundVotes, Rules, Schedule, SignedVote, Some, Sort, SubjectValue, TakesIn, TakesContents, [], activity_round, and_left, and_parts, and_right, ap, append-nil, append_assoc, arith, subject_and_certificate, certified_by, certified_subjects, clash, committee_of, cond, cond-false, contradicts, false, filter, filter-append, get, if_certified, is_at, is_key, is_news, is_of, is_valid, length, map, no_slot, nothing_certified, option_to_list, recorded_in, recursion_from_All, refl, round_cmp, round_count, round_of, rules_of, same_round, same_sort, size_by, slot_of, slots, sort_of, subst, sym, true, valid_by, valid_votes, vote_on, votes_in, ℕ, ◌++◌, ◌∙◌, ◌∷◌, ◌≡◌, Notarizes, Nullifies, Finalizes}
 use Rattle.simplex_detector.proofs.AccountLemmas.{certificate_parts}
 use Rattle.simplex_detector.proofs.EvidenceLemmas.{valid_votes-push}
 use Rattle.simplex_detector.proofs.Places.{is_of-true, key_tells, other_round}
 use Rattle.simplex_detector.proofs.RecordedLemmas.{none_in_round, of_round, recorded_in_push, same_held, slot_after_vote}
 use Rattle.simplex_detector.proofs.SplitLemmas.{records_other_message, subjects_push}
-use Rattle.simplex_evidence.specs.declared.types.activity.Activity.TheVariants as activity
+use Rattle.simplex_evidence.specs.Activity.{contents_of}
+use Rattle.simplex_evidence.specs.Contents.{ContentsValue, OneVote, OneCertificate, TwoVotes, AreInConflict, contents_round, contents_votes}
 
 -- a vote is of a round
 abbrev pub IsHere : {D G : Type 0} → Round → SignedVote D G → Type 0
@@ -15,16 +16,13 @@ IsHere round v = round_of v.subject ≡ round
 pub one_round : {D G : Type 0} (eq : D → D → Bool) (kind : EquivocationKind) (v w : SignedVote D G) → IsTrue (contradicts eq kind v w) → round_of w.subject ≡ round_of v.subject
 one_round eq kind v w h = (is_of-true (round_of v.subject) v.signer w (and_parts (is_of (round_of v.subject) v.signer w) (clash eq kind v.subject w.subject) h).0).0
 
--- so are the votes of a message that is no evidence
-pub votes_of_round : {S D C P G : Type 0} (listed : C → List (Attestation S P G)) (m : Activity S D C P G) → ((c : _) → m ≡ activity.ConflictingNotarize c → ⊥) → ((c : _) → m ≡ activity.ConflictingFinalize c → ⊥) → ((c : _) → m ≡ activity.NullifyFinalize c → ⊥) → All (IsHere (activity_round m)) (votes_in listed m)
-votes_of_round listed (activity.Notarization n) a b d = All-map (IsHere n.proposal.round) (vote_on (Notarizes n.proposal)) (listed n.certificate) (λ k e lt. refl)
-votes_of_round listed (activity.Certification n) a b d = All-map (IsHere n.proposal.round) (vote_on (Notarizes n.proposal)) (listed n.certificate) (λ k e lt. refl)
-votes_of_round listed (activity.Nullification n) a b d = All-map (IsHere n.round) (vote_on (Nullifies n.round)) (listed n.certificate) (λ k e lt. refl)
-votes_of_round listed (activity.Finalization n) a b d = All-map (IsHere n.proposal.round) (vote_on (Finalizes n.proposal)) (listed n.certificate) (λ k e lt. refl)
-votes_of_round listed (activity.ConflictingNotarize c) a b d = absurd (a c refl)
-votes_of_round listed (activity.ConflictingFinalize c) a b d = absurd (b c refl)
-votes_of_round listed (activity.NullifyFinalize c) a b d = absurd (d c refl)
-votes_of_round listed m a b d = All-from_recursion (IsHere (activity_round m)) (votes_in listed m) (refl, tt)
+-- so are the votes that a message holds
+pub votes_here : {S D C P G : Type 0} (eq : D → D → Bool) (listed : C → List (Attestation S P G)) (held : ContentsValue D C G) →
+    AreInConflict eq held → All (IsHere (contents_round held)) (contents_votes listed held)
+votes_here eq listed (OneVote v) conflict = All-from_recursion (IsHere (round_of v.subject)) (v ∷ []) (refl, tt)
+votes_here eq listed (OneCertificate x c) conflict = All-map (IsHere (round_of x)) (vote_on x) (listed c) (λ k e lt. refl)
+votes_here eq listed (TwoVotes v w) (kind, clashes) =
+    All-from_recursion (IsHere (round_of v.subject)) (v ∷ w ∷ []) (refl, (one_round eq kind v w clashes, tt))
 
 -- ---- other rounds
 
@@ -127,14 +125,14 @@ module _ {S D C P G : Type 0} (eq : D → D → Bool) (keys : S → List P) (goo
 
   module _ (schedule : Schedule S) (messages : List (Activity S D C P G)) (m : Activity S D C P G) where
     -- what is recorded of the message's round, after it
-    pub recalls_taken : (s : S) → committee_of schedule (activity_round m).epoch ≡ Some s → (old new : RoundState S D P G) → TakesMessage judges s listed m old new → RecallsRound (judges schedule) messages (activity_round m) old → RecallsRound (judges schedule) (messages ++ m ∷ []) (activity_round m) new
+    pub recalls_taken : (s : S) → committee_of schedule (activity_round m).epoch ≡ Some s → (old new : RoundState S D P G) → TakesContents judges s listed (contents_of m) old new → RecallsRound (judges schedule) messages (activity_round m) old → RecallsRound (judges schedule) (messages ++ m ∷ []) (activity_round m) new
     recalls_taken s is old new takes recalls = record {
       votes = subst (λ vs. HoldsRound eq ((judges schedule).size (activity_round m).epoch) vs (activity_round m) new.votes) (sym (valid_votes-push (judges schedule) messages m)) (takes.cast schedule is (valid_votes (judges schedule) messages) recalls.votes);
       subjects = subst (λ xs. RecordsFirsts eq xs (activity_round m) new.certified) (sym (subjects_push (judges schedule) messages m)) (takes.certified schedule is (certified_subjects (judges schedule) messages) recalls.subjects);
     }
 
     -- what is recorded of the message's round where the detector has no state of it yet
-    pub recalls_first : (s : S) → committee_of schedule (activity_round m).epoch ≡ Some s → IsEquivalence eq → (rounds : BTreeMap Round (RoundState S D P G)) (fresh new : RoundState S D P G) → None ≡ get round_cmp rounds (activity_round m) → IsSized (length (keys s)) fresh.votes → ((signer : ℕ) (sort : Sort) → slots fresh.votes signer sort ≡ no_slot) → round_count fresh.votes ≡ 0 → fresh.certified ≡ nothing_certified → TakesMessage judges s listed m fresh new → Recalls (judges schedule) messages (let detector : Detector S D P G = record { rounds = rounds } in detector) → RecallsRound (judges schedule) (messages ++ m ∷ []) (activity_round m) new
+    pub recalls_first : (s : S) → committee_of schedule (activity_round m).epoch ≡ Some s → IsEquivalence eq → (rounds : BTreeMap Round (RoundState S D P G)) (fresh new : RoundState S D P G) → None ≡ get round_cmp rounds (activity_round m) → IsSized (length (keys s)) fresh.votes → ((signer : ℕ) (sort : Sort) → slots fresh.votes signer sort ≡ no_slot) → round_count fresh.votes ≡ 0 → fresh.certified ≡ nothing_certified → TakesContents judges s listed (contents_of m) fresh new → Recalls (judges schedule) messages (let detector : Detector S D P G = record { rounds = rounds } in detector) → RecallsRound (judges schedule) (messages ++ m ∷ []) (activity_round m) new
     recalls_first s is l rounds fresh new none sized empty no_votes nothing takes holds =
         let at : RecallsNothing (judges schedule) messages (activity_round m) = subst (RecallsAt (judges schedule) messages (activity_round m)) (sym none) (holds (activity_round m)) in
         recalls_taken s is fresh new takes (record {
@@ -165,17 +163,19 @@ module _ {S D C P G : Type 0} (eq : D → D → Bool) (keys : S → List P) (goo
         by (Some round_state) r = record { votes = subst (λ vs. HoldsRound eq ((judges schedule).size q.epoch) vs q round_state.votes) votes r.votes; subjects = subst (λ xs. RecordsFirsts eq xs q round_state.certified) subjects r.subjects }
 
 -- two votes of one round, one after the other
-pub takes_two : {S D C P G : Type 0} (rules : Schedule S → Rules S D C P G) (s : S) (v v' w w' : SignedVote D G) (old mid new : RoundState S D P G) → v ≡ v' → w ≡ w' → round_of w'.subject ≡ round_of v'.subject → TakesIn rules s (round_of v.subject) (v ∷ []) None old mid → TakesIn rules s (round_of w.subject) (w ∷ []) None mid new → TakesIn rules s (round_of v'.subject) (v' ∷ w' ∷ []) None old new
-takes_two {S} {D} {C} {P} {G} rules s v v' w w' old mid new v_is w_is here one two =
-    both (subst (λ (x : SignedVote D G). TakesIn rules s (round_of x.subject) (x ∷ []) None old mid) v_is one)
-    (subst (λ r. TakesIn rules s r (w' ∷ []) None mid new) here (subst (λ (x : SignedVote D G). TakesIn rules s (round_of x.subject) (x ∷ []) None mid new) w_is two))
+pub takes_two : {S D C P G : Type 0} (rules : Schedule S → Rules S D C P G) (s : S) (v w : SignedVote D G)
+    (old mid new : RoundState S D P G) → round_of w.subject ≡ round_of v.subject →
+    TakesIn rules s (round_of v.subject) (v ∷ []) None old mid → TakesIn rules s (round_of w.subject) (w ∷ []) None mid new →
+    TakesIn rules s (round_of v.subject) (v ∷ w ∷ []) None old new
+takes_two {S} {D} {C} {P} {G} rules s v w old mid new here one two =
+    both one (subst (λ r. TakesIn rules s r (w ∷ []) None mid new) here two)
   where
-    both : {round : Round} → TakesIn rules s round (v' ∷ []) None old mid → TakesIn rules s round (w' ∷ []) None mid new → TakesIn rules s round (v' ∷ w' ∷ []) None old new
+    both : {round : Round} → TakesIn rules s round (v ∷ []) None old mid → TakesIn rules s round (w ∷ []) None mid new → TakesIn rules s round (v ∷ w ∷ []) None old new
     both {round} first second = record {
       cast = λ schedule is vs holds.
           let keep = is_valid (rules schedule) in
           subst (λ ws. HoldsRound (rules schedule).eq ((rules schedule).size round.epoch) ws round new.votes)
-          (append_assoc vs (filter keep (v' ∷ [])) (filter keep (w' ∷ [])) ∙ ap (λ ws. vs ++ ws) (sym (filter-append keep (v' ∷ []) (w' ∷ []))))
+          (append_assoc vs (filter keep (v ∷ [])) (filter keep (w ∷ [])) ∙ ap (λ ws. vs ++ ws) (sym (filter-append keep (v ∷ []) (w ∷ []))))
           (second.cast schedule is _ (first.cast schedule is vs holds));
       certified = λ schedule is xs holds. subst (λ ys. RecordsFirsts (rules schedule).eq (ys ++ []) round new.certified) (append-nil xs) (second.certified schedule is (xs ++ []) (first.certified schedule is xs holds));
     }

@@ -34,7 +34,7 @@ pub use Rattle.simplex_base.specs.Positions.{Round, same_round}
 pub use Rattle.simplex_base.specs.VarintLaws.{groups_some}
 pub use Rattle.simplex_detector.specs.Certificates.{certificates_contradict, messages_contradict, subjects_contradict}
 pub use Rattle.simplex_detector.specs.Committees.{AreRising, Every, IsSchedule, Listed, Schedule, bound_of, certified_by, committee_of, greatest, rules_of, schedule_of, size_by, valid_by}
-pub use Rattle.simplex_detector.specs.Detector.{Recalls, RecallsAt, RecallsNothing, RecallsRound, TakesIn, TakesMessage}
+pub use Rattle.simplex_detector.specs.Detector.{Recalls, RecallsAt, RecallsNothing, RecallsRound, TakesIn, TakesContents}
 pub use Rattle.simplex_detector.specs.EncodedEvidence.{IsEncoded}
 pub use Rattle.simplex_detector.specs.Evidence.{IsEquivocation, IsEvidence, evidence_of, with_first, with_second}
 pub use Rattle.simplex_detector.specs.FirstCertified.{RecordsFirsts, are_split, certified_subjects, changes_firsts, excludes_first, excludes_some, first_certified, first_with, firsts_of, nothing_certified}

@@ -6,7 +6,7 @@ use Rattle.simplex_base.specs.Positions.{Round}
 use Rattle.simplex_scheme.specs.Subject.{SubjectValue}
 use Rattle.simplex_scheme.specs.declared.scheme.Attestation.{Attestation}
 use Rattle.simplex_votes.specs.Votes.{SignedVote, Sort}
-use Rattle.simplex_evidence.specs.Activity.{activity_round, votes_in, subject_and_certificate}
+use Rattle.simplex_evidence.specs.Contents.{ContentsValue, contents_round, contents_votes, contents_certificate}
 use Rattle.simplex_evidence.specs.Contradiction.{Equivocation}
 use Rattle.simplex_evidence.specs.declared.types.activity.Activity.{Activity}
 use Rattle.simplex_detector.specs.Committees.{Schedule, committee_of}
@@ -90,6 +90,6 @@ module _ {S D C P G : Type 0} (rules : Schedule S → Rules S D C P G) (committe
         RecordsFirsts (rules schedule).eq xs round old.certified →
         RecordsFirsts (rules schedule).eq (xs ++ option_to_list (if_certified (rules schedule) certificate)) round new.certified
 
-  -- a message is taken in: its votes, and its certificate if it has one
-  abbrev pub TakesMessage : (C → List (Attestation S P G)) → Activity S D C P G → RoundState S D P G → RoundState S D P G → Type 0
-  TakesMessage listed message old new = TakesIn (activity_round message) (votes_in listed message) (subject_and_certificate message) old new
+  -- what a message holds is taken in: its votes, and its certificate if it has one
+  abbrev pub TakesContents : (C → List (Attestation S P G)) → ContentsValue D C G → RoundState S D P G → RoundState S D P G → Type 0
+  TakesContents listed held old new = TakesIn (contents_round held) (contents_votes listed held) (contents_certificate held) old new

@@ -3,8 +3,6 @@
 ghost use Rattle.std.specs.Prelude.{◌≡◌, [], ◌∷◌, ◌++◌, All, map, IfOk, OnOk};
 ghost use Rattle.std.specs.Option.{option_to_list};
 ghost use Rattle.simplex_base.specs.Format.{format_of};
-ghost use Rattle.simplex_scheme.specs.Subject.{round_of};
-ghost use Rattle.simplex_evidence.specs.Activity.{activity_round, votes_in};
 ghost use Rattle.simplex_detector.specs.Detector.{RecallsNone, RecallsMore, GivesEvidence, GivesSplits, CountsVotes};
 ghost use Rattle.simplex_detector.specs.EncodedEvidence.{IsEncoded};
 ghost use Rattle.simplex_detector.specs.Values.{evidence_value};
@@ -16,7 +14,7 @@ use crate::round_state::RoundState;
 use crate::rules::Judges;
 use crate::split::Split;
 use simplex_base::codec::Read;
-use simplex_base::positions::{Round, Roundable};
+use simplex_base::positions::Round;
 use simplex_evidence::types::Activity;
 use simplex_scheme::scheme::{Digest, Listing, SchemeTypes};
 use std::alloc::{AllocError, Global};
@@ -67,15 +65,16 @@ impl<S: Listing<D>, D: Digest> Detector<S, D> {
             (⟦<S as Judges<D>>⟧.rules_under judging.now committees.now)
             (message.now ∷ []) self.old self.new) }
     {
-        let round = message_round(message);
+        let contents = message.contents();
+        let round = contents.round();
         let Some(committee) = committees.get(round.epoch()) else {
             return Ok(());
         };
         if let Some(round_state) = self.rounds.get_mut(&round) {
-            return round_state.observe(committee, judging, message);
+            return round_state.observe(committee, judging, &contents);
         }
         let mut round_state = RoundState::new(alloc, committee.participants().len());
-        round_state.observe(committee, judging, message)?;
+        round_state.observe(committee, judging, &contents)?;
         if !round_state.is_empty() {
             self.rounds.insert(round, round_state)?;
         }
@@ -136,20 +135,6 @@ impl<S: Listing<D>, D: Digest> Detector<S, D> {
             count = count.saturating_add(round_state.votes.votes());
         }
         count
-    }
-}
-
-/// The round of a message and of each of its votes.
-fn message_round<S: Listing<D>, D: Digest>(message: &Activity<S, D>) -> Round
-    ensures message { result ≡ activity_round message.now }
-    ensures votes { All (λ v.
-        round_of v.subject ≡ activity_round message.now) (votes_in S.listed message.now) }
-{
-    match message {
-        Activity::ConflictingNotarize(conflict) => conflict.notarize_2().round(),
-        Activity::ConflictingFinalize(conflict) => conflict.finalize_2().round(),
-        Activity::NullifyFinalize(conflict) => conflict.finalize().round(),
-        _ => message.round(),
     }
 }
 

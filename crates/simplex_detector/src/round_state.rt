@@ -5,10 +5,11 @@ ghost use Rattle.std.specs.Option.{option_eq};
 ghost use Rattle.std.specs.List.Sorted.{IsNonDecreasing};
 ghost use Rattle.std.specs.Set.{distinct_count};
 ghost use Rattle.simplex_scheme.specs.Subject.{subject_value, round_of};
-ghost use Rattle.simplex_votes.specs.Votes.{Sort, notarize_vote, nullify_vote, finalize_vote, vote_on};
+ghost use Rattle.simplex_votes.specs.Votes.{Sort, vote_on};
+ghost use Rattle.simplex_evidence.specs.Contents.{AreInConflict, contents_value, signed_value};
 ghost use Rattle.simplex_detector.specs.Rounds.{round_count, IsSized, slots, no_slot};
 ghost use Rattle.simplex_detector.specs.FirstCertified.{nothing_certified};
-ghost use Rattle.simplex_detector.specs.Detector.{TakesIn, TakesMessage, GivesSplit};
+ghost use Rattle.simplex_detector.specs.Detector.{TakesIn, TakesContents, GivesSplit};
 ghost use Rattle.simplex_detector.specs.Values.{evidence_value};
 
 use crate::certified_subjects::CertifiedSubjects;
@@ -19,9 +20,8 @@ use crate::round_votes::RoundVotes;
 use crate::rules::Judges;
 use crate::split::Split;
 use simplex_base::positions::{Participant, Round};
-use simplex_evidence::types::Activity;
-use simplex_scheme::scheme::{Attestation, Digest, Listing, SchemeTypes, Subject, max_faults};
-use simplex_votes::types::{Finalize, Notarize, Nullify};
+use simplex_evidence::types::{Contents, Signed};
+use simplex_scheme::scheme::{Digest, Listing, SchemeTypes, Subject, max_faults};
 use std::alloc::{AllocError, Global};
 
 /// The state of one round.
@@ -60,130 +60,43 @@ impl<S: SchemeTypes, D: Digest> RoundState<S, D> {
 }
 
 impl<S: Listing<D>, D: Digest> RoundState<S, D> {
-    /// Takes in a message of the round, judged by the committee of its epoch.
+    /// Takes in what a message of the round holds, judged by the committee of its epoch.
     pub fn observe(
         &mut self,
         committee: &S,
         judging: &Judging,
-        message: &Activity<S, D>,
+        contents: &Contents<'_, S, D>,
     ) -> Result<(), AllocError>
-        ensures { OnOk result (TakesMessage
+        ensures { AreInConflict D.eq (contents_value contents.now) → OnOk result (TakesContents
             (⟦<S as Judges<D>>⟧.rules_under judging.now) committee.now
-            S.listed message.now self.old self.new) }
+            S.listed (contents_value contents.now) self.old self.new) }
     {
-        match message {
-            Activity::Notarize(vote) => self.observe_notarize(committee, judging, vote),
-            Activity::Notarization(message) | Activity::Certification(message) => {
-                let proposal = &message.proposal;
-                let subject = Subject::Notarize { proposal };
-                self.observe_certificate(committee, judging, &subject, &message.certificate)
+        match contents {
+            Contents::Vote(vote) => self.observe_vote(committee, judging, vote),
+            Contents::Certificate(subject, certificate) => {
+                self.observe_certificate(committee, judging, subject, certificate)
             }
-            Activity::Nullify(vote) => self.observe_nullify(committee, judging, vote),
-            Activity::Nullification(message) => {
-                let round = message.round;
-                self.observe_certificate(
-                    committee,
-                    judging,
-                    &Subject::Nullify { round },
-                    &message.certificate,
-                )
-            }
-            Activity::Finalize(vote) => self.observe_finalize(committee, judging, vote),
-            Activity::Finalization(message) => {
-                let proposal = &message.proposal;
-                let subject = Subject::Finalize { proposal };
-                self.observe_certificate(committee, judging, &subject, &message.certificate)
-            }
-            Activity::ConflictingNotarize(message) => {
-                self.observe_notarize(committee, judging, message.notarize_1())?;
-                self.observe_notarize(committee, judging, message.notarize_2())
-            }
-            Activity::ConflictingFinalize(message) => {
-                self.observe_finalize(committee, judging, message.finalize_1())?;
-                self.observe_finalize(committee, judging, message.finalize_2())
-            }
-            Activity::NullifyFinalize(message) => {
-                self.observe_nullify(committee, judging, message.nullify())?;
-                self.observe_finalize(committee, judging, message.finalize())
+            Contents::Evidence(first, second) => {
+                self.observe_vote(committee, judging, first)?;
+                self.observe_vote(committee, judging, second)
             }
         }
     }
 
-    /// Takes in a notarize of the round.
-    fn observe_notarize(
-        &mut self,
-        committee: &S,
-        judging: &Judging,
-        vote: &Notarize<S, D>,
-    ) -> Result<(), AllocError>
-        ensures { OnOk result (TakesIn
-            (⟦<S as Judges<D>>⟧.rules_under judging.now) committee.now
-            vote.now.proposal.round (notarize_vote vote.now ∷ []) None self.old self.new) }
-    {
-        let proposal = &vote.proposal;
-        self.observe_vote(
-            committee,
-            judging,
-            &Subject::Notarize { proposal },
-            &vote.attestation,
-        )
-    }
-
-    /// Takes in a nullify of the round.
-    fn observe_nullify(
-        &mut self,
-        committee: &S,
-        judging: &Judging,
-        vote: &Nullify<S>,
-    ) -> Result<(), AllocError>
-        ensures { OnOk result (TakesIn
-            (⟦<S as Judges<D>>⟧.rules_under judging.now) committee.now
-            vote.now.round (nullify_vote vote.now ∷ []) None self.old self.new) }
-    {
-        let round = vote.round;
-        self.observe_vote(
-            committee,
-            judging,
-            &Subject::Nullify { round },
-            &vote.attestation,
-        )
-    }
-
-    /// Takes in a finalize of the round.
-    fn observe_finalize(
-        &mut self,
-        committee: &S,
-        judging: &Judging,
-        vote: &Finalize<S, D>,
-    ) -> Result<(), AllocError>
-        ensures { OnOk result (TakesIn
-            (⟦<S as Judges<D>>⟧.rules_under judging.now) committee.now
-            vote.now.proposal.round (finalize_vote vote.now ∷ []) None self.old self.new) }
-    {
-        let proposal = &vote.proposal;
-        self.observe_vote(
-            committee,
-            judging,
-            &Subject::Finalize { proposal },
-            &vote.attestation,
-        )
-    }
-
-    /// Takes in a vote of the round, an attestation of a subject.
+    /// Takes in a vote of the round.
     fn observe_vote(
         &mut self,
         committee: &S,
         judging: &Judging,
-        subject: &Subject<'_, D>,
-        attestation: &Attestation<S>,
+        vote: &Signed<'_, S, D>,
     ) -> Result<(), AllocError>
         ensures { OnOk result (TakesIn
             (⟦<S as Judges<D>>⟧.rules_under judging.now) committee.now
-            (round_of (subject_value subject.now))
-            (vote_on (subject_value subject.now) attestation.now ∷ []) None self.old self.new) }
+            (round_of (signed_value vote.now).subject)
+            (signed_value vote.now ∷ []) None self.old self.new) }
     {
         self.votes
-            .observe(committee, subject, attestation, judging, false)
+            .observe(committee, &vote.subject, vote.attestation, judging, false)
     }
 
     /// Takes in a certificate of the round and the votes that it lists. If it is found to certify the subject, the listed

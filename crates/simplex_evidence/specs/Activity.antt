@@ -9,6 +9,7 @@ use Rattle.simplex_scheme.specs.declared.scheme.Attestation.{Attestation}
 use Rattle.simplex_scheme.specs.Subject.{SubjectValue, Notarizes, Nullifies, Finalizes}
 use Rattle.simplex_votes.specs.Votes.{SignedVote, vote_on, notarize_vote, nullify_vote, finalize_vote}
 use Rattle.simplex_votes.specs.Encodings.{notarize_format, notarize_lawful, nullify_format, nullify_lawful, finalize_format, finalize_lawful, notarization_format, IsNotarization, notarization_encoding, notarization_lawful, nullification_format, IsNullification, nullification_encoding, nullification_lawful, finalization_format, IsFinalization, finalization_encoding, finalization_lawful}
+use Rattle.simplex_evidence.specs.Contents.{ContentsValue, OneVote, OneCertificate, TwoVotes, contents_round, contents_votes, contents_certificate, contents_verify}
 use Rattle.simplex_evidence.specs.Conflict.{ConflictValue, conflicting_notarize_format, conflicting_notarize_lawful, conflicting_finalize_format, conflicting_finalize_lawful, nullify_finalize_format, nullify_finalize_lawful}
 use Rattle.simplex_votes.specs.declared.types.notarize.Notarize.{Notarize}
 use Rattle.simplex_votes.specs.declared.types.nullify.Nullify.{Nullify}
@@ -19,18 +20,22 @@ use Rattle.simplex_votes.specs.declared.types.finalization.Finalization.{Finaliz
 use Rattle.simplex_evidence.specs.declared.types.activity.Activity.{Activity}
 use Rattle.simplex_evidence.specs.declared.types.activity.Activity.TheVariants as activity
 
+-- what a message holds
+abbrev pub contents_of : {S D C P G : Type 0} → Activity S D C P G → ContentsValue D C G
+contents_of (activity.Notarize v) = OneVote (notarize_vote v)
+contents_of (activity.Notarization n) = OneCertificate (Notarizes n.proposal) n.certificate
+contents_of (activity.Certification n) = OneCertificate (Notarizes n.proposal) n.certificate
+contents_of (activity.Nullify v) = OneVote (nullify_vote v)
+contents_of (activity.Nullification n) = OneCertificate (Nullifies n.round) n.certificate
+contents_of (activity.Finalize v) = OneVote (finalize_vote v)
+contents_of (activity.Finalization n) = OneCertificate (Finalizes n.proposal) n.certificate
+contents_of (activity.ConflictingNotarize c) = TwoVotes (notarize_vote c.first) (notarize_vote c.second)
+contents_of (activity.ConflictingFinalize c) = TwoVotes (finalize_vote c.first) (finalize_vote c.second)
+contents_of (activity.NullifyFinalize c) = TwoVotes (nullify_vote c.first) (finalize_vote c.second)
+
 -- the round that a message is of
 abbrev pub activity_round : {S D C P G : Type 0} → Activity S D C P G → Round
-activity_round (activity.Notarize v) = v.proposal.round
-activity_round (activity.Notarization n) = n.proposal.round
-activity_round (activity.Certification n) = n.proposal.round
-activity_round (activity.Nullify v) = v.round
-activity_round (activity.Nullification n) = n.round
-activity_round (activity.Finalize v) = v.proposal.round
-activity_round (activity.Finalization n) = n.proposal.round
-activity_round (activity.ConflictingNotarize c) = c.first.proposal.round
-activity_round (activity.ConflictingFinalize c) = c.first.proposal.round
-activity_round (activity.NullifyFinalize c) = c.first.round
+activity_round m = contents_round (contents_of m)
 
 -- the same member, equal by its type's equality
 module _ {S D C P G : Type 0}
@@ -60,52 +65,18 @@ module _ {S D C P G : Type 0}
 
 -- the certificate of a message, if it has one, with the subject that it is for
 abbrev pub subject_and_certificate : {S D C P G : Type 0} → Activity S D C P G → Option (SubjectValue D × C)
-subject_and_certificate (activity.Notarization n) = Some (Notarizes n.proposal, n.certificate)
-subject_and_certificate (activity.Certification n) = Some (Notarizes n.proposal, n.certificate)
-subject_and_certificate (activity.Nullification n) = Some (Nullifies n.round, n.certificate)
-subject_and_certificate (activity.Finalization n) = Some (Finalizes n.proposal, n.certificate)
-subject_and_certificate _ = None
-
--- the votes of a message that are not in a certificate: the vote that it is, or both votes of an evidence
-abbrev pub own_votes : {S D C P G : Type 0} → Activity S D C P G → List (SignedVote D G)
-own_votes (activity.Notarize v) = notarize_vote v ∷ []
-own_votes (activity.Notarization n) = []
-own_votes (activity.Certification n) = []
-own_votes (activity.Nullify v) = nullify_vote v ∷ []
-own_votes (activity.Nullification n) = []
-own_votes (activity.Finalize v) = finalize_vote v ∷ []
-own_votes (activity.Finalization n) = []
-own_votes (activity.ConflictingNotarize c) = notarize_vote c.first ∷ notarize_vote c.second ∷ []
-own_votes (activity.ConflictingFinalize c) = finalize_vote c.first ∷ finalize_vote c.second ∷ []
-own_votes (activity.NullifyFinalize c) = nullify_vote c.first ∷ finalize_vote c.second ∷ []
-
--- the votes of a certificate, if there is one: the attestations that it lists, each on its subject
-abbrev pub listed_votes : {S D C P G : Type 0} → (C → List (Attestation S P G)) → Option (SubjectValue D × C) → List (SignedVote D G)
-listed_votes listed None = []
-listed_votes listed (Some s) = map (vote_on s.0) (listed s.1)
+subject_and_certificate m = contents_certificate (contents_of m)
 
 -- the votes that a message holds, in its order: `listed` gives the attestations that a certificate lists
 abbrev pub votes_in : {S D C P G : Type 0} → (C → List (Attestation S P G)) → Activity S D C P G → List (SignedVote D G)
-votes_in listed message = own_votes message ++ listed_votes listed (subject_and_certificate message)
+votes_in listed m = contents_votes listed (contents_of m)
 
 -- ---- what makes a message valid
 
--- a vote's signature is valid for its signer and its subject
-abbrev pub vote_verifies : {D G : Type 0} → (SubjectValue D → ℕ → G → Bool) → SignedVote D G → Bool
-vote_verifies good v = good v.subject v.signer v.signature
-
 -- a vote by its signature, a certificate message by its certificate, and evidence by both of its signatures
-abbrev pub activity_verifies : {S D C P G : Type 0} → (SubjectValue D → ℕ → G → Bool) → (SubjectValue D → C → Bool) → Activity S D C P G → Bool
-activity_verifies good certified (activity.Notarize v) = vote_verifies good (notarize_vote v)
-activity_verifies good certified (activity.Notarization n) = certified (Notarizes n.proposal) n.certificate
-activity_verifies good certified (activity.Certification n) = certified (Notarizes n.proposal) n.certificate
-activity_verifies good certified (activity.Nullify v) = vote_verifies good (nullify_vote v)
-activity_verifies good certified (activity.Nullification n) = certified (Nullifies n.round) n.certificate
-activity_verifies good certified (activity.Finalize v) = vote_verifies good (finalize_vote v)
-activity_verifies good certified (activity.Finalization n) = certified (Finalizes n.proposal) n.certificate
-activity_verifies good certified (activity.ConflictingNotarize c) = vote_verifies good (notarize_vote c.first) && vote_verifies good (notarize_vote c.second)
-activity_verifies good certified (activity.ConflictingFinalize c) = vote_verifies good (finalize_vote c.first) && vote_verifies good (finalize_vote c.second)
-activity_verifies good certified (activity.NullifyFinalize c) = vote_verifies good (nullify_vote c.first) && vote_verifies good (finalize_vote c.second)
+abbrev pub activity_verifies : {S D C P G : Type 0} → (SubjectValue D → ℕ → G → Bool) → (SubjectValue D → C → Bool) →
+    Activity S D C P G → Bool
+activity_verifies good certified m = contents_verify good certified (contents_of m)
 
 -- whether a message has a certificate
 abbrev pub has_certificate : {S D C P G : Type 0} → Activity S D C P G → Bool

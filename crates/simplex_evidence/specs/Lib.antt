@@ -1,4 +1,5 @@
 pub mod Contradiction
 pub mod Conflict
+pub mod Contents
 pub mod Activity
 pub mod VoteMap

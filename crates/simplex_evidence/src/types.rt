@@ -6,6 +6,7 @@ mod bisection;
 mod conflict;
 mod conflicting_finalize;
 mod conflicting_notarize;
+mod contents;
 mod nullify_finalize;
 
 pub use activity::Activity;
@@ -15,4 +16,5 @@ pub use bisection::{
 };
 pub use conflicting_finalize::ConflictingFinalize;
 pub use conflicting_notarize::ConflictingNotarize;
+pub use contents::{Contents, Signed};
 pub use nullify_finalize::NullifyFinalize;

@@ -5,12 +5,13 @@ ghost use Rattle.simplex_base.specs.Format.{format_of, format_under};
 
 use crate::types::conflicting_finalize::ConflictingFinalize;
 use crate::types::conflicting_notarize::ConflictingNotarize;
+use crate::types::contents::{Contents, finalized, notarized, nullified};
 use crate::types::nullify_finalize::NullifyFinalize;
 use simplex_base::codec::unions::{Tagged, read_tagged, write_tagged};
 use simplex_base::codec::{EncodeSize, Encoding, Error, Fixed, Read, Write};
 use simplex_base::positions::{Round, Roundable};
 use simplex_base::values::EqByParts;
-use simplex_scheme::scheme::{CertificateScheme, Digest, Scheme};
+use simplex_scheme::scheme::{CertificateScheme, Digest, Scheme, Subject};
 use simplex_votes::map_ok;
 use simplex_votes::types::{
     Finalization, Finalize, Notarization, Notarize, Nullification, Nullify,
@@ -45,7 +46,8 @@ pub enum Activity<S: CertificateScheme, D: Digest> {
 }
 
 impl<S: CertificateScheme, D: Digest> Activity<S, D> {
-    ghost use Rattle.simplex_evidence.specs.Activity.{has_certificate, IsActivityClone, ClonesCertificate};
+    ghost use Rattle.simplex_evidence.specs.Contents.{AreInConflict, contents_value};
+    ghost use Rattle.simplex_evidence.specs.Activity.{contents_of, has_certificate, IsActivityClone, ClonesCertificate};
 
     /// Whether the message is of a kind that consensus verifies before it reports it: those with a certificate, and
     /// no others. It looks at no signature; [`verify`](Activity::verify) does.
@@ -58,6 +60,42 @@ impl<S: CertificateScheme, D: Digest> Activity<S, D> {
             Activity::Nullification(_) => true,
             Activity::Finalization(_) => true,
             _ => false,
+        }
+    }
+
+    /// What the message holds, whatever its kind. The two votes of evidence contradict.
+    pub fn contents(&self) -> Contents<'_, S, D>
+        ensures value { contents_value result ≡ contents_of self.now }
+        ensures conflict { AreInConflict D.eq (contents_of self.now) }
+    {
+        match self {
+            Activity::Notarize(vote) => Contents::Vote(notarized(vote)),
+            Activity::Notarization(message) | Activity::Certification(message) => {
+                let proposal = &message.proposal;
+                Contents::Certificate(Subject::Notarize { proposal }, &message.certificate)
+            }
+            Activity::Nullify(vote) => Contents::Vote(nullified(vote)),
+            Activity::Nullification(message) => {
+                let round = message.round;
+                Contents::Certificate(Subject::Nullify { round }, &message.certificate)
+            }
+            Activity::Finalize(vote) => Contents::Vote(finalized(vote)),
+            Activity::Finalization(message) => {
+                let proposal = &message.proposal;
+                Contents::Certificate(Subject::Finalize { proposal }, &message.certificate)
+            }
+            Activity::ConflictingNotarize(evidence) => Contents::Evidence(
+                notarized(evidence.notarize_1()),
+                notarized(evidence.notarize_2()),
+            ),
+            Activity::ConflictingFinalize(evidence) => Contents::Evidence(
+                finalized(evidence.finalize_1()),
+                finalized(evidence.finalize_2()),
+            ),
+            Activity::NullifyFinalize(evidence) => Contents::Evidence(
+                nullified(evidence.nullify()),
+                finalized(evidence.finalize()),
+            ),
         }
     }
 
@@ -102,18 +140,7 @@ impl<S: Scheme<D>, D: Digest> Activity<S, D> {
     pub fn verify(&self, scheme: &S) -> bool
         ensures { result ≡ activity_verifies (S.good scheme.now) (S.certified scheme.now) self.now }
     {
-        match self {
-            Activity::Notarize(vote) => vote.verify(scheme),
-            Activity::Notarization(message) => message.verify(scheme),
-            Activity::Certification(message) => message.verify(scheme),
-            Activity::Nullify(vote) => vote.verify::<D>(scheme),
-            Activity::Nullification(message) => message.verify::<D>(scheme),
-            Activity::Finalize(vote) => vote.verify(scheme),
-            Activity::Finalization(message) => message.verify(scheme),
-            Activity::ConflictingNotarize(evidence) => evidence.verify(scheme),
-            Activity::ConflictingFinalize(evidence) => evidence.verify(scheme),
-            Activity::NullifyFinalize(evidence) => evidence.verify(scheme),
-        }
+        self.contents().verify(scheme)
     }
 }
 
@@ -153,18 +180,7 @@ impl<S: CertificateScheme, D: Digest> Roundable for Activity<S, D> {
     ghost round_of = { activity_round };
 
     fn round(&self) -> Round {
-        match self {
-            Activity::Notarize(vote) => vote.round(),
-            Activity::Notarization(message) => message.round(),
-            Activity::Certification(message) => message.round(),
-            Activity::Nullify(vote) => vote.round(),
-            Activity::Nullification(message) => message.round(),
-            Activity::Finalize(vote) => vote.round(),
-            Activity::Finalization(message) => message.round(),
-            Activity::ConflictingNotarize(evidence) => evidence.round(),
-            Activity::ConflictingFinalize(evidence) => evidence.round(),
-            Activity::NullifyFinalize(evidence) => evidence.round(),
-        }
+        self.contents().round()
     }
 }
 
