@@ -51,19 +51,15 @@ fn answered<'a, S: CertificateVerifier<D>, D: Digest>(
     verify_certificates(alloc, scheme, pairs)
 }
 
-/// Whether each of these certificates is valid for the notarize of this payload in round (0, 10).
-fn verified<S: CertificateVerifier<D>, D: Digest>(
+/// Whether each of these certificates is valid for the finalize of this proposal.
+fn verified<'a, S: CertificateVerifier<D>, D: Digest>(
     alloc: Global,
     scheme: &S,
-    payload: D,
-    certificates: &[S::Certificate],
+    proposal: &'a Proposal<D>,
+    certificates: &'a [S::Certificate],
 ) -> Result<Vec<bool>, AllocError> {
-    let round = Round::new(Epoch::new(0), View::new(10));
-    let proposal = Proposal::new(round, View::new(5), payload);
     let items = certificates.iter().map(|certificate| {
-        let subject = Subject::Notarize {
-            proposal: &proposal,
-        };
+        let subject = Subject::Finalize { proposal };
         (subject, certificate)
     });
     let Ok(mut pairs) = Vec::with_capacity(alloc, certificates.len()) else {
@@ -80,8 +76,9 @@ fn verified<S: CertificateVerifier<D>, D: Digest>(
 fn asked(rt: &impl Abort, alloc: Global, count: usize, invalid: &[usize]) -> Result<usize, Fail> {
     let scheme = Counted::four(rt, alloc)?;
     let certificates = certificates(alloc, count, invalid)?;
-    let payload = MarkedDigest::from_bytes(&[6]);
-    let answers = verified(alloc, &scheme, payload, certificates.as_slice())?;
+    let round = Round::new(Epoch::new(0), View::new(10));
+    let proposal = Proposal::new(round, View::new(5), MarkedDigest::from_bytes(&[6]));
+    let answers = verified(alloc, &scheme, &proposal, certificates.as_slice())?;
     assert_eq!(rt; answers.len(), count);
     for (place, is_valid) in answers.iter().enumerate() {
         assert_eq!(rt;

@@ -5,10 +5,11 @@ ghost use Rattle.std.proofs.Common.{lit<, lit≤};
 use crate::outcome::outcome_of;
 use crate::suspects::Committee;
 use simplex_audit::audit::{Committees, audit};
-use simplex_base::codec::Write;
 use simplex_base::codec::fixed_bytes::{FixedBytes, Role};
-use simplex_base::positions::Participant;
+use simplex_base::codec::{Write, decode, decode_cfg};
+use simplex_base::positions::{Epoch, Participant, Round, View};
 use simplex_plain::marked::MarkedDigest;
+use simplex_scheme::scheme::{Attestation, CertificateScheme, Digest, Listing, Subject};
 use simplex_vouched::vouched::Vouched;
 use std::alloc::{AllocError, Global};
 use std::test::Fail;
@@ -98,5 +99,57 @@ fn ample_two_large_quorums(rt: HostRuntime) -> Result<(), Fail> {
     }
     let split = report.splits.first().ok_or("no split")?.line(alloc)?;
     assert_eq!(rt; split.as_str(), "0 10 split 21846 21846");
+    Ok(())
+}
+
+/// What is signed: the nullify of view 10.
+fn subject<'a, D: Digest>() -> Subject<'a, D> {
+    Subject::Nullify {
+        round: Round::new(Epoch::new(0), View::new(10)),
+    }
+}
+
+/// The attestation of this participant, whose signature is the byte 1.
+fn attestation<S: CertificateScheme>(alloc: Global, signer: u32) -> Result<Attestation<S>, Fail> {
+    let mut bytes = Vec::new(alloc);
+    Participant::new(signer).write(&mut bytes)?;
+    bytes.push(1)?;
+    Ok(decode::<Attestation<S>>(alloc, bytes.as_slice())?)
+}
+
+/// Whether the signature of this participant is valid.
+fn is_valid<S: Listing<D>, D: Digest>(
+    alloc: Global,
+    scheme: &S,
+    signer: u32,
+) -> Result<bool, Fail> {
+    let attestation = attestation::<S>(alloc, signer)?;
+    Ok(scheme.verify_attestation(subject::<D>(), &attestation))
+}
+
+/// Whether a certificate of this many participants is valid.
+fn is_certified<S: Listing<D>, D: Digest>(
+    alloc: Global,
+    scheme: &S,
+    signers: u32,
+) -> Result<bool, Fail> {
+    let bytes = certificate(alloc, 0, signers)?;
+    let certificate = decode_cfg::<S::Certificate>(alloc, bytes.as_slice(), &PARTICIPANTS)?;
+    Ok(scheme.verify_certificate(subject::<D>(), &certificate))
+}
+
+/// The last of 65,536 participants signs, and the next number nobody. A quorum certifies, and one signer less does not.
+#[test]
+fn ample_the_last_signs(rt: HostRuntime) -> Result<(), Fail> {
+    let alloc = rt.alloc();
+    let scheme = large(alloc)?;
+    for (signer, wanted) in [(PARTICIPANTS - 1, true), (PARTICIPANTS, false)] {
+        let found = is_valid::<Committee, MarkedDigest>(alloc, &scheme, signer)?;
+        assert_eq!(rt; found, wanted, "of {signer}");
+    }
+    for (signers, wanted) in [(QUORUM, true), (QUORUM - 1, false)] {
+        let found = is_certified::<Committee, MarkedDigest>(alloc, &scheme, signers)?;
+        assert_eq!(rt; found, wanted, "by {signers}");
+    }
     Ok(())
 }

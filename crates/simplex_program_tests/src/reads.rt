@@ -41,21 +41,25 @@ fn shows_before_a_read<S: Listing<D>, D: Digest>(
     Ok(())
 }
 
-/// Two messages of 69 bytes that come in 60, 60 and 18, and one of 4,095 bytes in 105 pieces of 39. A body that reads again
-/// before it writes is refused, as is one that puts off looking for messages while fewer than 4,096 bytes are held.
+/// Two messages of 69 bytes that come in 60, 60 and 18, one of 4,000 bytes in 100 pieces of 40, and one of 4,095 bytes in 105
+/// pieces of 39. A body that reads again before it writes is refused, as is one that puts off looking for messages while fewer
+/// than 4,096 bytes are held.
 #[test]
 fn ample_a_line_comes_before_the_next_read(rt: HostRuntime) -> Result<(), Fail> {
     let alloc = rt.alloc();
     let short = nullification(alloc, 13, b"\x0d")?;
+    let hundred = nullification(alloc, 799, b"\x9f\x06")?;
     let long = nullification(alloc, 818, b"\xb2\x06")?;
     let mut two = Vec::new(alloc);
     two.extend_from_slice(short.as_slice())?;
     two.extend_from_slice(short.as_slice())?;
-    let cases: [(&[u8], usize, usize, usize); 5] = [
+    let cases: [(&[u8], usize, usize, usize); 7] = [
         (two.as_slice(), 60, 0, 0),
         (two.as_slice(), 60, 1, 0),
         (two.as_slice(), 60, 2, 69),
         (two.as_slice(), 60, 3, 138),
+        (hundred.as_slice(), 40, 99, 0),
+        (hundred.as_slice(), 40, 100, 4000),
         (long.as_slice(), 39, 105, 4095),
     ];
     for (stream, step, reads, whole) in cases {
