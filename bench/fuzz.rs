@@ -6,6 +6,9 @@
 mod by_hand;
 #[path = "fuzz_calls.rs"]
 mod calls;
+#[allow(dead_code)]
+#[path = "../bindings/rust/src/exports.rs"]
+mod exports;
 #[cfg(not(alone))]
 #[path = "fuzz_library.rs"]
 mod library;

@@ -5,7 +5,8 @@
 #[path = "by_hand.rs"]
 mod by_hand;
 
-use super::calls::{Committees, Record, Report, Summary, Suspect};
+use super::calls::{Committees, Report};
+use super::exports::{Record, Summary, Suspect};
 use by_hand::{Attestation, Auditor, Message, Plain, Reader, Round, Scheme, Sort, Subject};
 use std::collections::{BTreeMap, HashMap, HashSet};
 

@@ -1,4 +1,6 @@
-//! What `bench/fuzz` asks the library and the auditor by hand, and what they return.
+//! What `bench/fuzz` asks the library and the auditor by hand, and what an audit returns.
+
+use super::exports::Summary;
 
 /// Committees, and with them how a stream is read.
 #[derive(Clone, Debug)]
@@ -27,45 +29,8 @@ impl Committees {
     }
 }
 
-/// The numbers of a report, as the library writes them.
-#[repr(C)]
-#[derive(Clone, Copy, Debug, Default, PartialEq)]
-pub struct Summary {
-    pub read: usize,
-    pub evidence: usize,
-    pub splits: usize,
-    pub faulted: usize,
-    pub fault_place: usize,
-    pub length: usize,
-}
-
 #[derive(Clone, Debug, PartialEq)]
 pub struct Report {
     pub text: String,
     pub summary: Summary,
-}
-
-/// An attestation that has to be verified, as the library writes it.
-#[repr(C)]
-#[derive(Clone, Copy, Debug, Default, PartialEq)]
-pub struct Suspect {
-    pub epoch: u64,
-    pub view: u64,
-    pub verdict_place: usize,
-    pub subject_place: usize,
-    pub subject_length: usize,
-    pub signer: u32,
-    pub kind: u32,
-}
-
-/// An evidence, as the library writes it.
-#[repr(C)]
-#[derive(Clone, Copy, Debug, Default, PartialEq)]
-pub struct Record {
-    pub epoch: u64,
-    pub view: u64,
-    pub first_place: usize,
-    pub second_place: usize,
-    pub signer: u32,
-    pub kind: u32,
 }

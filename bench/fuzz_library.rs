@@ -1,7 +1,8 @@
 //! The calls of the static library (bindings/simplex_audit.h) that take streams. A call gets a short buffer first. If that does
 //! not suffice, it is made again with one that just does.
 
-use super::calls::{Committees, Record, Report, Summary, Suspect};
+use super::calls::{Committees, Report};
+use super::exports::*;
 
 /// An audit or a list of records: the committees in two slices, the stream, a buffer and the summary.
 type Read<A, B, T> =
@@ -13,41 +14,6 @@ type List =
 type Store<A, B> = unsafe extern "C" fn(
     *const A, usize, *const B, usize, *const u8, usize, *const u8, usize, *mut u8, usize, *mut usize,
 ) -> u32;
-
-macro_rules! declare {
-    ($first:ty, $second:ty, $audit:ident, $records:ident, $store:ident) => {
-        unsafe extern "C" {
-            fn $audit(
-                a: *const $first, a_len: usize, b: *const $second, b_len: usize, stream: *const u8, stream_len: usize,
-                text: *mut u8, text_len: usize, summary: *mut Summary,
-            ) -> u32;
-            fn $records(
-                a: *const $first, a_len: usize, b: *const $second, b_len: usize, stream: *const u8, stream_len: usize,
-                records: *mut Record, records_len: usize, summary: *mut Summary,
-            ) -> u32;
-            fn $store(
-                a: *const $first, a_len: usize, b: *const $second, b_len: usize, stored: *const u8, stored_len: usize,
-                batch: *const u8, batch_len: usize, evidence: *mut u8, evidence_len: usize, size: *mut usize,
-            ) -> u32;
-        }
-    };
-    ($suspects:ident) => {
-        unsafe extern "C" {
-            fn $suspects(
-                epochs: *const u64, epochs_len: usize, sizes: *const u32, sizes_len: usize,
-                stream: *const u8, stream_len: usize, records: *mut Suspect, records_len: usize, needed: *mut usize,
-            ) -> u32;
-        }
-    };
-}
-
-declare!(u8, u8, simplex_audit_plain, simplex_records_plain, simplex_store_plain);
-declare!(u64, u32, simplex_audit_vouched_48, simplex_records_vouched_48, simplex_store_vouched_48);
-declare!(u64, u32, simplex_audit_vouched_64, simplex_records_vouched_64, simplex_store_vouched_64);
-declare!(u64, u32, simplex_audit_vouched_96, simplex_records_vouched_96, simplex_store_vouched_96);
-declare!(simplex_suspects_vouched_48);
-declare!(simplex_suspects_vouched_64);
-declare!(simplex_suspects_vouched_96);
 
 /// What a call writes to a buffer, and its status. The call returns the status and the length that is needed.
 fn written<T: Clone + Default>(length: usize, mut call: impl FnMut(&mut [T]) -> (u32, usize)) -> (u32, Vec<T>) {

@@ -231,7 +231,7 @@ class Committees:
 Evidence = collections.namedtuple("Evidence", "epoch view signer kind line")
 Evidence.__doc__ = "A participant who signed two contradictory votes in a round, their kind, and the report's line with both."
 
-Split = collections.namedtuple("Split", "epoch view accused enough")
+Split = collections.namedtuple("Split", "epoch view named least")
 Split.__doc__ = "A round whose certificates contradict, how many the evidence accuses there, and f + 1, which is no more."
 
 Report = collections.namedtuple("Report", "read evidence splits fault text")
@@ -314,8 +314,8 @@ def _evidence(line):
 
 
 def _split(line):
-    epoch, view, _, accused, enough = line.split(" ")
-    return Split(int(epoch), int(view), int(accused), int(enough))
+    epoch, view, _, named, least = line.split(" ")
+    return Split(int(epoch), int(view), int(named), int(least))
 
 
 def store(committees, stored, batch):

@@ -1,4 +1,4 @@
-//! The calls of the C library (bindings/simplex_audit.h), over slices.
+//! The calls of the C library, over slices.
 //!
 //! Each pointer that is passed is that of a slice or a value that lives through the call, with the slice's length beside it;
 //! such a pointer is never null. What is written is borrowed by nothing else. A buffer is the unused capacity of a vector: a
@@ -6,6 +6,7 @@
 
 use crate::bounds::Bounds;
 use crate::committees::{Committees, Members, Size};
+use crate::exports::*;
 use crate::Error;
 use std::mem::MaybeUninit;
 
@@ -20,41 +21,6 @@ pub(crate) const NULLIFY: u32 = 1;
 pub(crate) const FINALIZE: u32 = 2;
 pub(crate) const CONFLICTING_NOTARIZE: u32 = 0;
 pub(crate) const CONFLICTING_FINALIZE: u32 = 1;
-
-/// `struct simplex_summary`.
-#[repr(C)]
-#[derive(Default)]
-pub(crate) struct Summary {
-    pub read: usize,
-    pub evidence: usize,
-    pub splits: usize,
-    pub faulted: usize,
-    pub fault_place: usize,
-    pub length: usize,
-}
-
-/// `struct simplex_suspect`.
-#[repr(C)]
-pub(crate) struct Suspect {
-    pub epoch: u64,
-    pub view: u64,
-    pub verdict_place: usize,
-    pub subject_place: usize,
-    pub subject_length: usize,
-    pub signer: u32,
-    pub kind: u32,
-}
-
-/// `struct simplex_record`.
-#[repr(C)]
-pub(crate) struct Record {
-    pub epoch: u64,
-    pub view: u64,
-    pub first_place: usize,
-    pub second_place: usize,
-    pub signer: u32,
-    pub kind: u32,
-}
 
 /// A call over a stream under committees of these sizes, which fills a buffer and writes how much that is.
 type ByNumbers<T, W> = unsafe extern "C" fn(
@@ -95,80 +61,6 @@ type StoreVouched = unsafe extern "C" fn(
     evidence_len: usize,
     size: *mut usize,
 ) -> u32;
-
-#[rustfmt::skip]
-extern "C" {
-    fn simplex_version() -> u32;
-    fn simplex_audit_vouched_48(
-        epochs: *const u64, epochs_len: usize, sizes: *const u32, sizes_len: usize, stream: *const u8, stream_len: usize,
-        text: *mut u8, text_len: usize, summary: *mut Summary,
-    ) -> u32;
-    fn simplex_audit_vouched_64(
-        epochs: *const u64, epochs_len: usize, sizes: *const u32, sizes_len: usize, stream: *const u8, stream_len: usize,
-        text: *mut u8, text_len: usize, summary: *mut Summary,
-    ) -> u32;
-    fn simplex_audit_vouched_96(
-        epochs: *const u64, epochs_len: usize, sizes: *const u32, sizes_len: usize, stream: *const u8, stream_len: usize,
-        text: *mut u8, text_len: usize, summary: *mut Summary,
-    ) -> u32;
-    fn simplex_audit_plain(
-        name: *const u8, name_len: usize, keys: *const u8, keys_len: usize, stream: *const u8, stream_len: usize,
-        text: *mut u8, text_len: usize, summary: *mut Summary,
-    ) -> u32;
-    fn simplex_store_vouched_48(
-        epochs: *const u64, epochs_len: usize, sizes: *const u32, sizes_len: usize, stored: *const u8, stored_len: usize,
-        batch: *const u8, batch_len: usize, evidence: *mut u8, evidence_len: usize, size: *mut usize,
-    ) -> u32;
-    fn simplex_store_vouched_64(
-        epochs: *const u64, epochs_len: usize, sizes: *const u32, sizes_len: usize, stored: *const u8, stored_len: usize,
-        batch: *const u8, batch_len: usize, evidence: *mut u8, evidence_len: usize, size: *mut usize,
-    ) -> u32;
-    fn simplex_store_vouched_96(
-        epochs: *const u64, epochs_len: usize, sizes: *const u32, sizes_len: usize, stored: *const u8, stored_len: usize,
-        batch: *const u8, batch_len: usize, evidence: *mut u8, evidence_len: usize, size: *mut usize,
-    ) -> u32;
-    fn simplex_store_plain(
-        name: *const u8, name_len: usize, keys: *const u8, keys_len: usize, stored: *const u8, stored_len: usize,
-        batch: *const u8, batch_len: usize, evidence: *mut u8, evidence_len: usize, size: *mut usize,
-    ) -> u32;
-    fn simplex_suspects_vouched_48(
-        epochs: *const u64, epochs_len: usize, sizes: *const u32, sizes_len: usize, stream: *const u8, stream_len: usize,
-        records: *mut Suspect, records_len: usize, needed: *mut usize,
-    ) -> u32;
-    fn simplex_suspects_vouched_64(
-        epochs: *const u64, epochs_len: usize, sizes: *const u32, sizes_len: usize, stream: *const u8, stream_len: usize,
-        records: *mut Suspect, records_len: usize, needed: *mut usize,
-    ) -> u32;
-    fn simplex_suspects_vouched_96(
-        epochs: *const u64, epochs_len: usize, sizes: *const u32, sizes_len: usize, stream: *const u8, stream_len: usize,
-        records: *mut Suspect, records_len: usize, needed: *mut usize,
-    ) -> u32;
-    fn simplex_records_vouched_48(
-        epochs: *const u64, epochs_len: usize, sizes: *const u32, sizes_len: usize, stream: *const u8, stream_len: usize,
-        records: *mut Record, records_len: usize, summary: *mut Summary,
-    ) -> u32;
-    fn simplex_records_vouched_64(
-        epochs: *const u64, epochs_len: usize, sizes: *const u32, sizes_len: usize, stream: *const u8, stream_len: usize,
-        records: *mut Record, records_len: usize, summary: *mut Summary,
-    ) -> u32;
-    fn simplex_records_vouched_96(
-        epochs: *const u64, epochs_len: usize, sizes: *const u32, sizes_len: usize, stream: *const u8, stream_len: usize,
-        records: *mut Record, records_len: usize, summary: *mut Summary,
-    ) -> u32;
-    fn simplex_records_plain(
-        name: *const u8, name_len: usize, keys: *const u8, keys_len: usize, stream: *const u8, stream_len: usize,
-        records: *mut Record, records_len: usize, summary: *mut Summary,
-    ) -> u32;
-    fn simplex_max_faults(n: u32) -> u32;
-    fn simplex_quorum(n: u32) -> u32;
-    fn simplex_admits(term_length: u32, optimistic_views: u64, current: u64, pending: u64) -> u32;
-    fn simplex_admits_outbound(term_length: u32, optimistic_views: u64, current: u64, pending: u64) -> u32;
-    fn simplex_issuance_floor(term_length: u32, optimistic_views: u64, view: u64, floor: *mut u64) -> u32;
-    fn simplex_leader(participants: u32, term_length: u32, epoch: u64, view: u64, number: *mut u32) -> u32;
-    fn simplex_leader_shuffled(
-        seed: *const u8, seed_len: usize, participants: u32, term_length: u32, epoch: u64, view: u64, number: *mut u32,
-    ) -> u32;
-}
 
 /// A vector with capacity for this many items, or, if an allocation of so many fails, for half as many, and so on. Systems that
 /// give memory by the page, when it is written, give none for the rest.

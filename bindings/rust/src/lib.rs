@@ -22,6 +22,7 @@ mod committees;
 mod deferred;
 mod encoder;
 mod error;
+mod exports;
 mod ffi;
 mod ledger;
 mod records;

@@ -1,4 +1,4 @@
-use crate::{audit, ffi, Committees, Error, Kind};
+use crate::{audit, exports, ffi, Committees, Error, Kind};
 
 /// An evidence of a report, and where its two votes stand in the stream.
 #[derive(Clone, Copy, Debug, PartialEq, Eq)]
@@ -72,7 +72,7 @@ pub fn new_records(committees: &Committees, stored: &[u8], batch: &[u8]) -> Resu
     Ok(found)
 }
 
-fn record(of: &ffi::Record) -> Record {
+fn record(of: &exports::Record) -> Record {
     Record {
         epoch: of.epoch,
         view: of.view,

@@ -34,9 +34,9 @@ pub struct Split {
     /// The view of the round.
     pub view: u64,
     /// How many participants the evidence accuses in the round.
-    pub accused: u64,
+    pub named: u64,
     /// f + 1: the evidence accuses at least this many.
-    pub enough: u64,
+    pub least: u64,
 }
 
 /// What an audit found.
@@ -99,7 +99,7 @@ fn split(line: &str) -> Option<Split> {
     Some(Split {
         epoch: words.next()?.parse().ok()?,
         view: words.next()?.parse().ok()?,
-        accused: words.nth(1)?.parse().ok()?,
-        enough: words.next()?.parse().ok()?,
+        named: words.nth(1)?.parse().ok()?,
+        least: words.next()?.parse().ok()?,
     })
 }

@@ -56,7 +56,7 @@ fn certificates_that_contradict() {
     for size in SIZES {
         let committees = Committees::listed(size, &[(7, 9), (300, 4)]).unwrap();
         let report = audit(&committees, fork(size, &every).as_bytes()).unwrap();
-        assert_eq!(report.splits, [Split { epoch: 300, view: 10, accused: 3, enough: 2 }]);
+        assert_eq!(report.splits, [Split { epoch: 300, view: 10, named: 3, least: 2 }]);
         assert!(report.evidence.iter().all(|one| one.kind == Kind::NullifyFinalize && one.epoch == 300 && one.view == 10));
         assert_eq!(report.evidence.iter().map(|one| one.signer).collect::<Vec<_>>(), [0, 1, 2]);
         assert_eq!((report.read, report.fault, report.text.lines().count()), (2, None, 4));
@@ -227,7 +227,7 @@ fn a_fork_of_65_536_participants() {
     };
     // two quorums that share f + 1 participants, up to the last participant
     let report = audit(&committees, &fork(0..quorum, n - quorum..n)).unwrap();
-    assert_eq!(report.splits, [Split { epoch: 3, view: 10, accused: 21_846, enough: 21_846 }]);
+    assert_eq!(report.splits, [Split { epoch: 3, view: 10, named: 21_846, least: 21_846 }]);
     assert!(report.evidence.iter().map(|one| one.signer).eq(n - quorum..quorum));
     // a certificate of one signer fewer certifies nothing, and its votes count
     let report = audit(&committees, &fork(0..quorum, n - quorum + 1..n)).unwrap();

@@ -1,0 +1,112 @@
+//! What the header bindings/simplex_audit.h declares: its structures and its calls. `bench/fuzz` takes this file as it is.
+
+/// `struct simplex_summary`.
+#[repr(C)]
+#[derive(Clone, Copy, Debug, Default, PartialEq)]
+pub(crate) struct Summary {
+    pub read: usize,
+    pub evidence: usize,
+    pub splits: usize,
+    pub faulted: usize,
+    pub fault_place: usize,
+    pub length: usize,
+}
+
+/// `struct simplex_suspect`.
+#[repr(C)]
+#[derive(Clone, Copy, Debug, Default, PartialEq)]
+pub(crate) struct Suspect {
+    pub epoch: u64,
+    pub view: u64,
+    pub verdict_place: usize,
+    pub subject_place: usize,
+    pub subject_length: usize,
+    pub signer: u32,
+    pub kind: u32,
+}
+
+/// `struct simplex_record`.
+#[repr(C)]
+#[derive(Clone, Copy, Debug, Default, PartialEq)]
+pub(crate) struct Record {
+    pub epoch: u64,
+    pub view: u64,
+    pub first_place: usize,
+    pub second_place: usize,
+    pub signer: u32,
+    pub kind: u32,
+}
+
+#[rustfmt::skip]
+extern "C" {
+    pub(crate) fn simplex_version() -> u32;
+    pub(crate) fn simplex_audit_vouched_48(
+        epochs: *const u64, epochs_len: usize, sizes: *const u32, sizes_len: usize, stream: *const u8, stream_len: usize,
+        text: *mut u8, text_len: usize, summary: *mut Summary,
+    ) -> u32;
+    pub(crate) fn simplex_audit_vouched_64(
+        epochs: *const u64, epochs_len: usize, sizes: *const u32, sizes_len: usize, stream: *const u8, stream_len: usize,
+        text: *mut u8, text_len: usize, summary: *mut Summary,
+    ) -> u32;
+    pub(crate) fn simplex_audit_vouched_96(
+        epochs: *const u64, epochs_len: usize, sizes: *const u32, sizes_len: usize, stream: *const u8, stream_len: usize,
+        text: *mut u8, text_len: usize, summary: *mut Summary,
+    ) -> u32;
+    pub(crate) fn simplex_audit_plain(
+        name: *const u8, name_len: usize, keys: *const u8, keys_len: usize, stream: *const u8, stream_len: usize,
+        text: *mut u8, text_len: usize, summary: *mut Summary,
+    ) -> u32;
+    pub(crate) fn simplex_store_vouched_48(
+        epochs: *const u64, epochs_len: usize, sizes: *const u32, sizes_len: usize, stored: *const u8, stored_len: usize,
+        batch: *const u8, batch_len: usize, evidence: *mut u8, evidence_len: usize, size: *mut usize,
+    ) -> u32;
+    pub(crate) fn simplex_store_vouched_64(
+        epochs: *const u64, epochs_len: usize, sizes: *const u32, sizes_len: usize, stored: *const u8, stored_len: usize,
+        batch: *const u8, batch_len: usize, evidence: *mut u8, evidence_len: usize, size: *mut usize,
+    ) -> u32;
+    pub(crate) fn simplex_store_vouched_96(
+        epochs: *const u64, epochs_len: usize, sizes: *const u32, sizes_len: usize, stored: *const u8, stored_len: usize,
+        batch: *const u8, batch_len: usize, evidence: *mut u8, evidence_len: usize, size: *mut usize,
+    ) -> u32;
+    pub(crate) fn simplex_store_plain(
+        name: *const u8, name_len: usize, keys: *const u8, keys_len: usize, stored: *const u8, stored_len: usize,
+        batch: *const u8, batch_len: usize, evidence: *mut u8, evidence_len: usize, size: *mut usize,
+    ) -> u32;
+    pub(crate) fn simplex_suspects_vouched_48(
+        epochs: *const u64, epochs_len: usize, sizes: *const u32, sizes_len: usize, stream: *const u8, stream_len: usize,
+        records: *mut Suspect, records_len: usize, needed: *mut usize,
+    ) -> u32;
+    pub(crate) fn simplex_suspects_vouched_64(
+        epochs: *const u64, epochs_len: usize, sizes: *const u32, sizes_len: usize, stream: *const u8, stream_len: usize,
+        records: *mut Suspect, records_len: usize, needed: *mut usize,
+    ) -> u32;
+    pub(crate) fn simplex_suspects_vouched_96(
+        epochs: *const u64, epochs_len: usize, sizes: *const u32, sizes_len: usize, stream: *const u8, stream_len: usize,
+        records: *mut Suspect, records_len: usize, needed: *mut usize,
+    ) -> u32;
+    pub(crate) fn simplex_records_vouched_48(
+        epochs: *const u64, epochs_len: usize, sizes: *const u32, sizes_len: usize, stream: *const u8, stream_len: usize,
+        records: *mut Record, records_len: usize, summary: *mut Summary,
+    ) -> u32;
+    pub(crate) fn simplex_records_vouched_64(
+        epochs: *const u64, epochs_len: usize, sizes: *const u32, sizes_len: usize, stream: *const u8, stream_len: usize,
+        records: *mut Record, records_len: usize, summary: *mut Summary,
+    ) -> u32;
+    pub(crate) fn simplex_records_vouched_96(
+        epochs: *const u64, epochs_len: usize, sizes: *const u32, sizes_len: usize, stream: *const u8, stream_len: usize,
+        records: *mut Record, records_len: usize, summary: *mut Summary,
+    ) -> u32;
+    pub(crate) fn simplex_records_plain(
+        name: *const u8, name_len: usize, keys: *const u8, keys_len: usize, stream: *const u8, stream_len: usize,
+        records: *mut Record, records_len: usize, summary: *mut Summary,
+    ) -> u32;
+    pub(crate) fn simplex_max_faults(n: u32) -> u32;
+    pub(crate) fn simplex_quorum(n: u32) -> u32;
+    pub(crate) fn simplex_admits(term_length: u32, optimistic_views: u64, current: u64, pending: u64) -> u32;
+    pub(crate) fn simplex_admits_outbound(term_length: u32, optimistic_views: u64, current: u64, pending: u64) -> u32;
+    pub(crate) fn simplex_issuance_floor(term_length: u32, optimistic_views: u64, view: u64, floor: *mut u64) -> u32;
+    pub(crate) fn simplex_leader(participants: u32, term_length: u32, epoch: u64, view: u64, number: *mut u32) -> u32;
+    pub(crate) fn simplex_leader_shuffled(
+        seed: *const u8, seed_len: usize, participants: u32, term_length: u32, epoch: u64, view: u64, number: *mut u32,
+    ) -> u32;
+}
