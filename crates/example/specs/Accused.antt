@@ -35,7 +35,8 @@ round_and_signer evidence = (round_of (evidence_value evidence).first.subject, (
 
 -- `accused` are the rounds and the signers of the evidence of the stream's report, in its order, where the committee of the
 -- keys judges every epoch. `basis` gives how messages are read and judged under committees.
-pub record AreAccused {C : Type 0} (basis : Schedule PlainScheme → Basis PlainScheme (List ℕ) C (List ℕ) (List ℕ)) (namespace : List ℕ) (keys : List (List ℕ)) (stream : List ℕ) (accused : List (Round × ℕ)) : Type 0 where
+pub record AreAccused {C : Type 0} (basis : Schedule PlainScheme → Basis PlainScheme (List ℕ) C (List ℕ) (List ℕ))
+    (namespace : List ℕ) (keys : List (List ℕ)) (stream : List ℕ) (accused : List (Round × ℕ)) : Type 0 where
   pub committee : PlainScheme
   pub report : Report PlainScheme (List ℕ) (List ℕ) (List ℕ)
   pub committee_is : IsPlainCommittee namespace keys committee

@@ -29,4 +29,6 @@ pub round_within : IsWithin round_format 20
 round_within r h = both_within number_64 number_64 number_64_within number_64_within (r.epoch, r.view) h
 
 pub longest_round : Longest round_format 20
-longest_round = made_longest (both number_64 number_64) _ _ (λ p. refl) (both_longest number_64 number_64 number_64_longest number_64_longest)
+longest_round =
+    made_longest (both number_64 number_64) _ _ (λ p. refl)
+    (both_longest number_64 number_64 number_64_longest number_64_longest)

@@ -17,18 +17,23 @@ Longest {T} f size = (x : T) × f.is_value x × (length (f.encoding x) ≡ size)
 
 -- ---- of parts
 
-pub both_within : {A B : Type 0} (f : Format A) (g : Format B) {m n : ℕ} → IsWithin f m → IsWithin g n → IsWithin (both f g) (m + n)
-both_within f g first second p h = let one = first p.0 h.0 in let other = second p.1 h.1 in omega (arith, length-append (f.encoding p.0) (g.encoding p.1))
+pub both_within : {A B : Type 0} (f : Format A) (g : Format B) {m n : ℕ} → IsWithin f m → IsWithin g n →
+    IsWithin (both f g) (m + n)
+both_within f g first second p h =
+    let one = first p.0 h.0 in let other = second p.1 h.1 in omega (arith, length-append (f.encoding p.0) (g.encoding p.1))
 
-pub both_longest : {A B : Type 0} (f : Format A) (g : Format B) {m n : ℕ} → Longest f m → Longest g n → Longest (both f g) (m + n)
+pub both_longest : {A B : Type 0} (f : Format A) (g : Format B) {m n : ℕ} → Longest f m → Longest g n →
+    Longest (both f g) (m + n)
 both_longest f g first second = (
   (first.0, second.0),
   (first.1, second.1),
-  let one =
-      first.2 in let other = second.2 in omega (arith, length-append (f.encoding first.0) (g.encoding second.0)),
+  let one = first.2 in
+      let other = second.2 in
+      omega (arith, length-append (f.encoding first.0) (g.encoding second.0)),
 )
 
-pub made_longest : {A B : Type 0} (f : Format A) {m : ℕ} (make : A → B) (parts : B → A) → ((a : A) → parts (make a) ≡ a) → Longest f m →
+pub made_longest : {A B : Type 0} (f : Format A) {m : ℕ} (make : A → B) (parts : B → A) → ((a : A) → parts (make a) ≡ a) →
+    Longest f m →
     Longest (made make parts f) m
 made_longest f make parts back longest = (make longest.0, rw (back longest.0) longest.1, rw (back longest.0) longest.2)
 
@@ -61,7 +66,8 @@ zeros_IsBytes (suc size) (suc i) = zeros_IsBytes size i
 zeros_fixed : (size : ℕ) → IsFixed size (replicate size 0)
 zeros_fixed size = record { len = length-replicate size 0; fit = zeros_IsBytes size }
 
-pub fixed_within : {T : Type 0} (size : ℕ) (bytes_of : T → List ℕ) (of_bytes : List ℕ → T) → IsWithin (fixed size bytes_of of_bytes) size
+pub fixed_within : {T : Type 0} (size : ℕ) (bytes_of : T → List ℕ) (of_bytes : List ℕ → T) →
+    IsWithin (fixed size bytes_of of_bytes) size
 fixed_within size bytes_of of_bytes x h = let e = h.len in omega (arith, e)
 
 pub fixed_longest : {T : Type 0} (size : ℕ) (bytes_of : T → List ℕ) (of_bytes : List ℕ → T) →

@@ -13,7 +13,8 @@ holds_view l (suc v) positive = (omega arith, omega arith)
 
 -- a later term doesn't hold the same view
 not_later : (l t u v : ℕ) → HoldsView l t v → HoldsView l u v → u ≤ t
-not_later l zero u v a b = elim u as (λ w. HoldsView l w v → w ≤ 0) [ zero ↦ λ b. omega arith | suc w ↦ λ b. omega (arith, a.1, b.0) ] b
+not_later l zero u v a b =
+    elim u as (λ w. HoldsView l w v → w ≤ 0) [ zero ↦ λ b. omega arith | suc w ↦ λ b. omega (arith, a.1, b.0) ] b
 not_later l (suc t) u v a b = elim (cases_lt (suc t) u) [ inl lt ↦ absurd (later u b lt) | inr le ↦ le ]
   where
     later : (w : ℕ) → HoldsView l w v → suc t < w → ⊥
@@ -110,4 +111,5 @@ end_rises l u v positive le = elim (cases_lt (term_end l u) v) [
   | inr within ↦ omega (arith, end_same l u v positive le within)
 ]
 
-pub ruleset term_facts = (term_of-zero, term_of-positive, term_start-zero, term_start-positive, term_end-zero, start_to_end, start_before, end_after)
+pub ruleset term_facts =
+    (term_of-zero, term_of-positive, term_start-zero, term_start-positive, term_end-zero, start_to_end, start_before, end_after)

@@ -36,7 +36,8 @@ pub record ReadsNumber (limit : ℕ) (result : Result ℕ Error) (old new : List
   pub refused : OnErr result (new ≡ old)
   pub ends : result ≡ Err errors.EndOfBuffer → IsCutOff limit old
   pub cut_off : IsCutOff limit old → result ≡ Err errors.EndOfBuffer
-  pub otherwise : ((n : ℕ) (rest : List ℕ) → BeginsWith limit old n rest → ⊥) → (IsCutOff limit old → ⊥) → result ≡ Err errors.InvalidVarint
+  pub otherwise : ((n : ℕ) (rest : List ℕ) → BeginsWith limit old n rest → ⊥) → (IsCutOff limit old → ⊥) →
+      result ≡ Err errors.InvalidVarint
 
 -- ---- the groups, and how they are read
 

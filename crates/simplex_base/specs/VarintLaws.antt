@@ -48,7 +48,8 @@ low_bits b high p q = omega arith
 pub joined_number : (n : ℕ) → (n % 128 + 128 - 128) + 128 * (n / 128) ≡ n
 joined_number n = omega arith
 
-pub groups_again : (k top n : ℕ) (rest : List ℕ) → top ≤ 128 → 0 < n → n < top * 128 ^ k → groups_at (groups k n ++ rest) k top ≡ Ok (n, rest)
+pub groups_again : (k top n : ℕ) (rest : List ℕ) → top ≤ 128 → 0 < n → n < top * 128 ^ k →
+    groups_at (groups k n ++ rest) k top ≡ Ok (n, rest)
 unfolding groups groups_at
 groups_again zero top n rest t p q = let lt : n < top = omega arith in rw (lt-ltb 0 n p, lt-ltb n top lt) refl
 groups_again (suc k) top n rest t p q =
@@ -61,7 +62,9 @@ groups_again (suc k) top n rest t p q =
           let q' : n < 128 * (top * 128 ^ k) = let q'' : n < top * (128 * 128 ^ k) = rw e at q in omega arith in
           let below : n / 128 < top * 128 ^ k = omega arith in
           let one : suc k - 1 ≡ k = omega arith in
-          rw (le-ltb n 128 le) (rw (eqb-suc-zero k, le-ltb (n % 128 + 128) 128 d, one, groups_again k top (n / 128) rest t up below, joined_number n) refl)
+          rw (le-ltb n 128 le)
+          (rw (eqb-suc-zero k, le-ltb (n % 128 + 128) 128 d, one, groups_again k top (n / 128) rest t up below, joined_number n)
+          refl)
     ]
 
 pub record Grouped (bytes : List ℕ) (k top n : ℕ) (rest : List ℕ) : Type 0 where
@@ -73,12 +76,14 @@ abbrev read : ℕ → List ℕ → Reading ℕ
 read n rest = Ok (n, rest)
 
 -- a test that passed
-guard : (b : Bool) (x : Reading ℕ) (n : ℕ) (rest : List ℕ) → cond b x (Err invalid_varint) ≡ read n rest → (b ≡ true) × (x ≡ read n rest)
+guard : (b : Bool) (x : Reading ℕ) (n : ℕ) (rest : List ℕ) → cond b x (Err invalid_varint) ≡ read n rest →
+    (b ≡ true) × (x ≡ read n rest)
 guard true x n rest e = (refl, e)
 guard false x n rest e = absurd cc
 
 same_parts : (a b : ℕ) (r s : List ℕ) → read a r ≡ read b s → (a ≡ b) × (r ≡ s)
-same_parts a b r s e = let q : ◌≡◌ {A = ℕ × List ℕ} (a, r) (b, s) = cc in (ap (λ (p : ℕ × List ℕ). p.0) q, ap (λ (p : ℕ × List ℕ). p.1) q)
+same_parts a b r s e =
+    let q : ◌≡◌ {A = ℕ × List ℕ} (a, r) (b, s) = cc in (ap (λ (p : ℕ × List ℕ). p.0) q, ap (λ (p : ℕ × List ℕ). p.1) q)
 
 -- a last group
 last_group : (b : ℕ) (bytes : List ℕ) (k top n : ℕ) (rest : List ℕ) → 0 < b → b < top * 128 ^ k → groups k b ≡ b ∷ [] →
@@ -90,7 +95,8 @@ last_group b bytes k top n rest p q g e =
     record { parts = rw (← same, g, ← left) refl; some = rw (← same) p; below = rw (← same) q }
 
 -- a group with others above it
-lower_group : (b : ℕ) (bytes : List ℕ) (k top high n : ℕ) (rest rest' : List ℕ) → 128 ≤ b → b < 256 → Grouped bytes k top high rest' →
+lower_group : (b : ℕ) (bytes : List ℕ) (k top high n : ℕ) (rest rest' : List ℕ) → 128 ≤ b → b < 256 →
+    Grouped bytes k top high rest' →
     read ((b - 128) + 128 * high) rest' ≡ read n rest → Grouped (b ∷ bytes) (suc k) top n rest
 unfolding groups
 lower_group b bytes k top high n rest rest' p q h e =
@@ -105,7 +111,11 @@ lower_group b bytes k top high n rest rest' p q h e =
     let e2 : 128 ^ suc k ≡ 128 * 128 ^ k = omega arith in
     let f : n < 128 * (top * 128 ^ k) = omega arith in
     let g : top * (128 * 128 ^ k) ≡ 128 * (top * 128 ^ k) = omega arith in
-    record { parts = rw (le-ltb n 128 big) (rw (low, up, ← left) (ap (λ (t : List ℕ). b ∷ t) h.parts)); some = omega arith; below = rw (e2, g) f }
+    record {
+      parts = rw (le-ltb n 128 big) (rw (low, up, ← left) (ap (λ (t : List ℕ). b ∷ t) h.parts));
+      some = omega arith;
+      below = rw (e2, g) f;
+    }
 
 IsBytes-tail : (b : ℕ) (bytes : List ℕ) → IsBytes (b ∷ bytes) → IsBytes bytes
 IsBytes-tail b bytes h i = h (suc i)
@@ -122,11 +132,13 @@ groups_takes (b ∷ bytes) zero top n rest t t' fit e =
 groups_takes (b ∷ bytes) (suc k) top n rest t t' fit e =
     let one : suc k - 1 ≡ k = omega arith in
     let e' = rw (eqb-suc-zero k, one) at e in
-    elim (chosen (ltb b 128) (cond (ltb 0 b) (read b bytes) (Err invalid_varint)) (with_group b (groups_at bytes k top)) (read n rest) e') [
+    elim (chosen (ltb b 128) (cond (ltb 0 b) (read b bytes) (Err invalid_varint)) (with_group b (groups_at bytes k top))
+    (read n rest) e') [
       | inl p ↦
           let q = guard (ltb 0 b) (read b bytes) n rest p.1 in
           let lt = ltb-true b 128 p.0 in
-          last_group b bytes (suc k) top n rest (ltb-true 0 b q.0) (let s = some_of_power top (suc k) (omega arith) t' in omega arith) (rw (p.0) refl) q.1
+          last_group b bytes (suc k) top n rest (ltb-true 0 b q.0)
+          (let s = some_of_power top (suc k) (omega arith) t' in omega arith) (rw (p.0) refl) q.1
       | inr p ↦
           let r = bind_ok (groups_at bytes k top) (λ high. read ((b - 128) + 128 * high.0) high.1) (n, rest) p.1 in
           lower_group b bytes k top r.0.0 n rest r.0.1 (ltb-false b 128 p.0) (fit 0)
@@ -146,7 +158,10 @@ number_takes k top t t' (b ∷ bytes) n rest fit e =
           let both = same_parts b n bytes rest p.1 in
           let same = both.0 in
           let left = both.1 in
-          record { value = let s = some_of_power top (suc k) (omega arith) t' in omega arith; parts = rw (← same, ← left) (rw (p.0) refl) }
+          record {
+            value = let s = some_of_power top (suc k) (omega arith) t' in omega arith;
+            parts = rw (← same, ← left) (rw (p.0) refl);
+          }
       | inr p ↦
           let r = bind_ok (groups_at bytes k top) (λ high. read ((b - 128) + 128 * high.0) high.1) (n, rest) p.1 in
           let h = lower_group b bytes k top r.0.0 n rest r.0.1 (ltb-false b 128 p.0) (fit 0)
@@ -167,11 +182,13 @@ number_again k top t t' n rest q =
           let q' : n < 128 * (top * 128 ^ k) = let q'' : n < top * (128 * 128 ^ k) = rw e at q in omega arith in
           let below : n / 128 < top * 128 ^ k = omega arith in
           let one : suc k - 1 ≡ k = omega arith in
-          rw (le-ltb n 128 le) (rw (le-ltb (n % 128 + 128) 128 d, one, groups_again k top (n / 128) rest t up below, joined_number n) refl)
+          rw (le-ltb n 128 le)
+          (rw (le-ltb (n % 128 + 128) 128 d, one, groups_again k top (n / 128) rest t up below, joined_number n) refl)
     ]
 
 -- The whole number.
-pub number_lawful : (k top : ℕ) → top ≤ 128 → 1 ≤ top → Lawful (λ n. n < top * 128 ^ suc k) (groups (suc k)) (number_at (suc k) top)
+pub number_lawful : (k top : ℕ) → top ≤ 128 → 1 ≤ top →
+    Lawful (λ n. n < top * 128 ^ suc k) (groups (suc k)) (number_at (suc k) top)
 number_lawful k top t t' = record {
   takes = number_takes k top t t';
   again = number_again k top t t';
@@ -206,7 +223,8 @@ groups_len (suc k) n =
 pub groups_len_32 : (n : ℕ) → length (groups 4 n) ≤ 5
 groups_len_32 n = groups_len 4 n
 
-cons_number : (b : ℕ) (rest : List ℕ) (high n : ℕ) → 128 ≤ b → b < 256 → 0 < high → n + 128 ≡ b + 128 * high → IsNumber rest high → IsNumber (b ∷ rest) n
+cons_number : (b : ℕ) (rest : List ℕ) (high n : ℕ) → 128 ≤ b → b < 256 → 0 < high → n + 128 ≡ b + 128 * high →
+    IsNumber rest high → IsNumber (b ∷ rest) n
 cons_number b [] high n p q r e h = absurd h
 cons_number b (c ∷ bs) high n p q r e h = (p, q, high, r, e, h)
 
@@ -225,7 +243,8 @@ groups_number (suc k) n lt =
       | inr le ↦
           let q : 128 ^ suc k ≡ 128 * 128 ^ k = omega arith in
           let lt' : n < 128 * (128 * 128 ^ k) = rw q at lt in
-          rw (le-ltb n 128 le) (cons_number (n % 128 + 128) (groups k (n / 128)) (n / 128) n (omega arith) (omega arith) (omega arith)
+          rw (le-ltb n 128 le)
+          (cons_number (n % 128 + 128) (groups k (n / 128)) (n / 128) n (omega arith) (omega arith) (omega arith)
           (omega arith) (groups_number k (n / 128) (omega arith)))
     ]
 
@@ -283,7 +302,8 @@ longest_32 = refl
 -- one more group before some missing ones
 cut_off_group : (b : ℕ) (bytes missing : List ℕ) (high : ℕ) → 128 ≤ b → b < 256 → 0 < high → IsNumber (bytes ++ missing) high →
     IsNumber (b ∷ bytes ++ missing) ((b - 128) + 128 * high)
-cut_off_group b bytes missing high p q some h = cons_number b (bytes ++ missing) high ((b - 128) + 128 * high) p q some (omega arith) h
+cut_off_group b bytes missing high p q some h =
+    cons_number b (bytes ++ missing) high ((b - 128) + 128 * high) p q some (omega arith) h
 
 record Completed (limit : ℕ) (bytes : List ℕ) : Type 0 where
   pub n : ℕ
@@ -296,20 +316,20 @@ record Completed (limit : ℕ) (bytes : List ℕ) : Type 0 where
 one_missing : ◌≢◌ {A = List ℕ} (1 ∷ []) []
 one_missing e = cc
 
-bind_err : {A B : Type 0} (r : Result A Refusal) (f : A → Result B Refusal) (e : Refusal) → ((x : A) → f x ≡ Err e → ⊥) → (r >>= f) ≡ Err e → r ≡ Err e
+bind_err : {A B : Type 0} (r : Result A Refusal) (f : A → Result B Refusal) (e : Refusal) → ((x : A) → f x ≡ Err e → ⊥) →
+    (r >>= f) ≡ Err e → r ≡ Err e
 bind_err (Ok x) f e never h = absurd (never x h)
 bind_err (Err d) f e _ h = let same : d ≡ e = cc in ap (λ x. Err x) same
 
 -- groups that end too early can be completed
-groups_cut : (bytes : List ℕ) (k top : ℕ) → 2 ≤ top → IsBytes bytes → groups_at bytes k top ≡ Err end_of_buffer → Completed (top * 128 ^ k) bytes
+groups_cut : (bytes : List ℕ) (k top : ℕ) → 2 ≤ top → IsBytes bytes → groups_at bytes k top ≡ Err end_of_buffer →
+    Completed (top * 128 ^ k) bytes
 unfolding groups_at
 groups_cut [] k top t fit e =
     record {
       n = 1;
-      some =
-          omega arith;
-      below = let p =
-          top_of_power top k (omega arith) in omega arith;
+      some = omega arith;
+      below = let p = top_of_power top k (omega arith) in omega arith;
       missing = 1 ∷ [];
       more = one_missing;
       number = (omega arith, refl);
@@ -323,7 +343,8 @@ groups_cut (b ∷ bytes) zero top t fit e =
 groups_cut (b ∷ bytes) (suc k) top t fit e =
     let one : suc k - 1 ≡ k = omega arith in
     let e' = rw (eqb-suc-zero k, one) at e in
-    elim (chosen (ltb b 128) (cond (ltb 0 b) (Ok (b, bytes)) (Err invalid_varint)) (with_group b (groups_at bytes k top)) (Err end_of_buffer) e') [
+    elim (chosen (ltb b 128) (cond (ltb 0 b) (Ok (b, bytes)) (Err invalid_varint)) (with_group b (groups_at bytes k top))
+    (Err end_of_buffer) e') [
       | inl p ↦ elim (chosen (ltb 0 b) (Ok (b, bytes)) (Err invalid_varint) (Err end_of_buffer) p.1)
           [ inl q ↦ absurd (let h = q.1 in cc) | inr q ↦ absurd (let h = q.1 in cc) ]
       | inr p ↦
@@ -358,13 +379,15 @@ record Higher (b n : ℕ) (rest : List ℕ) : Type 0 where
   pub sum : n + 128 ≡ b + 128 * high
   pub number : IsNumber rest high
 
-higher : (b : ℕ) (bytes missing : List ℕ) (n : ℕ) → missing ≢ [] → IsNumber (b ∷ bytes ++ missing) n → Higher b n (bytes ++ missing)
+higher : (b : ℕ) (bytes missing : List ℕ) (n : ℕ) → missing ≢ [] → IsNumber (b ∷ bytes ++ missing) n →
+    Higher b n (bytes ++ missing)
 higher b [] [] n some h = absurd (some refl)
 higher b [] (c ∷ missing) n some h = record { big = h.0; byte = h.1; high = h.2; some = h.3; sum = h.4; number = h.5 }
 higher b (c ∷ bytes) missing n some h = record { big = h.0; byte = h.1; high = h.2; some = h.3; sum = h.4; number = h.5 }
 
 -- groups that can be completed end too early
-groups_ended : (bytes missing : List ℕ) (k top n : ℕ) → top ≤ 128 → missing ≢ [] → n < top * 128 ^ k → IsNumber (bytes ++ missing) n →
+groups_ended : (bytes missing : List ℕ) (k top n : ℕ) → top ≤ 128 → missing ≢ [] → n < top * 128 ^ k →
+    IsNumber (bytes ++ missing) n →
     groups_at bytes k top ≡ Err end_of_buffer
 unfolding groups_at
 groups_ended [] missing k top n t some lt h = refl
@@ -381,7 +404,8 @@ groups_ended (b ∷ bytes) missing (suc k) top n t some lt h =
     rw (eqb-suc-zero k, le-ltb b 128 p, one, groups_ended bytes missing k top g.high t some below g.number) refl
 
 -- what is cut off ends too early, and only that
-number_cut : (bytes : List ℕ) (k top : ℕ) → 2 ≤ top → IsBytes bytes → number_at (suc k) top bytes ≡ Err end_of_buffer → IsCutOff (top * 128 ^ suc k) bytes
+number_cut : (bytes : List ℕ) (k top : ℕ) → 2 ≤ top → IsBytes bytes → number_at (suc k) top bytes ≡ Err end_of_buffer →
+    IsCutOff (top * 128 ^ suc k) bytes
 unfolding number_at
 number_cut [] k top t fit e =
     record {
@@ -417,7 +441,8 @@ number_cut (b ∷ bytes) k top t fit e =
           }
     ]
 
-number_ended : (bytes : List ℕ) (k top : ℕ) → top ≤ 128 → IsCutOff (top * 128 ^ suc k) bytes → number_at (suc k) top bytes ≡ Err end_of_buffer
+number_ended : (bytes : List ℕ) (k top : ℕ) → top ≤ 128 → IsCutOff (top * 128 ^ suc k) bytes →
+    number_at (suc k) top bytes ≡ Err end_of_buffer
 unfolding number_at
 number_ended [] k top t c = refl
 number_ended (b ∷ bytes) k top t c =
@@ -449,12 +474,14 @@ unfolding groups_at
 groups_outcome [] k top = ended
 groups_outcome (b ∷ bytes) k top =
     outcome_if (eqb k 0) _ _ (outcome_if (ltb 0 b) _ _ (outcome_if (ltb b top) _ _ (gave b bytes) wrong) wrong)
-    (outcome_if (ltb b 128) _ _ (outcome_if (ltb 0 b) _ _ (gave b bytes) wrong) (outcome_with b _ (groups_outcome bytes (k - 1) top)))
+    (outcome_if (ltb b 128) _ _ (outcome_if (ltb 0 b) _ _ (gave b bytes) wrong)
+    (outcome_with b _ (groups_outcome bytes (k - 1) top)))
 
 number_outcome : (bytes : List ℕ) (k top : ℕ) → Outcome (number_at k top bytes)
 unfolding number_at
 number_outcome [] k top = ended
-number_outcome (b ∷ bytes) k top = outcome_if (ltb b 128) _ _ (gave b bytes) (outcome_with b _ (groups_outcome bytes (k - 1) top))
+number_outcome (b ∷ bytes) k top =
+    outcome_if (ltb b 128) _ _ (gave b bytes) (outcome_with b _ (groups_outcome bytes (k - 1) top))
 
 -- which error of the code a refusal is
 gave_fails : {X : Type 0} (e : Error) (x : X) → Fails {X = X} false e (Ok x) → ⊥
@@ -489,7 +516,8 @@ begins k top t t' bytes n rest fit e =
     let more : top * 128 ^ suc k ≤ 128 * 128 ^ suc k = omega (arith, mul-le-mul_left (128 ^ suc k) t) in
     record { below = s.value; front = groups (suc k) n; number = groups_number (suc k) n (omega arith); parts = s.parts }
 
-begun : (k top : ℕ) → top ≤ 128 → 2 ≤ top → (bytes : List ℕ) (n : ℕ) (rest : List ℕ) → BeginsWith (top * 128 ^ suc k) bytes n rest →
+begun : (k top : ℕ) → top ≤ 128 → 2 ≤ top → (bytes : List ℕ) (n : ℕ) (rest : List ℕ) →
+    BeginsWith (top * 128 ^ suc k) bytes n rest →
     number_at (suc k) top bytes ≡ Ok (n, rest)
 begun k top t t' bytes n rest b =
     let p = b.below in
@@ -513,9 +541,11 @@ reads_number k top t t' (Err x) old new fit g = record {
   taken = tt;
   again = λ m rest b. absurd (gave_fails x (m, rest) (subst (Fails false x) (begun k top t t' old m rest b) g.1));
   refused = g.0;
-  ends = λ is. let e : x ≡ errors.EndOfBuffer = cc in number_cut old k top t' fit (subst (λ y. Fails false y (number_at (suc k) top old)) e g.1);
+  ends = λ is. let e : x ≡ errors.EndOfBuffer = cc in
+      number_cut old k top t' fit (subst (λ y. Fails false y (number_at (suc k) top old)) e g.1);
   cut_off = λ c. ap (λ y. Err y) (ended_fails x (subst (Fails false x) (number_ended old k top t c) g.1));
-  otherwise = λ never uncut. ap (λ y. Err y) (last (number_at (suc k) top old) refl (number_outcome old (suc k) top) never uncut g.1);
+  otherwise = λ never uncut.
+      ap (λ y. Err y) (last (number_at (suc k) top old) refl (number_outcome old (suc k) top) never uncut g.1);
 }
   where
     last : (r : Reading ℕ) → number_at (suc k) top old ≡ r → Outcome r →

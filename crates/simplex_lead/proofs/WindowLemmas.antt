@@ -14,7 +14,11 @@ InTwoRuns l k c q =
 
 pub runs_admitted : (l k c q : ℕ) → c ≤ term_end l c → InTwoRuns l k c q → (c < q) × IsAdmitted l k c q
 runs_admitted l k c q after (inl (low, high)) = (omega arith, inr (inr (inr (inl (omega arith, omega arith)))))
-runs_admitted l k c q after (inr (low, high)) = (omega arith, elim (cases_lt (next_start l c) q) as (λ _. IsAdmitted l k c q) [ inl lt ↦ inr (inr (inr (inr (lt, omega arith)))) | inr le ↦ inr (inr (inl (omega arith))) ])
+runs_admitted l k c q after (inr (low, high)) = (
+  omega arith,
+  elim (cases_lt (next_start l c) q) as (λ _. IsAdmitted l k c q)
+      [ inl lt ↦ inr (inr (inr (inr (lt, omega arith)))) | inr le ↦ inr (inr (inl (omega arith))) ],
+)
 
 pub admitted_runs : (l k c q : ℕ) → c ≤ term_end l c → (c < q) × IsAdmitted l k c q → InTwoRuns l k c q
 admitted_runs l k c q after (above, admitted) = elim (cases_lt (term_end l c) q) as (λ _. InTwoRuns l k c q) [
@@ -30,7 +34,8 @@ admitted_number l k c positive =
     let both : NumberExactly (InTwoRuns l k c) (min (2 * k + 1) (term_end l c - c) + (2 + min (max k 1) l)) =
     number_both _ _ _ _ near far (λ p q a b. omega (arith, a.1, b.0)) in
     let sum : min (2 * k + 1) (term_end l c - c) + (2 + min (max k 1) l) ≡ admitted_above l k c = omega arith in
-    rw (← sum) (number_same _ (λ q. (c < q) × IsAdmitted l k c q) _ both (λ q. runs_admitted l k c q after) (λ q. admitted_runs l k c q after))
+    rw (← sum) (number_same _ (λ q. (c < q) × IsAdmitted l k c q) _ both (λ q. runs_admitted l k c q after)
+    (λ q. admitted_runs l k c q after))
 
 -- what somebody in reach leads to is admitted
 pub leads_admitted : (l k c p q : ℕ) → 1 ≤ l → Leads l k c p q → IsAdmitted l k c q
@@ -40,7 +45,8 @@ leads_admitted l k c p q positive (reach_p, near, reach_q) =
     let earlier : p + 1 ≤ c → term_end l (p + 1) ≤ term_end l c = end_rises l (p + 1) c positive in
     let same : c ≤ p + 1 → p + 1 ≤ term_end l c → term_end l (p + 1) ≡ term_end l c = end_same l c (p + 1) positive in
     let start : p + 1 ≡ term_end l c + 1 → term_end l (p + 1) ≡ term_end l c + l = λ e. rw e next in
-    let after_next : term_end l (term_end l c + l + 1) ≡ term_end l c + l + l = rw next at (end_next l (term_end l c + 1) positive) in
+    let after_next : term_end l (term_end l c + l + 1) ≡ term_end l c + l + l =
+    rw next at (end_next l (term_end l c + 1) positive) in
     let two : p + 1 ≡ term_end l c + l + 1 → term_end l (p + 1) ≡ term_end l c + l + l = λ e. rw e after_next in
     elim (cases_lt c q) as (λ _. IsAdmitted l k c q) [
       | inr le ↦ inl le
@@ -66,12 +72,14 @@ admitted_small l k c q positive fits admitted = let after = end_after l c positi
 
 -- a later view that starts no term is in reach of the view after q exactly where q is at most the lookahead many views
 -- before it, and it is of that term
-pub floor_reach : (l k q v : ℕ) → 1 ≤ l → q < v → ¬ (v ≡ term_start l v) → IsInReach l k (q + 1) v ↔ ((v - k - 1 ≤ q) × (v ≤ term_end l (q + 1)))
+pub floor_reach : (l k q v : ℕ) → 1 ≤ l → q < v → ¬ (v ≡ term_start l v) →
+    IsInReach l k (q + 1) v ↔ ((v - k - 1 ≤ q) × (v ≤ term_end l (q + 1)))
 floor_reach l k q v positive later inside =
     let after = end_after l (q + 1) positive in
     let next = end_next l (q + 1) positive in
     let whole = start_to_end l v (omega arith) in
-    let starts : v ≡ term_end l (q + 1) + 1 → v ≡ term_start l v = λ e. let end : term_end l v ≡ term_end l (q + 1) + l = rw e next in omega arith in (
+    let starts : v ≡ term_end l (q + 1) + 1 → v ≡ term_start l v = λ e.
+    let end : term_end l v ≡ term_end l (q + 1) + l = rw e next in omega arith in (
       (λ reach. elim reach as (λ _. (v - k - 1 ≤ q) × (v ≤ term_end l (q + 1))) [
         | inl up ↦ (omega arith, omega arith)
         | inr (inl own) ↦ (omega arith, omega arith)

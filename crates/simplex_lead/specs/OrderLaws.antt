@@ -27,7 +27,8 @@ module _ {D : Type 0} (compare : D → D → Ordering) (total : IsTotalOrder com
   rises_tail x xs rises i j lt within = rises (suc i) (suc j) (omega arith) (omega arith)
 
   rises_head : (x q : ℕ) (xs : List ℕ) → RisesByHash compare hash seed (x ∷ xs) → Contains xs q → Precedes compare hash seed x q
-  rises_head x q xs rises (k, within, is) = let e = get_or_default_zero xs k q within in rw (← is, e) (rises 0 (suc k) (omega arith) (omega arith))
+  rises_head x q xs rises (k, within, is) =
+      let e = get_or_default_zero xs k q within in rw (← is, e) (rises 0 (suc k) (omega arith) (omega arith))
 
   behind : (x q : ℕ) (xs : List ℕ) → Contains xs q → Contains (x ∷ xs) q
   behind x q xs (k, within, is) = (suc k, omega arith, is)
@@ -42,7 +43,8 @@ module _ {D : Type 0} (compare : D → D → Ordering) (total : IsTotalOrder com
   same_head x y xs ys rise_x rise_y (zero, _, is) there = sym is
   same_head x y xs ys rise_x rise_y (suc k, in_y, is_x) (zero, _, is) = is
   same_head x y xs ys rise_x rise_y (suc k, in_y, is_x) (suc m, in_x, is_y) =
-      absurd (not_before_itself x (passes_on x y x (rises_head x y xs rise_x (m, omega arith, is_y)) (rises_head y x ys rise_y (k, omega arith, is_x))))
+      absurd (not_before_itself x
+      (passes_on x y x (rises_head x y xs rise_x (m, omega arith, is_y)) (rises_head y x ys rise_y (k, omega arith, is_x))))
 
   same_order : (xs ys : List ℕ) →
       RisesByHash compare hash seed xs → RisesByHash compare hash seed ys →
@@ -53,8 +55,10 @@ module _ {D : Type 0} (compare : D → D → Ordering) (total : IsTotalOrder com
   same_order (x ∷ xs) (y ∷ ys) rise_x rise_y there back =
       let heads : x ≡ y = same_head x y xs ys rise_x rise_y (there x (0, omega arith, refl)) (back y (0, omega arith, refl)) in
       let tails : xs ≡ ys = same_order xs ys (rises_tail x xs rise_x) (rises_tail y ys rise_y)
-      (λ q has. not_head q y ys (there q (behind x q xs has)) (λ same. not_before x q (heads ∙ sym same) (rises_head x q xs rise_x has)))
-      (λ q has. not_head q x xs (back q (behind y q ys has)) (λ same. not_before y q (sym heads ∙ sym same) (rises_head y q ys rise_y has))) in
+      (λ q has.
+      not_head q y ys (there q (behind x q xs has)) (λ same. not_before x q (heads ∙ sym same) (rises_head x q xs rise_x has)))
+      (λ q has. not_head q x xs (back q (behind y q ys has))
+      (λ same. not_before y q (sym heads ∙ sym same) (rises_head y q ys rise_y has))) in
       cc
 
   -- an order is the single one
@@ -68,6 +72,7 @@ module _ {D : Type 0} (compare : D → D → Ordering) (total : IsTotalOrder com
 
 module _ {D : Type 0} (compare : D → D → Ordering) (total : IsTotalOrder compare) (hash : List ℕ → D) where
   -- with a seed or without one
-  pub one_order : (seed : Option (List ℕ)) (n : ℕ) (xs ys : List ℕ) → IsOrder compare hash seed n xs → IsOrder compare hash seed n ys → xs ≡ ys
+  pub one_order : (seed : Option (List ℕ)) (n : ℕ) (xs ys : List ℕ) → IsOrder compare hash seed n xs →
+      IsOrder compare hash seed n ys → xs ≡ ys
   one_order None n xs ys a b = a ∙ sym b
   one_order (Some seed) n xs ys a b = single_order compare total hash seed n xs ys a.0 a.1 b.0 b.1

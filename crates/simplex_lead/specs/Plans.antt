@@ -25,7 +25,8 @@ same_plan same_to _ _ = false
 -- recipients and a clone of them, where this says what a clone of a key is
 abbrev pub IsRecipientsClone : {P : Type 0} → (P → P → Type 0) → Recipients P → Recipients P → Type 0
 IsRecipientsClone is_clone All All = ⊤
-IsRecipientsClone is_clone (Some keys) (Some copies) = AllZip is_clone keys.items copies.items × (length copies.items ≡ length keys.items)
+IsRecipientsClone is_clone (Some keys) (Some copies) =
+    AllZip is_clone keys.items copies.items × (length copies.items ≡ length keys.items)
 IsRecipientsClone is_clone (One key) (One copy) = is_clone key copy
 IsRecipientsClone is_clone _ _ = ⊥
 

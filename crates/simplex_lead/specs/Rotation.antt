@@ -35,7 +35,8 @@ module _ {D : Type 0} (compare : D → D → Ordering) (hash : List ℕ → D) w
 
   -- participant i comes before j: by the hash, then by the number
   abbrev pub Precedes : List ℕ → ℕ → ℕ → Type 0
-  Precedes seed i j = (compare (ticket seed i) (ticket seed j) ≡ Less) ⊎ ((compare (ticket seed i) (ticket seed j) ≡ Equal) × (i < j))
+  Precedes seed i j =
+      (compare (ticket seed i) (ticket seed j) ≡ Less) ⊎ ((compare (ticket seed i) (ticket seed j) ≡ Equal) × (i < j))
 
   -- a participant that stands earlier comes before
   abbrev pub RisesByHash : List ℕ → List ℕ → Type 0

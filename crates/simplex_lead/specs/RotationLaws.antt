@@ -30,4 +30,5 @@ module _ {D : Type 0} (compare : D → D → Ordering) (hash : List ℕ → D) w
   one_rotation total settings n one other is_one is_other =
       ap (λ (order : List ℕ). let made : Rotation = record { order = order; terms = one.terms } in made)
       (one_order compare total hash settings.seed n one.order other.order is_one.0 is_other.0)
-      ∙ ap (λ (terms : Terms). let made : Rotation = record { order = other.order; terms = terms } in made) (is_one.1 ∙ sym is_other.1)
+      ∙ ap (λ (terms : Terms). let made : Rotation = record { order = other.order; terms = terms } in made)
+      (is_one.1 ∙ sym is_other.1)

@@ -20,4 +20,5 @@ rotating = record { term_length = 1; stall_timeout = None; optimistic_views = 0 
 -- there is a time exactly where terms have several views, and terms of one view have no lookahead
 abbrev pub AreTerms : Terms → Type 0
 AreTerms terms =
-    MatchOption terms.stall_timeout ((terms.term_length ≡ 1) × (terms.optimistic_views ≡ 0)) (λ timeout. CanBeStable terms.term_length timeout)
+    MatchOption terms.stall_timeout ((terms.term_length ≡ 1) × (terms.optimistic_views ≡ 0))
+    (λ timeout. CanBeStable terms.term_length timeout)

@@ -374,9 +374,11 @@ fn are_distinct_assembled<S: CertificateScheme>(alloc: Global, scheme: &S) -> Re
     let falling = decoded::<Attestation<S>>(alloc, &(), &[&[2, 0xaa], &[1, 0xaa]])?;
     let repeated = decoded::<Attestation<S>>(alloc, &(), &[&[1, 0xaa], &[1, 0xaa]])?;
     let _ = is_out(alloc);
-    Ok(can_assemble(alloc, scheme, distinct.as_slice())
-        && can_assemble(alloc, scheme, falling.as_slice())
-        && !can_assemble(alloc, scheme, repeated.as_slice()))
+    Ok(
+        can_assemble(alloc, scheme, distinct.as_slice())
+            && can_assemble(alloc, scheme, falling.as_slice())
+            && !can_assemble(alloc, scheme, repeated.as_slice()),
+    )
 }
 
 #[test]

@@ -19,7 +19,8 @@ abbrev pub signer_of : {S D P G : Type 0} → Notarize S D P G → ℕ
 signer_of v = v.attestation.signer
 
 -- votes for one proposal, each valid
-pub record AreForProposal {S D P G : Type 0} (good : SubjectValue D → ℕ → G → Bool) (proposal : Proposal D) (votes : List (Notarize S D P G)) : Type 0 where
+pub record AreForProposal {S D P G : Type 0} (good : SubjectValue D → ℕ → G → Bool) (proposal : Proposal D)
+    (votes : List (Notarize S D P G)) : Type 0 where
   pub same : All (λ v. v.proposal ≡ proposal) votes
   pub each_valid : All (λ v. good (Notarizes v.proposal) v.attestation.signer v.attestation.signature ≡ true) votes
 
@@ -28,7 +29,8 @@ module _ {S D P G : Type 0} (eq : D → D → Bool) (keys : S → List P) (good 
   -- whether a vote is for the proposal, and valid
   abbrev pub is_wanted : Batch S D P G → Notarize S D P G → Bool
   is_wanted batch v =
-      same_proposal eq v.proposal batch.proposal && good batch.scheme (Notarizes v.proposal) v.attestation.signer v.attestation.signature
+      same_proposal eq v.proposal batch.proposal
+      && good batch.scheme (Notarizes v.proposal) v.attestation.signer v.attestation.signature
 
   -- of the votes that came, the first wanted one of each participant is recorded, and no other
   abbrev pub HasTaken : Batch S D P G → List (Notarize S D P G) → Type 0

@@ -133,7 +133,9 @@ impl<'a, S: Scheme<D>, D: Digest> Batcher<'a, S, D> {
     {
         let quorum = quorum(self.scheme.participants().len() as u32);
         let votes = self.votes.as_slice();
-        if self.count() < quorum as usize || !Notarization::can_assemble(alloc, self.scheme, votes) {
+        if self.count() < quorum as usize
+            || !Notarization::can_assemble(alloc, self.scheme, votes)
+        {
             return Ok(None);
         }
         match Notarization::from_notarizes(alloc, self.scheme, votes) {

@@ -8,7 +8,8 @@ use Rattle.simplex_scheme.specs.Attestation.{attestation_format}
 use Rattle.simplex_scheme.specs.declared.scheme.Attestation.{Attestation}
 use Rattle.simplex_plain.specs.Listed.{listed_encoding}
 
-each_within_bytes : {S P G : Type 0} (signature : Format G) (xs : List (Attestation S P G)) → length xs ≤ length (flat_map (attestation_format signature).encoding xs)
+each_within_bytes : {S P G : Type 0} (signature : Format G) (xs : List (Attestation S P G)) →
+    length xs ≤ length (flat_map (attestation_format signature).encoding xs)
 each_within_bytes signature [] = omega arith
 each_within_bytes {S} {P} {G} signature (a ∷ xs) =
     let form = attestation_format {S = S} {P = P} signature in
@@ -21,7 +22,8 @@ each_within_bytes {S} {P} {G} signature (a ∷ xs) =
     )
 
 -- each attestation takes a byte, at least
-pub listed_within_bytes : {S P G : Type 0} (signature : Format G) (xs : List (Attestation S P G)) → length xs ≤ length (listed_encoding signature xs)
+pub listed_within_bytes : {S P G : Type 0} (signature : Format G) (xs : List (Attestation S P G)) →
+    length xs ≤ length (listed_encoding signature xs)
 listed_within_bytes {S} {P} signature xs =
     let form = attestation_format {S = S} {P = P} signature in
     omega (arith, length-append (number_32.encoding (length xs)) (flat_map form.encoding xs), each_within_bytes signature xs)

@@ -11,10 +11,14 @@ is_key : (found : Option (List ℕ)) (key : List ℕ) → IsSomeAnd found (λ on
 is_key None key h = absurd h
 is_key (Some one) key h = ap (λ x. Some x) ((bytes_eq-Decides one key).0 h)
 
-pub key_at : (keys : List (List ℕ)) (place : ℕ) (key : List ℕ) → IsSomeAnd (slice_get keys place) (λ one. bytes_eq one key ≡ true) → (place < length keys) × (slice_get keys place ≡ Some key)
+pub key_at : (keys : List (List ℕ)) (place : ℕ) (key : List ℕ) →
+    IsSomeAnd (slice_get keys place) (λ one. bytes_eq one key ≡ true) →
+    (place < length keys) × (slice_get keys place ≡ Some key)
 key_at keys place key h = let same = is_key (slice_get keys place) key h in (slice_get_within keys place key same, same)
 
-pub not_outside : (keys : List (List ℕ)) (place : ℕ) (key : List ℕ) → IsSomeAnd (slice_get keys place) (λ one. bytes_eq one key ≡ true) → All (λ one. one ≢ key) keys → ⊥
+pub not_outside : (keys : List (List ℕ)) (place : ℕ) (key : List ℕ) →
+    IsSomeAnd (slice_get keys place) (λ one. bytes_eq one key ≡ true) → All (λ one. one ≢ key) keys → ⊥
 not_outside keys place key h none =
     let at = key_at keys place key h in
-    All-contains (λ one. one ≢ key) keys key none (Contains-from_at keys key (place, at.0, λ d. get_or_from_slice_get keys place key d at.1)) refl
+    All-contains (λ one. one ≢ key) keys key none
+    (Contains-from_at keys key (place, at.0, λ d. get_or_from_slice_get keys place key d at.1)) refl

@@ -26,12 +26,14 @@ quorum_meaning n good attestations = (
       let counted = both_true _ _ h in
       let others = both_true _ _ counted.1 in
       record {
-        distinct = IsDistinct-from_count nat_eq_equiv (signers_of attestations) (eqb-true _ _ counted.0 ∙ sym (length-map attestations (λ a. a.signer)));
+        distinct = IsDistinct-from_count nat_eq_equiv (signers_of attestations)
+            (eqb-true _ _ counted.0 ∙ sym (length-map attestations (λ a. a.signer)));
         enough = leb-true _ _ others.0;
         each_good = AllPass-from_list_all (λ a. good a.signer a.signature) attestations others.1;
       },
   λ is.
-      let whole = distinct_count-from_IsDistinct nat_eq_equiv (signers_of attestations) is.distinct ∙ length-map attestations (λ a. a.signer) in
+      let whole = distinct_count-from_IsDistinct nat_eq_equiv (signers_of attestations) is.distinct
+      ∙ length-map attestations (λ a. a.signer) in
       let all = list_all-from_AllPass (λ a. good a.signer a.signature) attestations is.each_good in
       rw (eq-eqb _ _ whole, le-leb _ _ is.enough) all,
 )

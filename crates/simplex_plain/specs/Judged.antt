@@ -36,12 +36,14 @@ same_judged_vote _ _ = false
 -- whether a verdict is on this signature of this signer for the subject
 abbrev pub is_on : {D : Type 0} → Format D → SubjectValue D → ℕ → List ℕ → Verdict → Bool
 is_on payload subject signer signature v =
-    same_judged_vote v.vote (vote_of subject) && ((v.signer == signer) && (bytes_eq v.signature signature && bytes_eq v.message.items (message_of payload subject)))
+    same_judged_vote v.vote (vote_of subject)
+    && ((v.signer == signer) && (bytes_eq v.signature signature && bytes_eq v.message.items (message_of payload subject)))
 
 -- the signer is in the committee, and there is a verdict
 abbrev pub judged_good : {D : Type 0} → Format D → JudgedScheme → SubjectValue D → ℕ → List ℕ → Bool
 judged_good payload scheme subject signer signature =
     nat_lt signer (length scheme.keys) && list_any (is_on payload subject signer signature) scheme.verdicts
 
-pub judged_members : {D : Type 0} (payload : Format D) (scheme : JudgedScheme) (subject : SubjectValue D) (signer : ℕ) (signature : List ℕ) → judged_good payload scheme subject signer signature ≡ true → signer < length scheme.keys
+pub judged_members : {D : Type 0} (payload : Format D) (scheme : JudgedScheme) (subject : SubjectValue D) (signer : ℕ)
+    (signature : List ℕ) → judged_good payload scheme subject signer signature ≡ true → signer < length scheme.keys
 judged_members payload scheme subject signer signature h = grind (arith, nat_tests)

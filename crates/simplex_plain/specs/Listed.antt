@@ -18,7 +18,8 @@ pub record AreListed {S P G : Type 0} (attestations : List (Attestation S P G)) 
   pub ascending : SignersAscend attestations
 
 -- they are at most as many as the bound, and each signer is below it
-pub record ListedFits {S P G : Type 0} (signature : Format G) (bound : ℕ) (attestations : List (Attestation S P G)) : Type 0 where
+pub record ListedFits {S P G : Type 0} (signature : Format G) (bound : ℕ)
+    (attestations : List (Attestation S P G)) : Type 0 where
   pub listed : AreListed attestations
   pub count : length attestations ≤ bound
   pub below : All (λ a. a.signer < bound) attestations
@@ -26,7 +27,8 @@ pub record ListedFits {S P G : Type 0} (signature : Format G) (bound : ℕ) (att
 
 -- the count, and then the attestations
 abbrev pub listed_encoding : {S P G : Type 0} → Format G → List (Attestation S P G) → List ℕ
-listed_encoding signature attestations = number_32.encoding (length attestations) ++ flat_map (attestation_format signature).encoding attestations
+listed_encoding signature attestations =
+    number_32.encoding (length attestations) ++ flat_map (attestation_format signature).encoding attestations
 
 abbrev pub bad_count : Refusal
 bad_count = invalid (codes "simplex_messages::Listed") (codes "count out of range")

@@ -26,15 +26,18 @@ plain_signature payload names key subject = sha256 (hashed (name_of names subjec
 -- the signer has a key, and this is the signature with it
 abbrev pub plain_good : {D : Type 0} → Format D → PlainScheme → SubjectValue D → ℕ → List ℕ → Bool
 plain_good payload scheme subject signer signature =
-    option_map_or (λ key. bytes_eq signature (plain_signature payload scheme.names key subject)) (slice_get scheme.keys signer) false
+    option_map_or (λ key. bytes_eq signature (plain_signature payload scheme.names key subject))
+    (slice_get scheme.keys signer) false
 
 -- the signer of a valid signature is in the committee
-pub good_members : {D : Type 0} (payload : Format D) (scheme : PlainScheme) (subject : SubjectValue D) (signer : ℕ) (signature : List ℕ) →
+pub good_members : {D : Type 0} (payload : Format D) (scheme : PlainScheme) (subject : SubjectValue D) (signer : ℕ)
+    (signature : List ℕ) →
     plain_good payload scheme subject signer signature ≡ true → signer < length scheme.keys
 good_members payload scheme subject signer signature h = inside scheme.keys signer h
   where
     inside : (keys : List (List ℕ)) (place : ℕ) →
-        option_map_or (λ key. bytes_eq signature (plain_signature payload scheme.names key subject)) (slice_get keys place) false ≡ true →
+        option_map_or (λ key. bytes_eq signature (plain_signature payload scheme.names key subject)) (slice_get keys place)
+        false ≡ true →
         place < length keys
     inside [] place h = absurd cc
     inside (key ∷ keys) zero h = omega arith

@@ -5,9 +5,12 @@ use Rattle.std.proofs.lemmas.List.{append_cancel_right, reverse-append}
 use Rattle.simplex_scheme.specs.Namespace.{names_of, AreApart, DetermineBases}
 
 -- two lists that differ at a place from the end are two
-apart_from_end : (base other suffix ending : List ℕ) (place : ℕ) → get_or (reverse suffix ++ reverse base) place 0 ≢ get_or (reverse ending ++ reverse other) place 0 → base ++ suffix ≢ other ++ ending
+apart_from_end : (base other suffix ending : List ℕ) (place : ℕ) →
+    get_or (reverse suffix ++ reverse base) place 0 ≢ get_or (reverse ending ++ reverse other) place 0 →
+    base ++ suffix ≢ other ++ ending
 apart_from_end base other suffix ending place differ same =
-    differ (ap (λ bytes. get_or bytes place 0) (sym (reverse-append base suffix) ∙ ap reverse same ∙ reverse-append other ending))
+    differ
+    (ap (λ bytes. get_or bytes place 0) (sym (reverse-append base suffix) ∙ ap reverse same ∙ reverse-append other ending))
 
 -- names of two kinds differ, for any two bases
 pub names_apart : (base other : List ℕ) → AreApart (names_of base) (names_of other)

@@ -9,9 +9,11 @@ use Rattle.simplex_scheme.specs.declared.scheme.Attestation.{Attestation}
 
 -- the signer, and then the signature
 abbrev pub attestation_format : {S P G : Type 0} → Format G → Format (Attestation S P G)
-attestation_format signature = made (λ p. record { signer = p.0; signature = p.1 }) (λ a. (a.signer, a.signature)) (both number_32 signature)
+attestation_format signature =
+    made (λ p. record { signer = p.0; signature = p.1 }) (λ a. (a.signer, a.signature)) (both number_32 signature)
 
-pub attestation_lawful : {S P G : Type 0} (signature : Format G) → IsLawful signature → IsLawful (attestation_format {S = S} {P = P} signature)
+pub attestation_lawful : {S P G : Type 0} (signature : Format G) → IsLawful signature →
+    IsLawful (attestation_format {S = S} {P = P} signature)
 attestation_lawful signature law = made_lawful _ _ (λ a. refl) (λ p. refl) (both_lawful number_32_lawful law)
 
 -- ---- greatest sizes, with a signature of n bytes at most
@@ -20,5 +22,7 @@ pub attestation_within : {S P G : Type 0} (signature : Format G) (n : ℕ) → I
     IsWithin (attestation_format {S = S} {P = P} signature) (5 + n)
 attestation_within signature n within a h = both_within number_32 signature number_32_within within (a.signer, a.signature) h
 
-pub attestation_longest : {S P G : Type 0} (signature : Format G) (n : ℕ) → Longest signature n → Longest (attestation_format {S = S} {P = P} signature) (5 + n)
-attestation_longest signature n longest = made_longest (both number_32 signature) _ _ (λ p. refl) (both_longest number_32 signature number_32_longest longest)
+pub attestation_longest : {S P G : Type 0} (signature : Format G) (n : ℕ) → Longest signature n →
+    Longest (attestation_format {S = S} {P = P} signature) (5 + n)
+attestation_longest signature n longest =
+    made_longest (both number_32 signature) _ _ (λ p. refl) (both_longest number_32 signature number_32_longest longest)

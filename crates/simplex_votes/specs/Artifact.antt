@@ -69,16 +69,22 @@ artifact_has_certificate _ = false
 
 -- an artifact with a clone of the other's certificate and the other's parts besides
 abbrev pub IsArtifactClone : {S D C P G : Type 0} → (C → C → Type 0) → Artifact S D C P G → Artifact S D C P G → Type 0
-IsArtifactClone is_clone (artifact.Notarization n) (artifact.Notarization copy) = (copy.proposal ≡ n.proposal) × is_clone n.certificate copy.certificate
-IsArtifactClone is_clone (artifact.Nullification n) (artifact.Nullification copy) = (copy.round ≡ n.round) × is_clone n.certificate copy.certificate
-IsArtifactClone is_clone (artifact.Finalization n) (artifact.Finalization copy) = (copy.proposal ≡ n.proposal) × is_clone n.certificate copy.certificate
+IsArtifactClone is_clone (artifact.Notarization n) (artifact.Notarization copy) =
+    (copy.proposal ≡ n.proposal) × is_clone n.certificate copy.certificate
+IsArtifactClone is_clone (artifact.Nullification n) (artifact.Nullification copy) =
+    (copy.round ≡ n.round) × is_clone n.certificate copy.certificate
+IsArtifactClone is_clone (artifact.Finalization n) (artifact.Finalization copy) =
+    (copy.proposal ≡ n.proposal) × is_clone n.certificate copy.certificate
 IsArtifactClone is_clone a copy = copy ≡ a
 
 -- a clone of the certificate in it, if there is one, is that certificate
 abbrev pub ArtifactClonesCertificate : {S D C P G : Type 0} → (C → C → Type 0) → Artifact S D C P G → Type 0
-ArtifactClonesCertificate {C = C} is_clone (artifact.Notarization n) = (copy : C) → is_clone n.certificate copy → copy ≡ n.certificate
-ArtifactClonesCertificate {C = C} is_clone (artifact.Nullification n) = (copy : C) → is_clone n.certificate copy → copy ≡ n.certificate
-ArtifactClonesCertificate {C = C} is_clone (artifact.Finalization n) = (copy : C) → is_clone n.certificate copy → copy ≡ n.certificate
+ArtifactClonesCertificate {C = C} is_clone (artifact.Notarization n) =
+    (copy : C) → is_clone n.certificate copy → copy ≡ n.certificate
+ArtifactClonesCertificate {C = C} is_clone (artifact.Nullification n) =
+    (copy : C) → is_clone n.certificate copy → copy ≡ n.certificate
+ArtifactClonesCertificate {C = C} is_clone (artifact.Finalization n) =
+    (copy : C) → is_clone n.certificate copy → copy ≡ n.certificate
 ArtifactClonesCertificate is_clone _ = ⊤
 
 -- the refusal of a tag that no artifact has
@@ -88,7 +94,8 @@ unknown_artifact = invalid (codes "consensus::simplex::Artifact") (codes "Invali
 abbrev pub IsArtifact : {S D C P G : Type 0} → Format D → (C → Type 0) → Format G → Artifact S D C P G → Type 0
 IsArtifact payload is_certificate signature (artifact.Notarize v) = (notarize_format payload signature).is_value v
 IsArtifact payload is_certificate signature (artifact.Notarization n) = IsNotarization payload is_certificate n
-IsArtifact payload is_certificate signature (artifact.Certification round certified) = (both round_format truth).is_value (round, certified)
+IsArtifact payload is_certificate signature (artifact.Certification round certified) =
+    (both round_format truth).is_value (round, certified)
 IsArtifact payload is_certificate signature (artifact.Nullify v) = (nullify_format signature).is_value v
 IsArtifact payload is_certificate signature (artifact.Nullification n) = IsNullification is_certificate n
 IsArtifact payload is_certificate signature (artifact.Finalize v) = (finalize_format payload signature).is_value v
@@ -107,7 +114,8 @@ artifact_tag (artifact.Finalization n) = 6
 abbrev pub artifact_body : {S D C P G : Type 0} → Format D → (C → List ℕ) → Format G → Artifact S D C P G → List ℕ
 artifact_body payload encoding signature (artifact.Notarize v) = (notarize_format payload signature).encoding v
 artifact_body payload encoding signature (artifact.Notarization n) = notarization_encoding payload encoding n
-artifact_body payload encoding signature (artifact.Certification round certified) = (both round_format truth).encoding (round, certified)
+artifact_body payload encoding signature (artifact.Certification round certified) =
+    (both round_format truth).encoding (round, certified)
 artifact_body payload encoding signature (artifact.Nullify v) = (nullify_format signature).encoding v
 artifact_body payload encoding signature (artifact.Nullification n) = nullification_encoding encoding n
 artifact_body payload encoding signature (artifact.Finalize v) = (finalize_format payload signature).encoding v
@@ -147,13 +155,16 @@ artifact_lawful {S} {D} {C} {P} {G} payload inner signature payloads inners sign
     (artifact_body payload inner.encoding signature) 1 (λ n. artifact.Notarization n) _
     (notarization_lawful payload inner payloads inners) (λ n. refl) (λ n. refl) (λ n h. h)
     (branch_takes (IsArtifact {S = S} {P = P} payload inner.is_value signature) artifact_tag
-    (artifact_body payload inner.encoding signature) 2 (λ p. artifact.Certification p.0 p.1) _ (both_lawful round_lawful truth_lawful)
+    (artifact_body payload inner.encoding signature) 2 (λ p. artifact.Certification p.0 p.1) _
+    (both_lawful round_lawful truth_lawful)
     (λ p. refl) (λ p. refl) (λ p h. h)
     (branch_takes (IsArtifact {S = S} {P = P} payload inner.is_value signature) artifact_tag
-    (artifact_body payload inner.encoding signature) 3 (λ v. artifact.Nullify v) _ (nullify_lawful signature signatures) (λ v. refl)
+    (artifact_body payload inner.encoding signature) 3 (λ v. artifact.Nullify v) _
+    (nullify_lawful signature signatures) (λ v. refl)
     (λ v. refl) (λ v h. h)
     (branch_takes (IsArtifact {S = S} {P = P} payload inner.is_value signature) artifact_tag
-    (artifact_body payload inner.encoding signature) 4 (λ n. artifact.Nullification n) _ (nullification_lawful inner inners) (λ n. refl)
+    (artifact_body payload inner.encoding signature) 4 (λ n. artifact.Nullification n) _
+    (nullification_lawful inner inners) (λ n. refl)
     (λ n. refl) (λ n h. h)
     (branch_takes (IsArtifact {S = S} {P = P} payload inner.is_value signature) artifact_tag
     (artifact_body payload inner.encoding signature) 5 (λ v. artifact.Finalize v) _
@@ -165,11 +176,16 @@ artifact_lawful {S} {D} {C} {P} {G} payload inner signature payloads inners sign
     again
   where
     again : (a : Artifact S D C P G) (rest : List ℕ) → IsArtifact payload inner.is_value signature a →
-        artifact_branches payload inner signature (artifact_tag a) (artifact_body payload inner.encoding signature a ++ rest) ≡ Ok (a, rest)
+        artifact_branches payload inner signature (artifact_tag a) (artifact_body payload inner.encoding signature a ++ rest)
+        ≡ Ok (a, rest)
     again (artifact.Notarize v) rest h = rw ((notarize_lawful payload signature payloads signatures).again v rest h) refl
-    again (artifact.Notarization n) rest h = rw ((notarization_lawful {S = S} {P = P} {G = G} payload inner payloads inners).again n rest h) refl
-    again (artifact.Certification round certified) rest h = rw ((both_lawful round_lawful truth_lawful).again (round, certified) rest h) refl
+    again (artifact.Notarization n) rest h =
+        rw ((notarization_lawful {S = S} {P = P} {G = G} payload inner payloads inners).again n rest h) refl
+    again (artifact.Certification round certified) rest h =
+        rw ((both_lawful round_lawful truth_lawful).again (round, certified) rest h) refl
     again (artifact.Nullify v) rest h = rw ((nullify_lawful {S = S} {P = P} signature signatures).again v rest h) refl
-    again (artifact.Nullification n) rest h = rw ((nullification_lawful {S = S} {P = P} {G = G} inner inners).again n rest h) refl
+    again (artifact.Nullification n) rest h =
+        rw ((nullification_lawful {S = S} {P = P} {G = G} inner inners).again n rest h) refl
     again (artifact.Finalize v) rest h = rw ((finalize_lawful payload signature payloads signatures).again v rest h) refl
-    again (artifact.Finalization n) rest h = rw ((finalization_lawful {S = S} {P = P} {G = G} payload inner payloads inners).again n rest h) refl
+    again (artifact.Finalization n) rest h =
+        rw ((finalization_lawful {S = S} {P = P} {G = G} payload inner payloads inners).again n rest h) refl

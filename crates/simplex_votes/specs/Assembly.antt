@@ -9,14 +9,16 @@ use Rattle.simplex_votes.specs.declared.types.finalize.Finalize.{Finalize}
 
 -- votes from which a certificate can be assembled: at least one, all of one subject, and of distinct participants out
 -- of n. V is the type of votes, X that of what they are for
-pub record CanAssemble {V X S P G : Type 0} (subject : V → X) (attestation : V → Attestation S P G) (n : ℕ) (votes : List V) : Type 0 where
+pub record CanAssemble {V X S P G : Type 0} (subject : V → X) (attestation : V → Attestation S P G) (n : ℕ)
+    (votes : List V) : Type 0 where
   pub some : 1 ≤ length votes
   pub same : AllPairs (λ v w. subject v ≡ subject w) votes
   pub distinct : IsDistinct nat_eq (signers_of (map attestation votes))
   pub members : All (λ a. a.signer < n) (map attestation votes)
 
 -- votes of one subject by participants out of n, in the order of their signers, as a vote map holds them
-pub record StandInOrder {V X S P G : Type 0} (subject : V → X) (attestation : V → Attestation S P G) (n : ℕ) (votes : List V) : Type 0 where
+pub record StandInOrder {V X S P G : Type 0} (subject : V → X) (attestation : V → Attestation S P G) (n : ℕ)
+    (votes : List V) : Type 0 where
   pub some : 1 ≤ length votes
   pub same : AllPairs (λ v w. subject v ≡ subject w) votes
   pub ordered : AllPairs (λ v w. (attestation v).signer < (attestation w).signer) votes

@@ -14,9 +14,11 @@ context_format payload key =
     made (λ p. record { round = p.0; leader = p.1.0; parent = p.1.1 }) (λ c. (c.round, (c.leader, c.parent)))
     (both round_format (both key (both number_64 payload)))
 
-pub context_lawful : {D P : Type 0} (payload : Format D) (key : Format P) → IsLawful payload → IsLawful key → IsLawful (context_format payload key)
+pub context_lawful : {D P : Type 0} (payload : Format D) (key : Format P) → IsLawful payload → IsLawful key →
+    IsLawful (context_format payload key)
 context_lawful payload key payloads keys =
-    made_lawful _ _ (λ c. refl) (λ p. refl) (both_lawful round_lawful (both_lawful keys (both_lawful number_64_lawful payloads)))
+    made_lawful _ _ (λ c. refl) (λ p. refl)
+    (both_lawful round_lawful (both_lawful keys (both_lawful number_64_lawful payloads)))
 
 -- ---- greatest sizes, with a payload of m bytes and a key of n bytes at most
 

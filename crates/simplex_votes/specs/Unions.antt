@@ -101,15 +101,18 @@ vote_lawful {S} {D} {P} {G} payload signature payloads signatures =
     again (vote.Finalize v) rest h = rw ((finalize_lawful payload signature payloads signatures).again v rest h) refl
 
 -- with a payload of m bytes and a signature of n bytes at most, a vote is longest with a proposal
-pub vote_within : {S D P G : Type 0} (payload : Format D) (signature : Format G) (m n : ℕ) → IsWithin payload m → IsWithin signature n →
+pub vote_within : {S D P G : Type 0} (payload : Format D) (signature : Format G) (m n : ℕ) → IsWithin payload m →
+    IsWithin signature n →
     IsWithin (vote_format {S = S} {P = P} payload signature) (36 + m + n)
 vote_within payload signature m n payloads signatures (vote.Notarize v) h =
     let most = notarize_within payload signature m n payloads signatures v h in omega (arith, most)
-vote_within payload signature m n payloads signatures (vote.Nullify v) h = let most = nullify_within signature n signatures v h in omega (arith, most)
+vote_within payload signature m n payloads signatures (vote.Nullify v) h =
+    let most = nullify_within signature n signatures v h in omega (arith, most)
 vote_within payload signature m n payloads signatures (vote.Finalize v) h =
     let most = finalize_within payload signature m n payloads signatures v h in omega (arith, most)
 
-pub vote_longest : {S D P G : Type 0} (payload : Format D) (signature : Format G) (m n : ℕ) → Longest payload m → Longest signature n →
+pub vote_longest : {S D P G : Type 0} (payload : Format D) (signature : Format G) (m n : ℕ) → Longest payload m →
+    Longest signature n →
     Longest (vote_format {S = S} {P = P} payload signature) (36 + m + n)
 vote_longest {S} {D} {P} {G} payload signature m n payloads signatures =
     let longest = notarize_longest {S = S} {P = P} payload signature m n payloads signatures in
@@ -209,17 +212,24 @@ pub certificate_lawful : {S D C P G : Type 0} (payload : Format D) (inner : Form
     IsLawful (certificate_format {S = S} {P = P} {G = G} payload inner)
 certificate_lawful {S} {D} {C} {P} {G} payload inner payloads inners =
     union_lawful
-    (branch_takes (IsCertificate {S = S} {P = P} {G = G} payload inner.is_value) certificate_tag (certificate_body payload inner.encoding) 0
+    (branch_takes (IsCertificate {S = S} {P = P} {G = G} payload inner.is_value) certificate_tag
+    (certificate_body payload inner.encoding) 0
     (λ n. certificate.Notarization n) _ (notarization_lawful payload inner payloads inners) (λ n. refl) (λ n. refl) (λ n h. h)
-    (branch_takes (IsCertificate {S = S} {P = P} {G = G} payload inner.is_value) certificate_tag (certificate_body payload inner.encoding) 1
+    (branch_takes (IsCertificate {S = S} {P = P} {G = G} payload inner.is_value) certificate_tag
+    (certificate_body payload inner.encoding) 1
     (λ n. certificate.Nullification n) _ (nullification_lawful inner inners) (λ n. refl) (λ n. refl) (λ n h. h)
-    (branch_takes (IsCertificate {S = S} {P = P} {G = G} payload inner.is_value) certificate_tag (certificate_body payload inner.encoding) 2
+    (branch_takes (IsCertificate {S = S} {P = P} {G = G} payload inner.is_value) certificate_tag
+    (certificate_body payload inner.encoding) 2
     (λ n. certificate.Finalization n) _ (finalization_lawful payload inner payloads inners) (λ n. refl) (λ n. refl) (λ n h. h)
     (no_branch_takes unknown_certificate))))
     again
   where
     again : (c : Certificate S D C P G) (rest : List ℕ) → IsCertificate payload inner.is_value c →
-        certificate_branches payload inner (certificate_tag c) (certificate_body payload inner.encoding c ++ rest) ≡ Ok (c, rest)
-    again (certificate.Notarization n) rest h = rw ((notarization_lawful {S = S} {P = P} {G = G} payload inner payloads inners).again n rest h) refl
-    again (certificate.Nullification n) rest h = rw ((nullification_lawful {S = S} {P = P} {G = G} inner inners).again n rest h) refl
-    again (certificate.Finalization n) rest h = rw ((finalization_lawful {S = S} {P = P} {G = G} payload inner payloads inners).again n rest h) refl
+        certificate_branches payload inner (certificate_tag c) (certificate_body payload inner.encoding c ++ rest)
+        ≡ Ok (c, rest)
+    again (certificate.Notarization n) rest h =
+        rw ((notarization_lawful {S = S} {P = P} {G = G} payload inner payloads inners).again n rest h) refl
+    again (certificate.Nullification n) rest h =
+        rw ((nullification_lawful {S = S} {P = P} {G = G} inner inners).again n rest h) refl
+    again (certificate.Finalization n) rest h =
+        rw ((finalization_lawful {S = S} {P = P} {G = G} payload inner payloads inners).again n rest h) refl

@@ -10,9 +10,12 @@ use Rattle.example.specs.Accused.{AreAccused, IsPlainCommittee, round_and_signer
 use Rattle.example.proofs.accused.Goals as goal
 
 -- whom the report accuses under this committee
-are_accused : {C : Type 0} (basis : Schedule PlainScheme → Basis PlainScheme (List ℕ) C (List ℕ) (List ℕ)) (namespace : List ℕ) (keys : List (List ℕ)) (stream : List ℕ) (accused : List (Round × ℕ))
-    (committee : PlainScheme) (committees : Schedule PlainScheme) (report : Report PlainScheme (List ℕ) (List ℕ) (List ℕ)) → committees ≡ Every committee →
-    IsPlainCommittee namespace keys committee → IsReport (basis committees) stream report → accused ≡ map round_and_signer report.evidence.items →
+are_accused : {C : Type 0} (basis : Schedule PlainScheme → Basis PlainScheme (List ℕ) C (List ℕ) (List ℕ)) (namespace : List ℕ)
+    (keys : List (List ℕ)) (stream : List ℕ) (accused : List (Round × ℕ))
+    (committee : PlainScheme) (committees : Schedule PlainScheme) (report : Report PlainScheme (List ℕ) (List ℕ) (List ℕ)) →
+    committees ≡ Every committee →
+    IsPlainCommittee namespace keys committee → IsReport (basis committees) stream report →
+    accused ≡ map round_and_signer report.evidence.items →
     AreAccused basis namespace keys stream accused
 are_accused basis namespace keys stream accused committee committees report every committee_is report_is accused_are = record {
   committee = committee;

@@ -6,4 +6,6 @@ use Rattle.simplex_plain.proofs.certificates.are_certified.Given as goal
 
 -- each certificate so far certifies its subject
 abbrev pub invariant-loop-item : goal.invariant-loop-item
-invariant-loop-item g l = list_all (λ item. is_quorum (length (g.S.CertificateScheme.keys l.scheme)) (g.S.AttestationVerifier.accepted l.scheme (subject_value item.0)) item.1.now) (take l.item-index l.items) ≡ true
+invariant-loop-item g l =
+    list_all (λ item. is_quorum (length (g.S.CertificateScheme.keys l.scheme))
+    (g.S.AttestationVerifier.accepted l.scheme (subject_value item.0)) item.1.now) (take l.item-index l.items) ≡ true

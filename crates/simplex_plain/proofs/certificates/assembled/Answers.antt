@@ -8,4 +8,5 @@ from_ascending-requires g c =
 
 pub returns-clause-certified : goal.returns-clause-certified
 returns-clause-certified g c good each =
-    rw c.from_ascending.ensures (quorum_in_order _ _ c.sort_by_signers.ensures (length (g.S.CertificateScheme.keys c.args.scheme.now)) good (omega (arith, ap length c.participants.ensures.keys)) each)
+    rw c.from_ascending.ensures (quorum_in_order _ _ c.sort_by_signers.ensures
+    (length (g.S.CertificateScheme.keys c.args.scheme.now)) good (omega (arith, ap length c.participants.ensures.keys)) each)

@@ -5,4 +5,6 @@ use Rattle.simplex_plain.proofs.certificates.is_certified.Given as goal
 
 -- each attestation so far is accepted
 abbrev pub invariant-loop-attestation : goal.invariant-loop-attestation
-invariant-loop-attestation g l = list_all (λ a. g.S.AttestationVerifier.accepted l.scheme (subject_value l.subject) a.signer a.signature) (take l.attestation-index l.attestations) ≡ true
+invariant-loop-attestation g l =
+    list_all (λ a. g.S.AttestationVerifier.accepted l.scheme (subject_value l.subject) a.signer a.signature)
+    (take l.attestation-index l.attestations) ≡ true

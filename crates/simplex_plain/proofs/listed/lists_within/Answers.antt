@@ -4,4 +4,5 @@ use Rattle.simplex_plain.proofs.listed.lists_within.Goals as goal
 
 pub returns : goal.returns
 returns g c certificate =
-    listed_within_bytes (fixed g.S.Signature.FixedSize.SIZE g.S.Signature.Fixed.bytes_of g.S.Signature.Fixed.of_bytes) certificate
+    listed_within_bytes (fixed g.S.Signature.FixedSize.SIZE g.S.Signature.Fixed.bytes_of g.S.Signature.Fixed.of_bytes)
+    certificate

@@ -20,8 +20,11 @@ attestations-preserved g c =
     let so = rw (one_left c.args.count c.attestations.counter c.attestations-test.true) at c.attestations.invariant.1 in
     let gives = c.in-Ok-read_attestation.ensures.gives in
     let below = c.in-Ok-read_attestation.ensures.below in
-    let signer = c.get-least.ensures in
-    (omega arith, rw (signer, c.push.ensures.items, c.if-is_err.ensures.negation) (read_more _ _ _ _ _ _ _ _ c.in-Ok-read_attestation.attestation _ so gives))
+    let signer = c.get-least.ensures in (
+      omega arith,
+      rw (signer, c.push.ensures.items, c.if-is_err.ensures.negation)
+          (read_more _ _ _ _ _ _ _ _ c.in-Ok-read_attestation.attestation _ so gives),
+    )
 
 pub from_ascending-requires : goal.from_ascending-requires
 from_ascending-requires g c =

@@ -11,10 +11,20 @@ pub returns-then-get-place : goal.returns-then-get-place
 returns-then-get-place c =
     let d = c.index-participants-place.result in
     let i = c.participants.place in
-    let at : get_or (range_with_len 0 (length c.args.participants.now)) i d ≡ i = rw (get_or-range_with_len 0 (length c.args.participants.now) i d c.participants-test.true, zero-add) refl in
-    (λ never. absurd (false≢true never), λ same. absurd (c.if-get-place.true (c.get.ensures ∙ (c.index-participants-place.is ∙ (ap (λ xs. get_or xs i d) same ∙ at)))))
+    let at : get_or (range_with_len 0 (length c.args.participants.now)) i d ≡ i =
+    rw (get_or-range_with_len 0 (length c.args.participants.now) i d c.participants-test.true, zero-add) refl in (
+      λ never. absurd (false≢true never),
+      λ same.
+          absurd (c.if-get-place.true (c.get.ensures ∙ (c.index-participants-place.is ∙ (ap (λ xs. get_or xs i d) same ∙ at)))),
+    )
 
 pub participants-preserved : goal.participants-preserved
 participants-preserved c =
     let here = sym c.index-participants-place.is ∙ (sym c.get.ensures ∙ c.if-get-place.false) in
-    rw (take_more c.args.participants.now c.participants.place c.index-participants-place.result c.participants-test.true, c.participants.invariant, here, range_more 0 c.participants.place, zero-add) refl
+    rw (
+      take_more c.args.participants.now c.participants.place c.index-participants-place.result c.participants-test.true,
+      c.participants.invariant,
+      here,
+      range_more 0 c.participants.place,
+      zero-add,
+    ) refl

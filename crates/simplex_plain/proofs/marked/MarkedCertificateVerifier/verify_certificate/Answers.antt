@@ -8,5 +8,7 @@ use Rattle.simplex_plain.proofs.marked.MarkedCertificateVerifier.verify_certific
 pub returns-clause-exactly : goal.returns-clause-exactly
 returns-clause-exactly g c =
     let keys = length c.args.self.now.keys in
-    let tested : c.is_certified.result ≡ is_quorum keys (marked_good keys (subject_value c.args.subject)) c.args.certificate.now = search rules in
+    let tested : c.is_certified.result
+    ≡ is_quorum keys (marked_good keys (subject_value c.args.subject)) c.args.certificate.now =
+    search rules in
     rw tested (quorum_meaning keys (marked_good keys (subject_value c.args.subject)) c.args.certificate.now)

@@ -10,10 +10,13 @@ law : (g : given.Over) → IsLawful (fixed g.D.FixedSize.SIZE g.D.Fixed.bytes_of
 law g = fixed_lawful _ _ _ g.met.D.Fixed.back g.met.D.Fixed.forth
 
 pub returns-in-Notarize-clause-one : goal.returns-in-Notarize-clause-one
-returns-in-Notarize-clause-one g c base other is = one_subject _ (law g) base (subject_value c.args.self.now) other (rw c.in-Notarize.is c.encode.ensures.value) is
+returns-in-Notarize-clause-one g c base other is =
+    one_subject _ (law g) base (subject_value c.args.self.now) other (rw c.in-Notarize.is c.encode.ensures.value) is
 
 pub returns-in-Nullify-clause-one : goal.returns-in-Nullify-clause-one
-returns-in-Nullify-clause-one g c base other is = one_subject _ (law g) base (subject_value c.args.self.now) other (rw c.in-Nullify.is c.encode-in-Nullify.ensures.value) is
+returns-in-Nullify-clause-one g c base other is =
+    one_subject _ (law g) base (subject_value c.args.self.now) other (rw c.in-Nullify.is c.encode-in-Nullify.ensures.value) is
 
 pub returns-in-Finalize-clause-one : goal.returns-in-Finalize-clause-one
-returns-in-Finalize-clause-one g c base other is = one_subject _ (law g) base (subject_value c.args.self.now) other (rw c.in-Finalize.is c.encode-in-Finalize.ensures.value) is
+returns-in-Finalize-clause-one g c base other is =
+    one_subject _ (law g) base (subject_value c.args.self.now) other (rw c.in-Finalize.is c.encode-in-Finalize.ensures.value) is

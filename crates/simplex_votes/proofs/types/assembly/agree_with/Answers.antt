@@ -12,6 +12,8 @@ votes-preserved g c =
     let first = c.args.first.now in
     let i = c.votes.vote-index in
     let vote = c.vote-item.result in
-    let one_more : take i votes ++ vote ∷ [] ≡ take (i + 1) votes = ap (λ v. take i votes ++ v ∷ []) c.vote-item.is ∙ sym (take_more votes i vote c.votes-test.true) in
+    let one_more : take i votes ++ vote ∷ [] ≡ take (i + 1) votes =
+    ap (λ v. take i votes ++ v ∷ []) c.vote-item.is ∙ sym (take_more votes i vote c.votes-test.true) in
     subst (All (λ v. subject v ≡ subject first)) one_more
-    (All-push (λ v. subject v ≡ subject first) (take i votes) vote c.votes.invariant (c.agrees_with.ensures.0 c.if-not-agrees_with.false))
+    (All-push (λ v. subject v ≡ subject first) (take i votes) vote c.votes.invariant
+    (c.agrees_with.ensures.0 c.if-not-agrees_with.false))

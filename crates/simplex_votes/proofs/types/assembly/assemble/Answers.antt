@@ -13,8 +13,11 @@ returns-in-Ok-clause-certified g c =
     let attestation = g.V.Attested.attestation_of in
     let votes = c.args.votes.now in
     IfOk-weaker c.assemble.result
-    (λ certificate. (subject : SubjectValue g.row.D.Denot) → All (λ a. good subject a.signer a.signature ≡ true) c.in-Ok.attestations.items → certified subject certificate ≡ true)
-    (λ certificate. (subject : SubjectValue g.row.D.Denot) → All (λ v. good subject (attestation v).signer (attestation v).signature ≡ true) votes → certified subject certificate ≡ true)
+    (λ certificate. (subject : SubjectValue g.row.D.Denot) →
+    All (λ a. good subject a.signer a.signature ≡ true) c.in-Ok.attestations.items → certified subject certificate ≡ true)
+    (λ certificate. (subject : SubjectValue g.row.D.Denot) → All
+    (λ v. good subject (attestation v).signer (attestation v).signature ≡ true) votes → certified subject certificate ≡ true)
     (λ certificate certifies subject each. certifies subject
-    (subst (All (λ a. good subject a.signer a.signature ≡ true)) (sym c.in-Ok.ensures) (All-map (λ a. good subject a.signer a.signature ≡ true) attestation votes each)))
+    (subst (All (λ a. good subject a.signer a.signature ≡ true)) (sym c.in-Ok.ensures)
+    (All-map (λ a. good subject a.signer a.signature ≡ true) attestation votes each)))
     c.assemble.ensures.certified

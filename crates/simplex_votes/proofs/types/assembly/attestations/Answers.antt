@@ -9,6 +9,7 @@ votes-preserved g c =
     let votes = c.args.votes.now in
     let i = c.votes.vote-index in
     let vote = c.vote-item.result in
-    let one_more : take i votes ++ vote ∷ [] ≡ take (i + 1) votes = ap (λ v. take i votes ++ v ∷ []) c.vote-item.is ∙ sym (take_more votes i vote c.votes-test.true) in
+    let one_more : take i votes ++ vote ∷ [] ≡ take (i + 1) votes =
+    ap (λ v. take i votes ++ v ∷ []) c.vote-item.is ∙ sym (take_more votes i vote c.votes-test.true) in
     c.in_ok-push.ensures.items ∙ (λ j. c.votes.invariant j ++ (c.attestation-attestation.ensures j) ∷ []) ∙
     sym (map-append attestation (take i votes) (vote ∷ [])) ∙ ap (map attestation) one_more

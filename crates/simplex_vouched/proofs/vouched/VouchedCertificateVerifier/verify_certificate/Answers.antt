@@ -8,5 +8,7 @@ use Rattle.simplex_vouched.proofs.vouched.VouchedCertificateVerifier.verify_cert
 pub returns-clause-exactly : goal.returns-clause-exactly
 returns-clause-exactly g c =
     let keys = c.args.self.now.keys in
-    let tested : c.is_certified.result ≡ is_quorum (length keys) (vouched_valid keys (subject_value c.args.subject)) c.args.certificate.now = search rules in
+    let tested : c.is_certified.result
+    ≡ is_quorum (length keys) (vouched_valid keys (subject_value c.args.subject)) c.args.certificate.now =
+    search rules in
     rw tested (quorum_meaning (length keys) (vouched_valid keys (subject_value c.args.subject)) c.args.certificate.now)

@@ -14,4 +14,5 @@ returns-in-Ok-clause-certified g c each =
     let first = c.index-votes-0.result in
     let p = (get_or votes 0 first).proposal in
     c.in-Ok.ensures.certified (Notarizes p)
-    (good_for (g.S.Scheme.good c.args.scheme.now) Notarizes (λ v. v.proposal) (λ v. v.attestation) votes p (all_for_first (λ v. v.proposal) votes first c.requires.same) each)
+    (good_for (g.S.Scheme.good c.args.scheme.now) Notarizes (λ v. v.proposal) (λ v. v.attestation) votes p
+    (all_for_first (λ v. v.proposal) votes first c.requires.same) each)

@@ -14,4 +14,5 @@ returns-in-Ok-clause-certified g c each =
     let first = c.index-votes-0.result in
     let r = (get_or votes 0 first).round in
     c.in-Ok.ensures.certified (Nullifies r)
-    (good_for (g.S.Scheme.good c.args.scheme.now) Nullifies (λ v. v.round) (λ v. v.attestation) votes r (all_for_first (λ v. v.round) votes first c.requires.same) each)
+    (good_for (g.S.Scheme.good c.args.scheme.now) Nullifies (λ v. v.round) (λ v. v.attestation) votes r
+    (all_for_first (λ v. v.round) votes first c.requires.same) each)
