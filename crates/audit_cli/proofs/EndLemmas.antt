@@ -4,7 +4,7 @@ use Rattle.std.specs.Io.KnownBytes.{Keeps}
 use Rattle.simplex_plain.specs.Plain.{PlainScheme}
 use Rattle.simplex_detector.specs.Committees.{Schedule}
 use Rattle.simplex_audit.specs.Run.{AppendsBeginning}
-use Rattle.simplex_audit.specs.declared.audit.Fault.{Fault}
+use Rattle.simplex_stream.specs.declared.fault.Fault.{Fault}
 use Rattle.simplex_audit.specs.declared.run.RunError.{RunError}
 use Rattle.simplex_audit.specs.declared.run.RunError.TheVariants as errors
 use Rattle.audit_cli.specs.Answer.{IsRead, Ending, Ends, GaveTooMuch, Bases, ReaderUse, WriterUse, status_of}
@@ -16,11 +16,13 @@ use Rattle.audit_cli.specs.declared.status.Failure.{Failure}
 use Rattle.audit_cli.specs.declared.status.Failure.TheVariants as failures
 
 -- arguments that name committees are arguments
-pub committees-named : (words : List (List ℕ)) (committees : Schedule PlainScheme) → AreArguments words committees → AreNoArguments words → ⊥
+pub committees-named : (words : List (List ℕ)) (committees : Schedule PlainScheme) → AreArguments words committees →
+    AreNoArguments words → ⊥
 committees-named words committees named none = none committees named
 
 -- the arguments gave no committees
-pub ends-without_committees : (basis : Bases) (words : List (List ℕ)) (reader : ReaderUse) (writer : WriterUse) (failure : Failure)
+pub ends-without_committees : (basis : Bases) (words : List (List ℕ)) (reader : ReaderUse) (writer : WriterUse)
+    (failure : Failure)
     → (failure ≡ failures.Usage → AreNoArguments words) → (failure ≡ failures.Usage) ⊎ (failure ≡ failures.OutOfMemory)
     → Keeps writer.before writer.after → Ends basis words reader writer (Err failure)
 ends-without_committees basis words reader writer failure none (inl e) keeps =
@@ -29,14 +31,18 @@ ends-without_committees basis words reader writer failure none (inr e) keeps =
     subst (λ (f : Failure). Ends basis words reader writer (Err f)) (sym e) keeps
 
 -- the run failed
-pub ends-given_up : (basis : Bases) (words : List (List ℕ)) (reader : ReaderUse) (writer : WriterUse) (committees : Schedule PlainScheme) (error : RunError)
+pub ends-given_up : (basis : Bases) (words : List (List ℕ)) (reader : ReaderUse) (writer : WriterUse)
+    (committees : Schedule PlainScheme) (error : RunError)
     → AreArguments words committees
     → (error ≡ errors.Read → IsTrue reader.failed) → (error ≡ errors.TooLong → GaveTooMuch reader)
     → ((error ≡ errors.Write → ⊥) → Keeps writer.before writer.after)
-    → (error ≡ errors.Write → (text : List ℕ) × (fault : Option Fault) × IsRead basis words reader text fault × AppendsBeginning writer.before writer.after text × IsTrue writer.failed)
+    → (error ≡ errors.Write → (text : List ℕ) × (fault : Option Fault) × IsRead basis words reader text fault
+    × AppendsBeginning writer.before writer.after text × IsTrue writer.failed)
     → Ends basis words reader writer (Err (failure_of error))
-ends-given_up basis words reader writer committees errors.Read named failed long keeps written = ((committees, named), inl (failed refl), keeps (λ e. absurd cc))
-ends-given_up basis words reader writer committees errors.TooLong named failed long keeps written = ((committees, named), inr (long refl), keeps (λ e. absurd cc))
+ends-given_up basis words reader writer committees errors.Read named failed long keeps written =
+    ((committees, named), inl (failed refl), keeps (λ e. absurd cc))
+ends-given_up basis words reader writer committees errors.TooLong named failed long keeps written =
+    ((committees, named), inr (long refl), keeps (λ e. absurd cc))
 ends-given_up basis words reader writer committees errors.OutOfMemory named failed long keeps written = keeps (λ e. absurd cc)
 ends-given_up basis words reader writer committees errors.Write named failed long keeps written = written refl
 

@@ -26,7 +26,8 @@ with_keys-with_key keys key (Some rest) = ap Some (append_assoc keys (key ∷ []
 pub with_keys-named : (keys : List (List ℕ)) (text : List ℕ) (texts : List (List ℕ)) (key : List ℕ) → key_named text ≡ Some key
     → with_keys (keys ++ key ∷ []) (keys_named texts) ≡ with_keys keys (keys_named (text ∷ texts))
 with_keys-named keys text texts key e =
-    subst (λ (o : Option (List ℕ)). with_keys (keys ++ key ∷ []) (keys_named texts) ≡ with_keys keys (with_key o (keys_named texts))) (sym e)
+    subst (λ (o : Option (List ℕ)). with_keys (keys ++ key ∷ []) (keys_named texts)
+    ≡ with_keys keys (with_key o (keys_named texts))) (sym e)
     (with_keys-with_key keys key (keys_named texts))
 
 -- the next text names none
@@ -45,9 +46,11 @@ length-with_key (Some key) (Some others) keys n below e =
     sym (ap length same) ∙ ap suc (below others refl)
 
 -- as many keys as texts
-pub length-keys_named : (texts : List (List ℕ)) (keys : List (List ℕ)) → keys_named texts ≡ Some keys → length keys ≡ length texts
+pub length-keys_named : (texts : List (List ℕ)) (keys : List (List ℕ)) → keys_named texts ≡ Some keys →
+    length keys ≡ length texts
 length-keys_named [] keys e = let same : [] ≡ keys = cc in sym (ap length same)
-length-keys_named (text ∷ texts) keys e = length-with_key (key_named text) (keys_named texts) keys (length texts) (length-keys_named texts) e
+length-keys_named (text ∷ texts) keys e =
+    length-with_key (key_named text) (keys_named texts) keys (length texts) (length-keys_named texts) e
 
 -- a committee has as many keys as texts
 pub size-named : (texts : List (String Global)) (keys set : List (List ℕ)) → keys_named (map string_bytes texts) ≡ Some keys
@@ -66,19 +69,22 @@ no_keys-size texts wrong = λ keys named.
     wrong (subst IsCommitteeSize size named.size)
 
 -- some text names no key
-pub no_keys-unnamed : (texts : List (String Global)) → keys_named (map string_bytes texts) ≡ None → AreNoKeys (map string_bytes texts)
+pub no_keys-unnamed : (texts : List (String Global)) → keys_named (map string_bytes texts) ≡ None →
+    AreNoKeys (map string_bytes texts)
 no_keys-unnamed texts none = λ keys are.
     let both : Some keys ≡ None = sym are.named ∙ none in
     absurd cc
 
 -- each text names a key, and a committee may have as many
-pub keys-named : (texts : List (String Global)) (keys : List (List ℕ)) → keys_named (map string_bytes texts) ≡ Some keys → IsCommitteeSize (length texts) → NameKeys (map string_bytes texts)
+pub keys-named : (texts : List (String Global)) (keys : List (List ℕ)) → keys_named (map string_bytes texts) ≡ Some keys →
+    IsCommitteeSize (length texts) → NameKeys (map string_bytes texts)
 keys-named texts keys named size =
     let same : length keys ≡ length texts = length-keys_named _ _ named ∙ length-map texts string_bytes in
     (keys, named, subst IsCommitteeSize (sym same) size)
 
 -- a key is named twice
-pub no_keys-repeated : (texts : List (String Global)) (keys : List (List ℕ)) → keys_named (map string_bytes texts) ≡ Some keys → (AllPairs (λ a b. a ≢ b) keys → ⊥) → AreNoKeys (map string_bytes texts)
+pub no_keys-repeated : (texts : List (String Global)) (keys : List (List ℕ)) → keys_named (map string_bytes texts) ≡ Some keys →
+    (AllPairs (λ a b. a ≢ b) keys → ⊥) → AreNoKeys (map string_bytes texts)
 no_keys-repeated texts keys named repeated = λ others are.
     let both : Some others ≡ Some keys = sym are.named ∙ named in
     let equal : others ≡ keys = cc in

@@ -7,7 +7,7 @@ use Rattle.simplex_detector.specs.Committees.{Schedule}
 use Rattle.simplex_audit.specs.Run.{IsAccount, AppendsBeginning}
 use Rattle.simplex_audit.specs.Basis.{Basis}
 use Rattle.simplex_audit.specs.Watched.{inner_of, has_failed, is_flushed}
-use Rattle.simplex_audit.specs.declared.audit.Fault.{Fault}
+use Rattle.simplex_stream.specs.declared.fault.Fault.{Fault}
 use Rattle.simplex_audit.specs.declared.run.Summary.{Summary}
 use Rattle.simplex_audit.specs.declared.watched.Watched.{Watched}
 use Rattle.audit_cli.specs.Arguments.{AreArguments, AreNoArguments}
@@ -58,10 +58,12 @@ writer_use contents old new = record {
 
 -- a text was said: the writer took a prefix of it, perhaps empty, and all of it unless a call failed, now or before
 abbrev pub Says : WriterUse → List ℕ → Type 0
-Says writer text = AppendsBeginning writer.before writer.after text × (writer.failed ≡ false → Appends writer.before writer.after text)
+Says writer text =
+    AppendsBeginning writer.before writer.after text × (writer.failed ≡ false → Appends writer.before writer.after text)
 
 -- a whole input was read, and its text and its fault are those for the committees that the arguments name
-pub record IsRead (basis : Bases) (words : List (List ℕ)) (reader : ReaderUse) (text : List ℕ) (fault : Option Fault) : Type 0 where
+pub record IsRead (basis : Bases) (words : List (List ℕ)) (reader : ReaderUse) (text : List ℕ)
+    (fault : Option Fault) : Type 0 where
   pub committees : Schedule PlainScheme
   pub input : List ℕ
   pub summary : Summary
@@ -93,8 +95,13 @@ said_of (Err failure) = complaint_of failure
 
 -- what holds of the arguments, of the reader and of the writer after an ending
 abbrev pub Ends : Bases → List (List ℕ) → ReaderUse → WriterUse → Ending → Type 0
-Ends basis words reader writer (Ok fault) = (text : List ℕ) × IsRead basis words reader text fault × Appends writer.before writer.after text × IsTrue writer.flushed
+Ends basis words reader writer (Ok fault) =
+    (text : List ℕ) × IsRead basis words reader text fault × Appends writer.before writer.after text × IsTrue writer.flushed
 Ends basis words reader writer (Err Usage) = AreNoArguments words × Keeps writer.before writer.after
-Ends basis words reader writer (Err Read) = ((committees : Schedule PlainScheme) × AreArguments words committees) × (IsTrue reader.failed ⊎ GaveTooMuch reader) × Keeps writer.before writer.after
+Ends basis words reader writer (Err Read) =
+    ((committees : Schedule PlainScheme) × AreArguments words committees) × (IsTrue reader.failed ⊎ GaveTooMuch reader)
+    × Keeps writer.before writer.after
 Ends basis words reader writer (Err OutOfMemory) = Keeps writer.before writer.after
-Ends basis words reader writer (Err Write) = (text : List ℕ) × (fault : Option Fault) × IsRead basis words reader text fault × AppendsBeginning writer.before writer.after text × IsTrue writer.failed
+Ends basis words reader writer (Err Write) =
+    (text : List ℕ) × (fault : Option Fault) × IsRead basis words reader text fault
+    × AppendsBeginning writer.before writer.after text × IsTrue writer.failed

@@ -83,7 +83,8 @@ epoch_text epoch = codes "@" ++ decimal epoch
 abbrev pub AreGroups : List ℕ → List (List ℕ) → List (ℕ × PlainScheme) → Type 0
 AreGroups namespace texts [] = texts ≡ []
 AreGroups namespace texts (pair ∷ pairs) =
-    (keys rest : List (List ℕ)) × (texts ≡ epoch_text pair.0 ∷ (keys ++ rest)) × (pair.0 < 2 ^ 64) × IsNamedCommittee namespace keys pair.1 × AreGroups namespace rest pairs
+    (keys rest : List (List ℕ)) × (texts ≡ epoch_text pair.0 ∷ (keys ++ rest)) × (pair.0 < 2 ^ 64)
+    × IsNamedCommittee namespace keys pair.1 × AreGroups namespace rest pairs
 
 -- the texts name one committee for every epoch, or in groups one for each of some epochs, which rise strictly
 abbrev pub NameCommittees : List ℕ → List (List ℕ) → Schedule PlainScheme → Type 0
@@ -92,13 +93,15 @@ NameCommittees namespace texts (Listed pairs) = (pairs ≢ []) × AreRising pair
 
 -- the words are a namespace and texts that name these committees
 abbrev pub AreArguments : List (List ℕ) → Schedule PlainScheme → Type 0
-AreArguments words committees = (namespace : List ℕ) × (texts : List (List ℕ)) × (words ≡ namespace ∷ texts) × NameCommittees namespace texts committees
+AreArguments words committees =
+    (namespace : List ℕ) × (texts : List (List ℕ)) × (words ≡ namespace ∷ texts) × NameCommittees namespace texts committees
 
 -- the words are no namespace and texts that name committees
 abbrev pub AreNoArguments : List (List ℕ) → Type 0
 AreNoArguments words = (committees : Schedule PlainScheme) → ¬ AreArguments words committees
 
--- the texts begin with groups whose epochs rise, and behind them come the text of an epoch above theirs and texts that name keys
+-- the texts begin with groups whose epochs rise, and behind them come the text of an epoch above theirs and texts that name
+-- keys
 pub record BeginAsGroups (namespace : List ℕ) (texts : List (List ℕ)) : Type 0 where
   pub before : List (List ℕ)
   pub pairs : List (ℕ × PlainScheme)
@@ -115,4 +118,6 @@ pub record BeginAsGroups (namespace : List ℕ) (texts : List (List ℕ)) : Type
 
 -- the words are a namespace and texts that name keys, or that begin as groups do
 abbrev pub BeginAsArguments : List (List ℕ) → Type 0
-BeginAsArguments words = (namespace : List ℕ) × (texts : List (List ℕ)) × (words ≡ namespace ∷ texts) × (NameKeys texts ⊎ BeginAsGroups namespace texts)
+BeginAsArguments words =
+    (namespace : List ℕ) × (texts : List (List ℕ)) × (words ≡ namespace ∷ texts)
+    × (NameKeys texts ⊎ BeginAsGroups namespace texts)

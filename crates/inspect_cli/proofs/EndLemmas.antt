@@ -20,7 +20,8 @@ not_given words some none None empty = some empty
 not_given words some none (Some committees) named = none committees named
 
 -- words that give something are not refused
-pub given_stands : (words : List (List ℕ)) (committees : Option (Schedule PlainScheme)) → AreGiven words committees → AreNotGiven words → ⊥
+pub given_stands : (words : List (List ℕ)) (committees : Option (Schedule PlainScheme)) → AreGiven words committees →
+    AreNotGiven words → ⊥
 given_stands words committees given none = none committees given
 
 -- the arguments gave nothing
@@ -34,7 +35,8 @@ ends_without lines words reader writer failure none (inr e) keeps =
 
 -- the run failed
 pub ends_given_up : (lines : LinesUnder) (words : List (List ℕ)) (reader : ReaderUse) (writer : WriterUse) (error : RunError)
-    → (error ≡ errors.Read → IsTrue reader.failed) → (error ≡ errors.TooLong → GaveTooMuch reader) → (error ≡ errors.Write → IsTrue writer.failed)
+    → (error ≡ errors.Read → IsTrue reader.failed) → (error ≡ errors.TooLong → GaveTooMuch reader)
+    → (error ≡ errors.Write → IsTrue writer.failed)
     → IsBegun lines words reader writer → InspectEnds lines words reader writer (Err (failure_of error))
 ends_given_up lines words reader writer errors.Read failed long wrote begun = (inl (failed refl), begun)
 ends_given_up lines words reader writer errors.TooLong failed long wrote begun = (inr (long refl), begun)

@@ -4,7 +4,7 @@ use Rattle.std.specs.Io.KnownBytes.{IsAtEnd, Keeps}
 use Rattle.simplex_plain.specs.Plain.{PlainScheme}
 use Rattle.simplex_evidence.specs.declared.types.activity.Activity.{Activity}
 use Rattle.simplex_detector.specs.Committees.{Schedule}
-use Rattle.simplex_audit.specs.declared.audit.Fault.{Fault}
+use Rattle.simplex_stream.specs.declared.fault.Fault.{Fault}
 use Rattle.simplex_inspect.specs.Inspected.{Lines, AppendsText, AppendsPart, IsInput}
 use Rattle.audit_cli.specs.Answer.{PlainCertificate, ReaderUse, WriterUse, GaveTooMuch, Ending}
 use Rattle.audit_cli.specs.declared.status.Failure.TheVariants.{Usage, Read, Write, OutOfMemory}
@@ -17,7 +17,8 @@ LinesUnder = Option (Schedule PlainScheme) → Lines (Activity PlainScheme (List
 
 -- A whole input was read, and exactly its text was written and flushed, by the committees that the arguments name, or
 -- without any.
-pub record IsShown (lines : LinesUnder) (words : List (List ℕ)) (reader : ReaderUse) (writer : WriterUse) (fault : Option Fault) : Type 0 where
+pub record IsShown (lines : LinesUnder) (words : List (List ℕ)) (reader : ReaderUse) (writer : WriterUse)
+    (fault : Option Fault) : Type 0 where
   pub committees : Option (Schedule PlainScheme)
   pub input : List ℕ
   pub given : AreGiven words committees
@@ -44,6 +45,7 @@ inspect_said_of (Err failure) = inspect_complaint_of failure
 abbrev pub InspectEnds : LinesUnder → List (List ℕ) → ReaderUse → WriterUse → Ending → Type 0
 InspectEnds lines words reader writer (Ok fault) = IsShown lines words reader writer fault
 InspectEnds lines words reader writer (Err Usage) = AreNotGiven words × Keeps writer.before writer.after
-InspectEnds lines words reader writer (Err Read) = (IsTrue reader.failed ⊎ GaveTooMuch reader) × IsBegun lines words reader writer
+InspectEnds lines words reader writer (Err Read) =
+    (IsTrue reader.failed ⊎ GaveTooMuch reader) × IsBegun lines words reader writer
 InspectEnds lines words reader writer (Err OutOfMemory) = Keeps writer.before writer.after ⊎ IsBegun lines words reader writer
 InspectEnds lines words reader writer (Err Write) = IsTrue writer.failed × IsBegun lines words reader writer

@@ -16,36 +16,47 @@ use Rattle.simplex_detector.specs.declared.evidence.Evidence as recorded
 use Rattle.simplex_detector.specs.declared.split.Split.{Split}
 use Rattle.simplex_audit.specs.Basis.{Basis}
 use Rattle.simplex_audit.specs.Guarantees.{IsAudit}
-use Rattle.simplex_audit.specs.Messages.{AreMessages}
+use Rattle.simplex_stream.specs.Messages.{AreMessages}
 use Rattle.simplex_audit.specs.Report.{IsReport, as_messages, evidence_in}
 use Rattle.simplex_audit.specs.declared.audit.Report.{Report}
-use Rattle.simplex_audit.proofs.StreamLemmas.{IsNeverEmpty, are_joined, messages_once, messages_continue}
+use Rattle.simplex_stream.specs.StreamLaws.{IsNeverEmpty, are_joined, messages_once, messages_continue}
 
 -- what follows from a result
-pub if_ok : {X E : Type 0} (Given Wanted : X → Type 0) → ((x : X) → Given x → Wanted x) → (r : Result X E) → IfOk r Given → IfOk r Wanted
+pub if_ok : {X E : Type 0} (Given Wanted : X → Type 0) → ((x : X) → Given x → Wanted x) → (r : Result X E) → IfOk r Given →
+    IfOk r Wanted
 if_ok Given Wanted f (Ok x) h = f x h
 if_ok Given Wanted f (Err e) h = tt
 
 -- what follows from two clauses on a result
-pub if_both : {X E : Type 0} (Given Also Wanted : X → Type 0) → ((x : X) → Given x → Also x → Wanted x) → (r : Result X E) → IfOk r Given → IfOk r Also → IfOk r Wanted
+pub if_both : {X E : Type 0} (Given Also Wanted : X → Type 0) → ((x : X) → Given x → Also x → Wanted x) → (r : Result X E) →
+    IfOk r Given → IfOk r Also → IfOk r Wanted
 if_both Given Also Wanted f (Ok x) h k = f x h k
 if_both Given Also Wanted f (Err e) h k = tt
 
 -- the evidence of a report is that of any list of the stream's messages
-pub report_evidence : {S D C P G : Type 0} (basis : Basis S D C P G) → IsLawful basis.format → (stream : List ℕ) (report : Report S D P G) → IsReport basis stream report →
-    (messages : List (Activity S D C P G)) (rest : List ℕ) → AreMessages basis.format stream messages rest → IsEvidence basis.rules.eq (valid_votes basis.rules messages) (evidence_in report)
+pub report_evidence : {S D C P G : Type 0} (basis : Basis S D C P G) → IsLawful basis.format →
+    (stream : List ℕ) (report : Report S D P G) → IsReport basis stream report →
+    (messages : List (Activity S D C P G)) (rest : List ℕ) → AreMessages basis.format stream messages rest →
+    IsEvidence basis.rules.eq (valid_votes basis.rules messages) (evidence_in report)
 report_evidence basis law stream report is messages rest are =
-    subst (λ ms. IsEvidence basis.rules.eq (valid_votes basis.rules ms) (evidence_in report)) (messages_once basis.format law stream is.rest rest is.messages messages is.are_messages are).0 is.evidence_is
+    subst (λ ms. IsEvidence basis.rules.eq (valid_votes basis.rules ms) (evidence_in report))
+    (messages_once basis.format law stream is.rest rest is.messages messages is.are_messages are).0 is.evidence_is
 
 -- and so are the splits
-pub report_splits : {S D C P G : Type 0} (basis : Basis S D C P G) → IsLawful basis.format → (stream : List ℕ) (report : Report S D P G) → IsReport basis stream report →
-    (messages : List (Activity S D C P G)) (rest : List ℕ) → AreMessages basis.format stream messages rest → AreSplits basis.rules messages report.splits.items
+pub report_splits : {S D C P G : Type 0} (basis : Basis S D C P G) → IsLawful basis.format →
+    (stream : List ℕ) (report : Report S D P G) → IsReport basis stream report →
+    (messages : List (Activity S D C P G)) (rest : List ℕ) → AreMessages basis.format stream messages rest →
+    AreSplits basis.rules messages report.splits.items
 report_splits basis law stream report is messages rest are =
-    subst (λ ms. AreSplits basis.rules ms report.splits.items) (messages_once basis.format law stream is.rest rest is.messages messages is.are_messages are).0 is.splits_are
+    subst (λ ms. AreSplits basis.rules ms report.splits.items)
+    (messages_once basis.format law stream is.rest rest is.messages messages is.are_messages are).0 is.splits_are
 
 -- an accused signer stays accused in the stream with anything appended
-pub accused_stay : {S D C P G : Type 0} (format : Format (Activity S D C P G)) (rules : Rules S D C P G) → IsLawful format → (stream more rest left : List ℕ) (messages later : List (Activity S D C P G)) → AccusedStay rules messages → AreMessages format stream messages rest → AreMessages format (stream ++ more) later left →
-    (n : Accusation) → IsTrue (is_accused rules.eq (valid_votes rules messages) n) → IsTrue (is_accused rules.eq (valid_votes rules later) n)
+pub accused_stay : {S D C P G : Type 0} (format : Format (Activity S D C P G)) (rules : Rules S D C P G) → IsLawful format →
+    (stream more rest left : List ℕ) (messages later : List (Activity S D C P G)) → AccusedStay rules messages →
+    AreMessages format stream messages rest → AreMessages format (stream ++ more) later left →
+    (n : Accusation) → IsTrue (is_accused rules.eq (valid_votes rules messages) n) →
+    IsTrue (is_accused rules.eq (valid_votes rules later) n)
 accused_stay format rules law stream more rest left messages later stay are are' n h =
     let c = messages_continue format law stream more rest left messages later are are' in
     subst (λ ms. IsTrue (is_accused rules.eq (valid_votes rules ms) n)) (sym c.same) (stay c.further n h)
@@ -54,29 +65,41 @@ accused_stay format rules law stream more rest left messages later stay are are'
 pub record Laws {S D C P G : Type 0} (rules : Rules S D C P G) : Type 0 where
   pub any_order : (messages : List (Activity S D C P G)) → ReorderingAccusesSame rules messages
   pub later : (messages : List (Activity S D C P G)) → AccusedStay rules messages
-  pub names : (vs : List (SignedVote D G)) (es : List (Equivocation D G)) → IsEvidence rules.eq vs es → AccusesExactly rules.eq vs es
-  pub sound : (vs : List (SignedVote D G)) (es : List (Equivocation D G)) → IsEvidence rules.eq vs es → All (IsEquivocation rules.eq vs) es
-  pub only : (vs : List (SignedVote D G)) (es : List (Equivocation D G)) → IsEvidence rules.eq vs es → EvidenceIsUnique rules.eq vs es
-  pub again : (messages : List (Activity S D C P G)) (es : List (recorded.Evidence S D P G)) → AreLawful rules → IsEvidence rules.eq (valid_votes rules messages) (map evidence_value es) → IsEvidenceAgain rules es
+  pub names : (vs : List (SignedVote D G)) (es : List (Equivocation D G)) → IsEvidence rules.eq vs es →
+      AccusesExactly rules.eq vs es
+  pub sound : (vs : List (SignedVote D G)) (es : List (Equivocation D G)) → IsEvidence rules.eq vs es →
+      All (IsEquivocation rules.eq vs) es
+  pub only : (vs : List (SignedVote D G)) (es : List (Equivocation D G)) → IsEvidence rules.eq vs es →
+      EvidenceIsUnique rules.eq vs es
+  pub again : (messages : List (Activity S D C P G)) (es : List (recorded.Evidence S D P G)) → AreLawful rules →
+      IsEvidence rules.eq (valid_votes rules messages) (map evidence_value es) → IsEvidenceAgain rules es
   pub enough : (messages : List (Activity S D C P G)) → AreLawful rules → EnoughAreAccused rules messages
   pub signers : (messages : List (Activity S D C P G)) → AreLawful rules → SignersAreAccountable rules messages
-  pub only_splits : (messages : List (Activity S D C P G)) (splits : List Split) → AreSplits rules messages splits → SplitsAreUnique rules messages splits
-  pub split_accused : (messages : List (Activity S D C P G)) (splits : List Split) → AreLawful rules → AreSplits rules messages splits → SplitsHaveAccused splits
+  pub only_splits : (messages : List (Activity S D C P G)) (splits : List Split) → AreSplits rules messages splits →
+      SplitsAreUnique rules messages splits
+  pub split_accused : (messages : List (Activity S D C P G)) (splits : List Split) → AreLawful rules →
+      AreSplits rules messages splits → SplitsHaveAccused splits
 
 -- the report of a stream, whose evidence can be encoded, is that of an audit
-pub audited : {S D C P G : Type 0} (basis : Basis S D C P G) → IsLawful basis.format → IsNeverEmpty basis.format → AreLawful basis.rules → Laws basis.rules →
-    (stream : List ℕ) (report : Report S D P G) → IsReport basis stream report → All basis.format.is_value (as_messages report) → IsAudit basis stream report
+pub audited : {S D C P G : Type 0} (basis : Basis S D C P G) → IsLawful basis.format → IsNeverEmpty basis.format →
+    AreLawful basis.rules → Laws basis.rules →
+    (stream : List ℕ) (report : Report S D P G) → IsReport basis stream report →
+    All basis.format.is_value (as_messages report) → IsAudit basis stream report
 audited basis law some lawful laws stream report is each =
     let of_evidence = report_evidence basis law stream report is in
     let of_splits = report_splits basis law stream report is in
     record {
       report_is = is;
       single = λ messages others rest left are are'. messages_once basis.format law stream rest left messages others are are';
-      names = λ messages rest are. laws.names (valid_votes basis.rules messages) (evidence_in report) (of_evidence messages rest are);
-      sound = λ messages rest are. laws.sound (valid_votes basis.rules messages) (evidence_in report) (of_evidence messages rest are);
-      only = λ messages rest are. laws.only (valid_votes basis.rules messages) (evidence_in report) (of_evidence messages rest are);
+      names = λ messages rest are.
+          laws.names (valid_votes basis.rules messages) (evidence_in report) (of_evidence messages rest are);
+      sound = λ messages rest are.
+          laws.sound (valid_votes basis.rules messages) (evidence_in report) (of_evidence messages rest are);
+      only = λ messages rest are.
+          laws.only (valid_votes basis.rules messages) (evidence_in report) (of_evidence messages rest are);
       any_order = laws.any_order;
-      stays = λ more n messages rest are later left are'. accused_stay basis.format basis.rules law stream more rest left messages later (laws.later messages) are are' n;
+      stays = λ more n messages rest are later left are'.
+          accused_stay basis.format basis.rules law stream more rest left messages later (laws.later messages) are are' n;
       enough = λ messages rest are. laws.enough messages lawful;
       splits = record {
         are_splits = of_splits;

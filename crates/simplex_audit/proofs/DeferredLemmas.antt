@@ -14,7 +14,7 @@ use Rattle.simplex_audit.specs.Deferred.{NeedsSuspectsAlone}
 use Rattle.simplex_audit.specs.Report.{IsReport, evidence_in}
 use Rattle.simplex_audit.specs.declared.audit.Report.{Report}
 use Rattle.simplex_audit.proofs.AccusedLemmas.{report_evidence}
-use Rattle.simplex_audit.proofs.StreamLemmas.{messages_once}
+use Rattle.simplex_stream.specs.StreamLaws.{messages_once}
 
 no_items : {X : Type 0} (xs : List X) → length xs ≡ 0 → xs ≡ []
 no_items [] h = refl
@@ -26,12 +26,16 @@ module _ {S D C P G : Type 0} (bound : ℕ) (format : Format (Activity S D C P G
   by rules = record { bound = bound; format = format; rules = rules }
 
   -- where there is no claimed evidence, the report of the claims is that of the stream
-  pub nobody_reported : (rules claims : Rules S D C P G) (stream : List ℕ) (report : Report S D P G) → length report.evidence.items ≡ 0 →
-      ((messages : List (Activity S D C P G)) (splits : List Split) → IsEvidence claims.eq (valid_votes claims messages) [] → AreSplits claims messages splits → IsEvidence rules.eq (valid_votes rules messages) [] × AreSplits rules messages splits) →
+  pub nobody_reported : (rules claims : Rules S D C P G) (stream : List ℕ) (report : Report S D P G) →
+      length report.evidence.items ≡ 0 →
+      ((messages : List (Activity S D C P G)) (splits : List Split) → IsEvidence claims.eq (valid_votes claims messages) [] →
+      AreSplits claims messages splits →
+      IsEvidence rules.eq (valid_votes rules messages) [] × AreSplits rules messages splits) →
       IsReport (by claims) stream report → IsReport (by rules) stream report
   nobody_reported rules claims stream report none alike is =
       let empty : evidence_in report ≡ [] = ap (map evidence_value) (no_items report.evidence.items none) in
-      let both = alike is.messages report.splits.items (subst (IsEvidence claims.eq (valid_votes claims is.messages)) empty is.evidence_is) is.splits_are in
+      let both = alike is.messages report.splits.items
+      (subst (IsEvidence claims.eq (valid_votes claims is.messages)) empty is.evidence_is) is.splits_are in
       record {
         messages = is.messages;
         rest = is.rest;
@@ -43,11 +47,15 @@ module _ {S D C P G : Type 0} (bound : ℕ) (format : Format (Activity S D C P G
       }
 
   -- the report of suspects is that of the stream
-  pub suspects_reported : IsLawful format → (rules claims others : Rules S D C P G) (stream : List ℕ) (claim report : Report S D P G) → IsReport (by claims) stream claim →
-      ((messages : List (Activity S D C P G)) (es : List (Equivocation D G)) (splits : List Split) → IsEvidence claims.eq (valid_votes claims messages) (evidence_in claim) → IsEvidence others.eq (valid_votes others messages) es → AreSplits others messages splits → IsEvidence rules.eq (valid_votes rules messages) es × AreSplits rules messages splits) →
+  pub suspects_reported : IsLawful format → (rules claims others : Rules S D C P G) (stream : List ℕ)
+      (claim report : Report S D P G) → IsReport (by claims) stream claim →
+      ((messages : List (Activity S D C P G)) (es : List (Equivocation D G)) (splits : List Split) → IsEvidence claims.eq
+      (valid_votes claims messages) (evidence_in claim) → IsEvidence others.eq (valid_votes others messages) es → AreSplits
+      others messages splits → IsEvidence rules.eq (valid_votes rules messages) es × AreSplits rules messages splits) →
       IsReport (by others) stream report → IsReport (by rules) stream report
   suspects_reported law rules claims others stream claim report first alike is =
-      let both = alike is.messages (evidence_in report) report.splits.items (report_evidence (by claims) law stream claim first is.messages is.rest is.are_messages) is.evidence_is is.splits_are in
+      let both = alike is.messages (evidence_in report) report.splits.items
+      (report_evidence (by claims) law stream claim first is.messages is.rest is.are_messages) is.evidence_is is.splits_are in
       record {
         messages = is.messages;
         rest = is.rest;
@@ -59,7 +67,8 @@ module _ {S D C P G : Type 0} (bound : ℕ) (format : Format (Activity S D C P G
       }
 
 -- a report depends on the votes of suspects and the certificates of suspect rounds alone
-pub needs_suspects : {S D C P G : Type 0} (basis : Basis S D C P G) → IsLawful basis.format → ((messages : List (Activity S D C P G)) → SuspectsSuffice basis.rules messages) →
+pub needs_suspects : {S D C P G : Type 0} (basis : Basis S D C P G) → IsLawful basis.format →
+    ((messages : List (Activity S D C P G)) → SuspectsSuffice basis.rules messages) →
     (stream : List ℕ) (report : Report S D P G) → IsReport basis stream report → NeedsSuspectsAlone basis stream report
 needs_suspects basis law suffice stream report is messages rest are good certified alike =
     let once = (messages_once basis.format law stream rest is.rest messages is.messages are is.are_messages).0 in

@@ -18,7 +18,9 @@ pub record Basis (S D C P G : Type 0) : Type 1 where
   pub rules : Rules S D C P G
 
 -- the basis of an audit under committees
-abbrev pub basis_of : {S D C P G : Type 0} → Readable ℕ (Activity S D C P G) → (D → D → Bool) → (S → List P) → (S → SubjectValue D → ℕ → G → Bool) → (S → SubjectValue D → C → Bool) → (C → List (Attestation S P G)) → Schedule S → Basis S D C P G
+abbrev pub basis_of : {S D C P G : Type 0} → Readable ℕ (Activity S D C P G) → (D → D → Bool) → (S → List P) →
+    (S → SubjectValue D → ℕ → G → Bool) → (S → SubjectValue D → C → Bool) → (C → List (Attestation S P G)) → Schedule S →
+    Basis S D C P G
 basis_of message eq keys good certified listed committees = record {
   bound = bound_of keys committees;
   format = format_under message (bound_of keys committees);

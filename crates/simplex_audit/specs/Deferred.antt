@@ -14,7 +14,9 @@ use Rattle.simplex_audit.specs.Report.{IsReport}
 use Rattle.simplex_audit.specs.declared.audit.Report.{Report}
 
 -- messages are read as in `basis_of`, and votes and certificates are judged as strictly as a `Judging` says
-abbrev pub basis_under : {S D C P G : Type 0} → Readable ℕ (Activity S D C P G) → (D → D → Bool) → (S → List P) → (S → SubjectValue D → ℕ → G → Bool) → (S → SubjectValue D → C → Bool) → (C → List (Attestation S P G)) → Judging → Schedule S → Basis S D C P G
+abbrev pub basis_under : {S D C P G : Type 0} → Readable ℕ (Activity S D C P G) → (D → D → Bool) → (S → List P) →
+    (S → SubjectValue D → ℕ → G → Bool) → (S → SubjectValue D → C → Bool) → (C → List (Attestation S P G)) → Judging →
+    Schedule S → Basis S D C P G
 basis_under message eq keys good certified listed judging committees = record {
   bound = bound_of keys committees;
   format = format_under message (bound_of keys committees);
@@ -24,5 +26,7 @@ basis_under message eq keys good certified listed judging committees = record {
 -- The report depends on no vote of a signer who is not suspect in its round, and on no certificate of a round in which nobody
 -- is: it is the same, no matter which of these are valid.
 abbrev pub NeedsSuspectsAlone : {S D C P G : Type 0} → Basis S D C P G → List ℕ → Report S D P G → Type 0
-NeedsSuspectsAlone {S} {D} {C} {P} {G} basis stream report = OfMessages basis stream (λ messages. (good : SubjectValue D → ℕ → G → Bool) (certified : SubjectValue D → C → Bool) →
-    JudgeAlike basis.rules messages good certified → IsReport (record basis { rules = judged_by basis.rules good certified }) stream report)
+NeedsSuspectsAlone {S} {D} {C} {P} {G} basis stream report =
+    OfMessages basis stream (λ messages. (good : SubjectValue D → ℕ → G → Bool) (certified : SubjectValue D → C → Bool) →
+    JudgeAlike basis.rules messages good certified →
+    IsReport (record basis { rules = judged_by basis.rules good certified }) stream report)

@@ -10,7 +10,7 @@ use Rattle.simplex_detector.specs.Rules.{valid_votes}
 use Rattle.simplex_detector.specs.Splits.{AreSplits}
 use Rattle.simplex_detector.specs.SplitLaws.{EnoughAreAccused, SignersAreAccountable, SplitsAreUnique, SplitsHaveAccused}
 use Rattle.simplex_audit.specs.Basis.{Basis}
-use Rattle.simplex_audit.specs.Messages.{AreMessages}
+use Rattle.simplex_stream.specs.Messages.{AreMessages}
 use Rattle.simplex_audit.specs.Report.{IsReport, evidence_in, as_messages}
 use Rattle.simplex_audit.specs.declared.audit.Report.{Report}
 
@@ -26,7 +26,8 @@ module _ {S D C P G : Type 0} (basis : Basis S D C P G) (stream : List ℕ) wher
   abbrev pub HasOneReading : Type 0
   HasOneReading =
       (messages others : List (Activity S D C P G)) (rest left : List ℕ) →
-      AreMessages basis.format stream messages rest → AreMessages basis.format stream others left → (messages ≡ others) × (rest ≡ left)
+      AreMessages basis.format stream messages rest → AreMessages basis.format stream others left →
+      (messages ≡ others) × (rest ≡ left)
 
 module _ {S D C P G : Type 0} (basis : Basis S D C P G) where
   -- which signers messages accuse does not depend on the order of the messages
@@ -36,17 +37,22 @@ module _ {S D C P G : Type 0} (basis : Basis S D C P G) where
   -- Evidence of any messages accuses exactly the signers, rounds and kinds with two of their valid votes that contradict, each
   -- evidence is two such votes, and no other list is evidence of these messages.
   pub record EvidenceIsDetermined : Type 0 where
-    pub names : (messages : List (Activity S D C P G)) (es : List (Equivocation D G)) → IsEvidence basis.rules.eq (valid_votes basis.rules messages) es →
+    pub names : (messages : List (Activity S D C P G)) (es : List (Equivocation D G)) →
+        IsEvidence basis.rules.eq (valid_votes basis.rules messages) es →
         AccusesExactly basis.rules.eq (valid_votes basis.rules messages) es
-    pub sound : (messages : List (Activity S D C P G)) (es : List (Equivocation D G)) → IsEvidence basis.rules.eq (valid_votes basis.rules messages) es →
+    pub sound : (messages : List (Activity S D C P G)) (es : List (Equivocation D G)) →
+        IsEvidence basis.rules.eq (valid_votes basis.rules messages) es →
         All (IsEquivocation basis.rules.eq (valid_votes basis.rules messages)) es
-    pub only : (messages : List (Activity S D C P G)) (es : List (Equivocation D G)) → IsEvidence basis.rules.eq (valid_votes basis.rules messages) es →
+    pub only : (messages : List (Activity S D C P G)) (es : List (Equivocation D G)) →
+        IsEvidence basis.rules.eq (valid_votes basis.rules messages) es →
         EvidenceIsUnique basis.rules.eq (valid_votes basis.rules messages) es
 
   -- a signer whom the stream's messages accuse stays accused when any bytes are appended
   abbrev pub AccusedStayWithMore : List ℕ → Type 0
-  AccusedStayWithMore stream = (more : List ℕ) (n : Accusation) → OfMessages basis stream (λ messages. OfMessages basis (stream ++ more) (λ later.
-      IsTrue (is_accused basis.rules.eq (valid_votes basis.rules messages) n) → IsTrue (is_accused basis.rules.eq (valid_votes basis.rules later) n)))
+  AccusedStayWithMore stream =
+      (more : List ℕ) (n : Accusation) → OfMessages basis stream (λ messages. OfMessages basis (stream ++ more) (λ later.
+      IsTrue (is_accused basis.rules.eq (valid_votes basis.rules messages) n) →
+      IsTrue (is_accused basis.rules.eq (valid_votes basis.rules later) n)))
 
   -- two certified messages of a round that contradict accuse at least f + 1 signers there, f being the fault bound of the
   -- committee of the round's epoch
@@ -62,15 +68,21 @@ module _ {S D C P G : Type 0} (basis : Basis S D C P G) where
 module _ {S D C P G : Type 0} (basis : Basis S D C P G) (stream : List ℕ) (report : Report S D P G) where
   -- the evidence accuses exactly the signers, rounds and kinds with two valid votes that contradict
   abbrev pub AccusesExactlyThem : Type 0
-  AccusesExactlyThem = OfMessages basis stream (λ messages. AccusesExactly basis.rules.eq (valid_votes basis.rules messages) (evidence_in report))
+  AccusesExactlyThem =
+      OfMessages basis stream
+      (λ messages. AccusesExactly basis.rules.eq (valid_votes basis.rules messages) (evidence_in report))
 
   -- each evidence is two of the valid votes, which contradict
   abbrev pub ShowsTwoVotes : Type 0
-  ShowsTwoVotes = OfMessages basis stream (λ messages. All (IsEquivocation basis.rules.eq (valid_votes basis.rules messages)) (evidence_in report))
+  ShowsTwoVotes =
+      OfMessages basis stream
+      (λ messages. All (IsEquivocation basis.rules.eq (valid_votes basis.rules messages)) (evidence_in report))
 
   -- no other list is the evidence of the valid votes
   abbrev pub HasNoOtherEvidence : Type 0
-  HasNoOtherEvidence = OfMessages basis stream (λ messages. EvidenceIsUnique basis.rules.eq (valid_votes basis.rules messages) (evidence_in report))
+  HasNoOtherEvidence =
+      OfMessages basis stream
+      (λ messages. EvidenceIsUnique basis.rules.eq (valid_votes basis.rules messages) (evidence_in report))
 
   -- the splits are the rounds with two certified messages that contradict, in order, each once with the number of signers
   -- accused there and f + 1, which that number reaches; no other list is

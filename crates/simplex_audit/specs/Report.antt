@@ -8,7 +8,8 @@ use Rattle.simplex_detector.specs.Rules.{valid_votes}
 use Rattle.simplex_detector.specs.Splits.{AreSplits}
 use Rattle.simplex_detector.specs.Values.{activity_of, evidence_value}
 use Rattle.simplex_audit.specs.Basis.{Basis}
-use Rattle.simplex_audit.specs.Messages.{AreMessages, IsFault}
+use Rattle.simplex_stream.specs.Messages.{AreMessages}
+use Rattle.simplex_stream.specs.Fault.{IsFault}
 use Rattle.simplex_audit.specs.declared.audit.Report.{Report}
 
 -- the evidence of a report, each as two votes and their kind

@@ -1,6 +1,6 @@
 //! The audit of a whole stream.
 
-ghost use Rattle.std.specs.Prelude.{◌&&◌, ℕ, List, All, IfOk, nat_eq, refl};
+ghost use Rattle.std.specs.Prelude.{ℕ, List, All, IfOk};
 ghost use Rattle.simplex_base.specs.Format.{IsLawful};
 ghost use Rattle.simplex_audit.specs.Deferred.{NeedsSuspectsAlone};
 ghost use Rattle.simplex_audit.specs.Guarantees.{EvidenceIsDetermined, HasOneReading, AccusesExactlyThem, ShowsTwoVotes, HasNoOtherEvidence, AccusedInAnyOrder, AccusedStayWithMore, ConflictsAccuseEnough, SignersOfBothAreAccused, ShowsSplits, ReadsAgain, IsAudit};
@@ -13,8 +13,6 @@ use crate::reading::{read_messages, reading_bound};
 use crate::reporting::make_report;
 pub use crate::run::{RunError, Summary, run};
 pub use crate::watched::Watched;
-use simplex_base::codec::Error;
-use simplex_base::values::{EqByParts, ExactClone, InfallibleClone};
 pub use simplex_detector::committees::{Committees, CommitteesError};
 use simplex_detector::detector::Detector;
 pub use simplex_detector::evidence::Evidence;
@@ -25,30 +23,8 @@ use simplex_detector::laws::{
 };
 pub use simplex_detector::split::Split;
 use simplex_scheme::scheme::{Digest, Listing, SchemeTypes};
+pub use simplex_stream::fault::Fault;
 use std::alloc::{AllocError, Global};
-
-/// Where a stream stops being messages.
-#[derive(Clone, Copy, Debug, PartialEq, Eq)]
-pub struct Fault {
-    /// The 0-based offset of the first byte after the last whole message, where no message can be read.
-    pub place: usize,
-    /// The error of reading a message there; never `OutOfMemory`.
-    pub error: Error,
-}
-
-impl ExactClone for Fault {
-    ghost exact = { λ x y same. same };
-}
-
-impl InfallibleClone for Fault {
-    ghost infallible = { λ _. tt };
-}
-
-impl EqByParts for Fault {
-    ghost same = { λ x y. nat_eq x.place y.place && ⟦<Error as PartialEq>⟧.eq x.error y.error };
-
-    ghost equal = { λ x y. refl };
-}
 
 /// What an audit found.
 #[derive(Drop)]
@@ -115,7 +91,7 @@ pub fn audit<S: Listing<D>, D: Digest>(
     evidence_is_determined::<S, D>();
     certificates_are_accountable::<S, D>();
     splits_are_determined::<S, D>();
-    audit_stream(alloc, committees, &Judging::Verified, stream)
+    audit_stream(alloc, committees, Judging::Verified, stream)
 }
 
 /// Returns the report that [`audit`] returns, with fewer signatures verified. A signer of a committee is suspect in a round
@@ -176,13 +152,12 @@ fn audit_suspects<S: Listing<D>, D: Digest>(
         All (⟦<S as Audited<D>>⟧.basis committees.now).format.is_value (as_messages report)) }
 {
     suspects_determine_reports::<S, D>();
-    let claims = audit_stream(alloc, committees, &Judging::Claimed, stream)?;
+    let claims = audit_stream(alloc, committees, Judging::Claimed, stream)?;
     if claims.evidence.is_empty() {
         return Ok(claims);
     }
     let suspects = suspects_of(alloc, &claims.evidence)?;
-    let judging = Judging::Suspects(suspects);
-    let report = audit_stream(alloc, committees, &judging, stream)?;
+    let report = audit_stream(alloc, committees, Judging::Suspects(suspects), stream)?;
     Ok(report)
 }
 
@@ -190,19 +165,19 @@ fn audit_suspects<S: Listing<D>, D: Digest>(
 fn audit_stream<S: Listing<D>, D: Digest>(
     alloc: Global,
     committees: &Committees<S>,
-    judging: &Judging,
+    judging: Judging,
     stream: &[u8],
 ) -> Result<Report<S, D>, AllocError>
     ensures readable { IsLawful (⟦<S as Audited<D>>⟧.basis committees.now).format }
     ensures lawful { AreLawful (⟦<S as Audited<D>>⟧.basis committees.now).rules }
     ensures report { IfOk result (λ report.
-        IsReport (⟦<S as Audited<D>>⟧.basis_under judging.now committees.now) stream.now report) }
+        IsReport (⟦<S as Audited<D>>⟧.basis_under judging committees.now) stream.now report) }
     ensures encoded { IfOk result (λ report.
         All (⟦<S as Audited<D>>⟧.basis committees.now).format.is_value (as_messages report)) }
 {
     let bound = reading_bound::<S, D>(committees);
-    let mut detector = Detector::new(alloc);
-    let progress = read_messages(alloc, committees, judging, bound, stream, &mut detector)?;
+    let detector = Detector::new(alloc);
+    let (detector, progress) = read_messages(alloc, committees, judging, bound, stream, detector)?;
     let place = stream.len() - progress.rest.len();
     make_report(
         alloc,

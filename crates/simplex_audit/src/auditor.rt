@@ -2,7 +2,7 @@
 
 ghost use Rattle.std.specs.Prelude.{◌≡◌, ◌+◌, ◌<◌, ◌≤◌, ◌^◌, ◌-◌, min, vec_len, ℕ, List, [], ◌++◌, length, drop, IfOk};
 ghost use Rattle.simplex_audit.specs.Guarantees.{EvidenceIsDetermined, HasOneReading, IsAudit};
-ghost use Rattle.simplex_audit.specs.Messages.{AreMessages};
+ghost use Rattle.simplex_stream.specs.Messages.{AreMessages};
 ghost use Rattle.simplex_evidence.specs.declared.types.activity.Activity.{Activity};
 ghost use Rattle.simplex_detector.specs.Committees.{Schedule};
 ghost use Rattle.simplex_detector.specs.Recorded.{RecordedAreSlots, FewAreRecorded, votes_recorded};
@@ -121,7 +121,7 @@ impl<'a, S: Listing<D>, D: Digest> Auditor<'a, S, D> {
         let Auditor {
             committees,
             bound,
-            mut detector,
+            detector,
             taken,
         } = self;
         let Taken {
@@ -133,7 +133,9 @@ impl<'a, S: Listing<D>, D: Digest> Auditor<'a, S, D> {
         } = taken;
         let alloc = *rest.allocator();
         let judging = Judging::Verified;
-        let progress = read_messages(alloc, committees, &judging, bound, piece, &mut detector)?;
+        let (detector, progress) = read_messages(
+            alloc, committees, judging, bound, piece, detector,
+        )?;
         rest.extend_from_slice(progress.rest)?;
         Ok(Auditor {
             committees,
@@ -195,7 +197,7 @@ impl<'a, S: Listing<D>, D: Digest> Auditor<'a, S, D> {
         let Auditor {
             committees,
             bound,
-            mut detector,
+            detector,
             taken,
         } = self;
         let Taken {
@@ -206,13 +208,13 @@ impl<'a, S: Listing<D>, D: Digest> Auditor<'a, S, D> {
             stop: _,
         } = taken;
         let alloc = *rest.allocator();
-        let progress = read_messages(
+        let (detector, progress) = read_messages(
             alloc,
             committees,
-            &Judging::Verified,
+            Judging::Verified,
             bound,
             rest.as_slice(),
-            &mut detector,
+            detector,
         )?;
         let (more, stop) = (progress.read, progress.stop);
         let count = rest.len() - progress.rest.len();

@@ -1,18 +1,19 @@
 //! Makes the report of what was read and recorded.
 
 ghost use Rattle.std.specs.Prelude.{◌≡◌, ◌+◌, ℕ, List, All, length, IfOk};
-ghost use Rattle.simplex_audit.specs.Progress.{IsProgress, fault_of};
+ghost use Rattle.simplex_stream.specs.Progress.{IsProgress};
 ghost use Rattle.simplex_audit.specs.Report.{IsReport, as_messages};
 ghost use Rattle.simplex_detector.specs.Rules.{HaveCommittees};
 ghost use Rattle.simplex_detector.specs.declared.judging.Judging.{Judging};
 ghost use Rattle.simplex_detector.specs.Detector.{Recalls};
 
-use crate::audit::{Fault, Report};
+use crate::audit::Report;
 use crate::basis::Audited;
 use simplex_base::codec::Error;
 use simplex_detector::committees::Committees;
 use simplex_detector::detector::Detector;
 use simplex_scheme::scheme::{Digest, Listing};
+use simplex_stream::fault::fault_at;
 use std::alloc::{AllocError, Global};
 
 /// The report, from the number of messages, the state after them, and the reason why no other follows at a place.
@@ -43,14 +44,4 @@ pub fn make_report<S: Listing<D>, D: Digest>(
         read,
         fault,
     })
-}
-
-/// The fault at a place, if reading was refused there.
-fn fault_at(place: usize, stop: Option<Error>) -> Option<Fault>
-    ensures { result ≡ fault_of place stop }
-{
-    match stop {
-        None => None,
-        Some(error) => Some(Fault { place, error }),
-    }
 }

@@ -11,7 +11,7 @@ use Rattle.simplex_detector.specs.Values.{activity_of, evidence_value}
 use Rattle.simplex_detector.specs.declared.evidence.Evidence.{Evidence}
 use Rattle.simplex_audit.specs.Auditor.{Stands, fed_of}
 use Rattle.simplex_audit.specs.Basis.{Basis}
-use Rattle.simplex_audit.specs.Messages.{AreMessages}
+use Rattle.simplex_stream.specs.Messages.{AreMessages}
 use Rattle.simplex_clients.specs.declared.ledger.Ledger.{Ledger}
 
 -- how many bytes a ledger was fed
@@ -24,7 +24,8 @@ WasFed basis committees ledger stream = Stands basis committees ledger.auditor s
 
 -- es is the evidence of the valid votes of the stream's messages, up to its end or first fault: in the order of rounds, signers
 -- and kinds, each once, and nobody accused left out.
-pub record IsEvidenceOf {S D C P G : Type 0} (basis : Basis S D C P G) (stream : List ℕ) (es : List (Evidence S D P G)) : Type 0 where
+pub record IsEvidenceOf {S D C P G : Type 0} (basis : Basis S D C P G) (stream : List ℕ)
+    (es : List (Evidence S D P G)) : Type 0 where
   pub messages : List (Activity S D C P G)
   pub rest : List ℕ
   pub are_messages : AreMessages basis.format stream messages rest
@@ -38,12 +39,16 @@ Accuses es n = Contains (map accused_by (map evidence_value es)) n
 -- What is held after stored evidence and then further messages: the evidence of the votes of both. So it accuses everyone whom
 -- the stored evidence or the further messages alone accuse, and nobody whom the messages before and the further ones together
 -- do not accuse.
-pub record HoldsBoth {S D C P G : Type 0} (basis : Basis S D C P G) (before : List (Activity S D C P G)) (stored : List (Evidence S D P G)) (further : List (Activity S D C P G)) (held : List (Evidence S D P G)) : Type 0 where
-  pub evidence_is : IsEvidence basis.rules.eq (valid_votes basis.rules (map activity_of stored ++ further)) (map evidence_value held)
-  pub names : AccusesExactly basis.rules.eq (valid_votes basis.rules (map activity_of stored ++ further)) (map evidence_value held)
+pub record HoldsBoth {S D C P G : Type 0} (basis : Basis S D C P G) (before : List (Activity S D C P G))
+    (stored : List (Evidence S D P G)) (further : List (Activity S D C P G)) (held : List (Evidence S D P G)) : Type 0 where
+  pub evidence_is : IsEvidence basis.rules.eq (valid_votes basis.rules (map activity_of stored ++ further))
+      (map evidence_value held)
+  pub names : AccusesExactly basis.rules.eq (valid_votes basis.rules (map activity_of stored ++ further))
+      (map evidence_value held)
   pub stay : (n : Accusation) → Accuses stored n → Accuses held n
   pub more : (n : Accusation) → IsTrue (is_accused basis.rules.eq (valid_votes basis.rules further) n) → Accuses held n
-  pub only : (n : Accusation) → Accuses held n → IsTrue (is_accused basis.rules.eq (valid_votes basis.rules (before ++ further)) n)
+  pub only : (n : Accusation) → Accuses held n →
+      IsTrue (is_accused basis.rules.eq (valid_votes basis.rules (before ++ further)) n)
 
 -- The bytes encode the evidence of the stream as messages, in order. That evidence is also the evidence of the bytes, and the
 -- only one. A piece behind the bytes is read as it is alone, and what is held then is the evidence of both.
@@ -52,8 +57,10 @@ pub record IsStored {S D C P G : Type 0} (basis : Basis S D C P G) (stream bytes
   pub evidence_is : IsEvidenceOf basis stream evidence
   pub encoded : bytes ≡ flat_map basis.format.encoding (map activity_of evidence)
   pub again : IsEvidenceOf basis bytes evidence
-  pub only : (held : List (Evidence S D P G)) → IsEvidenceOf basis bytes held → map evidence_value evidence ≡ map evidence_value held
+  pub only : (held : List (Evidence S D P G)) → IsEvidenceOf basis bytes held →
+      map evidence_value evidence ≡ map evidence_value held
   pub reads : (piece rest : List ℕ) (further : List (Activity S D C P G)) → AreMessages basis.format piece further rest →
       AreMessages basis.format (bytes ++ piece) (map activity_of evidence ++ further) rest
   pub then : (piece rest : List ℕ) (further : List (Activity S D C P G)) (held : List (Evidence S D P G)) →
-      AreMessages basis.format piece further rest → IsEvidenceOf basis (bytes ++ piece) held → HoldsBoth basis evidence_is.messages evidence further held
+      AreMessages basis.format piece further rest → IsEvidenceOf basis (bytes ++ piece) held →
+      HoldsBoth basis evidence_is.messages evidence further held

@@ -1,5 +1,5 @@
 -- What is recorded, round by round, after one more message.
-use Rattle.simplex_detector.proofs.Prelude.{Activity, All, All-from_recursion, All-map, AllByRecursion, Attestation, BTreeMap, Bool, Detector, HoldsRound, IsEquivalence, IsSized, IsTrue, EquivocationKind, List, None, Option, Recalls, RecallsAt, RecallsNothing, RecallsRound, RecordsFirsts, Round, RoundState, RoundVotes, Rules, Schedule, SignedVote, Some, Sort, SubjectValue, TakesIn, TakesContents, [], activity_round, and_left, and_parts, and_right, ap, append-nil, append_assoc, arith, subject_and_certificate, certified_by, certified_subjects, clash, committee_of, cond, cond-false, contradicts, false, filter, filter-append, get, if_certified, is_at, is_key, is_news, is_of, is_valid, length, map, no_slot, nothing_certified, option_to_list, recorded_in, recursion_from_All, refl, round_cmp, round_count, round_of, rules_of, same_round, same_sort, size_by, slot_of, slots, sort_of, subst, sym, true, valid_by, valid_votes, vote_on, votes_in, ℕ, ◌++◌, ◌∙◌, ◌∷◌, ◌≡◌, Notarizes, Nullifies, Finalizes}
+use Rattle.simplex_detector.proofs.Prelude.{Activity, All, All-from_recursion, All-map, AllByRecursion, Attestation, BTreeMap, Bool, Detector, HoldsRound, IsEquivalence, IsSized, IsTrue, EquivocationKind, List, None, Option, Recalls, RecallsAt, RecallsNothing, RecallsRound, RecordsFirsts, Round, RoundState, RoundVotes, Rules, Schedule, SignedVote, Some, Sort, SubjectValue, TakesIn, TakesContents, [], activity_round, and_left, and_parts, and_right, ap, append-nil, append_assoc, arith, subject_and_certificate, certified_by, certified_subjects, clash, committee_of, cond, cond-false, contradicts, false, filter, filter-append, get, if_certified, is_at, is_key, is_news, is_of, is_valid, length, map, no_slot, nothing_certified, option_to_list, recorded_in, recursion_from_All, refl, round_cmp, round_count, round_of, rules_of, same_round, same_sort, size_by, slot_of, slots, sort_of, subst, sym, true, valid_by, valid_votes, vote_on, votes_in, ℕ, ◌++◌, ◌∙◌, ◌∷◌, ◌≡◌}
 use Rattle.simplex_detector.proofs.AccountLemmas.{certificate_parts}
 use Rattle.simplex_detector.proofs.EvidenceLemmas.{valid_votes-push}
 use Rattle.simplex_detector.proofs.Places.{is_of-true, key_tells, other_round}
@@ -13,8 +13,11 @@ abbrev pub IsHere : {D G : Type 0} → Round → SignedVote D G → Type 0
 IsHere round v = round_of v.subject ≡ round
 
 -- two votes that contradict are of one round
-pub one_round : {D G : Type 0} (eq : D → D → Bool) (kind : EquivocationKind) (v w : SignedVote D G) → IsTrue (contradicts eq kind v w) → round_of w.subject ≡ round_of v.subject
-one_round eq kind v w h = (is_of-true (round_of v.subject) v.signer w (and_parts (is_of (round_of v.subject) v.signer w) (clash eq kind v.subject w.subject) h).0).0
+pub one_round : {D G : Type 0} (eq : D → D → Bool) (kind : EquivocationKind) (v w : SignedVote D G) →
+    IsTrue (contradicts eq kind v w) → round_of w.subject ≡ round_of v.subject
+one_round eq kind v w h =
+    (is_of-true (round_of v.subject) v.signer w
+    (and_parts (is_of (round_of v.subject) v.signer w) (clash eq kind v.subject w.subject) h).0).0
 
 -- so are the votes that a message holds
 pub votes_here : {S D C P G : Type 0} (eq : D → D → Bool) (listed : C → List (Attestation S P G)) (held : ContentsValue D C G) →
@@ -27,64 +30,94 @@ votes_here eq listed (TwoVotes v w) (kind, clashes) =
 -- ---- other rounds
 
 -- what appending one element preserves, appending several preserves
-appended : {X : Type 0} (P : List X → Type 0) (Q : X → Type 0) (keep : X → Bool) → ((xs : List X) (x : X) → Q x → P xs → P (xs ++ x ∷ [])) → (more xs : List X) → AllByRecursion Q more → P xs → P (xs ++ filter keep more)
+appended : {X : Type 0} (P : List X → Type 0) (Q : X → Type 0) (keep : X → Bool) →
+    ((xs : List X) (x : X) → Q x → P xs → P (xs ++ x ∷ [])) → (more xs : List X) → AllByRecursion Q more → P xs →
+    P (xs ++ filter keep more)
 appended P Q keep one [] xs q p = subst P (sym (append-nil xs)) p
 appended P Q keep one (x ∷ more) xs q p = elim (keep x) as (λ b. P (xs ++ cond b (x ∷ filter keep more) (filter keep more))) [
-  | true ↦ subst P (append_assoc xs (x ∷ []) (filter keep more)) (appended P Q keep one more (xs ++ x ∷ []) q.1 (one xs x q.0 p))
+  | true ↦
+      subst P (append_assoc xs (x ∷ []) (filter keep more)) (appended P Q keep one more (xs ++ x ∷ []) q.1 (one xs x q.0 p))
   | false ↦ appended P Q keep one more xs q.1 p
 ]
 
-module _ {S D C P G : Type 0} (rules : Rules S D C P G) (l : IsEquivalence rules.eq) (messages : List (Activity S D C P G)) (m : Activity S D C P G) (here : All (IsHere (activity_round m)) (votes_in rules.listed m)) where
+module _ {S D C P G : Type 0} (rules : Rules S D C P G) (l : IsEquivalence rules.eq) (messages : List (Activity S D C P G))
+    (m : Activity S D C P G) (here : All (IsHere (activity_round m)) (votes_in rules.listed m)) where
   -- what is recorded of the messages and of one more
   abbrev RecallsNext : Round → Option (RoundState S D P G) → Type 0
   RecallsNext round o = RecallsAt rules (messages ++ m ∷ []) round o
 
   -- what is recorded of another round stays
-  elsewhere : (q : Round) → same_round (activity_round m) q ≡ false → (o : Option (RoundState S D P G)) → RecallsAt rules messages q o → RecallsNext q o
+  elsewhere : (q : Round) → same_round (activity_round m) q ≡ false → (o : Option (RoundState S D P G)) →
+      RecallsAt rules messages q o → RecallsNext q o
   elsewhere q apart o recalls = by o recalls
     where
-      slot : (vs : List (SignedVote D G)) (v : SignedVote D G) → IsHere (activity_round m) v → (sort : Sort) (signer : ℕ) → slot_of rules.eq (vs ++ v ∷ []) sort q signer ≡ slot_of rules.eq vs sort q signer
+      slot : (vs : List (SignedVote D G)) (v : SignedVote D G) → IsHere (activity_round m) v → (sort : Sort) (signer : ℕ) →
+          slot_of rules.eq (vs ++ v ∷ []) sort q signer ≡ slot_of rules.eq vs sort q signer
       slot vs v v_here sort signer =
           slot_after_vote rules.eq l vs v sort q signer ∙
-          cond-false (is_at sort q signer v) _ _ (and_right (same_sort (sort_of v.subject) sort) _ (and_left (same_round (round_of v.subject) q) _ (ap (λ r. same_round r q) v_here ∙ apart)))
+          cond-false (is_at sort q signer v) _ _ (and_right (same_sort (sort_of v.subject) sort) _
+          (and_left (same_round (round_of v.subject) q) _ (ap (λ r. same_round r q) v_here ∙ apart)))
 
-      many : (vs : List (SignedVote D G)) (v : SignedVote D G) → IsHere (activity_round m) v → recorded_in rules.eq (vs ++ v ∷ []) q ≡ recorded_in rules.eq vs q
+      many : (vs : List (SignedVote D G)) (v : SignedVote D G) → IsHere (activity_round m) v →
+          recorded_in rules.eq (vs ++ v ∷ []) q ≡ recorded_in rules.eq vs q
       many vs v v_here =
-          let none = ap (λ b. length (cond b (v ∷ []) [])) (and_left (of_round q v) (is_news rules.eq vs v) (ap (λ r. same_round r q) v_here ∙ apart)) in
+          let none = ap (λ b. length (cond b (v ∷ []) []))
+          (and_left (of_round q v) (is_news rules.eq vs v) (ap (λ r. same_round r q) v_here ∙ apart)) in
           omega (arith, none, recorded_in_push rules.eq vs v q)
 
-      votes : (Recorded : List (SignedVote D G) → Type 0) → ((vs : List (SignedVote D G)) (v : SignedVote D G) → IsHere (activity_round m) v → Recorded vs → Recorded (vs ++ v ∷ [])) → Recorded (valid_votes rules messages) → Recorded (valid_votes rules (messages ++ m ∷ []))
-      votes Recorded one r = subst Recorded (sym (valid_votes-push rules messages m)) (appended Recorded (IsHere (activity_round m)) (is_valid rules) one (votes_in rules.listed m) (valid_votes rules messages) (recursion_from_All _ _ here) r)
+      votes : (Recorded : List (SignedVote D G) → Type 0) → ((vs : List (SignedVote D G)) (v : SignedVote D G) →
+          IsHere (activity_round m) v → Recorded vs → Recorded (vs ++ v ∷ [])) → Recorded (valid_votes rules messages) →
+          Recorded (valid_votes rules (messages ++ m ∷ []))
+      votes Recorded one r =
+          subst Recorded (sym (valid_votes-push rules messages m)) (appended Recorded (IsHere (activity_round m))
+          (is_valid rules) one (votes_in rules.listed m) (valid_votes rules messages) (recursion_from_All _ _ here) r)
 
       by : (o : Option (RoundState S D P G)) → RecallsAt rules messages q o → RecallsNext q o
       by None r = record {
-        votes = votes (λ vs. (signer : ℕ) (sort : Sort) → no_slot ≡ slot_of rules.eq vs sort q signer) (λ vs v v_here e signer sort. e signer sort ∙ sym (slot vs v v_here sort signer)) r.votes;
+        votes = votes (λ vs. (signer : ℕ) (sort : Sort) → no_slot ≡ slot_of rules.eq vs sort q signer)
+            (λ vs v v_here e signer sort. e signer sort ∙ sym (slot vs v v_here sort signer)) r.votes;
         subjects = records_other_message rules l messages m q nothing_certified apart r.subjects;
       }
       by (Some round_state) r = record {
-        votes = votes (λ vs. HoldsRound rules.eq (rules.size q.epoch) vs q round_state.votes) (λ vs v v_here. same_held rules.eq (rules.size q.epoch) vs (vs ++ v ∷ []) q round_state.votes (slot vs v v_here) (many vs v v_here)) r.votes;
+        votes = votes (λ vs. HoldsRound rules.eq (rules.size q.epoch) vs q round_state.votes) (λ vs v v_here. same_held rules.eq
+            (rules.size q.epoch) vs (vs ++ v ∷ []) q round_state.votes (slot vs v v_here) (many vs v v_here)) r.votes;
         subjects = records_other_message rules l messages m q round_state.certified apart r.subjects;
       }
 
   -- what is recorded where only the message's round is changed
-  pub recalls_changed : (round : Round) → round ≡ activity_round m → (after : Option (RoundState S D P G)) (old new : BTreeMap Round (RoundState S D P G)) → ((q : Round) → get round_cmp new q ≡ cond (is_key (round_cmp round) q) after (get round_cmp old q)) → RecallsNext (activity_round m) after → Recalls rules messages (let detector : Detector S D P G = record { rounds = old } in detector) → (q : Round) → RecallsNext q (get round_cmp new q)
+  pub recalls_changed : (round : Round) → round ≡ activity_round m →
+      (after : Option (RoundState S D P G)) (old new : BTreeMap Round (RoundState S D P G)) →
+      ((q : Round) → get round_cmp new q ≡ cond (is_key (round_cmp round) q) after (get round_cmp old q)) →
+      RecallsNext (activity_round m) after →
+      Recalls rules messages (let detector : Detector S D P G = record { rounds = old } in detector) → (q : Round) →
+      RecallsNext q (get round_cmp new q)
   recalls_changed round at after old new is own holds q =
-      subst (RecallsNext q) (sym (is q)) ((elim (is_key (round_cmp round) q) as (λ b. is_key (round_cmp round) q ≡ b → RecallsNext q (cond b after (get round_cmp old q))) [
+      subst (RecallsNext q) (sym (is q)) ((elim (is_key (round_cmp round)
+      q) as (λ b. is_key (round_cmp round) q ≡ b → RecallsNext q (cond b after (get round_cmp old q))) [
         | true ↦ λ e. subst (λ r. RecallsNext r after) (sym at ∙ key_tells round q e) own
         | false ↦ λ e. elsewhere q (ap (λ r. same_round r q) (sym at) ∙ other_round round q e) (get round_cmp old q) (holds q)
       ]) refl)
 
   -- what is recorded where nothing is of the message's round, before and after
-  pub recalls_still_none : (round : Round) → round ≡ activity_round m → (after : RoundState S D P G) (old : BTreeMap Round (RoundState S D P G)) → get round_cmp old round ≡ None → ((signer : ℕ) (sort : Sort) → slots after.votes signer sort ≡ no_slot) → after.certified ≡ nothing_certified → RecallsRound rules (messages ++ m ∷ []) (activity_round m) after → Recalls rules messages (let detector : Detector S D P G = record { rounds = old } in detector) → (q : Round) → RecallsNext q (get round_cmp old q)
+  pub recalls_still_none : (round : Round) → round ≡ activity_round m →
+      (after : RoundState S D P G) (old : BTreeMap Round (RoundState S D P G)) → get round_cmp old round ≡ None →
+      ((signer : ℕ) (sort : Sort) → slots after.votes signer sort ≡ no_slot) → after.certified ≡ nothing_certified →
+      RecallsRound rules (messages ++ m ∷ []) (activity_round m) after →
+      Recalls rules messages (let detector : Detector S D P G = record { rounds = old } in detector) → (q : Round) →
+      RecallsNext q (get round_cmp old q)
   recalls_still_none round at after old none empty nothing own =
-      recalls_changed round at None old old (λ q. (elim (is_key (round_cmp round) q) as (λ b. is_key (round_cmp round) q ≡ b → get round_cmp old q ≡ cond b None (get round_cmp old q)) [ true ↦ λ e. ap (get round_cmp old) (sym (key_tells round q e)) ∙ none | false ↦ λ e. refl ]) refl) (record {
+      recalls_changed round at None old old (λ q. (elim (is_key (round_cmp round)
+      q) as (λ b. is_key (round_cmp round) q ≡ b → get round_cmp old q ≡ cond b None (get round_cmp old q))
+      [ true ↦ λ e. ap (get round_cmp old) (sym (key_tells round q e)) ∙ none | false ↦ λ e. refl ]) refl) (record {
         votes = λ signer sort. sym (empty signer sort) ∙ own.votes.held signer sort;
-        subjects = subst (RecordsFirsts rules.eq (certified_subjects rules (messages ++ m ∷ [])) (activity_round m)) nothing own.subjects;
+        subjects = subst (RecordsFirsts rules.eq (certified_subjects rules (messages ++ m ∷ [])) (activity_round m)) nothing
+            own.subjects;
       })
 
 -- ---- votes and certificates of a round are judged by the committee of its epoch
 
-module _ {S D C P G : Type 0} (eq : D → D → Bool) (keys : S → List P) (good : S → SubjectValue D → ℕ → G → Bool) (certified : S → SubjectValue D → C → Bool) (listed : C → List (Attestation S P G)) where
+module _ {S D C P G : Type 0} (eq : D → D → Bool) (keys : S → List P) (good : S → SubjectValue D → ℕ → G → Bool)
+    (certified : S → SubjectValue D → C → Bool) (listed : C → List (Attestation S P G)) where
   -- the rules by which messages are judged
   abbrev judges : Schedule S → Rules S D C P G
   judges = rules_of eq keys good certified listed
@@ -93,74 +126,128 @@ module _ {S D C P G : Type 0} (eq : D → D → Bool) (keys : S → List P) (goo
   abbrev pub RecordsValid : S → SubjectValue D → List (Attestation S P G) → RoundVotes S D P G → RoundVotes S D P G → Type 0
   RecordsValid s x given before after =
       (vs : List (SignedVote D G)) → HoldsRound eq (length (keys s)) vs (round_of x) before →
-      HoldsRound eq (length (keys s)) (vs ++ filter (λ v. good s v.subject v.signer v.signature) (map (vote_on x) given)) (round_of x) after
+      HoldsRound eq (length (keys s)) (vs ++ filter (λ v. good s v.subject v.signer v.signature) (map (vote_on x) given))
+      (round_of x) after
 
   -- the valid votes are recorded, for any other committees
-  cast_by : (s : S) (x : SubjectValue D) (given : List (Attestation S P G)) (before after : RoundVotes S D P G) → RecordsValid s x given before after → (schedule : Schedule S) → committee_of schedule (round_of x).epoch ≡ Some s → (vs : List (SignedVote D G)) → HoldsRound eq ((judges schedule).size (round_of x).epoch) vs (round_of x) before → HoldsRound eq ((judges schedule).size (round_of x).epoch) (vs ++ filter (is_valid (judges schedule)) (map (vote_on x) given)) (round_of x) after
+  cast_by : (s : S) (x : SubjectValue D) (given : List (Attestation S P G)) (before after : RoundVotes S D P G) →
+      RecordsValid s x given before after → (schedule : Schedule S) → committee_of schedule (round_of x).epoch ≡ Some s →
+      (vs : List (SignedVote D G)) → HoldsRound eq ((judges schedule).size (round_of x).epoch) vs (round_of x) before →
+      HoldsRound eq ((judges schedule).size (round_of x).epoch)
+      (vs ++ filter (is_valid (judges schedule)) (map (vote_on x) given)) (round_of x) after
   cast_by s x given before after records schedule is vs holds =
       let size : length (keys s) ≡ (judges schedule).size (round_of x).epoch = ap (size_by keys) (sym is) in
       subst (λ n. HoldsRound eq n (vs ++ filter (is_valid (judges schedule)) (map (vote_on x) given)) (round_of x) after) size
       (subst (λ ws. HoldsRound eq (length (keys s)) (vs ++ ws) (round_of x) after) (same given)
       (records vs (subst (λ n. HoldsRound eq n vs (round_of x) before) (sym size) holds)))
     where
-      same : (given : List (Attestation S P G)) → filter (λ v. good s v.subject v.signer v.signature) (map (vote_on x) given) ≡ filter (is_valid (judges schedule)) (map (vote_on x) given)
+      same : (given : List (Attestation S P G)) → filter (λ v. good s v.subject v.signer v.signature) (map (vote_on x) given)
+          ≡ filter (is_valid (judges schedule)) (map (vote_on x) given)
       same [] = refl
       same (a ∷ given) = λ i. cond (valid_by good (sym is i) x a.signer a.signature) (vote_on x a ∷ same given i) (same given i)
 
   -- a vote on a subject
-  pub takes_vote : (s : S) (x : SubjectValue D) (a : Attestation S P G) (old new : RoundState S D P G) → new.certified ≡ old.certified → RecordsValid s x (a ∷ []) old.votes new.votes → TakesIn judges s (round_of x) (vote_on x a ∷ []) None old new
+  pub takes_vote : (s : S) (x : SubjectValue D) (a : Attestation S P G) (old new : RoundState S D P G) →
+      new.certified ≡ old.certified → RecordsValid s x (a ∷ []) old.votes new.votes →
+      TakesIn judges s (round_of x) (vote_on x a ∷ []) None old new
   takes_vote s x a old new same records = record {
     cast = cast_by s x (a ∷ []) old.votes new.votes records;
-    certified = λ schedule is xs holds. subst (λ ys. RecordsFirsts eq ys (round_of x) new.certified) (sym (append-nil xs)) (subst (RecordsFirsts eq xs (round_of x)) (sym same) holds);
+    certified = λ schedule is xs holds. subst (λ ys. RecordsFirsts eq ys (round_of x) new.certified) (sym (append-nil xs))
+        (subst (RecordsFirsts eq xs (round_of x)) (sym same) holds);
   }
 
   -- a certificate of a subject, with the votes that it lists
-  pub takes_certificate : (s : S) (x : SubjectValue D) (c : C) (old new : RoundState S D P G) → ((xs : List (SubjectValue D)) → RecordsFirsts eq xs (round_of x) old.certified → RecordsFirsts eq (xs ++ cond (certified s x c) (x ∷ []) []) (round_of x) new.certified) → RecordsValid s x (listed c) old.votes new.votes → TakesIn judges s (round_of x) (map (vote_on x) (listed c)) (Some (x, c)) old new
+  pub takes_certificate : (s : S) (x : SubjectValue D) (c : C) (old new : RoundState S D P G) →
+      ((xs : List (SubjectValue D)) → RecordsFirsts eq xs (round_of x) old.certified →
+      RecordsFirsts eq (xs ++ cond (certified s x c) (x ∷ []) []) (round_of x) new.certified) →
+      RecordsValid s x (listed c) old.votes new.votes →
+      TakesIn judges s (round_of x) (map (vote_on x) (listed c)) (Some (x, c)) old new
   takes_certificate s x c old new subjects votes = record {
     cast = cast_by s x (listed c) old.votes new.votes votes;
     certified = λ schedule is xs holds.
-        let alone = elim (certified s x c) as (λ b. cond b (x ∷ []) [] ≡ option_to_list (cond b (Some x) None)) [ true ↦ refl | false ↦ refl ] in
-        subst (λ ys. RecordsFirsts eq (xs ++ ys) (round_of x) new.certified) (alone ∙ ap (λ o. option_to_list (cond (certified_by certified o x c) (Some x) None)) (sym is)) (subjects xs holds);
+        let alone = elim (certified s x c) as (λ b. cond b (x ∷ []) [] ≡ option_to_list (cond b (Some x) None))
+        [ true ↦ refl | false ↦ refl ] in
+        subst (λ ys. RecordsFirsts eq (xs ++ ys) (round_of x) new.certified)
+        (alone ∙ ap (λ o. option_to_list (cond (certified_by certified o x c) (Some x) None)) (sym is)) (subjects xs holds);
   }
 
   module _ (schedule : Schedule S) (messages : List (Activity S D C P G)) (m : Activity S D C P G) where
     -- what is recorded of the message's round, after it
-    pub recalls_taken : (s : S) → committee_of schedule (activity_round m).epoch ≡ Some s → (old new : RoundState S D P G) → TakesContents judges s listed (contents_of m) old new → RecallsRound (judges schedule) messages (activity_round m) old → RecallsRound (judges schedule) (messages ++ m ∷ []) (activity_round m) new
+    pub recalls_taken : (s : S) → committee_of schedule (activity_round m).epoch ≡ Some s → (old new : RoundState S D P G) →
+        TakesContents judges s listed (contents_of m) old new → RecallsRound (judges schedule) messages (activity_round m) old →
+        RecallsRound (judges schedule) (messages ++ m ∷ []) (activity_round m) new
     recalls_taken s is old new takes recalls = record {
-      votes = subst (λ vs. HoldsRound eq ((judges schedule).size (activity_round m).epoch) vs (activity_round m) new.votes) (sym (valid_votes-push (judges schedule) messages m)) (takes.cast schedule is (valid_votes (judges schedule) messages) recalls.votes);
-      subjects = subst (λ xs. RecordsFirsts eq xs (activity_round m) new.certified) (sym (subjects_push (judges schedule) messages m)) (takes.certified schedule is (certified_subjects (judges schedule) messages) recalls.subjects);
+      votes = subst (λ vs. HoldsRound eq ((judges schedule).size (activity_round m).epoch) vs (activity_round m) new.votes)
+          (sym (valid_votes-push (judges schedule) messages m))
+          (takes.cast schedule is (valid_votes (judges schedule) messages) recalls.votes);
+      subjects =
+          subst (λ xs. RecordsFirsts eq xs (activity_round m) new.certified) (sym (subjects_push (judges schedule) messages m))
+          (takes.certified schedule is (certified_subjects (judges schedule) messages) recalls.subjects);
     }
 
     -- what is recorded of the message's round where the detector has no state of it yet
-    pub recalls_first : (s : S) → committee_of schedule (activity_round m).epoch ≡ Some s → IsEquivalence eq → (rounds : BTreeMap Round (RoundState S D P G)) (fresh new : RoundState S D P G) → None ≡ get round_cmp rounds (activity_round m) → IsSized (length (keys s)) fresh.votes → ((signer : ℕ) (sort : Sort) → slots fresh.votes signer sort ≡ no_slot) → round_count fresh.votes ≡ 0 → fresh.certified ≡ nothing_certified → TakesContents judges s listed (contents_of m) fresh new → Recalls (judges schedule) messages (let detector : Detector S D P G = record { rounds = rounds } in detector) → RecallsRound (judges schedule) (messages ++ m ∷ []) (activity_round m) new
+    pub recalls_first : (s : S) → committee_of schedule (activity_round m).epoch ≡ Some s → IsEquivalence eq →
+        (rounds : BTreeMap Round (RoundState S D P G)) (fresh new : RoundState S D P G) →
+        None ≡ get round_cmp rounds (activity_round m) → IsSized (length (keys s)) fresh.votes →
+        ((signer : ℕ) (sort : Sort) → slots fresh.votes signer sort ≡ no_slot) → round_count fresh.votes ≡ 0 →
+        fresh.certified ≡ nothing_certified → TakesContents judges s listed (contents_of m) fresh new →
+        Recalls (judges schedule) messages (let detector : Detector S D P G = record { rounds = rounds } in detector) →
+        RecallsRound (judges schedule) (messages ++ m ∷ []) (activity_round m) new
     recalls_first s is l rounds fresh new none sized empty no_votes nothing takes holds =
-        let at : RecallsNothing (judges schedule) messages (activity_round m) = subst (RecallsAt (judges schedule) messages (activity_round m)) (sym none) (holds (activity_round m)) in
+        let at : RecallsNothing (judges schedule) messages (activity_round m) =
+        subst (RecallsAt (judges schedule) messages (activity_round m)) (sym none) (holds (activity_round m)) in
         recalls_taken s is fresh new takes (record {
-          votes = record { sized = subst (λ n. IsSized n fresh.votes) (ap (size_by keys) (sym is)) sized; held = λ signer sort. empty signer sort ∙ at.votes signer sort; counted = no_votes ∙ sym (none_in_round eq l (valid_votes (judges schedule) messages) (activity_round m) at.votes) };
-          subjects = subst (RecordsFirsts eq (certified_subjects (judges schedule) messages) (activity_round m)) (sym nothing) at.subjects;
+          votes = record {
+            sized = subst (λ n. IsSized n fresh.votes) (ap (size_by keys) (sym is)) sized;
+            held = λ signer sort. empty signer sort ∙ at.votes signer sort;
+            counted = no_votes ∙ sym (none_in_round eq l (valid_votes (judges schedule) messages) (activity_round m) at.votes);
+          };
+          subjects = subst (RecordsFirsts eq (certified_subjects (judges schedule) messages) (activity_round m))
+              (sym nothing) at.subjects;
         })
 
     -- without a committee nothing more is valid or certified, and nothing more is recorded
-    pub recalls_no_committee : All (IsHere (activity_round m)) (votes_in listed m) → None ≡ committee_of schedule (activity_round m).epoch → (q : Round) (o : Option (RoundState S D P G)) → RecallsAt (judges schedule) messages q o → RecallsAt (judges schedule) (messages ++ m ∷ []) q o
+    pub recalls_no_committee : All (IsHere (activity_round m)) (votes_in listed m) →
+        None ≡ committee_of schedule (activity_round m).epoch → (q : Round) (o : Option (RoundState S D P G)) →
+        RecallsAt (judges schedule) messages q o → RecallsAt (judges schedule) (messages ++ m ∷ []) q o
     recalls_no_committee here none q = by
       where
-        no_vote : (vs : List (SignedVote D G)) → AllByRecursion (IsHere (activity_round m)) vs → filter (is_valid (judges schedule)) vs ≡ []
+        no_vote : (vs : List (SignedVote D G)) → AllByRecursion (IsHere (activity_round m)) vs →
+            filter (is_valid (judges schedule)) vs ≡ []
         no_vote [] h = refl
-        no_vote (v ∷ vs) h = (λ i. cond (valid_by good ((ap (λ r. committee_of schedule r.epoch) h.0 ∙ sym none) i) v.subject v.signer v.signature) (v ∷ filter (is_valid (judges schedule)) vs) (filter (is_valid (judges schedule)) vs)) ∙ no_vote vs h.1
+        no_vote (v ∷ vs) h =
+            (λ i. cond (valid_by good ((ap (λ r. committee_of schedule r.epoch) h.0 ∙ sym none) i) v.subject v.signer
+            v.signature) (v ∷ filter (is_valid (judges schedule)) vs) (filter (is_valid (judges schedule)) vs)) ∙ no_vote vs h.1
 
         no_subject : (o : Option (SubjectValue D × C)) → subject_and_certificate m ≡ o → if_certified (judges schedule) o ≡ None
         no_subject None is = refl
-        no_subject (Some s) is = λ i. cond (certified_by certified ((ap (λ r. committee_of schedule r.epoch) (sym (certificate_parts listed m s is).0) ∙ sym none) i) s.0 s.1) (Some s.0) None
+        no_subject (Some s) is = λ i.
+            cond (certified_by certified
+            ((ap (λ r. committee_of schedule r.epoch) (sym (certificate_parts listed m s is).0) ∙ sym none) i) s.0 s.1)
+            (Some s.0) None
 
         votes : valid_votes (judges schedule) messages ≡ valid_votes (judges schedule) (messages ++ m ∷ [])
-        votes = sym (valid_votes-push (judges schedule) messages m ∙ ap (λ vs. valid_votes (judges schedule) messages ++ vs) (no_vote (votes_in listed m) (recursion_from_All _ (votes_in listed m) here)) ∙ append-nil (valid_votes (judges schedule) messages))
+        votes =
+            sym (valid_votes-push (judges schedule) messages m ∙ ap (λ vs. valid_votes (judges schedule) messages ++ vs)
+            (no_vote (votes_in listed m) (recursion_from_All _ (votes_in listed m) here))
+            ∙ append-nil (valid_votes (judges schedule) messages))
 
         subjects : certified_subjects (judges schedule) messages ≡ certified_subjects (judges schedule) (messages ++ m ∷ [])
-        subjects = sym (subjects_push (judges schedule) messages m ∙ ap (λ p. certified_subjects (judges schedule) messages ++ option_to_list p) (no_subject (subject_and_certificate m) refl) ∙ append-nil (certified_subjects (judges schedule) messages))
+        subjects =
+            sym (subjects_push (judges schedule) messages m
+            ∙ ap (λ p. certified_subjects (judges schedule) messages ++ option_to_list p)
+            (no_subject (subject_and_certificate m) refl) ∙ append-nil (certified_subjects (judges schedule) messages))
 
-        by : (o : Option (RoundState S D P G)) → RecallsAt (judges schedule) messages q o → RecallsAt (judges schedule) (messages ++ m ∷ []) q o
-        by None r = record { votes = subst (λ vs. (signer : ℕ) (sort : Sort) → no_slot ≡ slot_of eq vs sort q signer) votes r.votes; subjects = subst (λ xs. RecordsFirsts eq xs q nothing_certified) subjects r.subjects }
-        by (Some round_state) r = record { votes = subst (λ vs. HoldsRound eq ((judges schedule).size q.epoch) vs q round_state.votes) votes r.votes; subjects = subst (λ xs. RecordsFirsts eq xs q round_state.certified) subjects r.subjects }
+        by : (o : Option (RoundState S D P G)) → RecallsAt (judges schedule) messages q o →
+            RecallsAt (judges schedule) (messages ++ m ∷ []) q o
+        by None r = record {
+          votes = subst (λ vs. (signer : ℕ) (sort : Sort) → no_slot ≡ slot_of eq vs sort q signer) votes r.votes;
+          subjects = subst (λ xs. RecordsFirsts eq xs q nothing_certified) subjects r.subjects;
+        }
+        by (Some round_state) r = record {
+          votes = subst (λ vs. HoldsRound eq ((judges schedule).size q.epoch) vs q round_state.votes) votes r.votes;
+          subjects = subst (λ xs. RecordsFirsts eq xs q round_state.certified) subjects r.subjects;
+        }
 
 -- two votes of one round, one after the other
 pub takes_two : {S D C P G : Type 0} (rules : Schedule S → Rules S D C P G) (s : S) (v w : SignedVote D G)
@@ -170,12 +257,15 @@ pub takes_two : {S D C P G : Type 0} (rules : Schedule S → Rules S D C P G) (s
 takes_two {S} {D} {C} {P} {G} rules s v w old mid new here one two =
     both one (subst (λ r. TakesIn rules s r (w ∷ []) None mid new) here two)
   where
-    both : {round : Round} → TakesIn rules s round (v ∷ []) None old mid → TakesIn rules s round (w ∷ []) None mid new → TakesIn rules s round (v ∷ w ∷ []) None old new
+    both : {round : Round} → TakesIn rules s round (v ∷ []) None old mid → TakesIn rules s round (w ∷ []) None mid new →
+        TakesIn rules s round (v ∷ w ∷ []) None old new
     both {round} first second = record {
       cast = λ schedule is vs holds.
           let keep = is_valid (rules schedule) in
           subst (λ ws. HoldsRound (rules schedule).eq ((rules schedule).size round.epoch) ws round new.votes)
-          (append_assoc vs (filter keep (v ∷ [])) (filter keep (w ∷ [])) ∙ ap (λ ws. vs ++ ws) (sym (filter-append keep (v ∷ []) (w ∷ []))))
+          (append_assoc vs (filter keep (v ∷ [])) (filter keep (w ∷ []))
+          ∙ ap (λ ws. vs ++ ws) (sym (filter-append keep (v ∷ []) (w ∷ []))))
           (second.cast schedule is _ (first.cast schedule is vs holds));
-      certified = λ schedule is xs holds. subst (λ ys. RecordsFirsts (rules schedule).eq (ys ++ []) round new.certified) (append-nil xs) (second.certified schedule is (xs ++ []) (first.certified schedule is xs holds));
+      certified = λ schedule is xs holds. subst (λ ys. RecordsFirsts (rules schedule).eq (ys ++ []) round new.certified)
+          (append-nil xs) (second.certified schedule is (xs ++ []) (first.certified schedule is xs holds));
     }

@@ -1,4 +1,5 @@
--- Where votes are: the tests on rounds, signers, sorts and proposals, which subjects exclude each other, and the orders of a report.
+-- Where votes are: the tests on rounds, signers, sorts and proposals, which subjects exclude each other, and the orders of a
+-- report.
 use Rattle.simplex_detector.proofs.Prelude.{Bool, CmpEqualImpliesEq, Conflicting_finalize, Conflicting_notarize, Equal, Finalizes, Finalizing, IsEquivalence, IsTotalOrder, EquivocationKind, Accusation, Notarizes, Notarizing, Nullifies, Nullify_finalize, Nullifying, Proposal, Round, SignedVote, Sort, SubjectValue, and_equiv, and_from, and_parts, ap, cases_Bool, clash, eq-eqb, eqb, eqb-true, exact_pairs, exact_unsigned, excludes, false, false_from_ne_true, false≢true, first_sort, inl, inr, is_at, is_eq, is_key, is_of, kind_rank, accused_cmp, nat_cmp, nat_cmp_total, nat_eq_equiv, not, on_equiv, on_total, refl, round_cmp, round_of, same_proposal, same_round, same_sort, second_sort, signer_cmp, sort_of, subst, sym, then_total, tied_itself, true, ℕ, ⊎_elim, ◌∙◌, ◌≡◌, ◌⊎◌}
 
 -- ---- rounds, proposals and sorts
@@ -18,7 +19,9 @@ same_round-from a b e = ap (same_round a) (sym e) ∙ same_round_equiv.refl a
 
 -- so is that of proposals where that of payloads is
 same_proposal_equiv : {D : Type 0} {eq : D → D → Bool} → IsEquivalence eq → IsEquivalence (same_proposal eq)
-same_proposal_equiv {D} l = and_equiv (on_equiv (λ (p : Proposal D). p.round) same_round_equiv) (and_equiv (on_equiv (λ (p : Proposal D). p.parent) nat_eq_equiv) (on_equiv (λ (p : Proposal D). p.payload) l))
+same_proposal_equiv {D} l =
+    and_equiv (on_equiv (λ (p : Proposal D). p.round) same_round_equiv)
+    (and_equiv (on_equiv (λ (p : Proposal D). p.parent) nat_eq_equiv) (on_equiv (λ (p : Proposal D). p.payload) l))
 
 -- sorts that pass the test are equal
 pub same_sort-true : (a b : Sort) → same_sort a b ≡ true → a ≡ b
@@ -35,13 +38,15 @@ same_sort-refl Finalizing = refl
 -- ---- where a vote is
 
 -- a vote of a round and signer has that round and signer
-pub is_of-true : {D G : Type 0} (r : Round) (s : ℕ) (v : SignedVote D G) → is_of r s v ≡ true → (round_of v.subject ≡ r) × (v.signer ≡ s)
+pub is_of-true : {D G : Type 0} (r : Round) (s : ℕ) (v : SignedVote D G) → is_of r s v ≡ true →
+    (round_of v.subject ≡ r) × (v.signer ≡ s)
 is_of-true r s v h =
     let parts = and_parts (same_round (round_of v.subject) r) (eqb v.signer s) h in
     (same_round-true _ _ parts.0, eqb-true _ _ parts.1)
 
 -- a vote is of its round and signer
-pub is_of-from : {D G : Type 0} (r : Round) (s : ℕ) (v : SignedVote D G) → round_of v.subject ≡ r → v.signer ≡ s → is_of r s v ≡ true
+pub is_of-from : {D G : Type 0} (r : Round) (s : ℕ) (v : SignedVote D G) → round_of v.subject ≡ r → v.signer ≡ s →
+    is_of r s v ≡ true
 is_of-from r s v p q = and_from (same_round (round_of v.subject) r) (eqb v.signer s) (same_round-from _ _ p) (eq-eqb _ _ q)
 
 -- a sort, a round and a signer
@@ -62,7 +67,9 @@ is_at-true s v h =
     λ i. record { sort = same_sort-true (sort_of v.subject) s.sort p.0 i; round = q.0 i; signer = q.1 i }
 
 pub is_at-from : {D G : Type 0} (s : Spot) (v : SignedVote D G) → spot v ≡ s → is_at s.sort s.round s.signer v ≡ true
-is_at-from s v e = subst (λ (t : Spot). is_at t.sort t.round t.signer v ≡ true) e (and_from (same_sort (sort_of v.subject) (sort_of v.subject)) (is_of (round_of v.subject) v.signer v) (same_sort-refl (sort_of v.subject)) (is_of-from _ _ v refl refl))
+is_at-from s v e =
+    subst (λ (t : Spot). is_at t.sort t.round t.signer v ≡ true) e (and_from (same_sort (sort_of v.subject) (sort_of v.subject))
+    (is_of (round_of v.subject) v.signer v) (same_sort-refl (sort_of v.subject)) (is_of-from _ _ v refl refl))
 
 -- ---- which subjects exclude each other
 
@@ -73,18 +80,22 @@ excludes_itself eq l (Nullifies r) = refl
 excludes_itself eq l (Finalizes p) = ap not ((same_proposal_equiv l).refl p)
 
 -- exclusion is symmetric
-pub excludes-flip : {D : Type 0} (eq : D → D → Bool) → IsEquivalence eq → (x y : SubjectValue D) → excludes eq x y ≡ excludes eq y x
+pub excludes-flip : {D : Type 0} (eq : D → D → Bool) → IsEquivalence eq → (x y : SubjectValue D) →
+    excludes eq x y ≡ excludes eq y x
 excludes-flip eq l (Notarizes p) (Notarizes q) = ap not ((same_proposal_equiv l).symm p q)
 excludes-flip eq l (Finalizes p) (Finalizes q) = ap not ((same_proposal_equiv l).symm p q)
 excludes-flip eq l (Nullifies r) (Finalizes q) = refl
 excludes-flip eq l _ _ = refl
 
 -- any value differs from one of two values that differ
-differs_from_one : {X : Type 0} {same : X → X → Bool} → IsEquivalence same → (x y z : X) → not (same y z) ≡ true → (not (same x y) ≡ true) ⊎ (not (same x z) ≡ true)
-differs_from_one {same = same} l x y z h = elim (cases_Bool (same x y)) [ inl e ↦ inr (ap not (l.congr x y z e) ∙ h) | inr e ↦ inl (ap not e) ]
+differs_from_one : {X : Type 0} {same : X → X → Bool} → IsEquivalence same → (x y z : X) → not (same y z) ≡ true →
+    (not (same x y) ≡ true) ⊎ (not (same x z) ≡ true)
+differs_from_one {same = same} l x y z h =
+    elim (cases_Bool (same x y)) [ inl e ↦ inr (ap not (l.congr x y z e) ∙ h) | inr e ↦ inl (ap not e) ]
 
 -- so any subject of the first one's sort excludes one of two subjects that exclude each other
-pub excludes_one : {D : Type 0} (eq : D → D → Bool) → IsEquivalence eq → (a x y : SubjectValue D) → sort_of a ≡ sort_of x → excludes eq x y ≡ true → (excludes eq a x ≡ true) ⊎ (excludes eq a y ≡ true)
+pub excludes_one : {D : Type 0} (eq : D → D → Bool) → IsEquivalence eq → (a x y : SubjectValue D) → sort_of a ≡ sort_of x →
+    excludes eq x y ≡ true → (excludes eq a x ≡ true) ⊎ (excludes eq a y ≡ true)
 excludes_one eq l (Notarizes p) (Notarizes q) (Notarizes r) s h = differs_from_one (same_proposal_equiv l) p q r h
 excludes_one eq l (Finalizes p) (Finalizes q) (Finalizes r) s h = differs_from_one (same_proposal_equiv l) p q r h
 excludes_one eq l (Finalizes p) (Finalizes q) (Nullifies r) s h = inr refl
@@ -92,17 +103,22 @@ excludes_one eq l (Nullifies p) (Nullifies q) (Finalizes r) s h = inr refl
 excludes_one eq l _ _ _ s h = absurd cc
 
 -- subjects that clash are of the sorts of the kind, and exclude each other
-pub clash_parts : {D : Type 0} (eq : D → D → Bool) (kind : EquivocationKind) (x y : SubjectValue D) → clash eq kind x y ≡ true → (sort_of x ≡ first_sort kind) × (sort_of y ≡ second_sort kind) × (excludes eq x y ≡ true)
+pub clash_parts : {D : Type 0} (eq : D → D → Bool) (kind : EquivocationKind) (x y : SubjectValue D) → clash eq kind x y ≡ true →
+    (sort_of x ≡ first_sort kind) × (sort_of y ≡ second_sort kind) × (excludes eq x y ≡ true)
 clash_parts eq kind x y h =
     let p = and_parts (same_sort (sort_of x) (first_sort kind)) _ h in
     let q = and_parts (same_sort (sort_of y) (second_sort kind)) (excludes eq x y) p.1 in
     (same_sort-true _ _ p.0, same_sort-true _ _ q.0, q.1)
 
-clash_from : {D : Type 0} (eq : D → D → Bool) (kind : EquivocationKind) (x y : SubjectValue D) → sort_of x ≡ first_sort kind → sort_of y ≡ second_sort kind → excludes eq x y ≡ true → clash eq kind x y ≡ true
-clash_from eq kind x y s t h = and_from _ _ (ap (same_sort (sort_of x)) (sym s) ∙ same_sort-refl (sort_of x)) (and_from _ _ (ap (same_sort (sort_of y)) (sym t) ∙ same_sort-refl (sort_of y)) h)
+clash_from : {D : Type 0} (eq : D → D → Bool) (kind : EquivocationKind) (x y : SubjectValue D) → sort_of x ≡ first_sort kind →
+    sort_of y ≡ second_sort kind → excludes eq x y ≡ true → clash eq kind x y ≡ true
+clash_from eq kind x y s t h =
+    and_from _ _ (ap (same_sort (sort_of x)) (sym s) ∙ same_sort-refl (sort_of x))
+    (and_from _ _ (ap (same_sort (sort_of y)) (sym t) ∙ same_sort-refl (sort_of y)) h)
 
 -- subjects that exclude each other clash with some kind, in one order
-pub kind_from_excludes : {D : Type 0} (eq : D → D → Bool) (x y : SubjectValue D) → excludes eq x y ≡ true → (kind : EquivocationKind) × ((clash eq kind x y ≡ true) ⊎ (clash eq kind y x ≡ true))
+pub kind_from_excludes : {D : Type 0} (eq : D → D → Bool) (x y : SubjectValue D) → excludes eq x y ≡ true →
+    (kind : EquivocationKind) × ((clash eq kind x y ≡ true) ⊎ (clash eq kind y x ≡ true))
 kind_from_excludes eq (Notarizes p) (Notarizes q) h = (Conflicting_notarize, inl h)
 kind_from_excludes eq (Finalizes p) (Finalizes q) h = (Conflicting_finalize, inl h)
 kind_from_excludes eq (Nullifies r) (Finalizes q) h = (Nullify_finalize, inl refl)
@@ -110,12 +126,15 @@ kind_from_excludes eq (Finalizes p) (Nullifies r) h = (Nullify_finalize, inr ref
 kind_from_excludes eq _ _ h = absurd (false≢true h)
 
 -- a subject of the first sort clashes with one of any two that clash
-pub clash_with_one : {D : Type 0} (eq : D → D → Bool) → IsEquivalence eq → (kind : EquivocationKind) (x y z : SubjectValue D) → sort_of x ≡ first_sort kind → clash eq kind y z ≡ true → (clash eq kind x y ≡ true) ⊎ (clash eq kind x z ≡ true)
+pub clash_with_one : {D : Type 0} (eq : D → D → Bool) → IsEquivalence eq → (kind : EquivocationKind) (x y z : SubjectValue D) →
+    sort_of x ≡ first_sort kind → clash eq kind y z ≡ true → (clash eq kind x y ≡ true) ⊎ (clash eq kind x z ≡ true)
 clash_with_one {D} eq l kind x y z s h =
     let (first, second, against) = clash_parts eq kind y z h in
-    ⊎_elim (λ e. inl (clash_from eq kind x y s (also_second kind x y s first e) e)) (λ e. inr (clash_from eq kind x z s second e)) (excludes_one eq l x y z (s ∙ sym first) against)
+    ⊎_elim (λ e. inl (clash_from eq kind x y s (also_second kind x y s first e) e))
+    (λ e. inr (clash_from eq kind x z s second e)) (excludes_one eq l x y z (s ∙ sym first) against)
   where
-    also_second : (kind : EquivocationKind) (x y : SubjectValue D) → sort_of x ≡ first_sort kind → sort_of y ≡ first_sort kind → excludes eq x y ≡ true → sort_of y ≡ second_sort kind
+    also_second : (kind : EquivocationKind) (x y : SubjectValue D) → sort_of x ≡ first_sort kind → sort_of y ≡ first_sort kind →
+        excludes eq x y ≡ true → sort_of y ≡ second_sort kind
     also_second Nullify_finalize (Nullifies p) (Nullifies q) s t e = absurd (false≢true e)
     also_second Nullify_finalize _ _ s t e = absurd cc
     also_second Conflicting_notarize _ _ s t e = t
@@ -127,20 +146,28 @@ pub round_cmp_total : IsTotalOrder round_cmp
 round_cmp_total = then_total (on_total (λ (r : Round). r.epoch) nat_cmp_total) (on_total (λ (r : Round). r.view) nat_cmp_total)
 
 pub signer_cmp_total : IsTotalOrder signer_cmp
-signer_cmp_total = then_total (on_total (λ (s : Round × ℕ). s.0) round_cmp_total) (on_total (λ (s : Round × ℕ). s.1) nat_cmp_total)
+signer_cmp_total =
+    then_total (on_total (λ (s : Round × ℕ). s.0) round_cmp_total) (on_total (λ (s : Round × ℕ). s.1) nat_cmp_total)
 
 pub accused_cmp_total : IsTotalOrder accused_cmp
-accused_cmp_total = then_total (on_total (λ (n : Accusation). (n.round, n.signer)) signer_cmp_total) (on_total (λ (n : Accusation). kind_rank n.kind) nat_cmp_total)
+accused_cmp_total =
+    then_total (on_total (λ (n : Accusation). (n.round, n.signer)) signer_cmp_total)
+    (on_total (λ (n : Accusation). kind_rank n.kind) nat_cmp_total)
 
 -- rounds that the order ties are equal
 pub exact_rounds : CmpEqualImpliesEq round_cmp
-exact_rounds a b h = ap (λ (p : _). record { epoch = p.0; view = p.1 }) (exact_pairs nat_cmp nat_cmp exact_unsigned exact_unsigned (a.epoch, a.view) (b.epoch, b.view) h)
+exact_rounds a b h =
+    ap (λ (p : _). record { epoch = p.0; view = p.1 })
+    (exact_pairs nat_cmp nat_cmp exact_unsigned exact_unsigned (a.epoch, a.view) (b.epoch, b.view) h)
 
 pub exact_signers : CmpEqualImpliesEq signer_cmp
 exact_signers = exact_pairs round_cmp nat_cmp exact_rounds exact_unsigned
 
 pub exact_accused : CmpEqualImpliesEq accused_cmp
-exact_accused a b h = ap (λ (p : _). record { round = p.0.0; signer = p.0.1; kind = p.1 }) (exact_pairs signer_cmp (λ k l. nat_cmp (kind_rank k) (kind_rank l)) exact_signers kinds ((a.round, a.signer), a.kind) ((b.round, b.signer), b.kind) h)
+exact_accused a b h =
+    ap (λ (p : _). record { round = p.0.0; signer = p.0.1; kind = p.1 })
+    (exact_pairs signer_cmp (λ k l. nat_cmp (kind_rank k) (kind_rank l)) exact_signers kinds ((a.round, a.signer), a.kind)
+    ((b.round, b.signer), b.kind) h)
   where
     kinds : (k l : EquivocationKind) → nat_cmp (kind_rank k) (kind_rank l) ≡ Equal → k ≡ l
     kinds Conflicting_notarize Conflicting_notarize e = refl
@@ -150,8 +177,12 @@ exact_accused a b h = ap (λ (p : _). record { round = p.0.0; signer = p.0.1; ki
 
 -- a round that is found is the one that was sought
 pub key_tells : (p q : Round) → is_key (round_cmp p) q ≡ true → p ≡ q
-key_tells p q h = exact_rounds p q ((elim (round_cmp p q) as (λ o. is_eq o ≡ true → o ≡ Equal) [ Equal ↦ λ e. refl | _ ↦ λ e. absurd (false≢true e) ]) h)
+key_tells p q h =
+    exact_rounds p q
+    ((elim (round_cmp p q) as (λ o. is_eq o ≡ true → o ≡ Equal) [ Equal ↦ λ e. refl | _ ↦ λ e. absurd (false≢true e) ]) h)
 
 -- a round that is not found is another
 pub other_round : (p q : Round) → is_key (round_cmp p) q ≡ false → same_round p q ≡ false
-other_round p q h = false_from_ne_true _ (λ e. false≢true (sym h ∙ subst (λ r. is_key (round_cmp p) r ≡ true) (same_round-true p q e) (ap is_eq (tied_itself round_cmp_total p))))
+other_round p q h =
+    false_from_ne_true _ (λ e. false≢true
+    (sym h ∙ subst (λ r. is_key (round_cmp p) r ≡ true) (same_round-true p q e) (ap is_eq (tied_itself round_cmp_total p))))

@@ -6,53 +6,84 @@ use Rattle.simplex_detector.proofs.Places.{Spot, excludes_itself, is_at-from, is
 
 module _ {D G : Type 0} (eq : D → D → Bool) (l : IsEquivalence eq) (vs : List (SignedVote D G)) (v : SignedVote D G) where
   -- the earliest other vote, after one more vote
-  other_after : (sort : Sort) (round : Round) (signer : ℕ) (o : Option (SignedVote D G)) → find (is_at sort round signer) vs ≡ o → (b : Bool) → is_at sort round signer v ≡ b → other_than eq (vs ++ v ∷ []) sort round signer (cond b (option_or o (Some v)) o) ≡ cond b (option_or (other_than eq vs sort round signer o) (if_differs eq o v)) (other_than eq vs sort round signer o)
+  other_after : (sort : Sort) (round : Round) (signer : ℕ) (o : Option (SignedVote D G)) →
+      find (is_at sort round signer) vs ≡ o → (b : Bool) → is_at sort round signer v ≡ b →
+      other_than eq (vs ++ v ∷ []) sort round signer (cond b (option_or o (Some v)) o)
+      ≡ cond b (option_or (other_than eq vs sort round signer o) (if_differs eq o v)) (other_than eq vs sort round signer o)
   other_after sort round signer None e true at =
       let test = λ (w : _). is_at sort round signer w && excludes eq v.subject w.subject in
       find_push test vs v ∙ cond-false (test v) _ _ (and_right (is_at sort round signer v) _ (excludes_itself eq l v.subject)) ∙
-      none_found test vs (λ w w_in passes. let (u, is) = find_from_Contains (is_at sort round signer) vs w w_in (and_parts (is_at sort round signer w) (excludes eq v.subject w.subject) passes).0 in let both_are : None ≡ Some u = sym e ∙ is in absurd cc)
+      none_found test vs (λ w w_in passes. let (u, is) = find_from_Contains (is_at sort round signer) vs w w_in
+      (and_parts (is_at sort round signer w) (excludes eq v.subject w.subject) passes).0 in
+      let both_are : None ≡ Some u = sym e ∙ is in absurd cc)
   other_after sort round signer None e false at = refl
-  other_after sort round signer (Some a) e true at = let test = λ (w : _). is_at sort round signer w && excludes eq a.subject w.subject in find-append test vs (v ∷ []) ∙ ap (λ c. option_or (find test vs) (cond (c && excludes eq a.subject v.subject) (Some v) None)) at
-  other_after sort round signer (Some a) e false at = let test = λ (w : _). is_at sort round signer w && excludes eq a.subject w.subject in find_push test vs v ∙ cond-false (test v) _ _ (and_left _ _ at)
+  other_after sort round signer (Some a) e true at =
+      let test = λ (w : _). is_at sort round signer w && excludes eq a.subject w.subject in
+      find-append test vs (v ∷ [])
+      ∙ ap (λ c. option_or (find test vs) (cond (c && excludes eq a.subject v.subject) (Some v) None)) at
+  other_after sort round signer (Some a) e false at =
+      let test = λ (w : _). is_at sort round signer w && excludes eq a.subject w.subject in
+      find_push test vs v ∙ cond-false (test v) _ _ (and_left _ _ at)
 
   -- one more vote changes only its own slot
-  pub slot_after_vote : (sort : Sort) (round : Round) (signer : ℕ) → slot_of eq (vs ++ v ∷ []) sort round signer ≡ (if is_at sort round signer v then slot_with eq v (slot_of eq vs sort round signer) else slot_of eq vs sort round signer)
+  pub slot_after_vote : (sort : Sort) (round : Round) (signer : ℕ) → slot_of eq (vs ++ v ∷ []) sort round signer ≡ (if is_at
+      sort round signer v then slot_with eq v (slot_of eq vs sort round signer) else slot_of eq vs sort round signer)
   slot_after_vote sort round signer =
       let first = find_push (is_at sort round signer) vs v in
-      let other = ap (other_than eq (vs ++ v ∷ []) sort round signer) first ∙ other_after sort round signer (find (is_at sort round signer) vs) refl (is_at sort round signer v) refl in
+      let other = ap (other_than eq (vs ++ v ∷ []) sort round signer) first
+      ∙ other_after sort round signer (find (is_at sort round signer) vs) refl (is_at sort round signer v) refl in
       (λ i. record { earliest = first i; other = other i }) ∙
-      elim (is_at sort round signer v) as (λ b. record { earliest = cond b (slot_with eq v (slot_of eq vs sort round signer)).earliest (slot_of eq vs sort round signer).earliest; other = cond b (slot_with eq v (slot_of eq vs sort round signer)).other (slot_of eq vs sort round signer).other } ≡ cond b (slot_with eq v (slot_of eq vs sort round signer)) (slot_of eq vs sort round signer)) [ true ↦ refl | false ↦ refl ]
+      elim (is_at sort round signer v) as (λ b. record {
+        earliest =
+            cond b (slot_with eq v (slot_of eq vs sort round signer)).earliest (slot_of eq vs sort round signer).earliest;
+        other = cond b (slot_with eq v (slot_of eq vs sort round signer)).other (slot_of eq vs sort round signer).other;
+      } ≡ cond b (slot_with eq v (slot_of eq vs sort round signer)) (slot_of eq vs sort round signer))
+      [ true ↦ refl | false ↦ refl ]
 
   -- the slot of a vote's own sort, round and signer is that of each spot that it is at
-  pub own_slot : (s : Spot) → is_at s.sort s.round s.signer v ≡ true → slot_of eq vs (sort_of v.subject) (round_of v.subject) v.signer ≡ slot_of eq vs s.sort s.round s.signer
+  pub own_slot : (s : Spot) → is_at s.sort s.round s.signer v ≡ true →
+      slot_of eq vs (sort_of v.subject) (round_of v.subject) v.signer ≡ slot_of eq vs s.sort s.round s.signer
   own_slot s at = ap (λ (t : Spot). slot_of eq vs t.sort t.round t.signer) (is_at-true s v at)
 
   -- a vote that is no news changes no slot
-  pub no_news : is_news eq vs v ≡ false → (s : Spot) → slot_of eq (vs ++ v ∷ []) s.sort s.round s.signer ≡ slot_of eq vs s.sort s.round s.signer
-  no_news h s = slot_after_vote s.sort s.round s.signer ∙ (elim (is_at s.sort s.round s.signer v) as (λ b. is_at s.sort s.round s.signer v ≡ b → cond b (slot_with eq v (slot_of eq vs s.sort s.round s.signer)) (slot_of eq vs s.sort s.round s.signer) ≡ slot_of eq vs s.sort s.round s.signer) [
-    | true ↦ λ e. stays _ _ (ap (λ (k : Slot D G). changes eq k.earliest k.other v.subject) (sym (own_slot s e)) ∙ h)
-    | false ↦ λ e. refl
-  ]) refl
+  pub no_news : is_news eq vs v ≡ false → (s : Spot) →
+      slot_of eq (vs ++ v ∷ []) s.sort s.round s.signer ≡ slot_of eq vs s.sort s.round s.signer
+  no_news h s =
+      slot_after_vote s.sort s.round s.signer
+      ∙ (elim (is_at s.sort s.round s.signer v) as (λ b. is_at s.sort s.round s.signer v ≡ b → cond b (slot_with eq v (slot_of
+      eq vs s.sort s.round s.signer)) (slot_of eq vs s.sort s.round s.signer) ≡ slot_of eq vs s.sort s.round s.signer) [
+        | true ↦ λ e. stays _ _ (ap (λ (k : Slot D G). changes eq k.earliest k.other v.subject) (sym (own_slot s e)) ∙ h)
+        | false ↦ λ e. refl
+      ]) refl
     where
-      stays : (first other : Option (SignedVote D G)) → changes eq first other v.subject ≡ false → slot_with eq v (record { earliest = first; other = other }) ≡ record { earliest = first; other = other }
+      stays : (first other : Option (SignedVote D G)) → changes eq first other v.subject ≡ false →
+          slot_with eq v (record { earliest = first; other = other }) ≡ record { earliest = first; other = other }
       stays None other e = absurd (false≢true (sym e))
       stays (Some a) (Some w) e = refl
-      stays (Some a) None e = ap (λ b. record { earliest = Some a; other = cond b (Some v) None }) ((elim (excludes eq a.subject v.subject) as (λ b. (b && true) ≡ false → b ≡ false) [ true ↦ λ f. f | false ↦ λ f. f ]) e)
+      stays (Some a) None e =
+          ap (λ b. record { earliest = Some a; other = cond b (Some v) None })
+          ((elim (excludes eq a.subject v.subject) as (λ b. (b && true) ≡ false → b ≡ false) [ true ↦ λ f. f | false ↦ λ f. f ])
+          e)
 
 -- ---- the evidence in the slots
 
 -- the evidence of two votes consists of them
-pub equivocation_of-Some : {D G : Type 0} (kind : EquivocationKind) (o p : Option (SignedVote D G)) (e : Equivocation D G) → equivocation_of kind o p ≡ Some e → (o ≡ Some e.first) × (p ≡ Some e.second)
+pub equivocation_of-Some : {D G : Type 0} (kind : EquivocationKind) (o p : Option (SignedVote D G)) (e : Equivocation D G) →
+    equivocation_of kind o p ≡ Some e → (o ≡ Some e.first) × (p ≡ Some e.second)
 equivocation_of-Some kind None p e h = absurd cc
 equivocation_of-Some kind (Some v) None e h = absurd cc
-equivocation_of-Some kind (Some v) (Some w) e h = (ap (λ x. Some x.first) (same_Some _ e h), ap (λ x. Some x.second) (same_Some _ e h))
+equivocation_of-Some kind (Some v) (Some w) e h =
+    (ap (λ x. Some x.first) (same_Some _ e h), ap (λ x. Some x.second) (same_Some _ e h))
 
 module _ {D G : Type 0} (eq : D → D → Bool) where
   -- the test on the second vote, by its spot and its subject
-  second_test : (n : Accusation) (v w : SignedVote D G) → spot v ≡ first_spot n → contradicts eq n.kind v w ≡ (is_at (second_sort n.kind) n.round n.signer w && excludes eq v.subject w.subject)
+  second_test : (n : Accusation) (v w : SignedVote D G) → spot v ≡ first_spot n →
+      contradicts eq n.kind v w ≡ (is_at (second_sort n.kind) n.round n.signer w && excludes eq v.subject w.subject)
   second_test n v w at =
       (λ i. is_of (at i).round (at i).signer w && clash eq n.kind v.subject w.subject) ∙
-      regroup (same_sort (sort_of v.subject) (first_sort n.kind)) (is_of n.round n.signer w) (same_sort (sort_of w.subject) (second_sort n.kind)) (excludes eq v.subject w.subject) (ap (λ (s : Spot). same_sort (sort_of v.subject) s.sort) (sym at) ∙ same_sort-refl (sort_of v.subject))
+      regroup (same_sort (sort_of v.subject) (first_sort n.kind)) (is_of n.round n.signer w)
+      (same_sort (sort_of w.subject) (second_sort n.kind)) (excludes eq v.subject w.subject)
+      (ap (λ (s : Spot). same_sort (sort_of v.subject) s.sort) (sym at) ∙ same_sort-refl (sort_of v.subject))
     where
       regroup : (f a s e : Bool) → f ≡ true → (a && (f && (s && e))) ≡ ((s && a) && e)
       regroup false a s e h = absurd (false≢true h)
@@ -65,12 +96,19 @@ module _ {D G : Type 0} (eq : D → D → Bool) where
   second_by Conflicting_finalize round signer v w = is_at Finalizing round signer w && excludes eq v.subject w.subject
   second_by Nullify_finalize round signer v w = is_at Finalizing round signer w
 
-  pub second_agrees : (kind : EquivocationKind) (round : Round) (signer : ℕ) (v : SignedVote D G) → spot v ≡ first_spot (record { round = round; signer = signer; kind = kind }) → (w : SignedVote D G) → contradicts eq kind v w ≡ second_by kind round signer v w
-  second_agrees Conflicting_notarize round signer v at w = second_test (record { round = round; signer = signer; kind = Conflicting_notarize }) v w at
-  second_agrees Conflicting_finalize round signer v at w = second_test (record { round = round; signer = signer; kind = Conflicting_finalize }) v w at
-  second_agrees Nullify_finalize round signer v at w = second_test (record { round = round; signer = signer; kind = Nullify_finalize }) v w at ∙ any v.subject w.subject (is_of round signer w) (λ i. (at i).sort)
+  pub second_agrees : (kind : EquivocationKind) (round : Round) (signer : ℕ) (v : SignedVote D G) →
+      spot v ≡ first_spot (record { round = round; signer = signer; kind = kind }) → (w : SignedVote D G) →
+      contradicts eq kind v w ≡ second_by kind round signer v w
+  second_agrees Conflicting_notarize round signer v at w =
+      second_test (record { round = round; signer = signer; kind = Conflicting_notarize }) v w at
+  second_agrees Conflicting_finalize round signer v at w =
+      second_test (record { round = round; signer = signer; kind = Conflicting_finalize }) v w at
+  second_agrees Nullify_finalize round signer v at w =
+      second_test (record { round = round; signer = signer; kind = Nullify_finalize }) v w at
+      ∙ any v.subject w.subject (is_of round signer w) (λ i. (at i).sort)
     where
-      any : (x y : SubjectValue D) (a : Bool) → sort_of x ≡ Nullifying → ((same_sort (sort_of y) Finalizing && a) && excludes eq x y) ≡ (same_sort (sort_of y) Finalizing && a)
+      any : (x y : SubjectValue D) (a : Bool) → sort_of x ≡ Nullifying →
+          ((same_sort (sort_of y) Finalizing && a) && excludes eq x y) ≡ (same_sort (sort_of y) Finalizing && a)
       any (Nullifies r) (Finalizes q) true e = refl
       any (Nullifies r) (Finalizes q) false e = refl
       any (Nullifies r) _ a e = refl
@@ -78,7 +116,8 @@ module _ {D G : Type 0} (eq : D → D → Bool) where
 
 module _ {D G : Type 0} (eq : D → D → Bool) (vs : List (SignedVote D G)) where
   -- the evidence of an accusation follows from the slots
-  pub evidence_of-slots : (n : Accusation) → evidence_of eq vs n ≡ evidence_from (λ sort. slot_of eq vs sort n.round n.signer) n.kind
+  pub evidence_of-slots : (n : Accusation) →
+      evidence_of eq vs n ≡ evidence_from (λ sort. slot_of eq vs sort n.round n.signer) n.kind
   evidence_of-slots n = by (find (is_at (first_sort n.kind) n.round n.signer) vs) refl ∙ slots_of n.kind
     where
       -- the second vote, where there is a first
@@ -86,14 +125,28 @@ module _ {D G : Type 0} (eq : D → D → Bool) (vs : List (SignedVote D G)) whe
       second kind None = None
       second kind (Some v) = find (second_by eq kind n.round n.signer v) vs
 
-      by : (o : Option (SignedVote D G)) → find (is_at (first_sort n.kind) n.round n.signer) vs ≡ o → with_first eq vs n.kind o ≡ equivocation_of n.kind o (second n.kind o)
+      by : (o : Option (SignedVote D G)) → find (is_at (first_sort n.kind) n.round n.signer) vs ≡ o →
+          with_first eq vs n.kind o ≡ equivocation_of n.kind o (second n.kind o)
       by None e = refl
-      by (Some v) e = λ i. with_second n.kind v (find (λ w. second_agrees eq n.kind n.round n.signer v (is_at-true (first_spot n) v (found _ vs v e).1) w i) vs)
+      by (Some v) e = λ i.
+          with_second n.kind v
+          (find (λ w. second_agrees eq n.kind n.round n.signer v (is_at-true (first_spot n) v (found _ vs v e).1) w i) vs)
 
-      slots_of : (kind : EquivocationKind) → equivocation_of kind (find (is_at (first_sort kind) n.round n.signer) vs) (second kind (find (is_at (first_sort kind) n.round n.signer) vs)) ≡ evidence_from (λ sort. slot_of eq vs sort n.round n.signer) kind
-      slots_of Conflicting_notarize = elim (find (is_at Notarizing n.round n.signer) vs) as (λ o. equivocation_of Conflicting_notarize o (second Conflicting_notarize o) ≡ equivocation_of Conflicting_notarize o (other_than eq vs Notarizing n.round n.signer o)) [ None ↦ refl | Some v ↦ refl ]
-      slots_of Conflicting_finalize = elim (find (is_at Finalizing n.round n.signer) vs) as (λ o. equivocation_of Conflicting_finalize o (second Conflicting_finalize o) ≡ equivocation_of Conflicting_finalize o (other_than eq vs Finalizing n.round n.signer o)) [ None ↦ refl | Some v ↦ refl ]
-      slots_of Nullify_finalize = elim (find (is_at Nullifying n.round n.signer) vs) as (λ o. equivocation_of Nullify_finalize o (second Nullify_finalize o) ≡ equivocation_of Nullify_finalize o (find (is_at Finalizing n.round n.signer) vs)) [ None ↦ refl | Some v ↦ refl ]
+      slots_of : (kind : EquivocationKind) → equivocation_of kind (find (is_at (first_sort kind) n.round n.signer) vs)
+          (second kind (find (is_at (first_sort kind) n.round n.signer) vs))
+          ≡ evidence_from (λ sort. slot_of eq vs sort n.round n.signer) kind
+      slots_of Conflicting_notarize =
+          elim (find (is_at Notarizing n.round n.signer)
+          vs) as (λ o. equivocation_of Conflicting_notarize o (second Conflicting_notarize o) ≡ equivocation_of
+          Conflicting_notarize o (other_than eq vs Notarizing n.round n.signer o)) [ None ↦ refl | Some v ↦ refl ]
+      slots_of Conflicting_finalize =
+          elim (find (is_at Finalizing n.round n.signer)
+          vs) as (λ o. equivocation_of Conflicting_finalize o (second Conflicting_finalize o) ≡ equivocation_of
+          Conflicting_finalize o (other_than eq vs Finalizing n.round n.signer o)) [ None ↦ refl | Some v ↦ refl ]
+      slots_of Nullify_finalize =
+          elim (find (is_at Nullifying n.round n.signer) vs) as (λ o. equivocation_of Nullify_finalize o
+          (second Nullify_finalize o) ≡ equivocation_of Nullify_finalize o (find (is_at Finalizing n.round n.signer) vs))
+          [ None ↦ refl | Some v ↦ refl ]
 
 -- ---- what is recorded, vote by vote
 
@@ -111,17 +164,22 @@ filter_if p true x = elim (p x) as (λ c. cond c (x ∷ []) [] ≡ cond (c && tr
 filter_if p false x = elim (p x) as (λ c. [] ≡ cond (c && false) (x ∷ []) []) [ true ↦ refl | false ↦ refl ]
 
 -- the news with one more vote
-news_push : {D G : Type 0} (eq : D → D → Bool) (before vs : List (SignedVote D G)) (v : SignedVote D G) → news_after eq before (vs ++ v ∷ []) ≡ news_after eq before vs ++ if_news eq (before ++ vs) v
+news_push : {D G : Type 0} (eq : D → D → Bool) (before vs : List (SignedVote D G)) (v : SignedVote D G) →
+    news_after eq before (vs ++ v ∷ []) ≡ news_after eq before vs ++ if_news eq (before ++ vs) v
 news_push eq before [] v = append-nil (if_news eq before v) ∙ ap (λ ws. if_news eq ws v) (sym (append-nil before))
 news_push eq before (w ∷ vs) v =
-    ap (λ ws. if_news eq before w ++ ws) (news_push eq (before ++ w ∷ []) vs v ∙ ap (λ ws. news_after eq (before ++ w ∷ []) vs ++ if_news eq ws v) (append_assoc before (w ∷ []) vs)) ∙
+    ap (λ ws. if_news eq before w ++ ws) (news_push eq (before ++ w ∷ []) vs v
+    ∙ ap (λ ws. news_after eq (before ++ w ∷ []) vs ++ if_news eq ws v) (append_assoc before (w ∷ []) vs)) ∙
     sym (append_assoc (if_news eq before w) (news_after eq (before ++ w ∷ []) vs) (if_news eq (before ++ w ∷ vs) v))
 
 -- as many votes of a round are recorded as before, and one more if the vote is news of that round
-pub recorded_in_push : {D G : Type 0} (eq : D → D → Bool) (vs : List (SignedVote D G)) (v : SignedVote D G) (round : Round) → recorded_in eq (vs ++ v ∷ []) round ≡ recorded_in eq vs round + length (cond (of_round round v && is_news eq vs v) (v ∷ []) [])
+pub recorded_in_push : {D G : Type 0} (eq : D → D → Bool) (vs : List (SignedVote D G)) (v : SignedVote D G) (round : Round) →
+    recorded_in eq (vs ++ v ∷ []) round
+    ≡ recorded_in eq vs round + length (cond (of_round round v && is_news eq vs v) (v ∷ []) [])
 recorded_in_push eq vs v round =
     ap (λ ws. length (filter (of_round round) ws)) (news_push eq [] vs v) ∙
-    ap length (filter-append (of_round round) (recorded_of eq vs) (if_news eq vs v) ∙ ap (λ ws. filter (of_round round) (recorded_of eq vs) ++ ws) (filter_if (of_round round) (is_news eq vs v) v)) ∙
+    ap length (filter-append (of_round round) (recorded_of eq vs) (if_news eq vs v)
+    ∙ ap (λ ws. filter (of_round round) (recorded_of eq vs) ++ ws) (filter_if (of_round round) (is_news eq vs v) v)) ∙
     length-append (filter (of_round round) (recorded_of eq vs)) (cond (of_round round v && is_news eq vs v) (v ∷ []) [])
 
 -- ---- what is recorded, slot by slot
@@ -132,26 +190,38 @@ module _ {D G : Type 0} (eq : D → D → Bool) (l : IsEquivalence eq) (s : Spot
   in_slot vs = votes_in_slot (slot_of eq vs s.sort s.round s.signer)
 
   -- a slot with one more vote has that vote too, if it changes the slot
-  votes_with : (v : SignedVote D G) (first other : Option (SignedVote D G)) → (first ≡ None → other ≡ None) → votes_in_slot (slot_with eq v (record { earliest = first; other = other })) ≡ votes_in_slot (record { earliest = first; other = other }) ++ cond (changes eq first other v.subject) (v ∷ []) []
+  votes_with : (v : SignedVote D G) (first other : Option (SignedVote D G)) → (first ≡ None → other ≡ None) →
+      votes_in_slot (slot_with eq v (record { earliest = first; other = other }))
+      ≡ votes_in_slot (record { earliest = first; other = other }) ++ cond (changes eq first other v.subject) (v ∷ []) []
   votes_with v None None h = refl
   votes_with v None (Some w) h = let none : Some w ≡ None = h refl in absurd cc
-  votes_with v (Some a) None h = elim (excludes eq a.subject v.subject) as (λ b. votes_in_slot (record { earliest = Some a; other = cond b (Some v) None }) ≡ (a ∷ []) ++ cond (b && true) (v ∷ []) []) [ true ↦ refl | false ↦ refl ]
-  votes_with v (Some a) (Some w) h = elim (excludes eq a.subject v.subject) as (λ b. (a ∷ w ∷ []) ≡ (a ∷ w ∷ []) ++ cond (b && false) (v ∷ []) []) [ true ↦ refl | false ↦ refl ]
+  votes_with v (Some a) None h =
+      elim (excludes eq a.subject v.subject) as (λ b. votes_in_slot (record { earliest = Some a; other = cond b (Some v) None })
+      ≡ (a ∷ []) ++ cond (b && true) (v ∷ []) []) [ true ↦ refl | false ↦ refl ]
+  votes_with v (Some a) (Some w) h =
+      elim (excludes eq a.subject v.subject) as (λ b. (a ∷ w ∷ []) ≡ (a ∷ w ∷ []) ++ cond (b && false) (v ∷ []) [])
+      [ true ↦ refl | false ↦ refl ]
 
   -- the votes in the slot after one more vote
-  in_slot_push : (vs : List (SignedVote D G)) (v : SignedVote D G) → in_slot (vs ++ v ∷ []) ≡ in_slot vs ++ filter (is_at s.sort s.round s.signer) (if_news eq vs v)
+  in_slot_push : (vs : List (SignedVote D G)) (v : SignedVote D G) →
+      in_slot (vs ++ v ∷ []) ≡ in_slot vs ++ filter (is_at s.sort s.round s.signer) (if_news eq vs v)
   in_slot_push vs v =
       let k = slot_of eq vs s.sort s.round s.signer in
       let first = find (is_at s.sort s.round s.signer) vs in
       ap votes_in_slot (slot_after_vote eq l vs v s.sort s.round s.signer) ∙
-      (elim (is_at s.sort s.round s.signer v) as (λ b. is_at s.sort s.round s.signer v ≡ b → votes_in_slot (cond b (slot_with eq v k) k) ≡ votes_in_slot k ++ cond (b && is_news eq vs v) (v ∷ []) []) [
-        | true ↦ λ e. votes_with v first (other_than eq vs s.sort s.round s.signer first) (ap (other_than eq vs s.sort s.round s.signer)) ∙ ap (λ (x : Slot D G). in_slot vs ++ cond (changes eq x.earliest x.other v.subject) (v ∷ []) []) (sym (own_slot eq l vs v s e))
+      (elim (is_at s.sort s.round s.signer v) as (λ b. is_at s.sort s.round s.signer v ≡ b →
+      votes_in_slot (cond b (slot_with eq v k) k) ≡ votes_in_slot k ++ cond (b && is_news eq vs v) (v ∷ []) []) [
+        | true ↦ λ e.
+            votes_with v first (other_than eq vs s.sort s.round s.signer first) (ap (other_than eq vs s.sort s.round s.signer))
+            ∙ ap (λ (x : Slot D G). in_slot vs ++ cond (changes eq x.earliest x.other v.subject) (v ∷ []) [])
+            (sym (own_slot eq l vs v s e))
         | false ↦ λ e. sym (append-nil (in_slot vs))
       ]) refl ∙
       ap (λ ws. in_slot vs ++ ws) (sym (filter_if (is_at s.sort s.round s.signer) (is_news eq vs v) v))
 
   -- the votes in the slot after more votes are those before and the news at this spot
-  in_slot_after : (before vs : List (SignedVote D G)) → in_slot (before ++ vs) ≡ in_slot before ++ filter (is_at s.sort s.round s.signer) (news_after eq before vs)
+  in_slot_after : (before vs : List (SignedVote D G)) →
+      in_slot (before ++ vs) ≡ in_slot before ++ filter (is_at s.sort s.round s.signer) (news_after eq before vs)
   in_slot_after before [] = ap in_slot (append-nil before) ∙ sym (append-nil (in_slot before))
   in_slot_after before (v ∷ vs) =
       let at = is_at s.sort s.round s.signer in
@@ -161,14 +231,18 @@ module _ {D G : Type 0} (eq : D → D → Bool) (l : IsEquivalence eq) (s : Spot
       ap (λ ws. in_slot before ++ ws) (sym (filter-append at (if_news eq before v) (news_after eq (before ++ v ∷ []) vs)))
 
 -- the recorded votes of a sort, round and signer are the votes in their slot
-pub recorded_are_slots : {D G : Type 0} (eq : D → D → Bool) → IsEquivalence eq → (vs : List (SignedVote D G)) → RecordedAreSlots eq vs
-recorded_are_slots eq l vs sort round signer = sym (in_slot_after eq l (record { sort = sort; round = round; signer = signer }) [] vs)
+pub recorded_are_slots : {D G : Type 0} (eq : D → D → Bool) → IsEquivalence eq → (vs : List (SignedVote D G)) →
+    RecordedAreSlots eq vs
+recorded_are_slots eq l vs sort round signer =
+    sym (in_slot_after eq l (record { sort = sort; round = round; signer = signer }) [] vs)
 
 module _ {D G : Type 0} (eq : D → D → Bool) (l : IsEquivalence eq) (vs : List (SignedVote D G)) (round : Round) where
   -- nullifies of one round do not exclude each other: there is no other one
-  no_other_nullify : (signer : ℕ) (o : Option (SignedVote D G)) → find (is_at Nullifying round signer) vs ≡ o → other_than eq vs Nullifying round signer o ≡ None
+  no_other_nullify : (signer : ℕ) (o : Option (SignedVote D G)) → find (is_at Nullifying round signer) vs ≡ o →
+      other_than eq vs Nullifying round signer o ≡ None
   no_other_nullify signer None is = refl
-  no_other_nullify signer (Some v) is = none_found (λ w. is_at Nullifying round signer w && excludes eq v.subject w.subject) vs (λ w w_in passes.
+  no_other_nullify signer (Some v) is =
+      none_found (λ w. is_at Nullifying round signer w && excludes eq v.subject w.subject) vs (λ w w_in passes.
       let p = and_parts (is_at Nullifying round signer w) (excludes eq v.subject w.subject) passes in
       let at : Spot = record { sort = Nullifying; round = round; signer = signer } in
       agree v.subject w.subject (λ i. (is_at-true at v (found _ vs v is).1 i).sort) (λ i. (is_at-true at w p.0 i).sort) p.1)
@@ -178,11 +252,19 @@ module _ {D G : Type 0} (eq : D → D → Bool) (l : IsEquivalence eq) (vs : Lis
       agree _ _ s t h = absurd cc
 
   -- the votes of a signer in a round, sort by sort
-  by_sorts : (signer : ℕ) (ws : List (SignedVote D G)) → length (filter (is_of round signer) ws) ≡ length (filter (is_at Notarizing round signer) ws) + (length (filter (is_at Nullifying round signer) ws) + length (filter (is_at Finalizing round signer) ws))
+  by_sorts : (signer : ℕ) (ws : List (SignedVote D G)) →
+      length (filter (is_of round signer) ws) ≡ length (filter (is_at Notarizing round signer) ws)
+      + (length (filter (is_at Nullifying round signer) ws) + length (filter (is_at Finalizing round signer) ws))
   by_sorts signer [] = omega arith
-  by_sorts signer (w ∷ ws) = of_one (sort_of w.subject) (is_of round signer w) w (filter (is_of round signer) ws) (filter (is_at Notarizing round signer) ws) (filter (is_at Nullifying round signer) ws) (filter (is_at Finalizing round signer) ws) (by_sorts signer ws)
+  by_sorts signer (w ∷ ws) =
+      of_one (sort_of w.subject) (is_of round signer w) w (filter (is_of round signer) ws)
+      (filter (is_at Notarizing round signer) ws) (filter (is_at Nullifying round signer) ws)
+      (filter (is_at Finalizing round signer) ws) (by_sorts signer ws)
     where
-      of_one : (s : Sort) (b : Bool) (x : SignedVote D G) (all ns us fs : List (SignedVote D G)) → length all ≡ length ns + (length us + length fs) → length (cond b (x ∷ all) all) ≡ length (cond (same_sort s Notarizing && b) (x ∷ ns) ns) + (length (cond (same_sort s Nullifying && b) (x ∷ us) us) + length (cond (same_sort s Finalizing && b) (x ∷ fs) fs))
+      of_one : (s : Sort) (b : Bool) (x : SignedVote D G) (all ns us fs : List (SignedVote D G)) →
+          length all ≡ length ns + (length us + length fs) →
+          length (cond b (x ∷ all) all) ≡ length (cond (same_sort s Notarizing && b) (x ∷ ns) ns)
+          + (length (cond (same_sort s Nullifying && b) (x ∷ us) us) + length (cond (same_sort s Finalizing && b) (x ∷ fs) fs))
       of_one Notarizing true x all ns us fs h = omega (arith, h)
       of_one Notarizing false x all ns us fs h = h
       of_one _ true x all ns us fs h = omega (arith, h)
@@ -191,63 +273,112 @@ module _ {D G : Type 0} (eq : D → D → Bool) (l : IsEquivalence eq) (vs : Lis
   -- at most five votes of a signer in the round are recorded
   pub few_are_recorded : (signer : ℕ) → length (filter (is_of round signer) (recorded_of eq vs)) ≤ 5
   few_are_recorded signer =
-      let at_most : (o : Option (SignedVote D G)) → length (option_to_list o) ≤ 1 = elim [ None ↦ omega arith | Some x ↦ omega arith ] in
+      let at_most : (o : Option (SignedVote D G)) → length (option_to_list o) ≤ 1 =
+      elim [ None ↦ omega arith | Some x ↦ omega arith ] in
       let in_slot = λ (sort : Sort). slot_of eq vs sort round signer in
-      let has = λ (sort : Sort). ap length (recorded_are_slots eq l vs sort round signer) ∙ length-append (option_to_list (in_slot sort).earliest) (option_to_list (in_slot sort).other) in
+      let has = λ (sort : Sort). ap length (recorded_are_slots eq l vs sort round signer)
+      ∙ length-append (option_to_list (in_slot sort).earliest) (option_to_list (in_slot sort).other) in
       let one = ap (λ o. length (option_to_list o)) (no_other_nullify signer (find (is_at Nullifying round signer) vs) refl) in
-      omega (arith, by_sorts signer (recorded_of eq vs), has Notarizing, has Nullifying, has Finalizing, at_most (in_slot Notarizing).earliest, at_most (in_slot Notarizing).other, at_most (in_slot Nullifying).earliest, one, at_most (in_slot Finalizing).earliest, at_most (in_slot Finalizing).other)
+      omega (
+        arith,
+        by_sorts signer (recorded_of eq vs),
+        has Notarizing,
+        has Nullifying,
+        has Finalizing,
+        at_most (in_slot Notarizing).earliest,
+        at_most (in_slot Notarizing).other,
+        at_most (in_slot Nullifying).earliest,
+        one,
+        at_most (in_slot Finalizing).earliest,
+        at_most (in_slot Finalizing).other,
+      )
 
   -- where the slots of the round are empty none of its votes is recorded
-  pub none_of_round : ((signer : ℕ) (sort : Sort) → no_slot ≡ slot_of eq vs sort round signer) → (v : SignedVote D G) → Contains (recorded_of eq vs) v → round_of v.subject ≡ round → ⊥
+  pub none_of_round : ((signer : ℕ) (sort : Sort) → no_slot ≡ slot_of eq vs sort round signer) → (v : SignedVote D G) →
+      Contains (recorded_of eq vs) v → round_of v.subject ≡ round → ⊥
   none_of_round empty v v_in is =
-      let at = is_at-from (record { sort = sort_of v.subject; round = round; signer = v.signer }) v (λ i. record { sort = sort_of v.subject; round = is i; signer = v.signer }) in
-      Contains-none v (subst (λ ws. Contains ws v) (recorded_are_slots eq l vs (sort_of v.subject) round v.signer ∙ ap votes_in_slot (sym (empty v.signer (sort_of v.subject)))) (Contains-filter (is_at (sort_of v.subject) round v.signer) (recorded_of eq vs) v v_in at))
+      let at = is_at-from (record { sort = sort_of v.subject; round = round; signer = v.signer }) v
+      (λ i. record { sort = sort_of v.subject; round = is i; signer = v.signer }) in
+      Contains-none v (subst (λ ws. Contains ws v) (recorded_are_slots eq l vs (sort_of v.subject) round v.signer
+      ∙ ap votes_in_slot (sym (empty v.signer (sort_of v.subject))))
+      (Contains-filter (is_at (sort_of v.subject) round v.signer) (recorded_of eq vs) v v_in at))
 
   pub none_in_round : ((signer : ℕ) (sort : Sort) → no_slot ≡ slot_of eq vs sort round signer) → recorded_in eq vs round ≡ 0
-  none_in_round empty = ap length (filter_none (of_round round) (recorded_of eq vs) (λ v v_in. false_from_ne_true _ (λ e. none_of_round empty v v_in (same_round-true (round_of v.subject) round e))))
+  none_in_round empty =
+      ap length (filter_none (of_round round) (recorded_of eq vs)
+      (λ v v_in. false_from_ne_true _ (λ e. none_of_round empty v v_in (same_round-true (round_of v.subject) round e))))
     where
       filter_none : {X : Type 0} (p : X → Bool) (xs : List X) → ((x : X) → Contains xs x → p x ≡ false) → filter p xs ≡ []
       filter_none p [] h = refl
-      filter_none p (x ∷ xs) h = cond-false (p x) (x ∷ filter p xs) (filter p xs) (h x (Contains-first x xs)) ∙ filter_none p xs (λ y y_in. h y (Contains-cons x xs y y_in))
+      filter_none p (x ∷ xs) h =
+          cond-false (p x) (x ∷ filter p xs) (filter p xs) (h x (Contains-first x xs))
+          ∙ filter_none p xs (λ y y_in. h y (Contains-cons x xs y y_in))
 
 -- ---- what is held of a round
 
 -- what is held of a round is determined by the slots, and by how many votes are recorded
-pub same_held : {S D P G : Type 0} (eq : D → D → Bool) (n : ℕ) (vs ws : List (SignedVote D G)) (round : Round) (recorded : RoundVotes S D P G) → ((sort : Sort) (signer : ℕ) → slot_of eq ws sort round signer ≡ slot_of eq vs sort round signer) → recorded_in eq ws round ≡ recorded_in eq vs round → HoldsRound eq n vs round recorded → HoldsRound eq n ws round recorded
-same_held eq n vs ws round recorded same many holds = record { sized = holds.sized; held = λ signer sort. holds.held signer sort ∙ sym (same sort signer); counted = holds.counted ∙ sym many }
+pub same_held : {S D P G : Type 0} (eq : D → D → Bool) (n : ℕ) (vs ws : List (SignedVote D G)) (round : Round)
+    (recorded : RoundVotes S D P G) →
+    ((sort : Sort) (signer : ℕ) → slot_of eq ws sort round signer ≡ slot_of eq vs sort round signer) →
+    recorded_in eq ws round ≡ recorded_in eq vs round → HoldsRound eq n vs round recorded → HoldsRound eq n ws round recorded
+same_held eq n vs ws round recorded same many holds = record {
+  sized = holds.sized;
+  held = λ signer sort. holds.held signer sort ∙ sym (same sort signer);
+  counted = holds.counted ∙ sym many;
+}
 
-module _ {S D P G : Type 0} (eq : D → D → Bool) (l : IsEquivalence eq) (n : ℕ) (vs : List (SignedVote D G)) (v : SignedVote D G) (before : RoundVotes S D P G) (holds : HoldsRound eq n vs (round_of v.subject) before) where
+module _ {S D P G : Type 0} (eq : D → D → Bool) (l : IsEquivalence eq) (n : ℕ) (vs : List (SignedVote D G)) (v : SignedVote D G)
+    (before : RoundVotes S D P G) (holds : HoldsRound eq n vs (round_of v.subject) before) where
   -- whether a vote is news is determined by its slot
-  news_held : changes eq (slots before v.signer (sort_of v.subject)).earliest (slots before v.signer (sort_of v.subject)).other v.subject ≡ is_news eq vs v
+  news_held : changes eq (slots before v.signer (sort_of v.subject)).earliest (slots before v.signer (sort_of v.subject)).other
+      v.subject ≡ is_news eq vs v
   news_held = ap (λ (slot : Slot D G). changes eq slot.earliest slot.other v.subject) (holds.held v.signer (sort_of v.subject))
 
   -- a vote that is no news changes nothing
-  pub held_no_news : changes eq (slots before v.signer (sort_of v.subject)).earliest (slots before v.signer (sort_of v.subject)).other v.subject ≡ false → HoldsRound eq n (vs ++ v ∷ []) (round_of v.subject) before
+  pub held_no_news : changes eq (slots before v.signer (sort_of v.subject)).earliest (slots before v.signer
+      (sort_of v.subject)).other v.subject ≡ false → HoldsRound eq n (vs ++ v ∷ []) (round_of v.subject) before
   held_no_news old =
       let no = sym news_held ∙ old in
       let many = ap (λ b. length (cond b (v ∷ []) [])) (and_right (of_round (round_of v.subject) v) (is_news eq vs v) no) in
-      same_held eq n vs (vs ++ v ∷ []) (round_of v.subject) before (λ sort signer. no_news eq l vs v no (record { sort = sort; round = round_of v.subject; signer = signer })) (omega (arith, many, recorded_in_push eq vs v (round_of v.subject))) holds
+      same_held eq n vs (vs ++ v ∷ []) (round_of v.subject) before
+      (λ sort signer. no_news eq l vs v no (record { sort = sort; round = round_of v.subject; signer = signer }))
+      (omega (arith, many, recorded_in_push eq vs v (round_of v.subject))) holds
 
   -- a vote that is news is taken
-  pub held_after : (after : RoundVotes S D P G) → v.signer < n → changes eq (slots before v.signer (sort_of v.subject)).earliest (slots before v.signer (sort_of v.subject)).other v.subject ≡ true → TakesVote eq v before after → HoldsRound eq n (vs ++ v ∷ []) (round_of v.subject) after
+  pub held_after : (after : RoundVotes S D P G) → v.signer < n → changes eq (slots before v.signer (sort_of v.subject)).earliest
+      (slots before v.signer (sort_of v.subject)).other v.subject ≡ true → TakesVote eq v before after →
+      HoldsRound eq n (vs ++ v ∷ []) (round_of v.subject) after
   held_after after lt news takes =
       let here : of_round (round_of v.subject) v ≡ true = same_round-from (round_of v.subject) (round_of v.subject) refl in
-      let at_round : (sort : Sort) (signer : ℕ) → is_for v signer sort ≡ is_at sort (round_of v.subject) signer v = λ sort signer. ap (λ b. same_sort (sort_of v.subject) sort && (b && eqb v.signer signer)) (sym here) in
+      let at_round : (sort : Sort) (signer : ℕ) → is_for v signer sort ≡ is_at sort (round_of v.subject) signer v =
+      λ sort signer. ap (λ b. same_sort (sort_of v.subject) sort && (b && eqb v.signer signer)) (sym here) in
       record {
         sized = takes.sized n holds.sized;
-        held = λ signer sort. takes.taken n holds.sized lt news signer sort ∙ (λ i. cond (at_round sort signer i) (slot_with eq v (holds.held signer sort i)) (holds.held signer sort i)) ∙ sym (slot_after_vote eq l vs v sort (round_of v.subject) signer);
-        counted = takes.more n holds.sized lt news ∙ (λ i. holds.counted i + length (cond (sym (and_from _ _ here (sym news_held ∙ news)) i) (v ∷ []) [])) ∙ sym (recorded_in_push eq vs v (round_of v.subject));
+        held = λ signer sort.
+            takes.taken n holds.sized lt news signer sort
+            ∙ (λ i. cond (at_round sort signer i) (slot_with eq v (holds.held signer sort i)) (holds.held signer sort i))
+            ∙ sym (slot_after_vote eq l vs v sort (round_of v.subject) signer);
+        counted = takes.more n holds.sized lt news
+            ∙ (λ i. holds.counted i + length (cond (sym (and_from _ _ here (sym news_held ∙ news)) i) (v ∷ []) []))
+            ∙ sym (recorded_in_push eq vs v (round_of v.subject));
       }
 
 -- what is held of a round after the valid ones of some more votes on a subject
-abbrev pub HoldsMore : {S D P G : Type 0} → (D → D → Bool) → ℕ → (SubjectValue D → ℕ → G → Bool) → SubjectValue D → List (Attestation S P G) → RoundVotes S D P G → RoundVotes S D P G → Type 0
-HoldsMore {D = D} {G = G} eq n good x given before after = (vs : List (SignedVote D G)) → HoldsRound eq n vs (round_of x) before → HoldsRound eq n (vs ++ filter (λ v. good v.subject v.signer v.signature) (map (vote_on x) given)) (round_of x) after
+abbrev pub HoldsMore : {S D P G : Type 0} → (D → D → Bool) → ℕ → (SubjectValue D → ℕ → G → Bool) → SubjectValue D →
+    List (Attestation S P G) → RoundVotes S D P G → RoundVotes S D P G → Type 0
+HoldsMore {D = D} {G = G} eq n good x given before after =
+    (vs : List (SignedVote D G)) → HoldsRound eq n vs (round_of x) before →
+    HoldsRound eq n (vs ++ filter (λ v. good v.subject v.signer v.signature) (map (vote_on x) given)) (round_of x) after
 
 -- one attestation more
-pub holds_one_more : {S D P G : Type 0} (eq : D → D → Bool) (n : ℕ) (good : SubjectValue D → ℕ → G → Bool) (x : SubjectValue D) (given : List (Attestation S P G)) (a : Attestation S P G) (before recorded after : RoundVotes S D P G) → HoldsMore eq n good x given before recorded → HoldsMore eq n good x (a ∷ []) recorded after → HoldsMore eq n good x (given ++ a ∷ []) before after
+pub holds_one_more : {S D P G : Type 0} (eq : D → D → Bool) (n : ℕ) (good : SubjectValue D → ℕ → G → Bool) (x : SubjectValue D)
+    (given : List (Attestation S P G)) (a : Attestation S P G) (before recorded after : RoundVotes S D P G) →
+    HoldsMore eq n good x given before recorded → HoldsMore eq n good x (a ∷ []) recorded after →
+    HoldsMore eq n good x (given ++ a ∷ []) before after
 holds_one_more {D = D} {G = G} eq n good x given a before recorded after some one vs holds =
     let keep : SignedVote D G → Bool = λ v. good v.subject v.signer v.signature in
     subst (λ ws. HoldsRound eq n ws (round_of x) after)
     (append_assoc vs (filter keep (map (vote_on x) given)) (filter keep (map (vote_on x) (a ∷ []))) ∙
-    ap (λ ws. vs ++ ws) (sym (filter-append keep (map (vote_on x) given) (map (vote_on x) (a ∷ []))) ∙ ap (filter keep) (sym (map-append (vote_on x) given (a ∷ [])))))
+    ap (λ ws. vs ++ ws) (sym (filter-append keep (map (vote_on x) given) (map (vote_on x) (a ∷ [])))
+    ∙ ap (filter keep) (sym (map-append (vote_on x) given (a ∷ [])))))
     (one _ (some vs holds))

@@ -7,7 +7,8 @@ use Rattle.simplex_detector.proofs.Places.{exact_rounds, round_cmp_total, signer
 use Rattle.simplex_detector.proofs.RecordedLemmas.{equivocation_of-Some, evidence_of-slots}
 
 -- es is the evidence of the votes in this round: in order, each that of its accusation, and nobody accused there left out
-pub record IsEvidenceIn {D G : Type 0} (eq : D → D → Bool) (vs : List (SignedVote D G)) (round : Round) (es : List (Equivocation D G)) : Type 0 where
+pub record IsEvidenceIn {D G : Type 0} (eq : D → D → Bool) (vs : List (SignedVote D G)) (round : Round)
+    (es : List (Equivocation D G)) : Type 0 where
   pub ordered : IsStrictlySortedBy accused_cmp (map accused_by es)
   pub here : All (λ e. round_of e.first.subject ≡ round) es
   pub sound : All (λ e. evidence_of eq vs (accused_by e) ≡ Some e) es
@@ -15,50 +16,80 @@ pub record IsEvidenceIn {D G : Type 0} (eq : D → D → Bool) (vs : List (Signe
 
 -- ---- the rounds of a detector
 
-module _ {S D C P G : Type 0} (rules : Rules S D C P G) (messages : List (Activity S D C P G)) (detector : Detector S D P G) (ordered : IsOrdered round_cmp detector.rounds) (holds : Recalls rules messages detector) where
+module _ {S D C P G : Type 0} (rules : Rules S D C P G) (messages : List (Activity S D C P G)) (detector : Detector S D P G)
+    (ordered : IsOrdered round_cmp detector.rounds) (holds : Recalls rules messages detector) where
   -- what is recorded of a listed round
   pub recalls_listed : All (λ e. RecallsRound rules messages e.0 e.1) detector.rounds.entries
-  recalls_listed = each _ _ (λ e e_in. subst (RecallsAt rules messages e.0) ((btree_map_get_iff round_cmp_total exact_rounds detector.rounds ordered e.0 e.1).1 e_in) (holds e.0))
+  recalls_listed =
+      each _ _ (λ e e_in. subst (RecallsAt rules messages e.0)
+      ((btree_map_get_iff round_cmp_total exact_rounds detector.rounds ordered e.0 e.1).1 e_in) (holds e.0))
 
   -- a round is listed, or nothing is recorded of it
-  pub recalled : (round : Round) → RecallsNothing rules messages round ⊎ ((round_state : RoundState S D P G) × Contains detector.rounds.entries (round, round_state))
-  recalled round = (elim (get round_cmp detector.rounds round) as (λ o. get round_cmp detector.rounds round ≡ o → RecallsAt rules messages round o → RecallsNothing rules messages round ⊎ ((round_state : RoundState S D P G) × Contains detector.rounds.entries (round, round_state))) [ None ↦ λ at r. inl r | Some round_state ↦ λ at r. inr (round_state, (btree_map_get_iff round_cmp_total exact_rounds detector.rounds ordered round round_state).0 at) ]) refl (holds round)
+  pub recalled : (round : Round) → RecallsNothing rules messages round
+      ⊎ ((round_state : RoundState S D P G) × Contains detector.rounds.entries (round, round_state))
+  recalled round =
+      (elim (get round_cmp detector.rounds round) as (λ o. get round_cmp detector.rounds round ≡ o →
+      RecallsAt rules messages round o → RecallsNothing rules messages round
+      ⊎ ((round_state : RoundState S D P G) × Contains detector.rounds.entries (round, round_state))) [
+        | None ↦ λ at r. inl r
+        | Some round_state ↦ λ at r.
+            inr (round_state, (btree_map_get_iff round_cmp_total exact_rounds detector.rounds ordered round round_state).0 at)
+      ]) refl (holds round)
 
 -- ---- the accusations of a signer and of a round, in order
 
 abbrev names_at : Round → ℕ → List Accusation
-names_at round signer = record { round = round; signer = signer; kind = Conflicting_notarize } ∷ record { round = round; signer = signer; kind = Conflicting_finalize } ∷ record { round = round; signer = signer; kind = Nullify_finalize } ∷ []
+names_at round signer =
+    record { round = round; signer = signer; kind = Conflicting_notarize }
+    ∷ record { round = round; signer = signer; kind = Conflicting_finalize }
+    ∷ record { round = round; signer = signer; kind = Nullify_finalize } ∷ []
 
 abbrev pub names_in : Round → List ℕ → List Accusation
 names_in round signers = flat_map (names_at round) signers
 
 -- the accusations of a signer in a round are of that signer and round
-at_name : (round : Round) (signer : ℕ) (n : Accusation) → Contains (names_at round signer) n → (n.round ≡ round) × (n.signer ≡ signer)
-at_name round signer n h = All-contains (λ (m : Accusation). (m.round ≡ round) × (m.signer ≡ signer)) (names_at round signer) n (All-from_recursion (λ (m : Accusation). (m.round ≡ round) × (m.signer ≡ signer)) (names_at round signer) ((refl, refl), ((refl, refl), ((refl, refl), tt)))) h
+at_name : (round : Round) (signer : ℕ) (n : Accusation) → Contains (names_at round signer) n →
+    (n.round ≡ round) × (n.signer ≡ signer)
+at_name round signer n h =
+    All-contains (λ (m : Accusation). (m.round ≡ round) × (m.signer ≡ signer)) (names_at round signer) n
+    (All-from_recursion (λ (m : Accusation). (m.round ≡ round) × (m.signer ≡ signer)) (names_at round signer)
+    ((refl, refl), ((refl, refl), ((refl, refl), tt)))) h
 
 in_name : (round : Round) (signers : List ℕ) (n : Accusation) → Contains (names_in round signers) n → n.round ≡ round
-in_name round signers n h = let (signer, _, at) = Contains-from_flat_map (names_at round) signers n h in (at_name round signer n at).0
+in_name round signers n h =
+    let (signer, _, at) = Contains-from_flat_map (names_at round) signers n h in (at_name round signer n at).0
 
 -- each accusation is among those of its own signer and round
 own_name : (n : Accusation) → Contains (names_at n.round n.signer) n
-own_name n = elim n.kind as (λ kind. Contains (names_at n.round n.signer) (record { round = n.round; signer = n.signer; kind = kind })) [ Conflicting_notarize ↦ (0, omega arith, refl) | Conflicting_finalize ↦ (1, omega arith, refl) | Nullify_finalize ↦ (2, omega arith, refl) ]
+own_name n =
+    elim n.kind as (λ kind. Contains (names_at n.round n.signer) (record { round = n.round; signer = n.signer; kind = kind })) [
+      | Conflicting_notarize ↦ (0, omega arith, refl)
+      | Conflicting_finalize ↦ (1, omega arith, refl)
+      | Nullify_finalize ↦ (2, omega arith, refl)
+    ]
 
 -- those of a signer are in the order of kinds
 ordered_at : (round : Round) (signer : ℕ) → IsStrictlySortedBy accused_cmp (names_at round signer)
 unfolding IsStrictlySortedBy
 ordered_at round signer =
-    let rise : (k l : EquivocationKind) → nat_cmp (kind_rank k) (kind_rank l) ≡ Less → ordering_then (signer_cmp (round, signer) (round, signer)) (nat_cmp (kind_rank k) (kind_rank l)) ≡ Less = λ k l less i. ordering_then (tied_itself signer_cmp_total (round, signer) i) (less i) in
-    ((rise Conflicting_notarize Conflicting_finalize refl, (rise Conflicting_notarize Nullify_finalize refl, tt)), ((rise Conflicting_finalize Nullify_finalize refl, tt), (tt, tt)))
+    let rise : (k l : EquivocationKind) → nat_cmp (kind_rank k) (kind_rank l) ≡ Less →
+    ordering_then (signer_cmp (round, signer) (round, signer)) (nat_cmp (kind_rank k) (kind_rank l)) ≡ Less =
+    λ k l less i. ordering_then (tied_itself signer_cmp_total (round, signer) i) (less i) in (
+      (rise Conflicting_notarize Conflicting_finalize refl, (rise Conflicting_notarize Nullify_finalize refl, tt)),
+      ((rise Conflicting_finalize Nullify_finalize refl, tt), (tt, tt)),
+    )
 
 -- those of a round are in the order of signers
-ordered_in : (round : Round) (signers : List ℕ) → IsStrictlySortedBy nat_cmp signers → IsStrictlySortedBy accused_cmp (names_in round signers)
+ordered_in : (round : Round) (signers : List ℕ) → IsStrictlySortedBy nat_cmp signers →
+    IsStrictlySortedBy accused_cmp (names_in round signers)
 ordered_in round signers sorted =
     sorted_joined nat_cmp accused_cmp (λ s. s) (names_at round)
     (λ s q n m less n_in m_in.
     let (n_here, n_is) = at_name round s n n_in in
     let (m_here, m_is) = at_name round q m m_in in
     (λ i. ordering_then (signer_cmp (n_here i, n_is i) (m_here i, m_is i)) (nat_cmp (kind_rank n.kind) (kind_rank m.kind))) ∙
-    (λ i. ordering_then (ordering_then (tied_itself round_cmp_total round i) (less i)) (nat_cmp (kind_rank n.kind) (kind_rank m.kind))))
+    (λ i. ordering_then (ordering_then (tied_itself round_cmp_total round i) (less i))
+    (nat_cmp (kind_rank n.kind) (kind_rank m.kind))))
     signers (λ s s_in. ordered_at round s) (subst (IsStrictlySortedBy nat_cmp) (sym (map-id signers)) sorted)
 
 -- ---- what is found in the slots
@@ -70,47 +101,79 @@ module _ {D G : Type 0} (eq : D → D → Bool) (vs : List (SignedVote D G)) whe
 
   -- the votes of an evidence contradict
   contradicts-evidence : (n : Accusation) → if_contradicts eq (evidence_of eq vs n) ≡ evidence_of eq vs n
-  contradicts-evidence n = (elim (evidence_of eq vs n) as (λ o. evidence_of eq vs n ≡ o → if_contradicts eq o ≡ o) [ None ↦ λ is. refl | Some e ↦ λ is. cond-true (contradicts eq e.kind e.first e.second) (Some e) None (ap (λ (m : Accusation). contradicts eq m.kind e.first e.second) (accuses_own n e is) ∙ (found _ vs e.second (evidence_is eq vs n e is).second).1) ]) refl
+  contradicts-evidence n = (elim (evidence_of eq vs n) as (λ o. evidence_of eq vs n ≡ o → if_contradicts eq o ≡ o) [
+    | None ↦ λ is. refl
+    | Some e ↦ λ is.
+        cond-true (contradicts eq e.kind e.first e.second) (Some e) None
+        (ap (λ (m : Accusation). contradicts eq m.kind e.first e.second) (accuses_own n e is)
+        ∙ (found _ vs e.second (evidence_is eq vs n e is).second).1)
+  ]) refl
 
   -- so the evidence is found in the slots of the votes, kind by kind
-  found_at-evidence : (round : Round) (signer : ℕ) (slot : Sort → Slot D G) → ((sort : Sort) → slot sort ≡ slot_of eq vs sort round signer) → found_at eq slot ≡ filter_map (evidence_of eq vs) (names_at round signer)
+  found_at-evidence : (round : Round) (signer : ℕ) (slot : Sort → Slot D G) →
+      ((sort : Sort) → slot sort ≡ slot_of eq vs sort round signer) →
+      found_at eq slot ≡ filter_map (evidence_of eq vs) (names_at round signer)
   found_at-evidence round signer slot is =
-      (λ i. option_to_list (of_kind Conflicting_notarize i) ++ (option_to_list (of_kind Conflicting_finalize i) ++ sym (append-nil (option_to_list (of_kind Nullify_finalize i))) i)) ∙
+      (λ i. option_to_list (of_kind Conflicting_notarize i)
+      ++ (option_to_list (of_kind Conflicting_finalize i) ++ sym (append-nil (option_to_list (of_kind Nullify_finalize i))) i))
+      ∙
       sym (filter_map-joined (evidence_of eq vs) (names_at round signer))
     where
-      of_kind : (kind : EquivocationKind) → found_of_kind eq slot kind ≡ evidence_of eq vs (record { round = round; signer = signer; kind = kind })
+      of_kind : (kind : EquivocationKind) →
+          found_of_kind eq slot kind ≡ evidence_of eq vs (record { round = round; signer = signer; kind = kind })
       of_kind kind =
           let n : Accusation = record { round = round; signer = signer; kind = kind } in
-          ap (if_contradicts eq) ((λ i. evidence_from (λ sort. is sort i) kind) ∙ sym (evidence_of-slots eq vs n)) ∙ contradicts-evidence n
+          ap (if_contradicts eq) ((λ i. evidence_from (λ sort. is sort i) kind) ∙ sym (evidence_of-slots eq vs n))
+          ∙ contradicts-evidence n
 
-  module _ {S P : Type 0} (size : ℕ) (round : Round) (recorded : RoundVotes S D P G) (holds : HoldsRound eq size vs round recorded) where
+  module _ {S P : Type 0} (size : ℕ) (round : Round) (recorded : RoundVotes S D P G)
+      (holds : HoldsRound eq size vs round recorded) where
     -- what is found of some signers
-    pub found_in_round : (signers : List ℕ) → flat_map (λ signer. found_at eq (slots recorded signer)) signers ≡ filter_map (evidence_of eq vs) (names_in round signers)
+    pub found_in_round : (signers : List ℕ) → flat_map (λ signer. found_at eq (slots recorded signer)) signers
+        ≡ filter_map (evidence_of eq vs) (names_in round signers)
     found_in_round [] = refl
-    found_in_round (s ∷ signers) = (λ i. found_at-evidence round s (slots recorded s) (holds.held s) i ++ found_in_round signers i) ∙ sym (filter_map-append (evidence_of eq vs) (names_at round s) (names_in round signers))
+    found_in_round (s ∷ signers) =
+        (λ i. found_at-evidence round s (slots recorded s) (holds.held s) i ++ found_in_round signers i)
+        ∙ sym (filter_map-append (evidence_of eq vs) (names_at round s) (names_in round signers))
 
     -- a signer with evidence in the round is among the listed signers
-    pub listed_in_round : (signers : List ℕ) → ListsSigners recorded signers → (n : Accusation) → n.round ≡ round → is_some (evidence_of eq vs n) ≡ true → Contains (names_in round signers) n
+    pub listed_in_round : (signers : List ℕ) → ListsSigners recorded signers → (n : Accusation) → n.round ≡ round →
+        is_some (evidence_of eq vs n) ≡ true → Contains (names_in round signers) n
     listed_in_round signers lists n here h =
         let (x, is) = some_from_is_some (evidence_of eq vs n) h in
-        let from_slots = (λ i. evidence_from (λ sort. (holds.held n.signer sort ∙ ap (λ r. slot_of eq vs sort r n.signer) (sym here)) i) n.kind) ∙ sym (evidence_of-slots eq vs n) ∙ is in
-        Contains-flat_map (names_at round) signers n.signer n (of_kind n.kind x from_slots) (subst (λ r. Contains (names_at r n.signer) n) here (own_name n))
+        let from_slots =
+        (λ i. evidence_from (λ sort. (holds.held n.signer sort ∙ ap (λ r. slot_of eq vs sort r n.signer) (sym here)) i) n.kind)
+        ∙ sym (evidence_of-slots eq vs n) ∙ is in
+        Contains-flat_map (names_at round) signers n.signer n (of_kind n.kind x from_slots)
+        (subst (λ r. Contains (names_at r n.signer) n) here (own_name n))
       where
-        item : {V : Type 0} (signer : V → ℕ) (vote : V → SignedVote D G) (items : List V) (y : SignedVote D G) → ((v : V) → Contains items v → Contains signers (signer v)) → option_map vote (item_of signer items n.signer) ≡ Some y → Contains signers n.signer
-        item signer vote items y all at = let (v, v_in, e, _) = found_mapped vote (λ v. eqb (signer v) n.signer) items y at in subst (Contains signers) (eqb-true _ _ e) (all v v_in)
+        item : {V : Type 0} (signer : V → ℕ) (vote : V → SignedVote D G) (items : List V) (y : SignedVote D G) →
+            ((v : V) → Contains items v → Contains signers (signer v)) →
+            option_map vote (item_of signer items n.signer) ≡ Some y → Contains signers n.signer
+        item signer vote items y all at =
+            let (v, v_in, e, _) = found_mapped vote (λ v. eqb (signer v) n.signer) items y at in
+            subst (Contains signers) (eqb-true _ _ e) (all v v_in)
 
-        of_kind : (kind : EquivocationKind) (x : Equivocation D G) → evidence_from (slots recorded n.signer) kind ≡ Some x → Contains signers n.signer
-        of_kind Conflicting_notarize x is = item _ _ recorded.notarizes.others.items x.second lists.notarizers (equivocation_of-Some _ _ _ x is).1
-        of_kind Conflicting_finalize x is = item _ _ recorded.finalizes.others.items x.second lists.finalizers (equivocation_of-Some _ _ _ x is).1
-        of_kind Nullify_finalize x is = item _ _ recorded.nullifies.items x.first lists.nullifiers (equivocation_of-Some _ _ _ x is).0
+        of_kind : (kind : EquivocationKind) (x : Equivocation D G) → evidence_from (slots recorded n.signer) kind ≡ Some x →
+            Contains signers n.signer
+        of_kind Conflicting_notarize x is =
+            item _ _ recorded.notarizes.others.items x.second lists.notarizers (equivocation_of-Some _ _ _ x is).1
+        of_kind Conflicting_finalize x is =
+            item _ _ recorded.finalizes.others.items x.second lists.finalizers (equivocation_of-Some _ _ _ x is).1
+        of_kind Nullify_finalize x is =
+            item _ _ recorded.nullifies.items x.first lists.nullifiers (equivocation_of-Some _ _ _ x is).0
 
     -- so what is found of the listed signers is the evidence of the round
-    pub evidence_in_round : IsEquivalence eq → (signers : List ℕ) → ListsSigners recorded signers → IsEvidenceIn eq vs round (flat_map (λ signer. found_at eq (slots recorded signer)) signers)
+    pub evidence_in_round : IsEquivalence eq → (signers : List ℕ) → ListsSigners recorded signers →
+        IsEvidenceIn eq vs round (flat_map (λ signer. found_at eq (slots recorded signer)) signers)
     evidence_in_round l signers lists = subst (IsEvidenceIn eq vs round) (sym (found_in_round signers)) (record {
-      ordered = made_ordered accused_by accused_cmp (evidence_of eq vs) accuses_own (names_in round signers) (ordered_in round signers lists.ascending);
-      here = each _ _ (λ e e_in. let (n, n_in, is) = Contains-from_filter_map (evidence_of eq vs) (names_in round signers) e e_in in ap (λ (m : Accusation). m.round) (accuses_own n e is) ∙ in_name round signers n n_in);
+      ordered = made_ordered accused_by accused_cmp (evidence_of eq vs) accuses_own (names_in round signers)
+          (ordered_in round signers lists.ascending);
+      here = each _ _ (λ e e_in. let (n, n_in, is) = Contains-from_filter_map (evidence_of eq vs) (names_in round signers) e
+          e_in in ap (λ (m : Accusation). m.round) (accuses_own n e is) ∙ in_name round signers n n_in);
       sound = made_sound accused_by accused_cmp (evidence_of eq vs) accuses_own (names_in round signers);
-      complete = λ n here h. let e = evidence-from_accused eq vs l n h in made_complete accused_by accused_cmp (evidence_of eq vs) accuses_own (names_in round signers) n (listed_in_round signers lists n here e) e;
+      complete = λ n here h. let e = evidence-from_accused eq vs l n h in made_complete accused_by accused_cmp
+          (evidence_of eq vs) accuses_own (names_in round signers) n (listed_in_round signers lists n here e) e;
     })
 
 -- ---- the walk over the rounds
@@ -130,32 +193,50 @@ abbrev pub entry_in : {S D P G : Type 0} → Step S D P G → Round × RoundStat
 entry_in step = (step.round, step.round_state)
 
 -- the evidence found so far is that of the entries before the rest
-pub record Walked {S D P G : Type 0} (eq : D → D → Bool) (entries rest : List (Round × RoundState S D P G)) (found : List (Equivocation D G)) : Type 0 where
+pub record Walked {S D P G : Type 0} (eq : D → D → Bool) (entries rest : List (Round × RoundState S D P G))
+    (found : List (Equivocation D G)) : Type 0 where
   pub steps : List (Step S D P G)
   pub over : map entry_in steps ++ rest ≡ entries
   pub listed : All (λ step. ListsSigners step.round_state.votes step.signers) steps
   pub is : found ≡ flat_map (found_in eq) steps
 
 -- one step more
-pub walked_next : {S D P G : Type 0} (eq : D → D → Bool) (entries rest later : List (Round × RoundState S D P G)) (round : Round) (round_state : RoundState S D P G) (signers : List ℕ) (found new : List (Equivocation D G)) → rest ≡ (round, round_state) ∷ later → ListsSigners round_state.votes signers → new ≡ found ++ flat_map (λ signer. found_at eq (slots round_state.votes signer)) signers → Walked eq entries rest found → Walked eq entries later new
+pub walked_next : {S D P G : Type 0} (eq : D → D → Bool) (entries rest later : List (Round × RoundState S D P G))
+    (round : Round) (round_state : RoundState S D P G) (signers : List ℕ) (found new : List (Equivocation D G)) →
+    rest ≡ (round, round_state) ∷ later → ListsSigners round_state.votes signers →
+    new ≡ found ++ flat_map (λ signer. found_at eq (slots round_state.votes signer)) signers → Walked eq entries rest found →
+    Walked eq entries later new
 walked_next {S} {D} {P} {G} eq entries rest later round round_state signers found new first lists is walked =
     let step : Step S D P G = record { round = round; round_state = round_state; signers = signers } in
     record {
       steps = walked.steps ++ step ∷ [];
-      over = ap (λ es. es ++ later) (map-append entry_in walked.steps (step ∷ [])) ∙ append_assoc (map entry_in walked.steps) ((round, round_state) ∷ []) later ∙ ap (λ es. map entry_in walked.steps ++ es) (sym first) ∙ walked.over;
+      over = ap (λ es. es ++ later) (map-append entry_in walked.steps (step ∷ [])) ∙ append_assoc (map entry_in walked.steps)
+          ((round, round_state) ∷ []) later ∙ ap (λ es. map entry_in walked.steps ++ es) (sym first) ∙ walked.over;
       listed = All-push (λ step. ListsSigners step.round_state.votes step.signers) walked.steps step walked.listed lists;
       is = is ∙ ap (λ es. es ++ found_in eq step) walked.is ∙ flat_map_more (found_in eq) [] walked.steps step;
     }
 
 -- the walk over all rounds gives the evidence of the messages' valid votes
-pub report_of_walk : {S D C P G : Type 0} (rules : Rules S D C P G) → IsEquivalence rules.eq → (detector : Detector S D P G) → IsOrdered round_cmp detector.rounds → (found : List (Equivocation D G)) → Walked rules.eq detector.rounds.entries [] found → (messages : List (Activity S D C P G)) → Recalls rules messages detector → IsEvidence rules.eq (valid_votes rules messages) found
+pub report_of_walk : {S D C P G : Type 0} (rules : Rules S D C P G) → IsEquivalence rules.eq → (detector : Detector S D P G) →
+    IsOrdered round_cmp detector.rounds → (found : List (Equivocation D G)) → Walked rules.eq detector.rounds.entries [] found →
+    (messages : List (Activity S D C P G)) → Recalls rules messages detector →
+    IsEvidence rules.eq (valid_votes rules messages) found
 report_of_walk {S} {D} {C} {P} {G} rules l detector ordered found walked messages holds =
-    subst (IsEvidence rules.eq vs) (sym (walked.is ∙ found_steps walked.steps (recursion_from_All _ walked.steps (each _ walked.steps held)))) (from_listing rules.eq vs l _ (record {
-      ordered = made_ordered accused_by accused_cmp (evidence_of rules.eq vs) (accuses_own rules.eq vs) (flat_map names_of walked.steps) (sorted_joined round_cmp accused_cmp (λ step. step.round) names_of
-          (λ a b n m less n_in m_in. ap (λ o. ordering_then (ordering_then o (nat_cmp n.signer m.signer)) (nat_cmp (kind_rank n.kind) (kind_rank m.kind))) ((λ i. round_cmp (in_name a.round a.signers n n_in i) (in_name b.round b.signers m m_in i)) ∙ less))
-          walked.steps (λ step step_in. ordered_in step.round step.signers (lists step step_in).ascending) (subst (IsStrictlySortedBy round_cmp) (rounds walked.steps) (subst (λ es. IsStrictlySortedBy round_cmp (map (λ e. e.0) es)) (sym over) ordered)));
-      sound = made_sound accused_by accused_cmp (evidence_of rules.eq vs) (accuses_own rules.eq vs) (flat_map names_of walked.steps);
-      complete = λ n h. made_complete accused_by accused_cmp (evidence_of rules.eq vs) (accuses_own rules.eq vs) (flat_map names_of walked.steps) n (complete n h) h;
+    subst (IsEvidence rules.eq vs)
+    (sym (walked.is ∙ found_steps walked.steps (recursion_from_All _ walked.steps (each _ walked.steps held))))
+    (from_listing rules.eq vs l _ (record {
+      ordered = made_ordered accused_by accused_cmp (evidence_of rules.eq vs) (accuses_own rules.eq vs)
+          (flat_map names_of walked.steps) (sorted_joined round_cmp accused_cmp (λ step. step.round) names_of
+          (λ a b n m less n_in m_in.
+          ap (λ o. ordering_then (ordering_then o (nat_cmp n.signer m.signer)) (nat_cmp (kind_rank n.kind) (kind_rank m.kind)))
+          ((λ i. round_cmp (in_name a.round a.signers n n_in i) (in_name b.round b.signers m m_in i)) ∙ less))
+          walked.steps (λ step step_in. ordered_in step.round step.signers (lists step step_in).ascending)
+          (subst (IsStrictlySortedBy round_cmp) (rounds walked.steps)
+          (subst (λ es. IsStrictlySortedBy round_cmp (map (λ e. e.0) es)) (sym over) ordered)));
+      sound = made_sound accused_by accused_cmp (evidence_of rules.eq vs) (accuses_own rules.eq vs)
+          (flat_map names_of walked.steps);
+      complete = λ n h. made_complete accused_by accused_cmp (evidence_of rules.eq vs) (accuses_own rules.eq vs)
+          (flat_map names_of walked.steps) n (complete n h) h;
     }))
   where
     vs : List (SignedVote D G)
@@ -174,42 +255,66 @@ report_of_walk {S} {D} {C} {P} {G} rules l detector ordered found walked message
     lists : (step : Step S D P G) → Contains walked.steps step → ListsSigners step.round_state.votes step.signers
     lists step step_in = All-contains (λ s. ListsSigners s.round_state.votes s.signers) walked.steps step walked.listed step_in
 
-    held : (step : Step S D P G) → Contains walked.steps step → HoldsRound rules.eq (rules.size step.round.epoch) vs step.round step.round_state.votes
+    held : (step : Step S D P G) → Contains walked.steps step →
+        HoldsRound rules.eq (rules.size step.round.epoch) vs step.round step.round_state.votes
     held step step_in =
-        let recalls : RecallsRound rules messages step.round step.round_state = All-contains (λ e. RecallsRound rules messages e.0 e.1) detector.rounds.entries (entry_in step) (recalls_listed rules messages detector ordered holds) (subst (λ es. Contains es (entry_in step)) over (Contains-map entry_in walked.steps step step_in)) in
+        let recalls : RecallsRound rules messages step.round step.round_state =
+        All-contains (λ e. RecallsRound rules messages e.0 e.1) detector.rounds.entries (entry_in step)
+        (recalls_listed rules messages detector ordered holds)
+        (subst (λ es. Contains es (entry_in step)) over (Contains-map entry_in walked.steps step step_in)) in
         recalls.votes
 
-    found_steps : (xs : List (Step S D P G)) → AllByRecursion (λ step. HoldsRound rules.eq (rules.size step.round.epoch) vs step.round step.round_state.votes) xs → flat_map (found_in rules.eq) xs ≡ filter_map (evidence_of rules.eq vs) (flat_map names_of xs)
+    found_steps : (xs : List (Step S D P G)) →
+        AllByRecursion (λ step. HoldsRound rules.eq (rules.size step.round.epoch) vs step.round step.round_state.votes) xs →
+        flat_map (found_in rules.eq) xs ≡ filter_map (evidence_of rules.eq vs) (flat_map names_of xs)
     found_steps [] h = refl
     found_steps (step ∷ xs) h =
-        (λ i. found_in_round rules.eq vs (rules.size step.round.epoch) step.round step.round_state.votes h.0 step.signers i ++ found_steps xs h.1 i) ∙ sym (filter_map-append (evidence_of rules.eq vs) (names_of step) (flat_map names_of xs))
+        (λ i. found_in_round rules.eq vs (rules.size step.round.epoch) step.round step.round_state.votes h.0 step.signers i
+        ++ found_steps xs h.1 i) ∙ sym (filter_map-append (evidence_of rules.eq vs) (names_of step) (flat_map names_of xs))
 
     complete : (n : Accusation) → is_some (evidence_of rules.eq vs n) ≡ true → Contains (flat_map names_of walked.steps) n
     complete n h =
         elim (recalled rules messages detector ordered holds n.round) [
-          | inl none ↦ absurd (false≢true (ap is_some (sym (elim n.kind as (λ kind. evidence_from (λ sort. no_slot {D = D} {G = G}) kind ≡ None) [ Conflicting_notarize ↦ refl | Conflicting_finalize ↦ refl | Nullify_finalize ↦ refl ]) ∙ (λ i. evidence_from (λ sort. none.votes n.signer sort i) n.kind) ∙ sym (evidence_of-slots rules.eq vs n)) ∙ h))
+          | inl none ↦
+              absurd (false≢true (ap is_some (sym (elim n.kind as (λ kind. evidence_from (λ sort. no_slot {D = D} {G = G}) kind
+              ≡ None) [ Conflicting_notarize ↦ refl | Conflicting_finalize ↦ refl | Nullify_finalize ↦ refl ])
+              ∙ (λ i. evidence_from (λ sort. none.votes n.signer sort i) n.kind) ∙ sym (evidence_of-slots rules.eq vs n)) ∙ h))
           | inr there ↦
-              let (step, step_in, is) = Contains-from_map entry_in walked.steps (n.round, there.0) (subst (λ es. Contains es (n.round, there.0)) (sym over) there.1) in
-              Contains-flat_map names_of walked.steps step n step_in (listed_in_round rules.eq vs (rules.size step.round.epoch) step.round step.round_state.votes (held step step_in) step.signers (lists step step_in) n (λ i. (sym is i).0) h)
+              let (step, step_in, is) = Contains-from_map entry_in walked.steps (n.round, there.0)
+              (subst (λ es. Contains es (n.round, there.0)) (sym over) there.1) in
+              Contains-flat_map names_of walked.steps step n step_in (listed_in_round rules.eq vs (rules.size step.round.epoch)
+              step.round step.round_state.votes (held step step_in) step.signers (lists step step_in) n (λ i. (sym is i).0) h)
         ]
 
 -- signers that were collected, sorted and deduplicated
-pub lists_signers : {S D P G : Type 0} (recorded : RoundVotes S D P G) (none notarizers nullifiers finalizers sorted signers : List ℕ) → none ≡ [] → notarizers ≡ none ++ map (λ v. v.attestation.signer) recorded.notarizes.others.items → nullifiers ≡ notarizers ++ map (λ v. v.attestation.signer) recorded.nullifies.items → finalizers ≡ nullifiers ++ map (λ v. v.attestation.signer) recorded.finalizes.others.items → IsPermutation finalizers sorted → IsSorted nat_cmp sorted → signers ≡ dedup eqb sorted → ListsSigners recorded signers
+pub lists_signers : {S D P G : Type 0} (recorded : RoundVotes S D P G)
+    (none notarizers nullifiers finalizers sorted signers : List ℕ) → none ≡ [] →
+    notarizers ≡ none ++ map (λ v. v.attestation.signer) recorded.notarizes.others.items →
+    nullifiers ≡ notarizers ++ map (λ v. v.attestation.signer) recorded.nullifies.items →
+    finalizers ≡ nullifiers ++ map (λ v. v.attestation.signer) recorded.finalizes.others.items →
+    IsPermutation finalizers sorted → IsSorted nat_cmp sorted → signers ≡ dedup eqb sorted → ListsSigners recorded signers
 lists_signers recorded none notarizers nullifiers finalizers sorted signers e0 e1 e2 e3 moved ordered e5 =
     let a = map (λ v. v.attestation.signer) recorded.notarizes.others.items in
     let b = map (λ v. v.attestation.signer) recorded.nullifies.items in
     let c = map (λ v. v.attestation.signer) recorded.finalizes.others.items in
     let all : finalizers ≡ (a ++ b) ++ c = e3 ∙ ap (λ xs. xs ++ c) (e2 ∙ ap (λ xs. xs ++ b) (e1 ∙ ap (λ xs. xs ++ a) e0)) in
-    let stays : (s : ℕ) → Contains ((a ++ b) ++ c) s → Contains signers s = λ s h. subst (λ xs. Contains xs s) (sym e5) (Contains-dedup_nat sorted s (Contains-permutation finalizers sorted s moved (subst (λ xs. Contains xs s) (sym all) h))) in
+    let stays : (s : ℕ) → Contains ((a ++ b) ++ c) s → Contains signers s = λ s h. subst (λ xs. Contains xs s) (sym e5)
+    (Contains-dedup_nat sorted s (Contains-permutation finalizers sorted s moved (subst (λ xs. Contains xs s) (sym all) h))) in
     record {
-      ascending = subst (IsStrictlySortedBy nat_cmp) (sym e5) (sorted_from_strictly_increasing (dedup eqb sorted) (IsStrictlyIncreasing-dedup sorted ordered));
-      notarizers = λ v v_in. stays v.attestation.signer (Contains-append_left (a ++ b) c _ (Contains-append_left a b _ (Contains-map (λ w. w.attestation.signer) _ v v_in)));
-      nullifiers = λ v v_in. stays v.attestation.signer (Contains-append_left (a ++ b) c _ (Contains-append_right a b _ (Contains-map (λ w. w.attestation.signer) _ v v_in)));
-      finalizers = λ v v_in. stays v.attestation.signer (Contains-append_right (a ++ b) c _ (Contains-map (λ w. w.attestation.signer) _ v v_in));
+      ascending = subst (IsStrictlySortedBy nat_cmp) (sym e5)
+          (sorted_from_strictly_increasing (dedup eqb sorted) (IsStrictlyIncreasing-dedup sorted ordered));
+      notarizers = λ v v_in. stays v.attestation.signer
+          (Contains-append_left (a ++ b) c _ (Contains-append_left a b _ (Contains-map (λ w. w.attestation.signer) _ v v_in)));
+      nullifiers = λ v v_in. stays v.attestation.signer
+          (Contains-append_left (a ++ b) c _ (Contains-append_right a b _ (Contains-map (λ w. w.attestation.signer) _ v v_in)));
+      finalizers = λ v v_in.
+          stays v.attestation.signer (Contains-append_right (a ++ b) c _ (Contains-map (λ w. w.attestation.signer) _ v v_in));
     }
 
 -- what is found of one signer more
-pub found_next : {E : Type 0} (f : ℕ → List E) (old found new : List E) (signers : List ℕ) (i s : ℕ) → i < length signers → s ≡ get_or signers i 0 → found ≡ old ++ flat_map f (take i signers) → new ≡ found ++ f s → new ≡ old ++ flat_map f (take (i + 1) signers)
+pub found_next : {E : Type 0} (f : ℕ → List E) (old found new : List E) (signers : List ℕ) (i s : ℕ) → i < length signers →
+    s ≡ get_or signers i 0 → found ≡ old ++ flat_map f (take i signers) → new ≡ found ++ f s →
+    new ≡ old ++ flat_map f (take (i + 1) signers)
 found_next f old found new signers i s lt at so_far is =
     is ∙ ap (λ es. es ++ f s) so_far ∙ flat_map_more f old (take i signers) s ∙
     ap (λ ss. old ++ flat_map f ss) (ap (λ q. take i signers ++ q ∷ []) at ∙ sym (take_more signers i 0 lt))

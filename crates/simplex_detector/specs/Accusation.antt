@@ -40,4 +40,5 @@ kind_rank Nullify_finalize = 2
 
 -- accusations are ordered by round, signer and kind
 abbrev pub accused_cmp : Accusation → Accusation → Ordering
-accused_cmp a b = ordering_then (signer_cmp (a.round, a.signer) (b.round, b.signer)) (nat_cmp (kind_rank a.kind) (kind_rank b.kind))
+accused_cmp a b =
+    ordering_then (signer_cmp (a.round, a.signer) (b.round, b.signer)) (nat_cmp (kind_rank a.kind) (kind_rank b.kind))

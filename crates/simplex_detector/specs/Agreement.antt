@@ -27,16 +27,23 @@ module _ {S D C P G : Type 0} (rules : Rules S D C P G) where
   -- suspect rounds
   pub record AgreeOnSuspects (messages others : List (Activity S D C P G)) : Type 0 where
     pub claims : claims_of others ≡ claims_of messages
-    pub votes : filter (λ v. is_suspect rules messages (round_of v.subject) v.signer) (flat_map (votes_in rules.listed) others) ≡ filter (λ v. is_suspect rules messages (round_of v.subject) v.signer) (flat_map (votes_in rules.listed) messages)
-    pub certificates : filter (λ x. is_suspect_round rules messages (round_of x)) (certified_subjects rules others) ≡ filter (λ x. is_suspect_round rules messages (round_of x)) (certified_subjects rules messages)
+    pub votes : filter (λ v. is_suspect rules messages (round_of v.subject) v.signer) (flat_map (votes_in rules.listed) others)
+        ≡ filter (λ v. is_suspect rules messages (round_of v.subject) v.signer) (flat_map (votes_in rules.listed) messages)
+    pub certificates : filter (λ x. is_suspect_round rules messages (round_of x)) (certified_subjects rules others)
+        ≡ filter (λ x. is_suspect_round rules messages (round_of x)) (certified_subjects rules messages)
 
   -- Suspects are in the committee, and their rounds are suspect. Messages that claim the same votes have the same suspects. If
   -- they agree on these, too, they have the same evidence and the same splits.
   pub record SuspectsDecide : Type 0 where
-    pub members : (messages : List (Activity S D C P G)) (round : Round) (signer : ℕ) → IsTrue (is_suspect rules messages round signer) → IsTrue (is_suspect_round rules messages round) × (signer < rules.size round.epoch)
-    pub signers : (messages others : List (Activity S D C P G)) → claims_of others ≡ claims_of messages → (round : Round) (signer : ℕ) → is_suspect rules others round signer ≡ is_suspect rules messages round signer
-    pub rounds : (messages others : List (Activity S D C P G)) → claims_of others ≡ claims_of messages → (round : Round) → is_suspect_round rules others round ≡ is_suspect_round rules messages round
+    pub members : (messages : List (Activity S D C P G)) (round : Round) (signer : ℕ) →
+        IsTrue (is_suspect rules messages round signer) →
+        IsTrue (is_suspect_round rules messages round) × (signer < rules.size round.epoch)
+    pub signers : (messages others : List (Activity S D C P G)) → claims_of others ≡ claims_of messages →
+        (round : Round) (signer : ℕ) → is_suspect rules others round signer ≡ is_suspect rules messages round signer
+    pub rounds : (messages others : List (Activity S D C P G)) → claims_of others ≡ claims_of messages → (round : Round) →
+        is_suspect_round rules others round ≡ is_suspect_round rules messages round
     pub evidence : (messages others : List (Activity S D C P G)) → AgreeOnSuspects messages others →
-        (es : List (Equivocation D G)) → IsEvidence rules.eq (valid_votes rules messages) es → IsEvidence rules.eq (valid_votes rules others) es
+        (es : List (Equivocation D G)) → IsEvidence rules.eq (valid_votes rules messages) es →
+        IsEvidence rules.eq (valid_votes rules others) es
     pub splits : (messages others : List (Activity S D C P G)) → AgreeOnSuspects messages others →
         (splits : List Split) → AreSplits rules messages splits → AreSplits rules others splits

@@ -11,7 +11,8 @@ abbrev pub subjects_contradict : {D : Type 0} → (D → D → Bool) → Subject
 subjects_contradict eq x y = same_round (round_of x) (round_of y) && excludes eq x y
 
 -- whether the subjects of two certificates contradict
-abbrev pub certificates_contradict : {D C : Type 0} → (D → D → Bool) → Option (SubjectValue D × C) → Option (SubjectValue D × C) → Bool
+abbrev pub certificates_contradict : {D C : Type 0} → (D → D → Bool) → Option (SubjectValue D × C) →
+    Option (SubjectValue D × C) → Bool
 certificates_contradict eq (Some a) (Some b) = subjects_contradict eq a.0 b.0
 certificates_contradict _ _ _ = false
 

@@ -53,7 +53,8 @@ certified_by certified None x certificate = false
 certified_by certified (Some committee) x certificate = certified committee x certificate
 
 -- each vote and each certificate is judged by the committee of its round's epoch
-abbrev pub rules_of : {S D C P G : Type 0} → (D → D → Bool) → (S → List P) → (S → SubjectValue D → ℕ → G → Bool) → (S → SubjectValue D → C → Bool) → (C → List (Attestation S P G)) → Schedule S → Rules S D C P G
+abbrev pub rules_of : {S D C P G : Type 0} → (D → D → Bool) → (S → List P) → (S → SubjectValue D → ℕ → G → Bool) →
+    (S → SubjectValue D → C → Bool) → (C → List (Attestation S P G)) → Schedule S → Rules S D C P G
 rules_of eq keys good certified listed schedule = record {
   eq = eq;
   good = λ x. valid_by good (committee_of schedule (round_of x).epoch) x;

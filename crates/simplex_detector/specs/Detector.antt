@@ -74,22 +74,29 @@ module _ {S D C P G : Type 0} (rules : Judging → Schedule S → Rules S D C P 
       split ≡ split_of (rules judging schedule) messages round
 
 -- the state of some messages becomes the state of these and more messages
-abbrev pub RecallsMore : {S D C P G : Type 0} → Rules S D C P G → List (Activity S D C P G) → Detector S D P G → Detector S D P G → Type 0
-RecallsMore {S} {D} {C} {P} {G} rules more old new = (messages : List (Activity S D C P G)) → Recalls rules messages old → Recalls rules (messages ++ more) new
+abbrev pub RecallsMore : {S D C P G : Type 0} → Rules S D C P G → List (Activity S D C P G) → Detector S D P G →
+    Detector S D P G → Type 0
+RecallsMore {S} {D} {C} {P} {G} rules more old new =
+    (messages : List (Activity S D C P G)) → Recalls rules messages old → Recalls rules (messages ++ more) new
 
 -- ---- one message more
 
 module _ {S D C P G : Type 0} (rules : Schedule S → Rules S D C P G) (committee : S) where
   -- Some votes of a round and a certificate, if there is one, are taken in. The committee of the round's epoch judges them,
   -- for any earlier messages and any other committees.
-  pub record TakesIn (round : Round) (votes : List (SignedVote D G)) (certificate : Option (SubjectValue D × C)) (old new : RoundState S D P G) : Type 0 where
+  pub record TakesIn (round : Round) (votes : List (SignedVote D G)) (certificate : Option (SubjectValue D × C))
+      (old new : RoundState S D P G) : Type 0 where
     pub cast : (schedule : Schedule S) → committee_of schedule round.epoch ≡ Some committee → (vs : List (SignedVote D G)) →
         HoldsRound (rules schedule).eq ((rules schedule).size round.epoch) vs round old.votes →
-        HoldsRound (rules schedule).eq ((rules schedule).size round.epoch) (vs ++ filter (is_valid (rules schedule)) votes) round new.votes
-    pub certified : (schedule : Schedule S) → committee_of schedule round.epoch ≡ Some committee → (xs : List (SubjectValue D)) →
+        HoldsRound (rules schedule).eq ((rules schedule).size round.epoch) (vs ++ filter (is_valid (rules schedule)) votes)
+        round new.votes
+    pub certified : (schedule : Schedule S) → committee_of schedule round.epoch ≡ Some committee →
+        (xs : List (SubjectValue D)) →
         RecordsFirsts (rules schedule).eq xs round old.certified →
         RecordsFirsts (rules schedule).eq (xs ++ option_to_list (if_certified (rules schedule) certificate)) round new.certified
 
   -- what a message holds is taken in: its votes, and its certificate if it has one
-  abbrev pub TakesContents : (C → List (Attestation S P G)) → ContentsValue D C G → RoundState S D P G → RoundState S D P G → Type 0
-  TakesContents listed held old new = TakesIn (contents_round held) (contents_votes listed held) (contents_certificate held) old new
+  abbrev pub TakesContents : (C → List (Attestation S P G)) → ContentsValue D C G → RoundState S D P G →
+      RoundState S D P G → Type 0
+  TakesContents listed held old new =
+      TakesIn (contents_round held) (contents_votes listed held) (contents_certificate held) old new

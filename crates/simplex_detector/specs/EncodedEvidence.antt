@@ -17,9 +17,12 @@ IsEncoded eq payload signature e = IsActivity {C = ⊤} eq payload (λ _. ⊤) s
 
 -- the same member, equal by its type's equality
 module _ {S D P G : Type 0}
-    (conflicting_notarizes : ConflictValue (Notarize S D P G) (Notarize S D P G) → ConflictValue (Notarize S D P G) (Notarize S D P G) → Bool)
-    (conflicting_finalizes : ConflictValue (Finalize S D P G) (Finalize S D P G) → ConflictValue (Finalize S D P G) (Finalize S D P G) → Bool)
-    (nullify_finalizes : ConflictValue (Nullify S P G) (Finalize S D P G) → ConflictValue (Nullify S P G) (Finalize S D P G) → Bool) where
+    (conflicting_notarizes : ConflictValue (Notarize S D P G) (Notarize S D P G) →
+    ConflictValue (Notarize S D P G) (Notarize S D P G) → Bool)
+    (conflicting_finalizes : ConflictValue (Finalize S D P G) (Finalize S D P G) →
+    ConflictValue (Finalize S D P G) (Finalize S D P G) → Bool)
+    (nullify_finalizes : ConflictValue (Nullify S P G) (Finalize S D P G) →
+    ConflictValue (Nullify S P G) (Finalize S D P G) → Bool) where
   abbrev pub same_evidence : Evidence S D P G → Evidence S D P G → Bool
   same_evidence (variants.ConflictingNotarize a) (variants.ConflictingNotarize b) = conflicting_notarizes a b
   same_evidence (variants.ConflictingFinalize a) (variants.ConflictingFinalize b) = conflicting_finalizes a b

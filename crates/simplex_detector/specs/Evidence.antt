@@ -7,12 +7,14 @@ use Rattle.simplex_evidence.specs.Contradiction.{EquivocationKind, Equivocation,
 use Rattle.simplex_detector.specs.Accusation.{Accusation, is_accused, accused_by, accused_cmp}
 
 -- the evidence of a vote and another, if there is one
-abbrev pub with_second : {D G : Type 0} → EquivocationKind → SignedVote D G → Option (SignedVote D G) → Option (Equivocation D G)
+abbrev pub with_second : {D G : Type 0} → EquivocationKind → SignedVote D G → Option (SignedVote D G) →
+    Option (Equivocation D G)
 with_second kind v None = None
 with_second kind v (Some w) = Some (record { kind = kind; first = v; second = w })
 
 -- the evidence of a vote, if there is one, and the earliest that contradicts it with that kind
-abbrev pub with_first : {D G : Type 0} → (D → D → Bool) → List (SignedVote D G) → EquivocationKind → Option (SignedVote D G) → Option (Equivocation D G)
+abbrev pub with_first : {D G : Type 0} → (D → D → Bool) → List (SignedVote D G) → EquivocationKind → Option (SignedVote D G) →
+    Option (Equivocation D G)
 with_first eq vs kind None = None
 with_first eq vs kind (Some v) = with_second kind v (find (contradicts eq kind v) vs)
 
@@ -21,7 +23,8 @@ abbrev pub evidence_of : {D G : Type 0} → (D → D → Bool) → List (SignedV
 evidence_of eq vs n = with_first eq vs n.kind (find (is_at (first_sort n.kind) n.round n.signer) vs)
 
 -- es is the evidence of the votes: in order, each the evidence of its accusation, and nobody accused left out
-pub record IsEvidence {D G : Type 0} (eq : D → D → Bool) (vs : List (SignedVote D G)) (es : List (Equivocation D G)) : Type 0 where
+pub record IsEvidence {D G : Type 0} (eq : D → D → Bool) (vs : List (SignedVote D G))
+    (es : List (Equivocation D G)) : Type 0 where
   pub ordered : IsStrictlySortedBy accused_cmp (map accused_by es)
   pub sound : All (λ e. evidence_of eq vs (accused_by e) ≡ Some e) es
   pub complete : (n : Accusation) → IsTrue (is_accused eq vs n) → Contains (map accused_by es) n

@@ -19,7 +19,8 @@ certified_subjects rules messages = filter_map (certified_in rules) messages
 
 -- whether two of the subjects, of this round, contradict
 abbrev pub are_split : {D : Type 0} → (D → D → Bool) → List (SubjectValue D) → Round → Bool
-are_split eq subjects round = list_any (λ x. same_round (round_of x) round && list_any (subjects_contradict eq x) subjects) subjects
+are_split eq subjects round =
+    list_any (λ x. same_round (round_of x) round && list_any (subjects_contradict eq x) subjects) subjects
 
 -- the first of the subjects of this round and sort
 abbrev pub first_certified : {D : Type 0} → List (SubjectValue D) → Round → Sort → Option (SubjectValue D)
@@ -32,7 +33,8 @@ excludes_first eq (Some x) y = excludes eq x y
 
 -- whether a subject excludes the first of some sort
 abbrev pub excludes_some : {D : Type 0} → (D → D → Bool) → (Sort → Option (SubjectValue D)) → SubjectValue D → Bool
-excludes_some eq first y = excludes_first eq (first Notarizing) y || (excludes_first eq (first Nullifying) y || excludes_first eq (first Finalizing) y)
+excludes_some eq first y =
+    excludes_first eq (first Notarizing) y || (excludes_first eq (first Nullifying) y || excludes_first eq (first Finalizing) y)
 
 -- nothing is certified
 abbrev pub nothing_certified : {D : Type 0} → CertifiedSubjects D
@@ -46,7 +48,8 @@ firsts_of recorded Finalizing = option_map Finalizes recorded.finalized
 
 -- the record of a round is determined by the subjects certified so far: whether they split it, and until they do, the first
 -- of each sort
-pub record RecordsFirsts {D : Type 0} (eq : D → D → Bool) (subjects : List (SubjectValue D)) (round : Round) (recorded : CertifiedSubjects D) : Type 0 where
+pub record RecordsFirsts {D : Type 0} (eq : D → D → Bool) (subjects : List (SubjectValue D)) (round : Round)
+    (recorded : CertifiedSubjects D) : Type 0 where
   pub split : recorded.split ≡ are_split eq subjects round
   pub firsts : recorded.split ≡ false → (sort : Sort) → firsts_of recorded sort ≡ first_certified subjects round sort
 

@@ -23,17 +23,22 @@ are_verified Claimed round = false
 are_verified (Suspects suspects) round = contains round_cmp suspects.rounds round
 
 -- which signatures are valid under a committee that judges so
-abbrev pub valid_under : {S D P G : Type 0} → (S → List P) → (S → SubjectValue D → ℕ → G → Bool) → Judging → S → SubjectValue D → ℕ → G → Bool
+abbrev pub valid_under : {S D P G : Type 0} → (S → List P) → (S → SubjectValue D → ℕ → G → Bool) → Judging → S →
+    SubjectValue D → ℕ → G → Bool
 valid_under keys good Verified = good
 valid_under keys good Claimed = λ committee x signer signature. nat_lt signer (length (keys committee))
-valid_under keys good (Suspects suspects) = λ committee x signer signature. contains signer_cmp suspects.signers (round_of x, signer) && good committee x signer signature
+valid_under keys good (Suspects suspects) = λ committee x signer signature.
+    contains signer_cmp suspects.signers (round_of x, signer) && good committee x signer signature
 
 -- which certificates certify under a committee that judges so
 abbrev pub certified_under : {S D C : Type 0} → (S → SubjectValue D → C → Bool) → Judging → S → SubjectValue D → C → Bool
 certified_under certified Verified = certified
 certified_under certified Claimed = λ committee x certificate. false
-certified_under certified (Suspects suspects) = λ committee x certificate. contains round_cmp suspects.rounds (round_of x) && certified committee x certificate
+certified_under certified (Suspects suspects) = λ committee x certificate.
+    contains round_cmp suspects.rounds (round_of x) && certified committee x certificate
 
 -- each vote and each certificate is judged so by the committee of its round's epoch
-abbrev pub rules_under : {S D C P G : Type 0} → (D → D → Bool) → (S → List P) → (S → SubjectValue D → ℕ → G → Bool) → (S → SubjectValue D → C → Bool) → (C → List (Attestation S P G)) → Judging → Schedule S → Rules S D C P G
-rules_under eq keys good certified listed judging = rules_of eq keys (valid_under keys good judging) (certified_under certified judging) listed
+abbrev pub rules_under : {S D C P G : Type 0} → (D → D → Bool) → (S → List P) → (S → SubjectValue D → ℕ → G → Bool) →
+    (S → SubjectValue D → C → Bool) → (C → List (Attestation S P G)) → Judging → Schedule S → Rules S D C P G
+rules_under eq keys good certified listed judging =
+    rules_of eq keys (valid_under keys good judging) (certified_under certified judging) listed

@@ -22,12 +22,14 @@ module _ {S D C P G : Type 0} (rules : Rules S D C P G) where
   -- the same messages in another order accuse the same signers
   abbrev pub ReorderingAccusesSame : List (Activity S D C P G) → Type 0
   ReorderingAccusesSame ms =
-      (ks : List (Activity S D C P G)) → IsPermutation ms ks → (n : Accusation) → is_accused rules.eq (valid_votes rules ms) n ≡ is_accused rules.eq (valid_votes rules ks) n
+      (ks : List (Activity S D C P G)) → IsPermutation ms ks → (n : Accusation) →
+      is_accused rules.eq (valid_votes rules ms) n ≡ is_accused rules.eq (valid_votes rules ks) n
 
   -- an accused signer stays accused when any messages follow
   abbrev pub AccusedStay : List (Activity S D C P G) → Type 0
   AccusedStay ms =
-      (more : List (Activity S D C P G)) (n : Accusation) → IsTrue (is_accused rules.eq (valid_votes rules ms) n) → IsTrue (is_accused rules.eq (valid_votes rules (ms ++ more)) n)
+      (more : List (Activity S D C P G)) (n : Accusation) → IsTrue (is_accused rules.eq (valid_votes rules ms) n) →
+      IsTrue (is_accused rules.eq (valid_votes rules (ms ++ more)) n)
 
   -- the evidence of messages, as messages of its own, has the same evidence in the same order
   abbrev pub IsEvidenceAgain : List (declared.Evidence S D P G) → Type 0

@@ -13,6 +13,7 @@ pub mod Certificates
 pub mod Splits
 pub mod FirstCertified
 pub mod Detector
+pub mod DetectorLaws
 pub mod Judging
 pub mod SplitLaws
 pub mod Suspects

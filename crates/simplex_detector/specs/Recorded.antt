@@ -14,7 +14,8 @@ pub record Slot (D G : Type 0) : Type 0 where
   pub other : Option (SignedVote D G)
 
 -- the earliest vote with another proposal than the first, if there is a first
-abbrev pub other_than : {D G : Type 0} → (D → D → Bool) → List (SignedVote D G) → Sort → Round → ℕ → Option (SignedVote D G) → Option (SignedVote D G)
+abbrev pub other_than : {D G : Type 0} → (D → D → Bool) → List (SignedVote D G) → Sort → Round → ℕ → Option (SignedVote D G) →
+    Option (SignedVote D G)
 other_than eq vs sort round signer None = None
 other_than eq vs sort round signer (Some v) = find (λ w. is_at sort round signer w && excludes eq v.subject w.subject) vs
 
@@ -31,7 +32,8 @@ if_differs eq (Some first) v = if excludes eq first.subject v.subject then Some 
 
 -- the slot of a vote's own round, signer and sort, after it
 abbrev pub slot_with : {D G : Type 0} → (D → D → Bool) → SignedVote D G → Slot D G → Slot D G
-slot_with eq v slot = record { earliest = option_or slot.earliest (Some v); other = option_or slot.other (if_differs eq slot.earliest v) }
+slot_with eq v slot =
+    record { earliest = option_or slot.earliest (Some v); other = option_or slot.other (if_differs eq slot.earliest v) }
 
 -- whether a vote on a subject changes its slot: the slot is empty, or holds one vote, which has another proposal
 abbrev pub changes : {D G : Type 0} → (D → D → Bool) → Option (SignedVote D G) → Option (SignedVote D G) → SubjectValue D → Bool
@@ -45,14 +47,17 @@ is_news eq vs v =
     changes eq slot.earliest slot.other v.subject
 
 -- the evidence of two votes, if there are two
-abbrev pub equivocation_of : {D G : Type 0} → EquivocationKind → Option (SignedVote D G) → Option (SignedVote D G) → Option (Equivocation D G)
+abbrev pub equivocation_of : {D G : Type 0} → EquivocationKind → Option (SignedVote D G) → Option (SignedVote D G) →
+    Option (Equivocation D G)
 equivocation_of kind None w = None
 equivocation_of kind (Some v) w = with_second kind v w
 
 -- the evidence of one round and signer, from its slots
 abbrev pub evidence_from : {D G : Type 0} → (Sort → Slot D G) → EquivocationKind → Option (Equivocation D G)
-evidence_from slot Conflicting_notarize = equivocation_of Conflicting_notarize (slot Notarizing).earliest (slot Notarizing).other
-evidence_from slot Conflicting_finalize = equivocation_of Conflicting_finalize (slot Finalizing).earliest (slot Finalizing).other
+evidence_from slot Conflicting_notarize =
+    equivocation_of Conflicting_notarize (slot Notarizing).earliest (slot Notarizing).other
+evidence_from slot Conflicting_finalize =
+    equivocation_of Conflicting_finalize (slot Finalizing).earliest (slot Finalizing).other
 evidence_from slot Nullify_finalize = equivocation_of Nullify_finalize (slot Nullifying).earliest (slot Finalizing).earliest
 
 -- the votes that are news, each after all votes before it
@@ -80,7 +85,9 @@ votes_in_slot slot = option_to_list slot.earliest ++ option_to_list slot.other
 
 -- the recorded votes of a round, signer and sort are the earliest and the earliest with another proposal
 abbrev pub RecordedAreSlots : {D G : Type 0} → (D → D → Bool) → List (SignedVote D G) → Type 0
-RecordedAreSlots eq vs = (sort : Sort) (round : Round) (signer : ℕ) → filter (is_at sort round signer) (recorded_of eq vs) ≡ votes_in_slot (slot_of eq vs sort round signer)
+RecordedAreSlots eq vs =
+    (sort : Sort) (round : Round) (signer : ℕ) →
+    filter (is_at sort round signer) (recorded_of eq vs) ≡ votes_in_slot (slot_of eq vs sort round signer)
 
 -- at most five votes of a signer in a round are recorded
 abbrev pub FewAreRecorded : {D G : Type 0} → (D → D → Bool) → List (SignedVote D G) → Type 0

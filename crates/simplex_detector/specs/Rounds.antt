@@ -26,7 +26,10 @@ slot_in signer_of vote_of pairs signer = record {
 -- the slots of a signer
 abbrev pub slots : {S D P G : Type 0} → RoundVotes S D P G → ℕ → Sort → Slot D G
 slots recorded signer Notarizing = slot_in (λ v. v.attestation.signer) notarize_vote recorded.notarizes signer
-slots recorded signer Nullifying = record { earliest = option_map nullify_vote (item_of (λ v. v.attestation.signer) recorded.nullifies.items signer); other = None }
+slots recorded signer Nullifying = record {
+  earliest = option_map nullify_vote (item_of (λ v. v.attestation.signer) recorded.nullifies.items signer);
+  other = None;
+}
 slots recorded signer Finalizing = slot_in (λ v. v.attestation.signer) finalize_vote recorded.finalizes signer
 
 -- how many votes there are
@@ -46,15 +49,20 @@ abbrev pub is_for : {D G : Type 0} → SignedVote D G → ℕ → Sort → Bool
 is_for v signer sort = same_sort (sort_of v.subject) sort && (v.signer == signer)
 
 -- a participant's vote that is news changes its slot, and there is one vote more
-pub record TakesVote {S D P G : Type 0} (eq : D → D → Bool) (v : SignedVote D G) (before after : RoundVotes S D P G) : Type 0 where
+pub record TakesVote {S D P G : Type 0} (eq : D → D → Bool) (v : SignedVote D G)
+    (before after : RoundVotes S D P G) : Type 0 where
   pub sized : (n : ℕ) → IsSized n before → IsSized n after
-  pub taken : (n : ℕ) → IsSized n before → v.signer < n → IsTrue (changes eq (slots before v.signer (sort_of v.subject)).earliest (slots before v.signer (sort_of v.subject)).other v.subject) →
-      (signer : ℕ) (sort : Sort) → slots after signer sort ≡ (if is_for v signer sort then slot_with eq v (slots before signer sort) else slots before signer sort)
-  pub more : (n : ℕ) → IsSized n before → v.signer < n → IsTrue (changes eq (slots before v.signer (sort_of v.subject)).earliest (slots before v.signer (sort_of v.subject)).other v.subject) →
+  pub taken : (n : ℕ) → IsSized n before → v.signer < n → IsTrue (changes eq
+      (slots before v.signer (sort_of v.subject)).earliest (slots before v.signer (sort_of v.subject)).other v.subject) →
+      (signer : ℕ) (sort : Sort) → slots after signer sort
+      ≡ (if is_for v signer sort then slot_with eq v (slots before signer sort) else slots before signer sort)
+  pub more : (n : ℕ) → IsSized n before → v.signer < n → IsTrue (changes eq (slots before v.signer (sort_of v.subject)).earliest
+      (slots before v.signer (sort_of v.subject)).other v.subject) →
       round_count after ≡ round_count before + 1
 
 -- of a round whose committee has n participants exactly the votes are recorded that `vs` has in the slots of that round
-pub record HoldsRound {S D P G : Type 0} (eq : D → D → Bool) (n : ℕ) (vs : List (SignedVote D G)) (round : Round) (recorded : RoundVotes S D P G) : Type 0 where
+pub record HoldsRound {S D P G : Type 0} (eq : D → D → Bool) (n : ℕ) (vs : List (SignedVote D G)) (round : Round)
+    (recorded : RoundVotes S D P G) : Type 0 where
   pub sized : IsSized n recorded
   pub held : (signer : ℕ) (sort : Sort) → slots recorded signer sort ≡ slot_of eq vs sort round signer
   pub counted : round_count recorded ≡ recorded_in eq vs round

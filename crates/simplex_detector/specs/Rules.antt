@@ -35,12 +35,17 @@ valid_votes rules messages = filter (is_valid rules) (flat_map (votes_in rules.l
 -- a certificate that certifies a subject lists a quorum of that committee.
 pub record AreLawful {S D C P G : Type 0} (rules : Rules S D C P G) : Type 0 where
   pub payloads : IsEquivalence rules.eq
-  pub members : (x : SubjectValue D) (signer : ℕ) (signature : G) → rules.good x signer signature ≡ true → signer < rules.size (round_of x).epoch
-  pub someone : (x : SubjectValue D) (certificate : C) → rules.certified x certificate ≡ true → 1 ≤ rules.size (round_of x).epoch
-  pub quorums : (x : SubjectValue D) (certificate : C) → rules.certified x certificate ≡ true → IsQuorum (rules.size (round_of x).epoch) (rules.good x) (rules.listed certificate)
+  pub members : (x : SubjectValue D) (signer : ℕ) (signature : G) → rules.good x signer signature ≡ true →
+      signer < rules.size (round_of x).epoch
+  pub someone : (x : SubjectValue D) (certificate : C) → rules.certified x certificate ≡ true →
+      1 ≤ rules.size (round_of x).epoch
+  pub quorums : (x : SubjectValue D) (certificate : C) → rules.certified x certificate ≡ true →
+      IsQuorum (rules.size (round_of x).epoch) (rules.good x) (rules.listed certificate)
 
 -- The signer of a valid signature is in the committee of the subject's epoch, and a certified subject has a committee there.
 -- This much of `AreLawful` holds however strictly votes and certificates are judged.
 pub record HaveCommittees {S D C P G : Type 0} (rules : Rules S D C P G) : Type 0 where
-  pub members : (x : SubjectValue D) (signer : ℕ) (signature : G) → rules.good x signer signature ≡ true → signer < rules.size (round_of x).epoch
-  pub someone : (x : SubjectValue D) (certificate : C) → rules.certified x certificate ≡ true → 1 ≤ rules.size (round_of x).epoch
+  pub members : (x : SubjectValue D) (signer : ℕ) (signature : G) → rules.good x signer signature ≡ true →
+      signer < rules.size (round_of x).epoch
+  pub someone : (x : SubjectValue D) (certificate : C) → rules.certified x certificate ≡ true →
+      1 ≤ rules.size (round_of x).epoch

@@ -26,15 +26,18 @@ module _ {S D C P G : Type 0} (rules : Rules S D C P G) (messages : List (Activi
   abbrev pub EnoughAreAccused : Type 0
   EnoughAreAccused =
       (m k : Activity S D C P G) → Contains messages m → Contains messages k →
-      IsTrue (messages_contradict rules.eq m k) → IsTrue (is_certified_message rules m) → IsTrue (is_certified_message rules k) →
-      faults_of (rules.size (activity_round m).epoch) + 1 ≤ accused_count rules.eq (valid_votes rules messages) (activity_round m)
+      IsTrue (messages_contradict rules.eq m k) → IsTrue (is_certified_message rules m) →
+      IsTrue (is_certified_message rules k) →
+      faults_of (rules.size (activity_round m).epoch) + 1
+      ≤ accused_count rules.eq (valid_votes rules messages) (activity_round m)
 
   -- The signers of both certificates are distinct, there are at least n - 2f of them, which is at least f + 1, and each is
   -- accused in the round, whose committee has n participants and the fault bound f.
   pub record IsAccountable (round : Round) (c d : C) : Type 0 where
     pub distinct : IsDistinct nat_eq (shared_signers rules c d)
     pub many : rules.size round.epoch - 2 * faults_of (rules.size round.epoch) ≤ length (shared_signers rules c d)
-    pub more_than_faults : faults_of (rules.size round.epoch) + 1 ≤ rules.size round.epoch - 2 * faults_of (rules.size round.epoch)
+    pub more_than_faults : faults_of (rules.size round.epoch) + 1
+        ≤ rules.size round.epoch - 2 * faults_of (rules.size round.epoch)
     pub accused : All (λ q. IsTrue (is_accused_in rules.eq (valid_votes rules messages) round q)) (shared_signers rules c d)
 
   abbrev pub SignersAreAccountable : Type 0

@@ -53,13 +53,18 @@ module _ {S D C P G : Type 0} (rules : Rules S D C P G) (messages : List (Activi
   -- whether a round is split: two of the messages, of that round, contradict, and both are certified
   abbrev pub is_split : Round → Bool
   is_split round =
-      list_any (λ m. (same_round (activity_round m) round && is_certified_message rules m) && list_any (λ k. is_certified_message rules k && messages_contradict rules.eq m k) messages) messages
+      list_any (λ m. (same_round (activity_round m) round && is_certified_message rules m)
+      && list_any (λ k. is_certified_message rules k && messages_contradict rules.eq m k) messages) messages
 
   -- the split of a round, if it is split: how many are accused in it, and one more than may lie in its committee
   abbrev pub split_of : Round → Option Split
   split_of round =
       if is_split round
-      then Some (record { round = round; named = accused_count rules.eq (valid_votes rules messages) round; least = faults_of (rules.size round.epoch) + 1 })
+      then Some (record {
+        round = round;
+        named = accused_count rules.eq (valid_votes rules messages) round;
+        least = faults_of (rules.size round.epoch) + 1;
+      })
       else None
 
   -- the splits of the messages: in the order of rounds, each that of its round, and no split round left out

@@ -29,7 +29,8 @@ suspect_of e = (round_of e.first.subject, e.first.signer)
 module _ {S D C P G : Type 0} (rules : Rules S D C P G) where
   -- the same rules, except that these tests decide which votes are valid and which certificates certify
   abbrev pub judged_by : (SubjectValue D → ℕ → G → Bool) → (SubjectValue D → C → Bool) → Rules S D C P G
-  judged_by good certified = record { eq = rules.eq; good = good; certified = certified; listed = rules.listed; size = rules.size }
+  judged_by good certified =
+      record { eq = rules.eq; good = good; certified = certified; listed = rules.listed; size = rules.size }
 
   -- the same rules, except that every vote of a signer in the committee is valid, and no certificate certifies
   abbrev pub claimed : Rules S D C P G
@@ -50,14 +51,17 @@ module _ {S D C P G : Type 0} (rules : Rules S D C P G) (messages : List (Activi
   -- these tests judge the votes of suspects and the certificates of suspect rounds as the rules do, and are lawful
   pub record JudgeAlike (good : SubjectValue D → ℕ → G → Bool) (certified : SubjectValue D → C → Bool) : Type 0 where
     pub lawful : AreLawful (judged_by rules good certified)
-    pub votes : (x : SubjectValue D) (signer : ℕ) (signature : G) → IsTrue (is_suspect (round_of x) signer) → good x signer signature ≡ rules.good x signer signature
-    pub certificates : (x : SubjectValue D) (certificate : C) → IsTrue (is_suspect_round (round_of x)) → certified x certificate ≡ rules.certified x certificate
+    pub votes : (x : SubjectValue D) (signer : ℕ) (signature : G) → IsTrue (is_suspect (round_of x) signer) →
+        good x signer signature ≡ rules.good x signer signature
+    pub certificates : (x : SubjectValue D) (certificate : C) → IsTrue (is_suspect_round (round_of x)) →
+        certified x certificate ≡ rules.certified x certificate
 
   -- No vote of a signer who is not suspect in its round, and no certificate of a round that is not suspect, has a part in the
   -- evidence and the splits: they are the same, no matter which of these are valid.
   pub record SuspectsSuffice : Type 0 where
     pub evidence : (good : SubjectValue D → ℕ → G → Bool) (certified : SubjectValue D → C → Bool) → JudgeAlike good certified →
-        (es : List (Equivocation D G)) → IsEvidence rules.eq (valid_votes rules messages) es → IsEvidence rules.eq (valid_votes (judged_by rules good certified) messages) es
+        (es : List (Equivocation D G)) → IsEvidence rules.eq (valid_votes rules messages) es →
+        IsEvidence rules.eq (valid_votes (judged_by rules good certified) messages) es
     pub splits : (good : SubjectValue D → ℕ → G → Bool) (certified : SubjectValue D → C → Bool) → JudgeAlike good certified →
         (splits : List Split) → AreSplits rules messages splits → AreSplits (judged_by rules good certified) messages splits
 
@@ -69,7 +73,8 @@ module _ {S D C P G : Type 0} (rules : Rules S D C P G) (under : Judging → Rul
   abbrev pub NobodyIsSuspect : Type 0
   NobodyIsSuspect =
       (messages : List (Activity S D C P G)) (splits : List Split) → AreLawful rules →
-      IsEvidence rules.eq (valid_votes (under judging.Claimed) messages) [] → AreSplits (under judging.Claimed) messages splits →
+      IsEvidence rules.eq (valid_votes (under judging.Claimed) messages) [] →
+      AreSplits (under judging.Claimed) messages splits →
       IsEvidence rules.eq (valid_votes rules messages) [] × AreSplits rules messages splits
 
   -- where all signers of the claims and their rounds are suspect, judging suspects alone yields the evidence and the splits

@@ -16,6 +16,10 @@ Puts signer vote test old new = (s : ℕ) → new s ≡ (if (signer vote == s) &
 pub record PutsVote {V : Type 0} (signer : V → ℕ) (vote : V) (old new : VotePairs V) : Type 0 where
   pub firsts_sized : new.firsts.participants ≡ old.firsts.participants
   pub others_sized : new.others.participants ≡ old.others.participants
-  pub first : signer vote < old.firsts.participants → Puts signer vote true (item_of signer old.firsts.items) (item_of signer new.firsts.items)
-  pub other : signer vote < old.others.participants → Puts signer vote (is_some (item_of signer old.firsts.items (signer vote))) (item_of signer old.others.items) (item_of signer new.others.items)
-  pub more : signer vote < old.firsts.participants → signer vote < old.others.participants → IsTrue (is_none (item_of signer old.firsts.items (signer vote)) || is_none (item_of signer old.others.items (signer vote))) → pairs_count new ≡ pairs_count old + 1
+  pub first : signer vote < old.firsts.participants →
+      Puts signer vote true (item_of signer old.firsts.items) (item_of signer new.firsts.items)
+  pub other : signer vote < old.others.participants → Puts signer vote (is_some (item_of signer old.firsts.items (signer vote)))
+      (item_of signer old.others.items) (item_of signer new.others.items)
+  pub more : signer vote < old.firsts.participants → signer vote < old.others.participants → IsTrue
+      (is_none (item_of signer old.firsts.items (signer vote)) || is_none (item_of signer old.others.items (signer vote))) →
+      pairs_count new ≡ pairs_count old + 1

@@ -44,21 +44,6 @@ impl<S: Listing<D>, D: Digest> Detector<S, D> {
         alloc: Global,
         committees: &Committees<S>,
         judging: &Judging,
-        message: Activity<S, D>,
-    ) -> Result<(), AllocError>
-        ensures { OnOk result (RecallsMore
-            (⟦<S as Judges<D>>⟧.rules_under judging.now committees.now)
-            (message ∷ []) self.old self.new) }
-    {
-        self.record(alloc, committees, judging, &message)
-    }
-
-    /// `observe` of a borrowed message: no path through this body has a message to drop.
-    fn record(
-        &mut self,
-        alloc: Global,
-        committees: &Committees<S>,
-        judging: &Judging,
         message: &Activity<S, D>,
     ) -> Result<(), AllocError>
         ensures { OnOk result (RecallsMore

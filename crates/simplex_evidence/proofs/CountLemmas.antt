@@ -26,24 +26,28 @@ module _ {X : Type 0} (signer : X → ℕ) where
   distinct_signers (x ∷ xs) ordered =
       IsDistinct-from_apart nat_eq (map signer (x ∷ xs)) (λ i j d before within.
       let inside : j < length (x ∷ xs) = omega (arith, length-map (x ∷ xs) signer) in
-      rw (get_or-map signer (x ∷ xs) i x d (omega arith), get_or-map signer (x ∷ xs) j x d inside) (apart _ _ (ordered i j x before inside)))
+      rw (get_or-map signer (x ∷ xs) i x d (omega arith), get_or-map signer (x ∷ xs) j x d inside)
+      (apart _ _ (ordered i j x before inside)))
 
   -- a signer is among those of the items exactly where it has one
   member_item : (xs : List X) (s : ℕ) → is_member nat_eq (map signer xs) s ≡ is_some (item_of signer xs s)
   member_item [] s = refl
   member_item (x ∷ xs) s = grind (arith, nat_tests, member_item xs s)
 
-  none_past : (n : ℕ) (xs : List X) (s : ℕ) → ((i : ℕ) (d : X) → i < length xs → signer (get_or xs i d) < n) → n ≤ s → is_member nat_eq (map signer xs) s ≡ false
+  none_past : (n : ℕ) (xs : List X) (s : ℕ) → ((i : ℕ) (d : X) → i < length xs → signer (get_or xs i d) < n) → n ≤ s →
+      is_member nat_eq (map signer xs) s ≡ false
   none_past n [] s below past = refl
   none_past n (x ∷ xs) s below past =
       let first = All-head (λ y. signer y < n) x xs below in
       grind (arith, nat_tests, none_past n xs s (All-tail (λ y. signer y < n) x xs below) past)
 
   -- the first items of some are as many as the participants who signed these
-  pub firsts_counted : (n : ℕ) (inserted items : List X) → IsFirsts signer n inserted items → length items ≡ signers_among signer n inserted
+  pub firsts_counted : (n : ℕ) (inserted items : List X) → IsFirsts signer n inserted items →
+      length items ≡ signers_among signer n inserted
   firsts_counted n inserted items firsts =
       sym (length-map items signer) ∙
-      length-from_keys nat_eq_equiv (map signer items) (filter (λ s. nat_lt s n) (map signer inserted)) (distinct_signers items firsts.ordered) (λ s.
+      length-from_keys nat_eq_equiv (map signer items) (filter (λ s. nat_lt s n) (map signer inserted))
+      (distinct_signers items firsts.ordered) (λ s.
       same s ∙ sym (is_member-filter nat_eq_equiv (λ k. nat_lt k n) s (same_test n s) (map signer inserted)))
     where
       inside : (s : ℕ) (b : Bool) → s < n → (b && nat_lt s n) ≡ b

@@ -17,23 +17,31 @@ module _ {X : Type 0} (signer : X → ℕ) where
   -- each signer is at least its item's place
   place_le_signer : (xs : List X) → IsBySigner signer xs → (i : ℕ) (d : X) → i < length xs → i ≤ signer (get_or xs i d)
   place_le_signer xs ordered zero d lt = omega arith
-  place_le_signer xs ordered (suc i) d lt = omega (arith, place_le_signer xs ordered i d (omega arith), ordered i (suc i) d (omega arith) lt)
+  place_le_signer xs ordered (suc i) d lt =
+      omega (arith, place_le_signer xs ordered i d (omega arith), ordered i (suc i) d (omega arith) lt)
 
   -- there are at most as many items as participants
   pub length_le : (n : ℕ) (xs : List X) → IsBySigner signer xs → AreParticipants signer n xs → length xs ≤ n
   length_le n [] ordered within = omega arith
-  length_le n (x ∷ xs) ordered within = omega (arith, place_le_signer (x ∷ xs) ordered (length xs) x (omega arith), within (length xs) x (omega arith))
+  length_le n (x ∷ xs) ordered within =
+      omega (arith, place_le_signer (x ∷ xs) ordered (length xs) x (omega arith), within (length xs) x (omega arith))
 
   -- ---- what a search finds
 
   -- the comparisons with s do not fall along the items
-  comparisons_rise : (xs : List X) → IsBySigner signer xs → (s : ℕ) → IsNonDecreasingBy (λ x. ordering_index (nat_cmp (signer x) s)) xs
+  comparisons_rise : (xs : List X) → IsBySigner signer xs → (s : ℕ) →
+      IsNonDecreasingBy (λ x. ordering_index (nat_cmp (signer x) s)) xs
   comparisons_rise xs ordered s i j d le in_range =
-      let rise : signer (get_or xs i d) ≤ signer (get_or xs j d) = elim (cases_lt i j) [ inl lt ↦ omega (arith, ordered i j d lt in_range) | inr ge ↦ (let e : i ≡ j = omega arith in rw e (omega arith)) ] in
+      let rise : signer (get_or xs i d) ≤ signer (get_or xs j d) = elim (cases_lt i j)
+      [ inl lt ↦ omega (arith, ordered i j d lt in_range) | inr ge ↦ (let e : i ≡ j = omega arith in rw e (omega arith)) ] in
       grind (arith, nat_tests)
 
   -- a search by signer ends at the signer's item, or at its gap
-  pub searched : (xs : List X) → IsBySigner signer xs → (s : ℕ) (r : Result ℕ ℕ) → IsSearchInRange r (length xs) → IsBinarySearchResult (λ x. nat_cmp (signer x) s) xs r → record { found : IfOk r (λ place. (place < length xs) × ((d : X) → signer (get_or xs place d) ≡ s)); gap : IfErr r (IsGap signer xs s) }
+  pub searched : (xs : List X) → IsBySigner signer xs → (s : ℕ) (r : Result ℕ ℕ) → IsSearchInRange r (length xs) →
+      IsBinarySearchResult (λ x. nat_cmp (signer x) s) xs r → record {
+        found : IfOk r (λ place. (place < length xs) × ((d : X) → signer (get_or xs place d) ≡ s));
+        gap : IfErr r (IsGap signer xs s);
+      }
   searched xs ordered s (Ok place) in_range equal = record { found = (in_range, λ d. ranked _ s _ (sym (equal d))); gap = tt }
   searched xs ordered s (Err place) in_range parted = record {
     found = tt;
@@ -45,7 +53,8 @@ module _ {X : Type 0} (signer : X → ℕ) where
   }
 
   -- a signer above that of the last item has its gap behind it
-  pub beyond : (xs : List X) → IsBySigner signer xs → (s : ℕ) (last : X) → slice_get xs (length xs - 1) ≡ Some last → signer last < s → IsGap signer xs s (length xs)
+  pub beyond : (xs : List X) → IsBySigner signer xs → (s : ℕ) (last : X) → slice_get xs (length xs - 1) ≡ Some last →
+      signer last < s → IsGap signer xs s (length xs)
   beyond xs ordered s last is lt = record {
     in_range = omega arith;
     smaller_before = λ i d below.
@@ -60,7 +69,8 @@ module _ {X : Type 0} (signer : X → ℕ) where
   -- ---- the item of a signer
 
   -- an item is its signer's
-  pub item_at : (xs : List X) → IsBySigner signer xs → (i : ℕ) (d : X) → i < length xs → item_of signer xs (signer (get_or xs i d)) ≡ Some (get_or xs i d)
+  pub item_at : (xs : List X) → IsBySigner signer xs → (i : ℕ) (d : X) → i < length xs →
+      item_of signer xs (signer (get_or xs i d)) ≡ Some (get_or xs i d)
   item_at [] ordered i d lt = absurd (omega arith)
   item_at (x ∷ xs) ordered zero d lt = grind (arith, nat_tests)
   item_at (x ∷ xs) ordered (suc i) d lt =
@@ -69,17 +79,21 @@ module _ {X : Type 0} (signer : X → ℕ) where
       grind (arith, nat_tests, ahead, item_at xs tail i d (omega arith))
 
   -- an item read at a place whose signer is s
-  pub item_read : (xs : List X) → IsBySigner signer xs → (place s : ℕ) (x : X) → place < length xs → x ≡ get_or xs place x → signer (get_or xs place x) ≡ s → item_of signer xs s ≡ Some x
+  pub item_read : (xs : List X) → IsBySigner signer xs → (place s : ℕ) (x : X) → place < length xs → x ≡ get_or xs place x →
+      signer (get_or xs place x) ≡ s → item_of signer xs s ≡ Some x
   item_read xs ordered place s x lt is has = let found = item_at xs ordered place x lt in cc (found, is, has)
 
   -- a signer that stands at a place has an item
-  pub some_item : (xs : List X) → IsBySigner signer xs → (place s : ℕ) (d : X) → place < length xs → signer (get_or xs place d) ≡ s → IsSome (item_of signer xs s)
+  pub some_item : (xs : List X) → IsBySigner signer xs → (place s : ℕ) (d : X) → place < length xs →
+      signer (get_or xs place d) ≡ s → IsSome (item_of signer xs s)
   some_item xs ordered place s d lt has = rw (← has, item_at xs ordered place d lt) refl
 
   -- a signer that stands at no place has none
-  pub no_item : (xs : List X) (s : ℕ) → ((i : ℕ) (d : X) → i < length xs → (signer (get_or xs i d) ≡ s → ⊥)) → item_of signer xs s ≡ None
+  pub no_item : (xs : List X) (s : ℕ) → ((i : ℕ) (d : X) → i < length xs → (signer (get_or xs i d) ≡ s → ⊥)) →
+      item_of signer xs s ≡ None
   no_item [] s free = refl
-  no_item (x ∷ xs) s free = grind (arith, nat_tests, free 0 x (omega arith), no_item xs s (λ i d lt. free (suc i) d (omega arith)))
+  no_item (x ∷ xs) s free =
+      grind (arith, nat_tests, free 0 x (omega arith), no_item xs s (λ i d lt. free (suc i) d (omega arith)))
 
   -- a signer with a gap has none
   pub item_in_gap : (xs : List X) (s place : ℕ) → IsGap signer xs s place → item_of signer xs s ≡ None
@@ -88,13 +102,21 @@ module _ {X : Type 0} (signer : X → ℕ) where
   -- ---- an item put into its gap
 
   -- an item put in is its signer's, where no item before it has that signer
-  added_here : (xs : List X) (place : ℕ) (y : X) → ((i : ℕ) (d : X) → i < place → i < length xs → (signer (get_or xs i d) ≡ signer y → ⊥)) → item_of signer (insert xs place y) (signer y) ≡ Some y
+  added_here : (xs : List X) (place : ℕ) (y : X) →
+      ((i : ℕ) (d : X) → i < place → i < length xs → (signer (get_or xs i d) ≡ signer y → ⊥)) →
+      item_of signer (insert xs place y) (signer y) ≡ Some y
   added_here xs zero y free = grind (arith, nat_tests)
   added_here [] (suc place) y free = grind (arith, nat_tests)
-  added_here (x ∷ xs) (suc place) y free = grind (arith, nat_tests, free 0 x (omega arith) (omega arith), added_here xs place y (λ i d lt within. free (suc i) d (omega arith) (omega arith)))
+  added_here (x ∷ xs) (suc place) y free = grind (
+    arith,
+    nat_tests,
+    free 0 x (omega arith) (omega arith),
+    added_here xs place y (λ i d lt within. free (suc i) d (omega arith) (omega arith)),
+  )
 
   -- the other signers have what they had
-  others_stay : (xs : List X) (place : ℕ) (y : X) (s : ℕ) → (s ≡ signer y → ⊥) → item_of signer (insert xs place y) s ≡ item_of signer xs s
+  others_stay : (xs : List X) (place : ℕ) (y : X) (s : ℕ) → (s ≡ signer y → ⊥) →
+      item_of signer (insert xs place y) s ≡ item_of signer xs s
   others_stay xs zero y s other = grind (arith, nat_tests)
   others_stay [] (suc place) y s other = grind (arith, nat_tests)
   others_stay (x ∷ xs) (suc place) y s other = grind (arith, nat_tests, others_stay xs place y s other)
@@ -107,24 +129,46 @@ module _ {X : Type 0} (signer : X → ℕ) where
   }
 
   -- the signers still ascend
-  ordered-insert : (xs : List X) (place : ℕ) (y : X) → IsGap signer xs (signer y) place → IsBySigner signer xs → IsBySigner signer (insert xs place y)
+  ordered-insert : (xs : List X) (place : ℕ) (y : X) → IsGap signer xs (signer y) place → IsBySigner signer xs →
+      IsBySigner signer (insert xs place y)
   ordered-insert xs place y gap ordered i j d lt in_range =
       let new = insert xs place y in
       let len = length-insert xs place y gap.in_range in
-      let below : (i : ℕ) → i < place → signer (get_or new i d) ≡ signer (get_or xs i d) = λ i b. ap signer (get_or-insert_below xs place y d i b gap.in_range) in
-      let here : (i : ℕ) → i ≡ place → signer (get_or new i d) ≡ signer y = λ i e. rw e (ap signer (get_or-insert_at xs place y d gap.in_range)) in
-      let above : (i : ℕ) → place < i → signer (get_or new i d) ≡ signer (get_or xs (i - 1) d) = λ i a. subst (λ q. signer (get_or new q d) ≡ signer (get_or xs (i - 1) d)) {x = i - 1 + 1} (omega arith) (ap signer (get_or-insert_above xs place y d (i - 1) (omega arith) gap.in_range)) in
-      grind (arith, below i, here i, above i, below j, here j, above j, ordered i j d, ordered i (j - 1) d, ordered (i - 1) (j - 1) d, gap.smaller_before i d, gap.greater_after (j - 1) d)
+      let below : (i : ℕ) → i < place → signer (get_or new i d) ≡ signer (get_or xs i d) = λ i b.
+      ap signer (get_or-insert_below xs place y d i b gap.in_range) in
+      let here : (i : ℕ) → i ≡ place → signer (get_or new i d) ≡ signer y = λ i e.
+      rw e (ap signer (get_or-insert_at xs place y d gap.in_range)) in
+      let above : (i : ℕ) → place < i → signer (get_or new i d) ≡ signer (get_or xs (i - 1) d) = λ i a.
+      subst (λ q. signer (get_or new q d) ≡ signer (get_or xs (i - 1) d)) {x = i - 1 + 1} (omega arith)
+      (ap signer (get_or-insert_above xs place y d (i - 1) (omega arith) gap.in_range)) in
+      grind (
+        arith,
+        below i,
+        here i,
+        above i,
+        below j,
+        here j,
+        above j,
+        ordered i j d,
+        ordered i (j - 1) d,
+        ordered (i - 1) (j - 1) d,
+        gap.smaller_before i d,
+        gap.greater_after (j - 1) d,
+      )
 
   -- and are still participants
-  within-insert : (n : ℕ) (xs : List X) (place : ℕ) (y : X) → place ≤ length xs → AreParticipants signer n xs → signer y < n → AreParticipants signer n (insert xs place y)
+  within-insert : (n : ℕ) (xs : List X) (place : ℕ) (y : X) → place ≤ length xs → AreParticipants signer n xs → signer y < n →
+      AreParticipants signer n (insert xs place y)
   within-insert n xs place y in_range within lt i d i_lt =
       let new = insert xs place y in
       let len = length-insert xs place y in_range in
       elim (cases_lt i place) [
         | inl b ↦ rw (get_or-insert_below xs place y d i b in_range) (within i d (omega arith))
         | inr ge ↦ elim (cases_lt place i) [
-          | inl a ↦ (let e : signer (get_or new i d) ≡ signer (get_or xs (i - 1) d) = subst (λ q. signer (get_or new q d) ≡ signer (get_or xs (i - 1) d)) {x = i - 1 + 1} (omega arith) (ap signer (get_or-insert_above xs place y d (i - 1) (omega arith) in_range)) in omega (arith, within (i - 1) d (omega arith)))
+          | inl a ↦ (let e : signer (get_or new i d) ≡ signer (get_or xs (i - 1) d) =
+              subst (λ q. signer (get_or new q d) ≡ signer (get_or xs (i - 1) d)) {x = i - 1 + 1} (omega arith)
+              (ap signer (get_or-insert_above xs place y d (i - 1) (omega arith) in_range)) in
+              omega (arith, within (i - 1) d (omega arith)))
           | inr le ↦ (let e : i ≡ place = omega arith in rw (e, get_or-insert_at xs place y d in_range) lt)
         ]
       ]
@@ -139,7 +183,9 @@ module _ {X : Type 0} (signer : X → ℕ) where
     pub room : length old < n
 
   -- `searched_in` and `reserved` are the items as the steps before see them
-  pub put : (n : ℕ) (xs searched_in reserved new : List X) (place s : ℕ) (item : X) → IsBySigner signer xs → AreParticipants signer n xs → searched_in ≡ xs → reserved ≡ xs → s ≡ signer item → s < n → IsGap signer searched_in s place → new ≡ insert reserved place item → IsPutAt n xs new item
+  pub put : (n : ℕ) (xs searched_in reserved new : List X) (place s : ℕ) (item : X) → IsBySigner signer xs →
+      AreParticipants signer n xs → searched_in ≡ xs → reserved ≡ xs → s ≡ signer item → s < n →
+      IsGap signer searched_in s place → new ≡ insert reserved place item → IsPutAt n xs new item
   put n xs searched_in reserved new place s item ordered within same kept is lt gap inserted =
       let gap_here : IsGap signer xs (signer item) place = rw (← same, ← is) gap in
       let is_new : new ≡ insert xs place item = rw kept at inserted in
@@ -151,5 +197,6 @@ module _ {X : Type 0} (signer : X → ℕ) where
         adds = adds_only xs place item gap_here;
         fresh = item_in_gap xs _ place gap_here;
         more = IsPermutation-insert xs place item;
-        room = omega (arith, length_le n (insert xs place item) ordered_new within_new, length-insert xs place item gap_here.in_range);
+        room = omega
+            (arith, length_le n (insert xs place item) ordered_new within_new, length-insert xs place item gap_here.in_range);
       })

@@ -1,13 +1,13 @@
 -- The union of all messages: how they are encoded, the votes that one holds, and what makes one valid.
-use Rattle.std.proofs.Common.{◌≡◌, ℕ, Bool, true, false, List, [], ◌∷◌, ◌++◌, refl, Ok}
-use Rattle.std.specs.Prelude.{codes, ◌&&◌, map, Option, Some, None, ⊤}
+use Rattle.std.proofs.Common.{◌≡◌, ℕ, Bool, true, false, List, ◌∷◌, ◌++◌, refl, Ok}
+use Rattle.std.specs.Prelude.{codes, Option, ⊤}
 use Rattle.simplex_base.specs.Reading.{Refusal, invalid, Reading}
 use Rattle.simplex_base.specs.Format.{Format, IsLawful}
 use Rattle.simplex_base.specs.Union.{union_at, branch_at, no_branch, branch_takes, no_branch_takes, union_lawful}
 use Rattle.simplex_base.specs.Positions.{Round}
 use Rattle.simplex_scheme.specs.declared.scheme.Attestation.{Attestation}
 use Rattle.simplex_scheme.specs.Subject.{SubjectValue, Notarizes, Nullifies, Finalizes}
-use Rattle.simplex_votes.specs.Votes.{SignedVote, vote_on, notarize_vote, nullify_vote, finalize_vote}
+use Rattle.simplex_votes.specs.Votes.{SignedVote, notarize_vote, nullify_vote, finalize_vote}
 use Rattle.simplex_votes.specs.Encodings.{notarize_format, notarize_lawful, nullify_format, nullify_lawful, finalize_format, finalize_lawful, notarization_format, IsNotarization, notarization_encoding, notarization_lawful, nullification_format, IsNullification, nullification_encoding, nullification_lawful, finalization_format, IsFinalization, finalization_encoding, finalization_lawful}
 use Rattle.simplex_evidence.specs.Contents.{ContentsValue, OneVote, OneCertificate, TwoVotes, contents_round, contents_votes, contents_certificate, contents_verify}
 use Rattle.simplex_evidence.specs.Conflict.{ConflictValue, conflicting_notarize_format, conflicting_notarize_lawful, conflicting_finalize_format, conflicting_finalize_lawful, nullify_finalize_format, nullify_finalize_lawful}
@@ -45,9 +45,12 @@ module _ {S D C P G : Type 0}
     (nullifications : Nullification S C P G → Nullification S C P G → Bool)
     (finalizes : Finalize S D P G → Finalize S D P G → Bool)
     (finalizations : Finalization S D C P G → Finalization S D C P G → Bool)
-    (conflicting_notarizes : ConflictValue (Notarize S D P G) (Notarize S D P G) → ConflictValue (Notarize S D P G) (Notarize S D P G) → Bool)
-    (conflicting_finalizes : ConflictValue (Finalize S D P G) (Finalize S D P G) → ConflictValue (Finalize S D P G) (Finalize S D P G) → Bool)
-    (nullify_finalizes : ConflictValue (Nullify S P G) (Finalize S D P G) → ConflictValue (Nullify S P G) (Finalize S D P G) → Bool) where
+    (conflicting_notarizes : ConflictValue (Notarize S D P G) (Notarize S D P G) →
+    ConflictValue (Notarize S D P G) (Notarize S D P G) → Bool)
+    (conflicting_finalizes : ConflictValue (Finalize S D P G) (Finalize S D P G) →
+    ConflictValue (Finalize S D P G) (Finalize S D P G) → Bool)
+    (nullify_finalizes : ConflictValue (Nullify S P G) (Finalize S D P G) →
+    ConflictValue (Nullify S P G) (Finalize S D P G) → Bool) where
   abbrev pub same_activity : Activity S D C P G → Activity S D C P G → Bool
   same_activity (activity.Notarize a) (activity.Notarize b) = notarizes a b
   same_activity (activity.Notarization a) (activity.Notarization b) = notarizations a b
@@ -90,10 +93,14 @@ has_certificate _ = false
 
 -- a message with a clone of the other's certificate and the other's parts besides
 abbrev pub IsActivityClone : {S D C P G : Type 0} → (C → C → Type 0) → Activity S D C P G → Activity S D C P G → Type 0
-IsActivityClone is_clone (activity.Notarization n) (activity.Notarization copy) = (copy.proposal ≡ n.proposal) × is_clone n.certificate copy.certificate
-IsActivityClone is_clone (activity.Certification n) (activity.Certification copy) = (copy.proposal ≡ n.proposal) × is_clone n.certificate copy.certificate
-IsActivityClone is_clone (activity.Nullification n) (activity.Nullification copy) = (copy.round ≡ n.round) × is_clone n.certificate copy.certificate
-IsActivityClone is_clone (activity.Finalization n) (activity.Finalization copy) = (copy.proposal ≡ n.proposal) × is_clone n.certificate copy.certificate
+IsActivityClone is_clone (activity.Notarization n) (activity.Notarization copy) =
+    (copy.proposal ≡ n.proposal) × is_clone n.certificate copy.certificate
+IsActivityClone is_clone (activity.Certification n) (activity.Certification copy) =
+    (copy.proposal ≡ n.proposal) × is_clone n.certificate copy.certificate
+IsActivityClone is_clone (activity.Nullification n) (activity.Nullification copy) =
+    (copy.round ≡ n.round) × is_clone n.certificate copy.certificate
+IsActivityClone is_clone (activity.Finalization n) (activity.Finalization copy) =
+    (copy.proposal ≡ n.proposal) × is_clone n.certificate copy.certificate
 IsActivityClone is_clone m copy = copy ≡ m
 
 -- a clone of the certificate in it, if there is one, is that certificate
@@ -118,9 +125,12 @@ IsActivity eq payload is_certificate signature (activity.Nullify v) = (nullify_f
 IsActivity eq payload is_certificate signature (activity.Nullification n) = IsNullification is_certificate n
 IsActivity eq payload is_certificate signature (activity.Finalize v) = (finalize_format payload signature).is_value v
 IsActivity eq payload is_certificate signature (activity.Finalization n) = IsFinalization payload is_certificate n
-IsActivity eq payload is_certificate signature (activity.ConflictingNotarize c) = (conflicting_notarize_format eq payload signature).is_value c
-IsActivity eq payload is_certificate signature (activity.ConflictingFinalize c) = (conflicting_finalize_format eq payload signature).is_value c
-IsActivity eq payload is_certificate signature (activity.NullifyFinalize c) = (nullify_finalize_format eq payload signature).is_value c
+IsActivity eq payload is_certificate signature (activity.ConflictingNotarize c) =
+    (conflicting_notarize_format eq payload signature).is_value c
+IsActivity eq payload is_certificate signature (activity.ConflictingFinalize c) =
+    (conflicting_finalize_format eq payload signature).is_value c
+IsActivity eq payload is_certificate signature (activity.NullifyFinalize c) =
+    (nullify_finalize_format eq payload signature).is_value c
 
 abbrev pub activity_tag : {S D C P G : Type 0} → Activity S D C P G → ℕ
 activity_tag (activity.Notarize v) = 0
@@ -135,7 +145,8 @@ activity_tag (activity.ConflictingFinalize c) = 8
 activity_tag (activity.NullifyFinalize c) = 9
 
 -- the encoding after the tag
-abbrev pub activity_body : {S D C P G : Type 0} → (D → D → Bool) → Format D → (C → List ℕ) → Format G → Activity S D C P G → List ℕ
+abbrev pub activity_body : {S D C P G : Type 0} → (D → D → Bool) → Format D → (C → List ℕ) → Format G →
+    Activity S D C P G → List ℕ
 activity_body eq payload certificate signature (activity.Notarize v) = (notarize_format payload signature).encoding v
 activity_body eq payload certificate signature (activity.Notarization n) = notarization_encoding payload certificate n
 activity_body eq payload certificate signature (activity.Certification n) = notarization_encoding payload certificate n
@@ -143,15 +154,20 @@ activity_body eq payload certificate signature (activity.Nullify v) = (nullify_f
 activity_body eq payload certificate signature (activity.Nullification n) = nullification_encoding certificate n
 activity_body eq payload certificate signature (activity.Finalize v) = (finalize_format payload signature).encoding v
 activity_body eq payload certificate signature (activity.Finalization n) = finalization_encoding payload certificate n
-activity_body eq payload certificate signature (activity.ConflictingNotarize c) = (conflicting_notarize_format eq payload signature).encoding c
-activity_body eq payload certificate signature (activity.ConflictingFinalize c) = (conflicting_finalize_format eq payload signature).encoding c
-activity_body eq payload certificate signature (activity.NullifyFinalize c) = (nullify_finalize_format eq payload signature).encoding c
+activity_body eq payload certificate signature (activity.ConflictingNotarize c) =
+    (conflicting_notarize_format eq payload signature).encoding c
+activity_body eq payload certificate signature (activity.ConflictingFinalize c) =
+    (conflicting_finalize_format eq payload signature).encoding c
+activity_body eq payload certificate signature (activity.NullifyFinalize c) =
+    (nullify_finalize_format eq payload signature).encoding c
 
 -- the tag, and then the encoding after it
-abbrev pub activity_encoding : {S D C P G : Type 0} → (D → D → Bool) → Format D → (C → List ℕ) → Format G → Activity S D C P G → List ℕ
+abbrev pub activity_encoding : {S D C P G : Type 0} → (D → D → Bool) → Format D → (C → List ℕ) → Format G →
+    Activity S D C P G → List ℕ
 activity_encoding eq payload certificate signature m = activity_tag m ∷ activity_body eq payload certificate signature m
 
-abbrev pub activity_branches : {S D C P G : Type 0} → (D → D → Bool) → Format D → Format C → Format G → ℕ → List ℕ → Reading (Activity S D C P G)
+abbrev pub activity_branches : {S D C P G : Type 0} → (D → D → Bool) → Format D → Format C → Format G → ℕ → List ℕ →
+    Reading (Activity S D C P G)
 activity_branches eq payload certificate signature =
     branch_at 0 (λ v. activity.Notarize v) (notarize_format payload signature).reading (
     branch_at 1 (λ n. activity.Notarization n) (notarization_format payload certificate).reading (
@@ -166,14 +182,16 @@ activity_branches eq payload certificate signature =
     no_branch unknown_activity))))))))))
 
 -- a tag, and then the parts of the member with that tag; `certificate` is the format of certificates under a bound
-abbrev pub activity_format : {S D C P G : Type 0} → (D → D → Bool) → Format D → Format C → Format G → Format (Activity S D C P G)
+abbrev pub activity_format : {S D C P G : Type 0} → (D → D → Bool) → Format D → Format C → Format G →
+    Format (Activity S D C P G)
 activity_format eq payload certificate signature = record {
   is_value = IsActivity eq payload certificate.is_value signature;
   encoding = activity_encoding eq payload certificate.encoding signature;
   reading = union_at (activity_branches eq payload certificate signature);
 }
 
-pub activity_lawful : {S D C P G : Type 0} (eq : D → D → Bool) (payload : Format D) (certificate : Format C) (signature : Format G) →
+pub activity_lawful : {S D C P G : Type 0} (eq : D → D → Bool) (payload : Format D) (certificate : Format C)
+    (signature : Format G) →
     IsLawful payload → IsLawful certificate → IsLawful signature →
     IsLawful (activity_format {S = S} {P = P} eq payload certificate signature)
 activity_lawful {S} {D} {C} {P} {G} eq payload certificate signature payloads certificates signatures =
@@ -188,7 +206,8 @@ activity_lawful {S} {D} {C} {P} {G} eq payload certificate signature payloads ce
     (activity_body eq payload certificate.encoding signature) 2 (λ n. activity.Certification n) _
     (notarization_lawful payload certificate payloads certificates) (λ n. refl) (λ n. refl) (λ n h. h)
     (branch_takes (IsActivity {S = S} {P = P} eq payload certificate.is_value signature) activity_tag
-    (activity_body eq payload certificate.encoding signature) 3 (λ v. activity.Nullify v) _ (nullify_lawful signature signatures)
+    (activity_body eq payload certificate.encoding signature) 3 (λ v. activity.Nullify v) _
+    (nullify_lawful signature signatures)
     (λ v. refl) (λ v. refl) (λ v h. h)
     (branch_takes (IsActivity {S = S} {P = P} eq payload certificate.is_value signature) activity_tag
     (activity_body eq payload certificate.encoding signature) 4 (λ n. activity.Nullification n) _
@@ -215,14 +234,19 @@ activity_lawful {S} {D} {C} {P} {G} eq payload certificate signature payloads ce
         activity_branches eq payload certificate signature (activity_tag m)
         (activity_body eq payload certificate.encoding signature m ++ rest) ≡ Ok (m, rest)
     again (activity.Notarize v) rest h = rw ((notarize_lawful payload signature payloads signatures).again v rest h) refl
-    again (activity.Notarization n) rest h = rw ((notarization_lawful {S = S} {P = P} {G = G} payload certificate payloads certificates).again n rest h) refl
-    again (activity.Certification n) rest h = rw ((notarization_lawful {S = S} {P = P} {G = G} payload certificate payloads certificates).again n rest h) refl
+    again (activity.Notarization n) rest h =
+        rw ((notarization_lawful {S = S} {P = P} {G = G} payload certificate payloads certificates).again n rest h) refl
+    again (activity.Certification n) rest h =
+        rw ((notarization_lawful {S = S} {P = P} {G = G} payload certificate payloads certificates).again n rest h) refl
     again (activity.Nullify v) rest h = rw ((nullify_lawful {S = S} {P = P} signature signatures).again v rest h) refl
-    again (activity.Nullification n) rest h = rw ((nullification_lawful {S = S} {P = P} {G = G} certificate certificates).again n rest h) refl
+    again (activity.Nullification n) rest h =
+        rw ((nullification_lawful {S = S} {P = P} {G = G} certificate certificates).again n rest h) refl
     again (activity.Finalize v) rest h = rw ((finalize_lawful payload signature payloads signatures).again v rest h) refl
-    again (activity.Finalization n) rest h = rw ((finalization_lawful {S = S} {P = P} {G = G} payload certificate payloads certificates).again n rest h) refl
+    again (activity.Finalization n) rest h =
+        rw ((finalization_lawful {S = S} {P = P} {G = G} payload certificate payloads certificates).again n rest h) refl
     again (activity.ConflictingNotarize c) rest h =
         rw ((conflicting_notarize_lawful {S = S} {P = P} eq payload signature payloads signatures).again c rest h) refl
     again (activity.ConflictingFinalize c) rest h =
         rw ((conflicting_finalize_lawful {S = S} {P = P} eq payload signature payloads signatures).again c rest h) refl
-    again (activity.NullifyFinalize c) rest h = rw ((nullify_finalize_lawful {S = S} {P = P} eq payload signature payloads signatures).again c rest h) refl
+    again (activity.NullifyFinalize c) rest h =
+        rw ((nullify_finalize_lawful {S = S} {P = P} eq payload signature payloads signatures).again c rest h) refl

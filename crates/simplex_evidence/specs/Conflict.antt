@@ -32,30 +32,36 @@ nullify_evidence c = record { kind = Nullify_finalize; first = nullify_vote c.fi
 
 abbrev pub conflict_format : {V W : Type 0} → (V → W → Bool) → Refusal → Format V → Format W → Format (ConflictValue V W)
 conflict_format contradict refusal f g =
-    tested (λ c. contradict c.first c.second) refusal (made (λ p. record { first = p.0; second = p.1 }) (λ c. (c.first, c.second))
+    tested (λ c. contradict c.first c.second) refusal
+    (made (λ p. record { first = p.0; second = p.1 }) (λ c. (c.first, c.second))
     (both f g))
 
-conflict_lawful : {V W : Type 0} (contradict : V → W → Bool) (refusal : Refusal) (f : Format V) (g : Format W) → IsLawful f → IsLawful g →
+conflict_lawful : {V W : Type 0} (contradict : V → W → Bool) (refusal : Refusal) (f : Format V) (g : Format W) → IsLawful f →
+    IsLawful g →
     IsLawful (conflict_format contradict refusal f g)
 conflict_lawful contradict refusal f g firsts seconds =
-    tested_lawful (λ c. contradict c.first c.second) refusal (made_lawful _ _ (λ c. refl) (λ p. refl) (both_lawful firsts seconds))
+    tested_lawful (λ c. contradict c.first c.second) refusal
+    (made_lawful _ _ (λ c. refl) (λ p. refl) (both_lawful firsts seconds))
 
 -- two notarizes that contradict; `eq` compares payloads
-abbrev pub conflicting_notarize_format : {S D P G : Type 0} → (D → D → Bool) → Format D → Format G → Format (ConflictValue (Notarize S D P G) (Notarize S D P G))
+abbrev pub conflicting_notarize_format : {S D P G : Type 0} → (D → D → Bool) → Format D → Format G →
+    Format (ConflictValue (Notarize S D P G) (Notarize S D P G))
 conflicting_notarize_format eq payload signature =
     conflict_format (λ v w. contradicts eq Conflicting_notarize (notarize_vote v) (notarize_vote w))
     (invalid (codes "consensus::simplex::ConflictingNotarize") (codes "invalid conflicting notarize"))
     (notarize_format payload signature) (notarize_format payload signature)
 
 -- two finalizes that contradict
-abbrev pub conflicting_finalize_format : {S D P G : Type 0} → (D → D → Bool) → Format D → Format G → Format (ConflictValue (Finalize S D P G) (Finalize S D P G))
+abbrev pub conflicting_finalize_format : {S D P G : Type 0} → (D → D → Bool) → Format D → Format G →
+    Format (ConflictValue (Finalize S D P G) (Finalize S D P G))
 conflicting_finalize_format eq payload signature =
     conflict_format (λ v w. contradicts eq Conflicting_finalize (finalize_vote v) (finalize_vote w))
     (invalid (codes "consensus::simplex::ConflictingFinalize") (codes "invalid conflicting finalize"))
     (finalize_format payload signature) (finalize_format payload signature)
 
 -- a nullify and a finalize that contradict
-abbrev pub nullify_finalize_format : {S D P G : Type 0} → (D → D → Bool) → Format D → Format G → Format (ConflictValue (Nullify S P G) (Finalize S D P G))
+abbrev pub nullify_finalize_format : {S D P G : Type 0} → (D → D → Bool) → Format D → Format G →
+    Format (ConflictValue (Nullify S P G) (Finalize S D P G))
 nullify_finalize_format eq payload signature =
     conflict_format (λ v w. contradicts eq Nullify_finalize (nullify_vote v) (finalize_vote w))
     (invalid (codes "consensus::simplex::NullifyFinalize") (codes "mismatched signatures")) (nullify_format signature)
@@ -63,19 +69,22 @@ nullify_finalize_format eq payload signature =
 
 -- ---- laws of the formats
 
-pub conflicting_notarize_lawful : {S D P G : Type 0} (eq : D → D → Bool) (payload : Format D) (signature : Format G) → IsLawful payload →
+pub conflicting_notarize_lawful : {S D P G : Type 0} (eq : D → D → Bool) (payload : Format D) (signature : Format G) →
+    IsLawful payload →
     IsLawful signature → IsLawful (conflicting_notarize_format {S = S} {P = P} eq payload signature)
 conflicting_notarize_lawful {S} {D} {P} eq payload signature payloads signatures =
     conflict_lawful _ _ (notarize_format {S = S} {P = P} payload signature) (notarize_format {S = S} {P = P} payload signature)
     (notarize_lawful payload signature payloads signatures) (notarize_lawful payload signature payloads signatures)
 
-pub conflicting_finalize_lawful : {S D P G : Type 0} (eq : D → D → Bool) (payload : Format D) (signature : Format G) → IsLawful payload →
+pub conflicting_finalize_lawful : {S D P G : Type 0} (eq : D → D → Bool) (payload : Format D) (signature : Format G) →
+    IsLawful payload →
     IsLawful signature → IsLawful (conflicting_finalize_format {S = S} {P = P} eq payload signature)
 conflicting_finalize_lawful {S} {D} {P} eq payload signature payloads signatures =
     conflict_lawful _ _ (finalize_format {S = S} {P = P} payload signature) (finalize_format {S = S} {P = P} payload signature)
     (finalize_lawful payload signature payloads signatures) (finalize_lawful payload signature payloads signatures)
 
-pub nullify_finalize_lawful : {S D P G : Type 0} (eq : D → D → Bool) (payload : Format D) (signature : Format G) → IsLawful payload →
+pub nullify_finalize_lawful : {S D P G : Type 0} (eq : D → D → Bool) (payload : Format D) (signature : Format G) →
+    IsLawful payload →
     IsLawful signature → IsLawful (nullify_finalize_format {S = S} {P = P} eq payload signature)
 nullify_finalize_lawful {S} {D} {P} eq payload signature payloads signatures =
     conflict_lawful _ _ (nullify_format {S = S} {P = P} signature) (finalize_format {S = S} {P = P} payload signature)

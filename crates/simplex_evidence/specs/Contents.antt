@@ -41,7 +41,8 @@ own_votes (OneCertificate x c) = []
 own_votes (TwoVotes v w) = v ∷ w ∷ []
 
 -- the votes of a certificate, if there is one: the attestations that it lists, each on its subject
-abbrev pub listed_votes : {S D C P G : Type 0} → (C → List (Attestation S P G)) → Option (SubjectValue D × C) → List (SignedVote D G)
+abbrev pub listed_votes : {S D C P G : Type 0} → (C → List (Attestation S P G)) → Option (SubjectValue D × C) →
+    List (SignedVote D G)
 listed_votes listed None = []
 listed_votes listed (Some s) = map (vote_on s.0) (listed s.1)
 

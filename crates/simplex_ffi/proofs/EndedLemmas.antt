@@ -1,6 +1,6 @@
 -- The statuses of streams.
 use Rattle.std.proofs.Common.{◌≤◌, Option, Some, None, arith}
-use Rattle.simplex_audit.specs.declared.audit.Fault.{Fault}
+use Rattle.simplex_stream.specs.declared.fault.Fault.{Fault}
 use Rattle.simplex_ffi.specs.Answer.{ended_of}
 
 -- a stream was read whole, or has a fault

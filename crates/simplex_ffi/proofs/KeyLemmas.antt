@@ -10,11 +10,13 @@ use Rattle.std.proofs.lemmas.Slice.Eq.{bytes_eq-Decides}
 use Rattle.simplex_ffi.specs.Keys.{AreKeys, IsLengthOfKeys, key_at, keys_in}
 
 -- one more key
-pub one_more : (bytes : List ℕ) (place : ℕ) → map (key_at bytes) (range_with_len 0 (place + 1)) ≡ map (key_at bytes) (range_with_len 0 place) ++ key_at bytes place ∷ []
+pub one_more : (bytes : List ℕ) (place : ℕ) →
+    map (key_at bytes) (range_with_len 0 (place + 1)) ≡ map (key_at bytes) (range_with_len 0 place) ++ key_at bytes place ∷ []
 one_more bytes place = map-range_with_len_more (key_at bytes) 0 place place (omega arith)
 
 -- how many keys there are
-pub size : (bytes : List ℕ) (set : List (List ℕ)) → IsPermutation (keys_in bytes) set → 1 ≤ length bytes / 32 → length bytes / 32 < 2 ^ 32 → (1 ≤ length set) × (length set < 2 ^ 32)
+pub size : (bytes : List ℕ) (set : List (List ℕ)) → IsPermutation (keys_in bytes) set → 1 ≤ length bytes / 32 →
+    length bytes / 32 < 2 ^ 32 → (1 ≤ length set) × (length set < 2 ^ 32)
 size bytes set same some few =
     let many = length-map-range_with_len (key_at bytes) 0 (length bytes / 32) in
     let all = length_permutation (keys_in bytes) set same in

@@ -17,13 +17,17 @@ use Rattle.simplex_detector.specs.declared.committees.CommitteesError.TheVariant
 use Rattle.simplex_ffi.specs.Sizes.{AreSizes, AreCommitteeSizes, of_size, pairs_of}
 
 -- one more epoch
-pub pairs_more : (epochs sizes : List ℕ) (i : ℕ) (before whole : List (ℕ × VouchedScheme)) → i < length epochs → i < length sizes →
+pub pairs_more : (epochs sizes : List ℕ) (i : ℕ) (before whole : List (ℕ × VouchedScheme)) → i < length epochs →
+    i < length sizes →
     before ++ pairs_of (drop i epochs) (drop i sizes) ≡ whole →
-    (before ++ (get_or epochs i 0, of_size (get_or sizes i 0)) ∷ []) ++ pairs_of (drop (i + 1) epochs) (drop (i + 1) sizes) ≡ whole
+    (before ++ (get_or epochs i 0, of_size (get_or sizes i 0)) ∷ []) ++ pairs_of (drop (i + 1) epochs) (drop (i + 1) sizes)
+    ≡ whole
 pairs_more epochs sizes i before whole le ls is =
-    let unrolled : pairs_of (drop i epochs) (drop i sizes) ≡ (get_or epochs i 0, of_size (get_or sizes i 0)) ∷ pairs_of (drop (i + 1) epochs) (drop (i + 1) sizes) =
+    let unrolled : pairs_of (drop i epochs) (drop i sizes)
+    ≡ (get_or epochs i 0, of_size (get_or sizes i 0)) ∷ pairs_of (drop (i + 1) epochs) (drop (i + 1) sizes) =
     rw (drop_more epochs i 0 le, drop_more sizes i 0 ls) refl in
-    append_assoc before ((get_or epochs i 0, of_size (get_or sizes i 0)) ∷ []) (pairs_of (drop (i + 1) epochs) (drop (i + 1) sizes)) ∙
+    append_assoc before ((get_or epochs i 0, of_size (get_or sizes i 0)) ∷ [])
+    (pairs_of (drop (i + 1) epochs) (drop (i + 1) sizes)) ∙
     (ap (λ (l : List (ℕ × VouchedScheme)). before ++ l) (sym unrolled) ∙ is)
 
 -- all of them
@@ -40,10 +44,13 @@ no_pairs (e ∷ es) [] same none = absurd cc
 no_pairs (e ∷ es) (n ∷ ns) same none = absurd cc
 
 -- the pairs are refused as committees, so the sizes give no committees
-pub refused : (epochs sizes : List ℕ) (pairs : List (ℕ × VouchedScheme)) (e : CommitteesError) → pairs ≡ pairs_of epochs sizes → (epochs ≡ [] → ⊥) →
-    (e ≡ errors.Empty → pairs ≡ []) → (e ≡ errors.Unordered → AreRising pairs → ⊥) → (committees : Schedule VouchedScheme) → AreSizes epochs sizes committees → ⊥
+pub refused : (epochs sizes : List ℕ) (pairs : List (ℕ × VouchedScheme)) (e : CommitteesError) → pairs ≡ pairs_of epochs sizes →
+    (epochs ≡ [] → ⊥) →
+    (e ≡ errors.Empty → pairs ≡ []) → (e ≡ errors.Unordered → AreRising pairs → ⊥) → (committees : Schedule VouchedScheme) →
+    AreSizes epochs sizes committees → ⊥
 refused epochs sizes pairs e is some empty unordered (Every committee) are = some are.0
-refused epochs sizes pairs errors.Empty is some empty unordered (Listed others) are = some (no_pairs epochs sizes are.1 (sym is ∙ empty refl))
+refused epochs sizes pairs errors.Empty is some empty unordered (Listed others) are =
+    some (no_pairs epochs sizes are.1 (sym is ∙ empty refl))
 refused epochs sizes pairs errors.Unordered is some empty unordered (Listed others) are =
     unordered refl (subst (λ (ps : List (ℕ × VouchedScheme)). AreRising ps) (are.4 ∙ sym is) are.3)
 
@@ -59,7 +66,8 @@ epochs_of (e ∷ es) (n ∷ ns) same = ap (λ (l : List ℕ). e ∷ l) (epochs_o
 
 -- the epoch of a pair, and how many pairs there are
 pairs_at : (epochs sizes : List ℕ) → length epochs ≡ length sizes →
-    (length (pairs_of epochs sizes) ≡ length epochs) × ((k : ℕ) (d : ℕ × VouchedScheme) → (get_or (pairs_of epochs sizes) k d).0 ≡ get_or epochs k d.0)
+    (length (pairs_of epochs sizes) ≡ length epochs)
+    × ((k : ℕ) (d : ℕ × VouchedScheme) → (get_or (pairs_of epochs sizes) k d).0 ≡ get_or epochs k d.0)
 pairs_at epochs sizes same =
     let epoch : ℕ × VouchedScheme → ℕ = λ p. p.0 in
     let pairs = pairs_of epochs sizes in
@@ -67,17 +75,20 @@ pairs_at epochs sizes same =
     (sym (length-map pairs epoch) ∙ ap length is, λ k d. sym (get_or-map epoch pairs k d) ∙ ap (λ ns. get_or ns k d.0) is)
 
 -- the pairs rise if the epochs do
-rising_pairs : (epochs sizes : List ℕ) → length epochs ≡ length sizes → IsStrictlySortedBy nat_cmp epochs → AreRising (pairs_of epochs sizes)
+rising_pairs : (epochs sizes : List ℕ) → length epochs ≡ length sizes → IsStrictlySortedBy nat_cmp epochs →
+    AreRising (pairs_of epochs sizes)
 rising_pairs epochs sizes same rising i j d lt within =
     let at = pairs_at epochs sizes same in
     omega (arith, at.1 i d, at.1 j d, below_from_sorted epochs i j d.0 rising lt (omega (arith, within, at.0)))
 
 -- the epochs rise if the pairs do
-rising_epochs : (epochs sizes : List ℕ) → length epochs ≡ length sizes → AreRising (pairs_of epochs sizes) → IsStrictlySortedBy nat_cmp epochs
+rising_epochs : (epochs sizes : List ℕ) → length epochs ≡ length sizes → AreRising (pairs_of epochs sizes) →
+    IsStrictlySortedBy nat_cmp epochs
 rising_epochs epochs sizes same rising =
     let at = pairs_at epochs sizes same in
     let d : ℕ × VouchedScheme = (0, of_size 0) in
-    sorted_from_strictly_increasing epochs (λ k within. omega (arith, at.1 k d, at.1 (k + 1) d, rising k (k + 1) d (omega arith) (omega (arith, within, at.0))))
+    sorted_from_strictly_increasing epochs
+    (λ k within. omega (arith, at.1 k d, at.1 (k + 1) d, rising k (k + 1) d (omega arith) (omega (arith, within, at.0))))
 
 -- there are no epochs
 pub no_epochs : (epochs : List ℕ) → true ≡ (length epochs == 0) → epochs ≡ []
@@ -101,7 +112,8 @@ size_of_one epochs sizes none (Listed pairs, are) = absurd (are.0 none)
 
 -- one size for every epoch
 pub one_size : (epochs sizes : List ℕ) → epochs ≡ [] → length sizes ≡ 1
-    → (IsTrue (not (nat_eq (get_or sizes 0 0) 0)) → AreCommitteeSizes epochs sizes) × (AreCommitteeSizes epochs sizes → IsTrue (not (nat_eq (get_or sizes 0 0) 0)))
+    → (IsTrue (not (nat_eq (get_or sizes 0 0) 0)) → AreCommitteeSizes epochs sizes)
+    × (AreCommitteeSizes epochs sizes → IsTrue (not (nat_eq (get_or sizes 0 0) 0)))
 one_size epochs [] none many = absurd (omega (arith, many))
 one_size epochs (m ∷ n ∷ ns) none many = absurd (omega (arith, many))
 one_size epochs (zero ∷ []) none many = (
@@ -110,13 +122,18 @@ one_size epochs (zero ∷ []) none many = (
       let (n, is, some) = size_of_one epochs (zero ∷ []) none are in
       absurd (omega (arith, some, ap (λ ns. get_or ns 0 0) is)),
 )
-one_size epochs (suc n ∷ []) none many = (λ yes. (Every (of_size (suc n)), (none, (suc n, refl, omega arith, refl))), λ are. ap not (not_zero n))
+one_size epochs (suc n ∷ []) none many =
+    (λ yes. (Every (of_size (suc n)), (none, (suc n, refl, omega arith, refl))), λ are. ap not (not_zero n))
 
 -- with epochs there is a size for each
-pub sizes_of_listed : (epochs sizes : List ℕ) → (epochs ≡ [] → ⊥) → AreCommitteeSizes epochs sizes → (length epochs ≡ length sizes) × All (λ n. 1 ≤ n) sizes × IsStrictlySortedBy nat_cmp epochs
+pub sizes_of_listed : (epochs sizes : List ℕ) → (epochs ≡ [] → ⊥) → AreCommitteeSizes epochs sizes →
+    (length epochs ≡ length sizes) × All (λ n. 1 ≤ n) sizes × IsStrictlySortedBy nat_cmp epochs
 sizes_of_listed epochs sizes listed (Every committee, are) = absurd (listed are.0)
-sizes_of_listed epochs sizes listed (Listed pairs, are) = (are.1, are.2, rising_epochs epochs sizes are.1 (subst (λ (ps : List (ℕ × VouchedScheme)). AreRising ps) are.4 are.3))
+sizes_of_listed epochs sizes listed (Listed pairs, are) =
+    (are.1, are.2, rising_epochs epochs sizes are.1 (subst (λ (ps : List (ℕ × VouchedScheme)). AreRising ps) are.4 are.3))
 
 -- sizes of listed epochs
-pub listed_sizes : (epochs sizes : List ℕ) → (epochs ≡ [] → ⊥) → length epochs ≡ length sizes → All (λ n. 1 ≤ n) sizes → IsStrictlySortedBy nat_cmp epochs → AreCommitteeSizes epochs sizes
-listed_sizes epochs sizes listed same some rising = (Listed (pairs_of epochs sizes), (listed, same, some, rising_pairs epochs sizes same rising, refl))
+pub listed_sizes : (epochs sizes : List ℕ) → (epochs ≡ [] → ⊥) → length epochs ≡ length sizes → All (λ n. 1 ≤ n) sizes →
+    IsStrictlySortedBy nat_cmp epochs → AreCommitteeSizes epochs sizes
+listed_sizes epochs sizes listed same some rising =
+    (Listed (pairs_of epochs sizes), (listed, same, some, rising_pairs epochs sizes same rising, refl))

@@ -5,7 +5,7 @@ use Rattle.simplex_audit.specs.Guarantees.{IsAudit}
 use Rattle.simplex_audit.specs.Run.{report_text}
 use Rattle.simplex_clients.specs.Holding.{IsStored}
 use Rattle.simplex_evidence.specs.declared.types.activity.Activity.{Activity}
-use Rattle.simplex_audit.specs.declared.audit.Fault.{Fault}
+use Rattle.simplex_stream.specs.declared.fault.Fault.{Fault}
 use Rattle.simplex_audit.specs.declared.audit.Report.{Report}
 use Rattle.simplex_votes.specs.Votes.{SignedVote}
 use Rattle.simplex_places.specs.Records.{AreRecords}
@@ -26,7 +26,8 @@ place_of_fault None = 0
 place_of_fault (Some fault) = fault.place
 
 -- The numbers are those of a report, and of its text.
-pub record IsSummary {S D P G : Type 0} (bytes_of : D → List ℕ) (report : Report S D P G) (summary : ReportSummary) : Type 0 where
+pub record IsSummary {S D P G : Type 0} (bytes_of : D → List ℕ) (report : Report S D P G)
+    (summary : ReportSummary) : Type 0 where
   pub read_is : summary.read ≡ report.read
   pub evidence_is : summary.evidence ≡ length report.evidence.items
   pub splits_are : summary.splits ≡ length report.splits.items
@@ -43,23 +44,28 @@ IsPut text before after status ended =
 
 -- The stream was audited: the summary is that of its report, and the text of the report stands at the start of the buffer,
 -- with 0 where the stream was read whole and 1 where it has a fault; or the buffer is too short and as before, with 4.
-pub record IsAudited {S D C P G : Type 0} (basis : Basis S D C P G) (bytes_of : D → List ℕ) (stream before after : List ℕ) (summary : ReportSummary) (status : ℕ) : Type 0 where
+pub record IsAudited {S D C P G : Type 0} (basis : Basis S D C P G) (bytes_of : D → List ℕ) (stream before after : List ℕ)
+    (summary : ReportSummary) (status : ℕ) : Type 0 where
   pub report : Report S D P G
   pub audit_is : IsAudit basis stream report
   pub summary_is : IsSummary bytes_of report summary
   pub text_is : IsPut (report_text bytes_of report) before after status (ended_of report.fault)
 
--- The evidence of the stream was stored: as messages it stands at the start of the buffer, with 0; or the buffer is too short and
+-- The evidence of the stream was stored: as messages it stands at the start of the buffer, with 0; or the buffer is too short
+-- and
 -- as before, with 4. The size is that of the messages.
-pub record AreStored {S D C P G : Type 0} (basis : Basis S D C P G) (stream before after : List ℕ) (size status : ℕ) : Type 0 where
+pub record AreStored {S D C P G : Type 0} (basis : Basis S D C P G) (stream before after : List ℕ)
+    (size status : ℕ) : Type 0 where
   pub bytes : List ℕ
   pub stored_is : IsStored basis stream bytes
   pub size_is : size ≡ length bytes
   pub bytes_are : IsPut bytes before after status 0
 
--- The attestations of the stream that have to be verified stand at the start of the buffer, with 0; or the buffer is too short and as
+-- The attestations of the stream that have to be verified stand at the start of the buffer, with 0; or the buffer is too short
+-- and as
 -- before, with 4. The number needed is that of the attestations.
-pub record AreSuspectsGiven {S D C P G : Type 0} (basis : Basis S D C P G) (places_in : ℕ → Activity S D C P G → List Placed) (stream : List ℕ) (before after : List Suspect) (needed status : ℕ) : Type 0 where
+pub record AreSuspectsGiven {S D C P G : Type 0} (basis : Basis S D C P G) (places_in : ℕ → Activity S D C P G → List Placed)
+    (stream : List ℕ) (before after : List Suspect) (needed status : ℕ) : Type 0 where
   pub found : List Suspect
   pub suspects_are : AreSuspects basis places_in stream found
   pub needed_is : needed ≡ length found
@@ -68,7 +74,9 @@ pub record AreSuspectsGiven {S D C P G : Type 0} (basis : Basis S D C P G) (plac
 -- The stream was audited: the summary is that of its report, and the records of the report's evidence stand at the start of the
 -- buffer, with 0 where the stream was read whole and 1 where it has a fault; or the buffer is too short and as before, with 4.
 -- `carries` says whether a message carries a vote.
-pub record AreRecorded {S D C P G : Type 0} (basis : Basis S D C P G) (bytes_of : D → List ℕ) (carries : SignedVote D G → Activity S D C P G → Bool) (stream : List ℕ) (before after : List Record) (summary : ReportSummary) (status : ℕ) : Type 0 where
+pub record AreRecorded {S D C P G : Type 0} (basis : Basis S D C P G) (bytes_of : D → List ℕ)
+    (carries : SignedVote D G → Activity S D C P G → Bool) (stream : List ℕ) (before after : List Record)
+    (summary : ReportSummary) (status : ℕ) : Type 0 where
   pub report : Report S D P G
   pub audit_is : IsAudit basis stream report
   pub summary_is : IsSummary bytes_of report summary

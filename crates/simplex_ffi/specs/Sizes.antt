@@ -18,7 +18,8 @@ pairs_of (epoch ∷ epochs) (size ∷ sizes) = (epoch, of_size size) ∷ pairs_o
 -- size at its place, and the epochs rise strictly. Each has a participant.
 abbrev pub AreSizes : List ℕ → List ℕ → Schedule VouchedScheme → Type 0
 AreSizes epochs sizes (Every committee) = (epochs ≡ []) × ((n : ℕ) × (sizes ≡ n ∷ []) × (1 ≤ n) × (committee ≡ of_size n))
-AreSizes epochs sizes (Listed pairs) = (epochs ≢ []) × (length epochs ≡ length sizes) × All (λ n. 1 ≤ n) sizes × AreRising pairs × (pairs ≡ pairs_of epochs sizes)
+AreSizes epochs sizes (Listed pairs) =
+    (epochs ≢ []) × (length epochs ≡ length sizes) × All (λ n. 1 ≤ n) sizes × AreRising pairs × (pairs ≡ pairs_of epochs sizes)
 
 -- The sizes, and the epochs if there are some, are those of committees.
 abbrev pub AreCommitteeSizes : List ℕ → List ℕ → Type 0

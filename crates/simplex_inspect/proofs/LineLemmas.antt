@@ -12,7 +12,8 @@ pub behind_next : {A : Type 0} (one : A → List ℕ) (xs : List A) (i : ℕ) (x
     i < length xs → x ≡ get_or xs i x → line ≡ one x → next ≡ (text ++ codes ",") ++ line →
     whole ≡ text ++ each_behind (map one (drop i xs)) → whole ≡ next ++ each_behind (map one (drop (i + 1) xs))
 behind_next {A} one xs i x whole text line next lt is same grown before =
-    let cut : drop i xs ≡ x ∷ drop (i + 1) xs = rw add-one (drop-cons xs i x lt ∙ ap (λ (y : A). y ∷ drop (suc i) xs) (sym is)) in
+    let cut : drop i xs ≡ x ∷ drop (i + 1) xs =
+    rw add-one (drop-cons xs i x lt ∙ ap (λ (y : A). y ∷ drop (suc i) xs) (sym is)) in
     let others = each_behind (map one (drop (i + 1) xs)) in
     before ∙ (ap (λ (ys : List A). text ++ each_behind (map one ys)) cut
     ∙ (ap (λ (l : List ℕ). text ++ (codes "," ++ (l ++ others))) (sym same)

@@ -9,6 +9,8 @@ unfolding print_from
 printed_alone text = append-nil (quoted text)
 
 -- what a JSON writer gives after one string
-pub printed : (before : List ℕ) (old tokens : List Token) (text : List ℕ) → before ≡ [] → old ≡ [] → tokens ≡ old ++ string text ∷ [] → before ++ print tokens ≡ quoted text
+pub printed : (before : List ℕ) (old tokens : List Token) (text : List ℕ) → before ≡ [] → old ≡ [] →
+    tokens ≡ old ++ string text ∷ [] → before ++ print tokens ≡ quoted text
 printed before old tokens text nothing none is =
-    ap (λ (b : List ℕ). b ++ print tokens) nothing ∙ (ap print (is ∙ ap (λ (ts : List Token). ts ++ string text ∷ []) none) ∙ printed_alone text)
+    ap (λ (b : List ℕ). b ++ print tokens) nothing
+    ∙ (ap print (is ∙ ap (λ (ts : List Token). ts ++ string text ∷ []) none) ∙ printed_alone text)

@@ -9,9 +9,10 @@ use Rattle.simplex_base.specs.declared.codec.error.Error.{Error}
 use Rattle.simplex_base.specs.declared.codec.error.Error.TheVariants as errors
 use Rattle.simplex_evidence.specs.declared.types.activity.Activity.{Activity}
 use Rattle.simplex_detector.specs.Committees.{Schedule, bound_of}
-use Rattle.simplex_audit.specs.Messages.{AreMessages, IsFault, IsStop}
+use Rattle.simplex_stream.specs.Messages.{AreMessages, IsStop}
+use Rattle.simplex_stream.specs.Fault.{IsFault}
 use Rattle.simplex_audit.specs.Run.{AppendsBeginning}
-use Rattle.simplex_audit.specs.declared.audit.Fault.{Fault}
+use Rattle.simplex_stream.specs.declared.fault.Fault.{Fault}
 use Rattle.simplex_inspect.specs.Line.{line_json}
 use Rattle.simplex_inspect.specs.Shown.{Shown}
 
@@ -27,14 +28,17 @@ pub record Lines (M : Type 0) : Type 1 where
   pub line : ℕ → ℕ → M → List ℕ
 
 -- how messages are read under committees or without any, and the line of each
-abbrev pub lines_of : {S D C P G : Type 0} → Readable ℕ (Activity S D C P G) → (S → List P) → (Option (Schedule S) → Shown S D C P G) → Option (Schedule S) → Lines (Activity S D C P G)
-lines_of message keys shown committees = record { format = format_under message (bound_under keys committees); line = line_json (shown committees) }
+abbrev pub lines_of : {S D C P G : Type 0} → Readable ℕ (Activity S D C P G) → (S → List P) →
+    (Option (Schedule S) → Shown S D C P G) → Option (Schedule S) → Lines (Activity S D C P G)
+lines_of message keys shown committees =
+    record { format = format_under message (bound_under keys committees); line = line_json (shown committees) }
 
 -- the lines of messages, the first of which begins at an offset: `line` gives that of a message from its offset and the
 -- number of its bytes
 abbrev pub lines_from : {M : Type 0} → (ℕ → ℕ → M → List ℕ) → (M → List ℕ) → ℕ → List M → List ℕ
 lines_from line encoding offset [] = []
-lines_from line encoding offset (m ∷ rest) = line offset (length (encoding m)) m ++ lines_from line encoding (offset + length (encoding m)) rest
+lines_from line encoding offset (m ∷ rest) =
+    line offset (length (encoding m)) m ++ lines_from line encoding (offset + length (encoding m)) rest
 
 -- the name of a refusal, and for `Invalid` its subject and its reason
 abbrev pub refusal_name : Error → List ℕ
@@ -48,7 +52,8 @@ refusal_name errors.OutOfMemory = codes "OutOfMemory"
 -- the line of a fault: its offset, the refusal as a JSON string, and up to 16 bytes from there on
 abbrev pub fault_line : Fault → List ℕ → List ℕ
 fault_line fault rest =
-    codes "{\"offset\":" ++ (decimal fault.place ++ (codes ",\"fault\":" ++ (quoted (refusal_name fault.error) ++ (codes ",\"next\":\"" ++ (encode_lower (take 16 rest) ++ codes "\"}\n")))))
+    codes "{\"offset\":" ++ (decimal fault.place ++ (codes ",\"fault\":"
+    ++ (quoted (refusal_name fault.error) ++ (codes ",\"next\":\"" ++ (encode_lower (take 16 rest) ++ codes "\"}\n")))))
 
 -- the line of a fault, if there is one
 abbrev pub fault_text : Option Fault → List ℕ → List ℕ
@@ -78,7 +83,8 @@ IsPart lines input text = IsPartShown lines input text ⊎ ((fault : Option Faul
 
 -- `held` is what is left of the input behind its first messages, `offset` is where it begins, and the lines of these messages
 -- were written.
-pub record IsWritten {M : Type 0} (lines : Lines M) (input : List ℕ) (offset : ℕ) (held : List ℕ) (old new : Option (List ℕ)) : Type 0 where
+pub record IsWritten {M : Type 0} (lines : Lines M) (input : List ℕ) (offset : ℕ) (held : List ℕ)
+    (old new : Option (List ℕ)) : Type 0 where
   pub messages : List M
   pub whole : input ≡ flat_map lines.format.encoding messages ++ held
   pub each : All lines.format.is_value messages
@@ -87,7 +93,8 @@ pub record IsWritten {M : Type 0} (lines : Lines M) (input : List ℕ) (offset :
 
 -- The bytes are messages and then `rest`, where no message begins and `stop` says why; `behind` is the offset of `rest`, and
 -- the text is the lines of these messages.
-pub record AreShown {M : Type 0} (lines : Lines M) (bytes rest : List ℕ) (offset behind : ℕ) (stop : Option Error) (text : List ℕ) : Type 0 where
+pub record AreShown {M : Type 0} (lines : Lines M) (bytes rest : List ℕ) (offset behind : ℕ) (stop : Option Error)
+    (text : List ℕ) : Type 0 where
   pub messages : List M
   pub are_messages : AreMessages lines.format bytes messages rest
   pub stop_is : IsStop lines.format.reading rest stop

@@ -27,17 +27,20 @@ validity_json (Some WrongAttestation) = codes ",\"valid\":false,\"why\":\"a list
 -- a signature with its signer and its validity
 abbrev pub signature_json : ℕ → List ℕ → Option Validity → List ℕ
 signature_json signer signature validity =
-    codes "{\"signer\":" ++ (decimal signer ++ (codes ",\"signature\":\"" ++ (encode_lower signature ++ (codes "\"" ++ (validity_json validity ++ codes "}")))))
+    codes "{\"signer\":" ++ (decimal signer
+    ++ (codes ",\"signature\":\"" ++ (encode_lower signature ++ (codes "\"" ++ (validity_json validity ++ codes "}")))))
 
 -- the fields of a vote for a proposal
 abbrev pub proposal_json : List ℕ → ℕ → List ℕ → List ℕ
 proposal_json vote parent payload =
-    codes "{\"vote\":\"" ++ (vote ++ (codes "\",\"parent\":" ++ (decimal parent ++ (codes ",\"payload\":\"" ++ (encode_lower payload ++ codes "\",\"signatures\":[")))))
+    codes "{\"vote\":\"" ++ (vote ++ (codes "\",\"parent\":"
+    ++ (decimal parent ++ (codes ",\"payload\":\"" ++ (encode_lower payload ++ codes "\",\"signatures\":[")))))
 
 -- the fields before a message's statements: its offset, its length in bytes, its kind and its round
 abbrev pub head_json : ℕ → ℕ → List ℕ → ℕ → ℕ → List ℕ
 head_json offset len kind epoch view =
-    codes "{\"offset\":" ++ (decimal offset ++ (codes ",\"length\":" ++ (decimal len ++ (codes ",\"kind\":\"" ++ (kind ++ (codes "\",\"epoch\":" ++ (decimal epoch ++ (codes ",\"view\":" ++ (decimal view ++ codes ",\"statements\":[")))))))))
+    codes "{\"offset\":" ++ (decimal offset ++ (codes ",\"length\":" ++ (decimal len ++ (codes ",\"kind\":\"" ++ (kind
+    ++ (codes "\",\"epoch\":" ++ (decimal epoch ++ (codes ",\"view\":" ++ (decimal view ++ codes ",\"statements\":[")))))))))
 
 -- the fields of a nullify
 abbrev pub nullify_json : List ℕ

@@ -4,3 +4,5 @@ pub mod Shown
 pub mod Line
 pub mod Inspected
 pub mod Left
+pub mod Writing
+pub mod WritingLaws

@@ -2,10 +2,11 @@
 use Rattle.std.specs.Prelude.{ℕ, List, ◌++◌, codes, map, option_map}
 use Rattle.simplex_scheme.specs.Subject.{SubjectValue, Notarizes, Nullifies, Finalizes}
 use Rattle.simplex_scheme.specs.declared.scheme.Attestation.{Attestation}
-use Rattle.simplex_evidence.specs.Activity.{activity_round}
+use Rattle.simplex_evidence.specs.Activity.{activity_round, contents_of}
+use Rattle.simplex_evidence.specs.Contents.{ContentsValue, OneVote, OneCertificate, TwoVotes}
 use Rattle.simplex_evidence.specs.declared.types.activity.Activity.{Activity}
 use Rattle.simplex_evidence.specs.declared.types.activity.Activity.TheVariants as activity
-use Rattle.simplex_votes.specs.Votes.{vote_on}
+use Rattle.simplex_votes.specs.Votes.{SignedVote, vote_on}
 use Rattle.simplex_inspect.specs.Json.{listed_texts, validity_json, signature_json, proposal_json, nullify_json, head_json}
 use Rattle.simplex_inspect.specs.Shown.{Shown, signature_validity, certificate_validity}
 
@@ -15,13 +16,18 @@ subject_json bytes_of (Notarizes p) = proposal_json (codes "notarize") p.parent 
 subject_json bytes_of (Nullifies r) = nullify_json
 subject_json bytes_of (Finalizes p) = proposal_json (codes "finalize") p.parent (bytes_of p.payload)
 
--- an attestation of a subject, with the validity of its signature
-abbrev pub attestation_json : {S D C P G : Type 0} → Shown S D C P G → SubjectValue D → Attestation S P G → List ℕ
-attestation_json shown x a = signature_json a.signer (shown.signature_bytes a.signature) (option_map (λ rules. signature_validity rules (vote_on x a)) shown.rules)
+-- the signature of a vote, with its validity
+abbrev pub signed_json : {S D C P G : Type 0} → Shown S D C P G → SignedVote D G → List ℕ
+signed_json shown v =
+    signature_json v.signer (shown.signature_bytes v.signature) (option_map (λ rules. signature_validity rules v) shown.rules)
 
 -- a vote: its subject, and its signature
-abbrev pub vote_json : {S D C P G : Type 0} → Shown S D C P G → SubjectValue D → Attestation S P G → List ℕ
-vote_json shown x a = subject_json shown.payload_bytes x ++ (attestation_json shown x a ++ codes "]}")
+abbrev pub vote_json : {S D C P G : Type 0} → Shown S D C P G → SignedVote D G → List ℕ
+vote_json shown v = subject_json shown.payload_bytes v.subject ++ (signed_json shown v ++ codes "]}")
+
+-- an attestation of a subject, as a vote's signature
+abbrev pub attestation_json : {S D C P G : Type 0} → Shown S D C P G → SubjectValue D → Attestation S P G → List ℕ
+attestation_json shown x a = signed_json shown (vote_on x a)
 
 -- a certificate: its subject, the signatures that it lists, and its validity
 abbrev pub certificate_json : {S D C P G : Type 0} → Shown S D C P G → SubjectValue D → C → List ℕ
@@ -29,22 +35,11 @@ certificate_json shown x certificate =
     subject_json shown.payload_bytes x ++ (listed_texts (map (attestation_json shown x) (shown.listed certificate)) ++
     (codes "]" ++ (validity_json (option_map (λ rules. certificate_validity rules x certificate) shown.rules) ++ codes "}")))
 
--- two votes
-abbrev pub two_votes_json : {S D C P G : Type 0} → Shown S D C P G → SubjectValue D → Attestation S P G → SubjectValue D → Attestation S P G → List ℕ
-two_votes_json shown x a y b = vote_json shown x a ++ (codes "," ++ vote_json shown y b)
-
 -- what a message states: a vote, a certificate, or both votes of evidence
-abbrev pub statements_json : {S D C P G : Type 0} → Shown S D C P G → Activity S D C P G → List ℕ
-statements_json shown (activity.Notarize v) = vote_json shown (Notarizes v.proposal) v.attestation
-statements_json shown (activity.Notarization n) = certificate_json shown (Notarizes n.proposal) n.certificate
-statements_json shown (activity.Certification n) = certificate_json shown (Notarizes n.proposal) n.certificate
-statements_json shown (activity.Nullify v) = vote_json shown (Nullifies v.round) v.attestation
-statements_json shown (activity.Nullification n) = certificate_json shown (Nullifies n.round) n.certificate
-statements_json shown (activity.Finalize v) = vote_json shown (Finalizes v.proposal) v.attestation
-statements_json shown (activity.Finalization n) = certificate_json shown (Finalizes n.proposal) n.certificate
-statements_json shown (activity.ConflictingNotarize c) = two_votes_json shown (Notarizes c.first.proposal) c.first.attestation (Notarizes c.second.proposal) c.second.attestation
-statements_json shown (activity.ConflictingFinalize c) = two_votes_json shown (Finalizes c.first.proposal) c.first.attestation (Finalizes c.second.proposal) c.second.attestation
-statements_json shown (activity.NullifyFinalize c) = two_votes_json shown (Nullifies c.first.round) c.first.attestation (Finalizes c.second.proposal) c.second.attestation
+abbrev pub statements_json : {S D C P G : Type 0} → Shown S D C P G → ContentsValue D C G → List ℕ
+statements_json shown (OneVote v) = vote_json shown v
+statements_json shown (OneCertificate x certificate) = certificate_json shown x certificate
+statements_json shown (TwoVotes v w) = vote_json shown v ++ (codes "," ++ vote_json shown w)
 
 -- the word of a kind of message
 abbrev pub message_word : {S D C P G : Type 0} → Activity S D C P G → List ℕ
@@ -62,4 +57,5 @@ message_word (activity.NullifyFinalize c) = codes "nullify-finalize"
 -- the line of a message with this offset and length in bytes, with its newline
 abbrev pub line_json : {S D C P G : Type 0} → Shown S D C P G → ℕ → ℕ → Activity S D C P G → List ℕ
 line_json shown offset len m =
-    head_json offset len (message_word m) (activity_round m).epoch (activity_round m).view ++ (statements_json shown m ++ codes "]}\n")
+    head_json offset len (message_word m) (activity_round m).epoch (activity_round m).view
+    ++ (statements_json shown (contents_of m) ++ codes "]}\n")

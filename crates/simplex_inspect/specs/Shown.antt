@@ -18,7 +18,9 @@ pub record Shown (S D C P G : Type 0) : Type 0 where
   pub signature_bytes : G → List ℕ
 
 -- how messages are shown under committees, or without any
-abbrev pub shown_of : {S D C P G : Type 0} → (D → List ℕ) → (G → List ℕ) → (D → D → Bool) → (S → List P) → (S → SubjectValue D → ℕ → G → Bool) → (S → SubjectValue D → C → Bool) → (C → List (Attestation S P G)) → Option (Schedule S) → Shown S D C P G
+abbrev pub shown_of : {S D C P G : Type 0} → (D → List ℕ) → (G → List ℕ) → (D → D → Bool) → (S → List P) →
+    (S → SubjectValue D → ℕ → G → Bool) → (S → SubjectValue D → C → Bool) → (C → List (Attestation S P G)) →
+    Option (Schedule S) → Shown S D C P G
 shown_of payload_bytes signature_bytes eq keys good certified listed committees = record {
   rules = option_map (rules_of eq keys good certified listed) committees;
   listed = listed;
@@ -33,4 +35,5 @@ signature_validity rules v = validity_of_signature (is_valid rules v) (rules.siz
 -- the validity of a certificate of a subject
 abbrev pub certificate_validity : {S D C P G : Type 0} → Rules S D C P G → SubjectValue D → C → Validity
 certificate_validity rules x certificate =
-    validity_of_certificate (rules.certified x certificate) (rules.size (round_of x).epoch) (quorum_of (rules.size (round_of x).epoch)) (length (rules.listed certificate))
+    validity_of_certificate (rules.certified x certificate) (rules.size (round_of x).epoch)
+    (quorum_of (rules.size (round_of x).epoch)) (length (rules.listed certificate))

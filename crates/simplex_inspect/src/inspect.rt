@@ -2,7 +2,6 @@
 
 ghost use Rattle.std.specs.Prelude.{◌≡◌, ◌⊎◌, ◌↔◌, ◌+◌, ◌<◌, ◌^◌, ℕ, List, Option, false, Err, IsTrue, IfOk, IfErr, OnOk, length, string_bytes};
 ghost use Rattle.std.specs.Io.KnownBytes.{Keeps};
-ghost use Rattle.simplex_audit.specs.Progress.{fault_of};
 ghost use Rattle.simplex_audit.specs.Watched.{inner_of, has_failed, is_flushed};
 ghost use Rattle.simplex_inspect.specs.Inspected.{IsWritten, AppendsText, AppendsPart, fault_text};
 
@@ -11,21 +10,11 @@ use crate::fault::fault_line;
 use crate::reading::read_lines;
 use simplex_audit::audit::{Fault, RunError, Watched};
 use simplex_audit::run::write_text;
-use simplex_base::codec::Error;
 use simplex_detector::committees::Committees;
 use simplex_scheme::scheme::{Digest, Listing};
+use simplex_stream::fault::fault_at;
 use std::alloc::{AllocError, Global};
 use std::io::Write;
-
-/// The fault of bytes that end in this way.
-fn fault_at(place: usize, stop: Option<Error>) -> Option<Fault>
-    ensures { result ≡ fault_of place stop }
-{
-    match stop {
-        Some(error) => Some(Fault { place, error }),
-        None => None,
-    }
-}
 
 /// The line of a fault, where there is one.
 fn fault_text(alloc: Global, fault: &Option<Fault>, rest: &[u8]) -> Result<String, AllocError>

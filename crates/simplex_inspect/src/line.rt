@@ -3,9 +3,11 @@
 ghost use Rattle.std.specs.Prelude.{◌≡◌, ◌++◌, IfOk, string_bytes, map, option_map, codes};
 ghost use Rattle.std.specs.Option.{option_copied};
 ghost use Rattle.simplex_scheme.specs.Committee.{quorum_of};
-ghost use Rattle.simplex_scheme.specs.Subject.{Notarizes, Nullifies, Finalizes, subject_value};
+ghost use Rattle.simplex_scheme.specs.Subject.{subject_value};
 ghost use Rattle.simplex_detector.specs.Committees.{valid_by, certified_by, size_by};
 ghost use Rattle.simplex_votes.specs.Votes.{vote_on};
+ghost use Rattle.simplex_evidence.specs.Activity.{contents_of};
+ghost use Rattle.simplex_evidence.specs.Contents.{signed_value};
 ghost use Rattle.simplex_inspect.specs.Json.{each_behind, listed_texts};
 ghost use Rattle.simplex_inspect.specs.Line.{subject_json, attestation_json, vote_json, certificate_json, statements_json, message_word};
 ghost use Rattle.simplex_inspect.specs.Shown.{signature_validity, certificate_validity};
@@ -16,11 +18,10 @@ use crate::validity::{Validity, validity_of_certificate, validity_of_signature};
 use simplex_base::codec::Fixed;
 use simplex_base::positions::Roundable;
 use simplex_detector::committees::Committees;
-use simplex_evidence::types::Activity;
+use simplex_evidence::types::{Activity, Contents, Signed};
 use simplex_scheme::scheme::{
     Attestation, CertificateScheme, Digest, Listing, Scheme, Subject, quorum,
 };
-use simplex_votes::types::{Finalize, Notarization, Notarize, Nullify};
 use std::alloc::{AllocError, Global};
 
 /// How many participants a committee has, 0 where there is none.
@@ -193,15 +194,13 @@ fn attestations_json<S: Listing<D>, D: Digest>(
 fn vote_json<S: Listing<D>, D: Digest>(
     alloc: Global,
     committees: &Option<Committees<S>>,
-    subject: &Subject<'_, D>,
-    attestation: &Attestation<S>,
+    vote: &Signed<'_, S, D>,
 ) -> Result<String, AllocError>
     ensures { IfOk result (λ text. string_bytes text ≡
-        vote_json (⟦<S as Inspected<D>>⟧.shown committees.now)
-        (subject_value subject.now) attestation.now) }
+        vote_json (⟦<S as Inspected<D>>⟧.shown committees.now) (signed_value vote.now)) }
 {
-    let says = subject_json(alloc, subject)?;
-    let signature = attestation_json(alloc, committees, subject, attestation)?;
+    let says = subject_json(alloc, &vote.subject)?;
+    let signature = attestation_json(alloc, committees, &vote.subject, vote.attestation)?;
     format!(in alloc; "{says}{signature}]}}")
 }
 
@@ -223,73 +222,11 @@ fn certificate_json<S: Listing<D>, D: Digest>(
     format!(in alloc; "{says}{signatures}]{validity}}}")
 }
 
-/// A notarize.
-fn notarize_json<S: Listing<D>, D: Digest>(
-    alloc: Global,
-    committees: &Option<Committees<S>>,
-    vote: &Notarize<S, D>,
-) -> Result<String, AllocError>
-    ensures { IfOk result (λ text. string_bytes text ≡
-        vote_json (⟦<S as Inspected<D>>⟧.shown committees.now)
-        (Notarizes vote.now.proposal) vote.now.attestation) }
-{
-    let subject = Subject::Notarize {
-        proposal: &vote.proposal,
-    };
-    vote_json(alloc, committees, &subject, &vote.attestation)
-}
-
-/// A nullify.
-fn nullify_json<S: Listing<D>, D: Digest>(
-    alloc: Global,
-    committees: &Option<Committees<S>>,
-    vote: &Nullify<S>,
-) -> Result<String, AllocError>
-    ensures { IfOk result (λ text. string_bytes text ≡
-        vote_json (⟦<S as Inspected<D>>⟧.shown committees.now)
-        (Nullifies vote.now.round) vote.now.attestation) }
-{
-    let subject = Subject::Nullify { round: vote.round };
-    vote_json::<S, D>(alloc, committees, &subject, &vote.attestation)
-}
-
-/// A finalize.
-fn finalize_json<S: Listing<D>, D: Digest>(
-    alloc: Global,
-    committees: &Option<Committees<S>>,
-    vote: &Finalize<S, D>,
-) -> Result<String, AllocError>
-    ensures { IfOk result (λ text. string_bytes text ≡
-        vote_json (⟦<S as Inspected<D>>⟧.shown committees.now)
-        (Finalizes vote.now.proposal) vote.now.attestation) }
-{
-    let subject = Subject::Finalize {
-        proposal: &vote.proposal,
-    };
-    vote_json(alloc, committees, &subject, &vote.attestation)
-}
-
 /// Two texts with a comma between them.
 fn both(alloc: Global, first: &str, second: &str) -> Result<String, AllocError>
     ensures { IfOk result (λ text. string_bytes text ≡ first.now ++ (codes "," ++ second.now)) }
 {
     format!(in alloc; "{first},{second}")
-}
-
-/// The certificate of a notarization or a certification.
-fn notarization_json<S: Listing<D>, D: Digest>(
-    alloc: Global,
-    committees: &Option<Committees<S>>,
-    message: &Notarization<S, D>,
-) -> Result<String, AllocError>
-    ensures { IfOk result (λ text. string_bytes text ≡
-        certificate_json (⟦<S as Inspected<D>>⟧.shown committees.now)
-        (Notarizes message.now.proposal) message.now.certificate) }
-{
-    let subject = Subject::Notarize {
-        proposal: &message.proposal,
-    };
-    certificate_json(alloc, committees, &subject, &message.certificate)
 }
 
 /// What a message states: a vote, a certificate, or both votes of evidence.
@@ -299,39 +236,16 @@ fn statements_json<S: Listing<D>, D: Digest>(
     message: &Activity<S, D>,
 ) -> Result<String, AllocError>
     ensures { IfOk result (λ text. string_bytes text ≡
-        statements_json (⟦<S as Inspected<D>>⟧.shown committees.now) message.now) }
+        statements_json (⟦<S as Inspected<D>>⟧.shown committees.now) (contents_of message.now)) }
 {
-    match message {
-        Activity::Notarize(vote) => notarize_json(alloc, committees, vote),
-        Activity::Notarization(message) => notarization_json(alloc, committees, message),
-        Activity::Certification(message) => notarization_json(alloc, committees, message),
-        Activity::Nullify(vote) => nullify_json::<S, D>(alloc, committees, vote),
-        Activity::Nullification(message) => {
-            let subject = Subject::Nullify {
-                round: message.round,
-            };
-            certificate_json::<S, D>(alloc, committees, &subject, &message.certificate)
+    match message.contents() {
+        Contents::Vote(vote) => vote_json(alloc, committees, &vote),
+        Contents::Certificate(subject, certificate) => {
+            certificate_json(alloc, committees, &subject, certificate)
         }
-        Activity::Finalize(vote) => finalize_json(alloc, committees, vote),
-        Activity::Finalization(message) => {
-            let subject = Subject::Finalize {
-                proposal: &message.proposal,
-            };
-            certificate_json(alloc, committees, &subject, &message.certificate)
-        }
-        Activity::ConflictingNotarize(evidence) => {
-            let first = notarize_json(alloc, committees, evidence.notarize_1())?;
-            let second = notarize_json(alloc, committees, evidence.notarize_2())?;
-            both(alloc, first.as_str(), second.as_str())
-        }
-        Activity::ConflictingFinalize(evidence) => {
-            let first = finalize_json(alloc, committees, evidence.finalize_1())?;
-            let second = finalize_json(alloc, committees, evidence.finalize_2())?;
-            both(alloc, first.as_str(), second.as_str())
-        }
-        Activity::NullifyFinalize(evidence) => {
-            let first = nullify_json::<S, D>(alloc, committees, evidence.nullify())?;
-            let second = finalize_json(alloc, committees, evidence.finalize())?;
+        Contents::Evidence(first, second) => {
+            let first = vote_json(alloc, committees, &first)?;
+            let second = vote_json(alloc, committees, &second)?;
             both(alloc, first.as_str(), second.as_str())
         }
     }

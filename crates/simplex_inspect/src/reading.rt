@@ -1,14 +1,15 @@
 //! The lines of the messages that begin some bytes.
 
-ghost use Rattle.std.specs.Prelude.{◌≡◌, ◌≢◌, ◌+◌, ◌<◌, ◌^◌, length, IfOk, string_bytes};
+ghost use Rattle.std.specs.Prelude.{◌≡◌, ◌+◌, ◌<◌, ◌^◌, length, IfOk, string_bytes};
 ghost use Rattle.simplex_inspect.specs.Inspected.{AreShown, bound_under};
 
 use crate::basis::Inspected;
 use crate::line::line;
-use simplex_base::codec::{Error, Read};
+use simplex_base::codec::{Encoding, Error};
 use simplex_detector::committees::Committees;
 use simplex_evidence::types::Activity;
 use simplex_scheme::scheme::{CertificateScheme, Digest, Listing};
+use simplex_stream::messages::{Visitor, for_each_message};
 use std::alloc::{AllocError, Global};
 
 /// What was read of some bytes.
@@ -24,6 +25,50 @@ pub struct ReadLines<'a> {
     pub stop: Option<Error>,
 }
 
+/// Writes the lines of messages one after another.
+#[derive(Drop)]
+pub struct LineWriter {
+    /// The lines so far.
+    pub text: String,
+    /// The offset of the byte behind the last message.
+    pub offset: usize,
+}
+
+impl<S: Listing<D>, D: Digest> Visitor<Activity<S, D>> for LineWriter {
+    ghost use Rattle.std.proofs.Common.{arith};
+    ghost use Rattle.simplex_inspect.specs.Writing.{WritesLines};
+    ghost use Rattle.simplex_inspect.specs.WritingLaws.{writes_none, writes_more};
+    ghost use Rattle.simplex_stream.specs.PlaceLaws.{room_behind};
+
+    type Context = Option<Committees<S>>;
+
+    ghost follows = { λ committees. WritesLines (⟦<S as Inspected<D>>⟧.lines committees) };
+
+    ghost has_room = { λ state size. state.offset + size < 2 ^ 64 };
+
+    fn take(
+        &mut self,
+        alloc: Global,
+        committees: &Option<Committees<S>>,
+        size: usize,
+        message: &Activity<S, D>,
+    ) -> Result<(), AllocError> {
+        let one = line(alloc, committees, self.offset, size, message)?;
+        self.text.push_str(one.as_str())?;
+        self.offset += size;
+        Ok(())
+    }
+
+    ghost none = { λ committees. writes_none (⟦<S as Inspected<D>>⟧.lines committees) };
+
+    ghost more = { λ committees. writes_more (⟦<S as Inspected<D>>⟧.lines committees) };
+
+    ghost less = { λ state n k room. Prim.omega (arith, room) };
+
+    ghost left = { λ committees m a b n one. room_behind ⟦<Activity<S, D> as Encoding>⟧.encoding
+        a.offset b.offset n m one.offset_is };
+}
+
 /// The bound under which certificates are read: the number of participants of the greatest committee, and without
 /// committees the greatest number that a committee can have, 4,294,967,295.
 fn reading_bound<S: CertificateScheme>(committees: &Option<Committees<S>>) -> u32
@@ -32,16 +77,6 @@ fn reading_bound<S: CertificateScheme>(committees: &Option<Committees<S>>) -> u3
     match committees {
         Some(committees) => committees.bound(),
         None => u32::MAX,
-    }
-}
-
-/// The error of a reading that failed, unless an allocation failed.
-fn refusal(error: Error) -> Result<Error, AllocError>
-    ensures { IfOk result (λ e. (e ≡ error) × (e ≢ Error.OutOfMemory)) }
-{
-    match error {
-        Error::OutOfMemory => Err(AllocError),
-        _ => Ok(error),
     }
 }
 
@@ -61,35 +96,22 @@ pub fn read_lines<'a, S: Listing<D>, D: Digest>(
     ensures whole { IfOk result (λ r. r.offset + length r.rest.now ≡ offset + length bytes.now) }
 {
     let bound = reading_bound(committees);
-    let mut text = String::new(alloc);
-    let mut rest: &[u8] = bytes;
-    let mut place = offset;
-    'messages: while !rest.is_empty() {
-        let before = rest.len();
-        match Activity::<S, D>::read_cfg(alloc, &mut rest, &bound) {
-            Ok(message) => {
-                let length = before - rest.len();
-                let made = line(alloc, committees, place, length, &message);
-                drop(message);
-                let one = made?;
-                text.push_str(one.as_str())?;
-                place += length;
-            }
-            Err(error) => {
-                let stop = Some(refusal(error)?);
-                return Ok(ReadLines {
-                    text,
-                    offset: place,
-                    rest,
-                    stop,
-                });
-            }
-        }
-    }
+    let mut writer = LineWriter {
+        text: String::new(alloc),
+        offset,
+    };
+    let progress = for_each_message::<Activity<S, D>, LineWriter>(
+        alloc,
+        committees,
+        bound,
+        bytes,
+        &mut writer,
+    )?;
+    let LineWriter { text, offset } = writer;
     Ok(ReadLines {
         text,
-        offset: place,
-        rest,
-        stop: None,
+        offset,
+        rest: progress.rest,
+        stop: progress.stop,
     })
 }

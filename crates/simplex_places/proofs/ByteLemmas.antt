@@ -23,8 +23,10 @@ use Rattle.simplex_places.specs.declared.places.Placed.{Placed}
 use Rattle.simplex_places.specs.declared.places.Suspect.{Suspect}
 
 -- `Cast` holds of the votes of the messages. Certificates are encoded as the attestations that they list.
-module _ {S D C P G : Type 0} (eq : D → D → Bool) (payload : Format D) (certificate : C → List ℕ) (signature : Format G) (listed : C → List (Attestation S P G))
-    (counted : (c : C) → certificate c ≡ listed_encoding signature (listed c)) (stream : List ℕ) (Cast : SignedVote D G → Type 0) where
+module _ {S D C P G : Type 0} (eq : D → D → Bool) (payload : Format D) (certificate : C → List ℕ) (signature : Format G)
+    (listed : C → List (Attestation S P G))
+    (counted : (c : C) → certificate c ≡ listed_encoding signature (listed c)) (stream : List ℕ)
+    (Cast : SignedVote D G → Type 0) where
   -- an attestation
   abbrev pub bytes_of : Attestation S P G → List ℕ
   bytes_of a = (attestation_format signature).encoding a
@@ -55,9 +57,16 @@ module _ {S D C P G : Type 0} (eq : D → D → Bool) (payload : Format D) (cert
       ∙ (sym (append_assoc ((front ++ subject) ++ between) (number ++ signed) tail)
       ∙ ap (λ (l : List ℕ). l ++ tail) (sym (append_assoc ((front ++ subject) ++ between) number signed))))) in
       let begun : length (before ++ signed) ≡ length front + length subject + length between + (length number + length signed) =
-      omega (arith, length-append before signed, length-append ((front ++ subject) ++ between) number, length-append (front ++ subject) between, length-append front subject) in
+      omega (
+        arith,
+        length-append before signed,
+        length-append ((front ++ subject) ++ between) number,
+        length-append (front ++ subject) between,
+        length-append front subject,
+      ) in
       let long : length (before ++ signed) ≡ ((next + length (bytes_of a)) - 1) + 1 = omega (arith, begun, after, size, some) in
-      let most : (next + length (bytes_of a)) - 1 < length stream = omega (arith, long, ap length all, length-append (before ++ signed) tail) in (
+      let most : (next + length (bytes_of a)) - 1 < length stream =
+      omega (arith, long, ap length all, length-append (before ++ signed) tail) in (
         vote_on x a,
         cast,
         record {
@@ -71,12 +80,14 @@ module _ {S D C P G : Type 0} (eq : D → D → Bool) (payload : Format D) (cert
               ∙ take_at subject (between ++ (bytes_of a ++ tail)) (length subject) refl));
           within = most;
           before = before;
-          signature_is = ap (take (((next + length (bytes_of a)) - 1) + 1)) all ∙ take_at (before ++ signed) tail (((next + length (bytes_of a)) - 1) + 1) long;
+          signature_is = ap (take (((next + length (bytes_of a)) - 1) + 1)) all
+              ∙ take_at (before ++ signed) tail (((next + length (bytes_of a)) - 1) + 1) long;
         },
       )
 
   -- attestations one after another
-  from_stands : (front between tail : List ℕ) (place next : ℕ) (x : SubjectValue D) (is_listed : Bool) (xs : List (Attestation S P G)) →
+  from_stands : (front between tail : List ℕ) (place next : ℕ) (x : SubjectValue D) (is_listed : Bool)
+      (xs : List (Attestation S P G)) →
       place ≡ length front → next ≡ length front + length (message_of payload x) + length between →
       stream ≡ front ++ (message_of payload x ++ (between ++ (flat_map bytes_of xs ++ tail))) →
       ((v : SignedVote D G) → Contains (map (vote_on x) xs) v → Cast v) →
@@ -91,42 +102,56 @@ module _ {S D C P G : Type 0} (eq : D → D → Bool) (payload : Format D) (cert
       whole ∙ ap (λ (l : List ℕ). front ++ (subject ++ (between ++ l))) (append_assoc (bytes_of a) others tail) in
       let there : stream ≡ front ++ (subject ++ ((between ++ bytes_of a) ++ (others ++ tail))) =
       here ∙ ap (λ (l : List ℕ). front ++ (subject ++ l)) (sym (append_assoc between (bytes_of a) (others ++ tail))) in
-      let further : next + length (bytes_of a) ≡ length front + length subject + length (between ++ bytes_of a) = omega (arith, after, length-append between (bytes_of a)) in
-      All-cons IsPlaced (placed_at signed a.signer (behind signature next a - 1)) (places_from signature signed (behind signature next a) xs)
-      (one_stands front between (others ++ tail) place next x is_listed a at after here (cast (vote_on x a) (Contains-get_or (vote_on x a ∷ votes) 0 (vote_on x a) (omega arith))))
-      (from_stands front (between ++ bytes_of a) tail place (behind signature next a) x is_listed xs at further there (λ v c. cast v (Contains-append_right (vote_on x a ∷ []) votes v c)))
+      let further : next + length (bytes_of a) ≡ length front + length subject + length (between ++ bytes_of a) =
+      omega (arith, after, length-append between (bytes_of a)) in
+      All-cons IsPlaced (placed_at signed a.signer (behind signature next a - 1))
+      (places_from signature signed (behind signature next a) xs)
+      (one_stands front between (others ++ tail) place next x is_listed a at after here
+      (cast (vote_on x a) (Contains-get_or (vote_on x a ∷ votes) 0 (vote_on x a) (omega arith))))
+      (from_stands front (between ++ bytes_of a) tail place (behind signature next a) x is_listed xs at further there
+      (λ v c. cast v (Contains-append_right (vote_on x a ∷ []) votes v c)))
 
   -- a vote: its subject, and then its attestation
   vote_stands : (front tail : List ℕ) (place : ℕ) (x : SubjectValue D) (a : Attestation S P G) → place ≡ length front →
-      stream ≡ front ++ ((message_of payload x ++ bytes_of a) ++ tail) → Cast (vote_on x a) → All IsPlaced (vote_places payload signature place x a)
+      stream ≡ front ++ ((message_of payload x ++ bytes_of a) ++ tail) → Cast (vote_on x a) →
+      All IsPlaced (vote_places payload signature place x a)
   vote_stands front tail place x a at whole cast =
       let subject = message_of payload x in
       let next = place + length subject in
       let after : place + length subject ≡ length front + length subject + 0 = omega (arith, at) in
       All-cons IsPlaced (placed_at (signed_at payload place x false) a.signer (behind signature next a - 1)) []
-      (one_stands front [] tail place next x false a at after (whole ∙ ap (λ (l : List ℕ). front ++ l) (append_assoc subject (bytes_of a) tail)) cast)
+      (one_stands front [] tail place next x false a at after
+      (whole ∙ ap (λ (l : List ℕ). front ++ l) (append_assoc subject (bytes_of a) tail)) cast)
       (All-nil IsPlaced)
 
   -- two votes one after the other
-  pair_stands : (front tail : List ℕ) (place : ℕ) (x : SubjectValue D) (a : Attestation S P G) (y : SubjectValue D) (b : Attestation S P G) → place ≡ length front →
-      stream ≡ front ++ (((message_of payload x ++ bytes_of a) ++ (message_of payload y ++ bytes_of b)) ++ tail) → Cast (vote_on x a) → Cast (vote_on y b) →
+  pair_stands : (front tail : List ℕ) (place : ℕ) (x : SubjectValue D) (a : Attestation S P G) (y : SubjectValue D)
+      (b : Attestation S P G) → place ≡ length front →
+      stream ≡ front ++ (((message_of payload x ++ bytes_of a) ++ (message_of payload y ++ bytes_of b)) ++ tail) →
+      Cast (vote_on x a) → Cast (vote_on y b) →
       All IsPlaced (pair_places payload signature place x a y b)
   pair_stands front tail place x a y b at whole cast others =
       let first = message_of payload x ++ bytes_of a in
       let second = message_of payload y ++ bytes_of b in
-      let here : stream ≡ front ++ (first ++ (second ++ tail)) = whole ∙ ap (λ (l : List ℕ). front ++ l) (append_assoc first second tail) in
+      let here : stream ≡ front ++ (first ++ (second ++ tail)) =
+      whole ∙ ap (λ (l : List ℕ). front ++ l) (append_assoc first second tail) in
       let next : place + length first ≡ length (front ++ first) = omega (arith, at, length-append front first) in
       All-append IsPlaced (vote_places payload signature place x a) (vote_places payload signature (place + length first) y b)
       (vote_stands front (second ++ tail) place x a at here cast)
-      (vote_stands (front ++ first) tail (place + length first) y b next (here ∙ sym (append_assoc front first (second ++ tail))) others)
+      (vote_stands (front ++ first) tail (place + length first) y b next
+      (here ∙ sym (append_assoc front first (second ++ tail))) others)
 
   -- the two votes of an evidence, behind its tag
-  both_stand : (front tail : List ℕ) (place : ℕ) (x : SubjectValue D) (a : Attestation S P G) (y : SubjectValue D) (b : Attestation S P G) → place + 1 ≡ length front →
+  both_stand : (front tail : List ℕ) (place : ℕ) (x : SubjectValue D) (a : Attestation S P G) (y : SubjectValue D)
+      (b : Attestation S P G) → place + 1 ≡ length front →
       stream ≡ front ++ (((message_of payload x ++ bytes_of a) ++ (message_of payload y ++ bytes_of b)) ++ tail) →
-      ((v : SignedVote D G) → Contains (vote_on x a ∷ vote_on y b ∷ []) v → Cast v) → All IsPlaced (pair_places payload signature (place + 1) x a y b)
+      ((v : SignedVote D G) → Contains (vote_on x a ∷ vote_on y b ∷ []) v → Cast v) →
+      All IsPlaced (pair_places payload signature (place + 1) x a y b)
   both_stand front tail place x a y b at whole cast =
       let votes = vote_on x a ∷ vote_on y b ∷ [] in
-      pair_stands front tail (place + 1) x a y b at whole (cast (vote_on x a) (Contains-get_or votes 0 (vote_on x a) (omega arith))) (cast (vote_on y b) (Contains-get_or votes 1 (vote_on y b) (omega arith)))
+      pair_stands front tail (place + 1) x a y b at whole
+      (cast (vote_on x a) (Contains-get_or votes 0 (vote_on x a) (omega arith)))
+      (cast (vote_on y b) (Contains-get_or votes 1 (vote_on y b) (omega arith)))
 
   -- a certificate: its subject, how many attestations it lists, and then they
   certificate_stands : (front tail : List ℕ) (place : ℕ) (x : SubjectValue D) (c : C) → place ≡ length front →
@@ -151,27 +176,43 @@ module _ {S D C P G : Type 0} (eq : D → D → Bool) (payload : Format D) (cert
   -- the attestations behind the tag of a message
   body_stands : (front tail : List ℕ) (place : ℕ) (m : Activity S D C P G) → place + 1 ≡ length front →
       stream ≡ front ++ (activity_body eq payload certificate signature m ++ tail) →
-      ((v : SignedVote D G) → Contains (votes_in listed m) v → Cast v) → All IsPlaced (message_places payload signature listed place m)
+      ((v : SignedVote D G) → Contains (votes_in listed m) v → Cast v) →
+      All IsPlaced (message_places payload signature listed place m)
   body_stands front tail place (activity.Notarize v) at whole cast =
       let x : SubjectValue D = Notarizes v.proposal in
-      vote_stands front tail (place + 1) x v.attestation at whole (cast (vote_on x v.attestation) (Contains-get_or (vote_on x v.attestation ∷ []) 0 (vote_on x v.attestation) (omega arith)))
-  body_stands front tail place (activity.Notarization n) at whole cast = certificate_stands front tail (place + 1) (Notarizes n.proposal) n.certificate at whole cast
-  body_stands front tail place (activity.Certification n) at whole cast = certificate_stands front tail (place + 1) (Notarizes n.proposal) n.certificate at whole cast
+      vote_stands front tail (place + 1) x v.attestation at whole (cast (vote_on x v.attestation)
+      (Contains-get_or (vote_on x v.attestation ∷ []) 0 (vote_on x v.attestation) (omega arith)))
+  body_stands front tail place (activity.Notarization n) at whole cast =
+      certificate_stands front tail (place + 1) (Notarizes n.proposal) n.certificate at whole cast
+  body_stands front tail place (activity.Certification n) at whole cast =
+      certificate_stands front tail (place + 1) (Notarizes n.proposal) n.certificate at whole cast
   body_stands front tail place (activity.Nullify v) at whole cast =
       let x : SubjectValue D = Nullifies v.round in
-      vote_stands front tail (place + 1) x v.attestation at whole (cast (vote_on x v.attestation) (Contains-get_or (vote_on x v.attestation ∷ []) 0 (vote_on x v.attestation) (omega arith)))
-  body_stands front tail place (activity.Nullification n) at whole cast = certificate_stands front tail (place + 1) (Nullifies n.round) n.certificate at whole cast
+      vote_stands front tail (place + 1) x v.attestation at whole (cast (vote_on x v.attestation)
+      (Contains-get_or (vote_on x v.attestation ∷ []) 0 (vote_on x v.attestation) (omega arith)))
+  body_stands front tail place (activity.Nullification n) at whole cast =
+      certificate_stands front tail (place + 1) (Nullifies n.round) n.certificate at whole cast
   body_stands front tail place (activity.Finalize v) at whole cast =
       let x : SubjectValue D = Finalizes v.proposal in
-      vote_stands front tail (place + 1) x v.attestation at whole (cast (vote_on x v.attestation) (Contains-get_or (vote_on x v.attestation ∷ []) 0 (vote_on x v.attestation) (omega arith)))
-  body_stands front tail place (activity.Finalization n) at whole cast = certificate_stands front tail (place + 1) (Finalizes n.proposal) n.certificate at whole cast
-  body_stands front tail place (activity.ConflictingNotarize c) at whole cast = both_stand front tail place (Notarizes c.first.proposal) c.first.attestation (Notarizes c.second.proposal) c.second.attestation at whole cast
-  body_stands front tail place (activity.ConflictingFinalize c) at whole cast = both_stand front tail place (Finalizes c.first.proposal) c.first.attestation (Finalizes c.second.proposal) c.second.attestation at whole cast
-  body_stands front tail place (activity.NullifyFinalize c) at whole cast = both_stand front tail place (Nullifies c.first.round) c.first.attestation (Finalizes c.second.proposal) c.second.attestation at whole cast
+      vote_stands front tail (place + 1) x v.attestation at whole (cast (vote_on x v.attestation)
+      (Contains-get_or (vote_on x v.attestation ∷ []) 0 (vote_on x v.attestation) (omega arith)))
+  body_stands front tail place (activity.Finalization n) at whole cast =
+      certificate_stands front tail (place + 1) (Finalizes n.proposal) n.certificate at whole cast
+  body_stands front tail place (activity.ConflictingNotarize c) at whole cast =
+      both_stand front tail place (Notarizes c.first.proposal) c.first.attestation (Notarizes c.second.proposal)
+      c.second.attestation at whole cast
+  body_stands front tail place (activity.ConflictingFinalize c) at whole cast =
+      both_stand front tail place (Finalizes c.first.proposal) c.first.attestation (Finalizes c.second.proposal)
+      c.second.attestation at whole cast
+  body_stands front tail place (activity.NullifyFinalize c) at whole cast =
+      both_stand front tail place (Nullifies c.first.round) c.first.attestation (Finalizes c.second.proposal)
+      c.second.attestation at whole cast
 
   -- messages one after another, behind some bytes
-  along_stands : (front tail : List ℕ) (place : ℕ) (ms : List (Activity S D C P G)) → place ≡ length front → stream ≡ front ++ (flat_map bytes_in ms ++ tail) →
-      ((v : SignedVote D G) → Contains (flat_map (votes_in listed) ms) v → Cast v) → All IsPlaced (places_along (message_places payload signature listed) bytes_in place ms)
+  along_stands : (front tail : List ℕ) (place : ℕ) (ms : List (Activity S D C P G)) → place ≡ length front →
+      stream ≡ front ++ (flat_map bytes_in ms ++ tail) →
+      ((v : SignedVote D G) → Contains (flat_map (votes_in listed) ms) v → Cast v) →
+      All IsPlaced (places_along (message_places payload signature listed) bytes_in place ms)
   along_stands front tail place [] at whole cast = All-nil IsPlaced
   along_stands front tail place (m ∷ ms) at whole cast =
       let tag = activity_tag m ∷ [] in
@@ -179,17 +220,24 @@ module _ {S D C P G : Type 0} (eq : D → D → Bool) (payload : Format D) (cert
       let others = flat_map bytes_in ms ++ tail in
       let votes = votes_in listed m in
       let further = flat_map (votes_in listed) ms in
-      let here : stream ≡ front ++ (bytes_in m ++ others) = whole ∙ ap (λ (l : List ℕ). front ++ l) (append_assoc (bytes_in m) (flat_map bytes_in ms) tail) in
+      let here : stream ≡ front ++ (bytes_in m ++ others) =
+      whole ∙ ap (λ (l : List ℕ). front ++ l) (append_assoc (bytes_in m) (flat_map bytes_in ms) tail) in
       let inside : place + 1 ≡ length (front ++ tag) = omega (arith, at, length-append front tag) in
-      let next : place + length (bytes_in m) ≡ length (front ++ bytes_in m) = omega (arith, at, length-append front (bytes_in m)) in
-      All-append IsPlaced (message_places payload signature listed place m) (places_along (message_places payload signature listed) bytes_in (place + length (bytes_in m)) ms)
-      (body_stands (front ++ tag) others place m inside (here ∙ sym (append_assoc front tag (body ++ others))) (λ v c. cast v (Contains-append_left votes further v c)))
-      (along_stands (front ++ bytes_in m) tail (place + length (bytes_in m)) ms next (here ∙ sym (append_assoc front (bytes_in m) others)) (λ v c. cast v (Contains-append_right votes further v c)))
+      let next : place + length (bytes_in m) ≡ length (front ++ bytes_in m) =
+      omega (arith, at, length-append front (bytes_in m)) in
+      All-append IsPlaced (message_places payload signature listed place m)
+      (places_along (message_places payload signature listed) bytes_in (place + length (bytes_in m)) ms)
+      (body_stands (front ++ tag) others place m inside (here ∙ sym (append_assoc front tag (body ++ others)))
+      (λ v c. cast v (Contains-append_left votes further v c)))
+      (along_stands (front ++ bytes_in m) tail (place + length (bytes_in m)) ms next
+      (here ∙ sym (append_assoc front (bytes_in m) others)) (λ v c. cast v (Contains-append_right votes further v c)))
 
   -- the attestations that are sought
-  pub sought_stand : (suspected : Suspected) (size : ℕ → ℕ) (ms : List (Activity S D C P G)) (tail : List ℕ) → stream ≡ flat_map bytes_in ms ++ tail →
+  pub sought_stand : (suspected : Suspected) (size : ℕ → ℕ) (ms : List (Activity S D C P G)) (tail : List ℕ) →
+      stream ≡ flat_map bytes_in ms ++ tail →
       ((v : SignedVote D G) → Contains (flat_map (votes_in listed) ms) v → Cast v) →
       All IsCast (sought_of suspected size (places_along (message_places payload signature listed) bytes_in 0 ms))
   sought_stand suspected size ms tail whole cast =
       let places = places_along (message_places payload signature listed) bytes_in 0 ms in
-      All-map IsCast (λ (p : Placed). p.suspect) (filter (is_sought suspected size) places) (All-filter (is_sought suspected size) IsPlaced places (along_stands [] tail 0 ms refl whole cast))
+      All-map IsCast (λ (p : Placed). p.suspect) (filter (is_sought suspected size) places)
+      (All-filter (is_sought suspected size) IsPlaced places (along_stands [] tail 0 ms refl whole cast))

@@ -1,6 +1,7 @@
 pub mod ReadingLemmas
 pub mod SuspectLemmas
 pub mod PlaceLemmas
+pub mod ContentsLemmas
 pub mod RecordLemmas
 pub mod ByteLemmas
 pub mod VerdictLemmas

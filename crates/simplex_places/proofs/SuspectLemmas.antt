@@ -16,9 +16,11 @@ same_bool false true f g = g refl
 same_bool false false f g = refl
 
 -- a set that holds exactly the items of a list, which are those that pass a test, decides the test
-pub holds_alike : {A : Type 0} (holds test : A → Bool) (xs ys : List A) (x : A) → xs ≡ ys → All (λ y. IsTrue (holds y)) xs → (IsTrue (holds x) → Contains xs x) → (Contains ys x ↔ IsTrue (test x)) → holds x ≡ test x
+pub holds_alike : {A : Type 0} (holds test : A → Bool) (xs ys : List A) (x : A) → xs ≡ ys → All (λ y. IsTrue (holds y)) xs →
+    (IsTrue (holds x) → Contains xs x) → (Contains ys x ↔ IsTrue (test x)) → holds x ≡ test x
 holds_alike holds test xs ys x same all only law =
-    same_bool (holds x) (test x) (λ h. law.0 (subst (λ l. Contains l x) same (only h))) (λ h. All-contains (λ y. IsTrue (holds y)) ys x (subst (All (λ y. IsTrue (holds y))) same all) (law.1 h))
+    same_bool (holds x) (test x) (λ h. law.0 (subst (λ l. Contains l x) same (only h)))
+    (λ h. All-contains (λ y. IsTrue (holds y)) ys x (subst (All (λ y. IsTrue (holds y))) same all) (law.1 h))
 
 -- the same items pass tests that are the same
 filter_alike : {A : Type 0} (p q : A → Bool) → ((x : A) → p x ≡ q x) → (xs : List A) → filter p xs ≡ filter q xs
@@ -34,25 +36,32 @@ pub record AreAlike (s t : Suspected) : Type 0 where
 pub one_alike : (s t : Suspected) (size : ℕ → ℕ) → AreAlike s t → (p : Placed) → is_sought s size p ≡ is_sought t size p
 one_alike s t size same p =
     let round = round_at p.suspect in
-    ap (λ (b : Bool). if p.is_listed then b && nat_lt p.suspect.signer (size p.suspect.epoch) else s.signers round p.suspect.signer) (same.rounds round)
-    ∙ ap (λ (b : Bool). if p.is_listed then t.rounds round && nat_lt p.suspect.signer (size p.suspect.epoch) else b) (same.signers round p.suspect.signer)
+    ap (λ (b : Bool). if p.is_listed then b && nat_lt p.suspect.signer (size p.suspect.epoch)
+    else s.signers round p.suspect.signer) (same.rounds round)
+    ∙ ap (λ (b : Bool). if p.is_listed then t.rounds round && nat_lt p.suspect.signer (size p.suspect.epoch) else b)
+    (same.signers round p.suspect.signer)
 
 -- so the same attestations of a list are sought
-pub sought_alike : (s t : Suspected) (size : ℕ → ℕ) → AreAlike s t → (places : List Placed) → sought_of s size places ≡ sought_of t size places
-sought_alike s t size same places = ap (map (λ (p : Placed). p.suspect)) (filter_alike (is_sought s size) (is_sought t size) (one_alike s t size same) places)
+pub sought_alike : (s t : Suspected) (size : ℕ → ℕ) → AreAlike s t → (places : List Placed) →
+    sought_of s size places ≡ sought_of t size places
+sought_alike s t size same places =
+    ap (map (λ (p : Placed). p.suspect)) (filter_alike (is_sought s size) (is_sought t size) (one_alike s t size same) places)
 
 -- an attestation that is sought was found
-pub one_found : (s : Suspected) (size : ℕ → ℕ) (xs : List Placed) (i : ℕ) (d : Placed) (found found' : List Suspect) → i < length xs → is_sought s size (get_or xs i d) ≡ true → found' ≡ found ++ (get_or xs i d).suspect ∷ [] →
+pub one_found : (s : Suspected) (size : ℕ → ℕ) (xs : List Placed) (i : ℕ) (d : Placed) (found found' : List Suspect) →
+    i < length xs → is_sought s size (get_or xs i d) ≡ true → found' ≡ found ++ (get_or xs i d).suspect ∷ [] →
     found ≡ sought_of s size (take i xs) → found' ≡ sought_of s size (take (i + 1) xs)
 one_found s size xs i d found found' lt passes grown so =
     let p = is_sought s size in
     let place : Placed → Suspect = λ q. q.suspect in
     grown ∙ (ap (λ (l : List Suspect). l ++ (get_or xs i d).suspect ∷ []) so
     ∙ (sym (map-append place (filter p (take i xs)) (get_or xs i d ∷ []))
-    ∙ ap (map place) (ap (λ (b : Bool). filter p (take i xs) ++ cond b (get_or xs i d ∷ []) []) (sym passes) ∙ sym (filter_more p xs i d lt))))
+    ∙ ap (map place)
+    (ap (λ (b : Bool). filter p (take i xs) ++ cond b (get_or xs i d ∷ []) []) (sym passes) ∙ sym (filter_more p xs i d lt))))
 
 -- another was left out
-pub one_left : (s : Suspected) (size : ℕ → ℕ) (xs : List Placed) (i : ℕ) (d : Placed) (found : List Suspect) → i < length xs → is_sought s size (get_or xs i d) ≡ false →
+pub one_left : (s : Suspected) (size : ℕ → ℕ) (xs : List Placed) (i : ℕ) (d : Placed) (found : List Suspect) → i < length xs →
+    is_sought s size (get_or xs i d) ≡ false →
     found ≡ sought_of s size (take i xs) → found ≡ sought_of s size (take (i + 1) xs)
 one_left s size xs i d found lt fails so =
     let p = is_sought s size in

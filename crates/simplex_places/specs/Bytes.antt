@@ -7,13 +7,14 @@ use Rattle.simplex_votes.specs.Votes.{SignedVote}
 use Rattle.simplex_evidence.specs.Activity.{votes_in}
 use Rattle.simplex_evidence.specs.declared.types.activity.Activity.{Activity}
 use Rattle.simplex_audit.specs.Basis.{Basis}
-use Rattle.simplex_audit.specs.Messages.{AreMessages}
+use Rattle.simplex_stream.specs.Messages.{AreMessages}
 use Rattle.simplex_places.specs.Places.{kind_of}
 use Rattle.simplex_places.specs.declared.places.Suspect.{Suspect}
 
 -- `s` is this vote, as it stands in the stream: the bytes of its subject are those that are signed, the proposal or the round,
 -- and the bytes up to its verdict end with the signature.
-pub record IsVoteAt {D G : Type 0} (payload : Format D) (signature : Format G) (stream : List ℕ) (v : SignedVote D G) (s : Suspect) : Type 0 where
+pub record IsVoteAt {D G : Type 0} (payload : Format D) (signature : Format G) (stream : List ℕ) (v : SignedVote D G)
+    (s : Suspect) : Type 0 where
   pub epoch_is : s.epoch ≡ (round_of v.subject).epoch
   pub view_is : s.view ≡ (round_of v.subject).view
   pub kind_is : s.kind ≡ kind_of v.subject
@@ -24,8 +25,10 @@ pub record IsVoteAt {D G : Type 0} (payload : Format D) (signature : Format G) (
   pub signature_is : take (s.verdict_place + 1) stream ≡ before ++ signature.encoding v.signature
 
 -- each is a vote of the stream's messages, as it stands in the stream
-pub record AreVotesAt {S D C P G : Type 0} (basis : Basis S D C P G) (payload : Format D) (signature : Format G) (stream : List ℕ) (found : List Suspect) : Type 0 where
+pub record AreVotesAt {S D C P G : Type 0} (basis : Basis S D C P G) (payload : Format D) (signature : Format G)
+    (stream : List ℕ) (found : List Suspect) : Type 0 where
   pub messages : List (Activity S D C P G)
   pub rest : List ℕ
   pub are_messages : AreMessages basis.format stream messages rest
-  pub each : All (λ s. (v : SignedVote D G) × Contains (flat_map (votes_in basis.rules.listed) messages) v × IsVoteAt payload signature stream v s) found
+  pub each : All (λ s. (v : SignedVote D G) × Contains (flat_map (votes_in basis.rules.listed) messages) v
+      × IsVoteAt payload signature stream v s) found

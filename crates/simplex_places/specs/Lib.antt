@@ -6,3 +6,7 @@ pub mod Votes
 pub mod KeyLaws
 pub mod FirstPlaces
 pub mod Records
+pub mod Claims
+pub mod ClaimsLaws
+pub mod Finding
+pub mod FindingLaws

@@ -32,14 +32,17 @@ pub record IsOfEvidence {D G : Type 0} (e : Equivocation D G) (found : Record) :
   pub kind_is : found.kind ≡ kind_rank e.kind
 
 -- The record is that of an evidence, with the places where the first messages begin that carry its votes.
-pub record IsRecord {M D G : Type 0} (carries : SignedVote D G → M → Bool) (encoding : M → List ℕ) (messages : List M) (e : Equivocation D G) (found : Record) : Type 0 where
+pub record IsRecord {M D G : Type 0} (carries : SignedVote D G → M → Bool) (encoding : M → List ℕ) (messages : List M)
+    (e : Equivocation D G) (found : Record) : Type 0 where
   pub of_evidence : IsOfEvidence e found
   pub first_stands : IsFirstPlace (carries e.first) encoding messages found.first_place
   pub second_stands : IsFirstPlace (carries e.second) encoding messages found.second_place
 
 -- they are the records of the report's evidence, one of each in the same order
-abbrev pub AreRecords : {S D C P G : Type 0} → Basis S D C P G → (SignedVote D G → Activity S D C P G → Bool) → List ℕ → Report S D P G → List Record → Type 0
-AreRecords basis carries stream report records = OfMessages basis stream (λ messages. AllZip (IsRecord carries basis.format.encoding messages) (evidence_in report) records)
+abbrev pub AreRecords : {S D C P G : Type 0} → Basis S D C P G → (SignedVote D G → Activity S D C P G → Bool) → List ℕ →
+    Report S D P G → List Record → Type 0
+AreRecords basis carries stream report records =
+    OfMessages basis stream (λ messages. AllZip (IsRecord carries basis.format.encoding messages) (evidence_in report) records)
 
 -- the place found for a key, or 0 if none was
 abbrev pub found_place : Option (Option ℕ) → ℕ
@@ -47,7 +50,8 @@ found_place (Some (Some place)) = place
 found_place _ = 0
 
 -- the record of an evidence, from the places found for its votes
-abbrev pub record_by : {D G K : Type 0} → (K → K → Ordering) → (SignedVote D G → K) → BTreeMap K (Option ℕ) → Equivocation D G → Record
+abbrev pub record_by : {D G K : Type 0} → (K → K → Ordering) → (SignedVote D G → K) → BTreeMap K (Option ℕ) →
+    Equivocation D G → Record
 record_by cmp key_of places e = record {
   epoch = (round_of e.first.subject).epoch;
   view = (round_of e.first.subject).view;

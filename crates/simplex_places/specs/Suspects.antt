@@ -10,7 +10,7 @@ use Rattle.simplex_detector.specs.Suspects.{Suspected, is_suspect, is_suspect_ro
 use Rattle.simplex_detector.specs.declared.detector.Detector.{Detector}
 use Rattle.simplex_detector.specs.declared.judging.SuspectSigners.{SuspectSigners}
 use Rattle.simplex_audit.specs.Basis.{Basis}
-use Rattle.simplex_audit.specs.Messages.{AreMessages}
+use Rattle.simplex_stream.specs.Messages.{AreMessages}
 use Rattle.simplex_places.specs.Places.{places_along}
 use Rattle.simplex_places.specs.declared.places.Placed.{Placed}
 use Rattle.simplex_places.specs.declared.places.Suspect.{Suspect}
@@ -21,7 +21,10 @@ suspected_in rules messages = record { signers = is_suspect rules messages; roun
 
 -- the suspects that two sets hold
 abbrev pub suspected_by : SuspectSigners → Suspected
-suspected_by suspects = record { signers = λ round signer. contains signer_cmp suspects.signers (round, signer); rounds = contains round_cmp suspects.rounds }
+suspected_by suspects = record {
+  signers = λ round signer. contains signer_cmp suspects.signers (round, signer);
+  rounds = contains round_cmp suspects.rounds;
+}
 
 -- the round of an attestation
 abbrev pub round_at : Suspect → Round
@@ -31,7 +34,8 @@ round_at p = record { epoch = p.epoch; view = p.view }
 -- committee of the round's epoch, any other if its signer is suspect in its round.
 abbrev pub is_sought : Suspected → (ℕ → ℕ) → Placed → Bool
 is_sought suspected size p =
-    if p.is_listed then suspected.rounds (round_at p.suspect) && nat_lt p.suspect.signer (size p.suspect.epoch) else suspected.signers (round_at p.suspect) p.suspect.signer
+    if p.is_listed then suspected.rounds (round_at p.suspect) && nat_lt p.suspect.signer (size p.suspect.epoch)
+    else suspected.signers (round_at p.suspect) p.suspect.signer
 
 -- those of these attestations that have to be verified
 abbrev pub sought_of : Suspected → (ℕ → ℕ) → List Placed → List Suspect
@@ -39,15 +43,19 @@ sought_of suspected size places = map (λ p. p.suspect) (filter (is_sought suspe
 
 -- `found` are the attestations of the stream's messages that have to be verified, in the order of the stream. `places_in`
 -- gives all attestations of a message that begins at a place.
-pub record AreSuspects {S D C P G : Type 0} (basis : Basis S D C P G) (places_in : ℕ → Activity S D C P G → List Placed) (stream : List ℕ) (found : List Suspect) : Type 0 where
+pub record AreSuspects {S D C P G : Type 0} (basis : Basis S D C P G) (places_in : ℕ → Activity S D C P G → List Placed)
+    (stream : List ℕ) (found : List Suspect) : Type 0 where
   pub messages : List (Activity S D C P G)
   pub rest : List ℕ
   pub are_messages : AreMessages basis.format stream messages rest
-  pub found_are : found ≡ sought_of (suspected_in basis.rules messages) basis.rules.size (places_along places_in basis.format.encoding 0 messages)
+  pub found_are : found
+      ≡ sought_of (suspected_in basis.rules messages) basis.rules.size (places_along places_in basis.format.encoding 0 messages)
 
 -- The stream's messages were read: the detector's state is that of the messages under these rules, and `places` are all their
 -- attestations.
-pub record AreRead {S D C P G : Type 0} (basis : Basis S D C P G) (rules : Rules S D C P G) (places_in : ℕ → Activity S D C P G → List Placed) (stream : List ℕ) (detector : Detector S D P G) (places : List Placed) : Type 0 where
+pub record AreRead {S D C P G : Type 0} (basis : Basis S D C P G) (rules : Rules S D C P G)
+    (places_in : ℕ → Activity S D C P G → List Placed) (stream : List ℕ) (detector : Detector S D P G)
+    (places : List Placed) : Type 0 where
   pub messages : List (Activity S D C P G)
   pub rest : List ℕ
   pub are_messages : AreMessages basis.format stream messages rest

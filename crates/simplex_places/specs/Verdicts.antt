@@ -23,10 +23,13 @@ HaveSameVerdicts found one other = All (λ s. get_or one s.verdict_place 0 ≡ g
 
 -- Let other streams differ from this one in verdicts of its attestations alone. The same attestations have to be verified in
 -- each, and two of them with the same verdicts of these have the same report.
-pub record DetermineTheReport {S D C P G : Type 0} (basis : Basis S D C P G) (places_in : ℕ → Activity S D C P G → List Placed) (stream : List ℕ) (found : List Suspect) : Type 0 where
+pub record DetermineTheReport {S D C P G : Type 0} (basis : Basis S D C P G) (places_in : ℕ → Activity S D C P G → List Placed)
+    (stream : List ℕ) (found : List Suspect) : Type 0 where
   pub same_suspects : OfMessages basis stream (λ messages. (other : List ℕ) →
-      DiffersInVerdicts (places_along places_in basis.format.encoding 0 messages) stream other → AreSuspects basis places_in other found)
+      DiffersInVerdicts (places_along places_in basis.format.encoding 0 messages) stream other →
+      AreSuspects basis places_in other found)
   pub same_report : OfMessages basis stream (λ messages. (one other : List ℕ) →
       DiffersInVerdicts (places_along places_in basis.format.encoding 0 messages) stream one →
-      DiffersInVerdicts (places_along places_in basis.format.encoding 0 messages) stream other → HaveSameVerdicts found one other →
+      DiffersInVerdicts (places_along places_in basis.format.encoding 0 messages) stream other →
+      HaveSameVerdicts found one other →
       (report : Report S D P G) → IsReport basis one report → IsReport basis other report)

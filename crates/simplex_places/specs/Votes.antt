@@ -20,10 +20,12 @@ same_subject _ _ _ = false
 
 -- whether two votes are the same: in subject, signer and signature. `signature_eq` compares signatures
 abbrev pub same_signed_vote : {D G : Type 0} → (D → D → Bool) → (G → G → Bool) → SignedVote D G → SignedVote D G → Bool
-same_signed_vote payload_eq signature_eq v w = same_subject payload_eq v.subject w.subject && ((v.signer == w.signer) && signature_eq v.signature w.signature)
+same_signed_vote payload_eq signature_eq v w =
+    same_subject payload_eq v.subject w.subject && ((v.signer == w.signer) && signature_eq v.signature w.signature)
 
 -- whether a message carries a vote: it is the vote, or its certificate lists the vote, or it is evidence with the vote
-abbrev pub carries : {S D C P G : Type 0} → (D → D → Bool) → (G → G → Bool) → (C → List (Attestation S P G)) → SignedVote D G → Activity S D C P G → Bool
+abbrev pub carries : {S D C P G : Type 0} → (D → D → Bool) → (G → G → Bool) → (C → List (Attestation S P G)) → SignedVote D G →
+    Activity S D C P G → Bool
 carries payload_eq signature_eq listed v m = list_any (same_signed_vote payload_eq signature_eq v) (votes_in listed m)
 
 -- the subject of a vote, as a part of its key

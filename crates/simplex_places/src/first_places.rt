@@ -1,20 +1,21 @@
 //! The first places of sought votes in a stream. Nothing is verified.
 
-ghost use Rattle.std.specs.Prelude.{◌≡◌, All, IfOk, OnOk, Some, None, map};
+ghost use Rattle.std.specs.Prelude.{◌≡◌, ◌+◌, ◌<◌, ◌^◌, [], ◌∷◌, All, IfOk, OnOk, Some, None, map};
 ghost use Rattle.std.specs.BTreeMap.{get};
 ghost use Rattle.simplex_base.specs.Format.{format_under};
 ghost use Rattle.simplex_scheme.specs.Subject.{subject_value};
 ghost use Rattle.simplex_evidence.specs.Activity.{votes_in};
+ghost use Rattle.simplex_evidence.specs.Contents.{signed_value};
 ghost use Rattle.simplex_votes.specs.Votes.{vote_on};
 ghost use Rattle.simplex_detector.specs.Values.{evidence_value};
 ghost use Rattle.simplex_places.specs.FirstPlaces.{AreFound, AreSought, Notes, or_found, place_if};
 
-use crate::reading::ended;
-use crate::votes::{Key, attested, finalize, first, notarize, nullify, second};
-use simplex_base::codec::Read;
+use crate::votes::{Key, attested, first, second};
+use simplex_base::codec::{Encoding, Read};
 use simplex_detector::evidence::Evidence;
-use simplex_evidence::types::Activity;
+use simplex_evidence::types::{Activity, Contents, Signed};
 use simplex_scheme::scheme::{Attestation, Digest, Listing, SchemeTypes, Subject};
+use simplex_stream::messages::{Visitor, for_each_message};
 use std::alloc::{AllocError, Global};
 use std::collections::BTreeMap;
 
@@ -69,6 +70,17 @@ fn note_all<K: Key<D, S::Signature>, S: SchemeTypes, D: Digest>(
     }
 }
 
+/// Notes a vote at a place.
+fn note_vote<K: Key<D, S::Signature>, S: SchemeTypes, D: Digest>(
+    places: &mut BTreeMap<K, Option<usize>>,
+    place: usize,
+    vote: &Signed<'_, S, D>,
+)
+    ensures { Notes K.cmp K.eq K.key_of place (signed_value vote.now ∷ []) places.old places.new }
+{
+    note(places, &attested(&vote.subject, vote.attestation), place);
+}
+
 /// Notes the votes of a message at the place where it begins.
 fn note_message<K: Key<D, S::Signature>, S: Listing<D>, D: Digest>(
     places: &mut BTreeMap<K, Option<usize>>,
@@ -78,89 +90,76 @@ fn note_message<K: Key<D, S::Signature>, S: Listing<D>, D: Digest>(
     ensures { Notes K.cmp K.eq K.key_of place (votes_in S.listed message.now)
         places.old places.new }
 {
-    match message {
-        Activity::Notarize(vote) => note(places, &notarize(vote), place),
-        Activity::Notarization(message) | Activity::Certification(message) => {
-            let subject = Subject::Notarize {
-                proposal: &message.proposal,
-            };
-            note_all(
-                places,
-                place,
-                &subject,
-                S::attestations(&message.certificate),
-            );
+    match message.contents() {
+        Contents::Vote(vote) => note_vote(places, place, &vote),
+        Contents::Certificate(subject, certificate) => {
+            note_all(places, place, &subject, S::attestations(certificate));
         }
-        Activity::Nullify(vote) => note(places, &nullify::<K, S, D>(vote), place),
-        Activity::Nullification(message) => {
-            let subject = Subject::Nullify {
-                round: message.round,
-            };
-            note_all(
-                places,
-                place,
-                &subject,
-                S::attestations(&message.certificate),
-            );
-        }
-        Activity::Finalize(vote) => note(places, &finalize(vote), place),
-        Activity::Finalization(message) => {
-            let subject = Subject::Finalize {
-                proposal: &message.proposal,
-            };
-            note_all(
-                places,
-                place,
-                &subject,
-                S::attestations(&message.certificate),
-            );
-        }
-        Activity::ConflictingNotarize(conflict) => {
-            note(places, &notarize(conflict.notarize_1()), place);
-            note(places, &notarize(conflict.notarize_2()), place);
-        }
-        Activity::ConflictingFinalize(conflict) => {
-            note(places, &finalize(conflict.finalize_1()), place);
-            note(places, &finalize(conflict.finalize_2()), place);
-        }
-        Activity::NullifyFinalize(conflict) => {
-            note(places, &nullify::<K, S, D>(conflict.nullify()), place);
-            note(places, &finalize(conflict.finalize()), place);
+        Contents::Evidence(first, second) => {
+            note_vote(places, place, &first);
+            note_vote(places, place, &second);
         }
     }
 }
 
-/// `note_message` of an owned message, so that no path of the caller has one to drop.
-fn note_taken<K: Key<D, S::Signature>, S: Listing<D>, D: Digest>(
-    places: &mut BTreeMap<K, Option<usize>>,
-    place: usize,
-    message: Activity<S, D>,
-)
-    ensures { Notes K.cmp K.eq K.key_of place (votes_in S.listed message) places.old places.new }
-{
-    note_message(places, place, &message);
+/// Notes where the votes of messages stand, one message after another.
+#[derive(Drop)]
+pub struct Finder<K: Ord> {
+    /// The sought keys, each with its first place, if it was found.
+    pub places: BTreeMap<K, Option<usize>>,
+    /// The place behind the last message.
+    pub place: usize,
 }
 
-/// Reads the messages of a stream under a bound, as many as there are, and notes the votes of each.
+impl<K: Key<D, S::Signature>, S: Listing<D>, D: Digest> Visitor<Activity<S, D>> for Finder<K> {
+    ghost use Rattle.std.proofs.Common.{arith};
+    ghost use Rattle.simplex_places.specs.Finding.{Finds};
+    ghost use Rattle.simplex_places.specs.FindingLaws.{finds_none, finds_more};
+    ghost use Rattle.simplex_stream.specs.PlaceLaws.{room_behind};
+
+    type Context = ();
+
+    ghost follows = { λ _. Finds K.cmp K.eq K.key_of (votes_in S.listed)
+        ⟦<Activity<S, D> as Encoding>⟧.encoding };
+
+    ghost has_room = { λ state size. state.place + size < 2 ^ 64 };
+
+    fn take(
+        &mut self,
+        _alloc: Global,
+        _context: &(),
+        size: usize,
+        message: &Activity<S, D>,
+    ) -> Result<(), AllocError> {
+        note_message(&mut self.places, self.place, message);
+        self.place += size;
+        Ok(())
+    }
+
+    ghost none = { λ _. finds_none K.cmp K.eq K.key_of (votes_in S.listed)
+        ⟦<Activity<S, D> as Encoding>⟧.encoding };
+
+    ghost more = { λ _. finds_more K.cmp K.eq K.key_of (votes_in S.listed)
+        ⟦<Activity<S, D> as Encoding>⟧.encoding };
+
+    ghost less = { λ state n k room. Prim.omega (arith, room) };
+
+    ghost left = { λ _ m a b n one. room_behind ⟦<Activity<S, D> as Encoding>⟧.encoding
+        a.place b.place n m one.place_is };
+}
+
+/// Reads the messages of a stream under a bound, as many as there are, notes the votes of each, and gives back what was found.
 pub fn find<K: Key<D, S::Signature>, S: Listing<D>, D: Digest>(
     alloc: Global,
     bound: u32,
     stream: &[u8],
-    places: &mut BTreeMap<K, Option<usize>>,
-) -> Result<(), AllocError>
-    ensures { OnOk result (AreFound K.cmp K.eq K.key_of (votes_in S.listed)
-        (format_under ⟦<Activity<S, D> as Read>⟧ bound) stream.now places.old places.new) }
+    places: BTreeMap<K, Option<usize>>,
+) -> Result<BTreeMap<K, Option<usize>>, AllocError>
+    ensures { IfOk result (λ found. AreFound K.cmp K.eq K.key_of (votes_in S.listed)
+        (format_under ⟦<Activity<S, D> as Read>⟧ bound) stream.now places found) }
 {
-    let mut rest: &[u8] = stream;
-    'messages: while !rest.is_empty() {
-        let place = stream.len() - rest.len();
-        match Activity::<S, D>::read_cfg(alloc, &mut rest, &bound) {
-            Ok(message) => note_taken(places, place, message),
-            Err(error) => {
-                ended(error)?;
-                return Ok(());
-            }
-        }
-    }
-    Ok(())
+    let mut finder = Finder { places, place: 0 };
+    for_each_message::<Activity<S, D>, Finder<K>>(alloc, &(), bound, stream, &mut finder)?;
+    let Finder { places, .. } = finder;
+    Ok(places)
 }

@@ -3,16 +3,16 @@
 ghost use Rattle.std.specs.Prelude.{◌≡◌, ◌+◌, ◌-◌, ◌<◌, ◌^◌, ◌++◌, [], ◌∷◌, ◌&&◌, true, false, IfOk, OnOk, length, nat_eq, refl};
 ghost use Rattle.std.specs.List.{flat_map};
 ghost use Rattle.simplex_base.specs.Format.{format_of};
-ghost use Rattle.simplex_base.specs.Varint.{number_32};
-ghost use Rattle.simplex_places.specs.Places.{behind, places_from, message_places, placed_at};
+ghost use Rattle.simplex_scheme.specs.Subject.{message_of, subject_value};
+ghost use Rattle.simplex_places.specs.Places.{behind, certificate_places, kind_of, message_places, placed_at, places_from, signed_at, vote_places};
 
 use crate::located::Counted;
 use simplex_base::codec::varint::size_u32;
 use simplex_base::codec::{EncodeSize, Encoding, Fixed, Read};
 use simplex_base::positions::{Round, Roundable};
 use simplex_base::values::{EqByParts, ExactClone, InfallibleClone};
-use simplex_evidence::types::Activity;
-use simplex_scheme::scheme::{Attestation, Digest, Proposal, SchemeTypes};
+use simplex_evidence::types::{Activity, Contents};
+use simplex_scheme::scheme::{Attestation, Digest, SchemeTypes, Subject};
 use std::alloc::AllocError;
 
 /// The number of a notarize in a record.
@@ -145,70 +145,78 @@ fn push_attestations<S: SchemeTypes>(
     Ok(())
 }
 
-/// Appends the attestation of a vote, whose subject begins at `place` and is followed by the attestation.
-fn push_vote<M: EncodeSize + Roundable, S: SchemeTypes>(
-    kind: u32,
+/// The number of the kind of the votes on a subject.
+fn kind_of<D: Digest>(subject: &Subject<'_, D>) -> u32
+    ensures { result ≡ kind_of (subject_value subject.now) }
+{
+    match subject {
+        Subject::Notarize { .. } => NOTARIZE,
+        Subject::Nullify { .. } => NULLIFY,
+        Subject::Finalize { .. } => FINALIZE,
+    }
+}
+
+/// How many bytes a subject has.
+fn size_of<D: Digest>(subject: &Subject<'_, D>) -> usize
+    ensures { result ≡ length (message_of (format_of ⟦<D as Read>⟧) (subject_value subject.now)) }
+{
+    match subject {
+        Subject::Notarize { proposal } => proposal.encode_size(),
+        Subject::Nullify { round } => round.encode_size(),
+        Subject::Finalize { proposal } => proposal.encode_size(),
+    }
+}
+
+/// A subject that begins at `place`.
+fn signed_at<D: Digest>(place: usize, subject: &Subject<'_, D>, is_listed: bool) -> Signed
+    ensures { result ≡ signed_at (format_of ⟦<D as Read>⟧) place (subject_value subject.now)
+        is_listed }
+{
+    Signed {
+        round: subject.round(),
+        kind: kind_of(subject),
+        place,
+        size: size_of(subject),
+        is_listed,
+    }
+}
+
+/// Appends the attestation of a vote, whose subject begins at `place` and is followed by the attestation, and returns the place
+/// behind it.
+fn push_vote<S: SchemeTypes, D: Digest>(
     place: usize,
-    subject: &M,
+    subject: &Subject<'_, D>,
     attestation: &Attestation<S>,
     places: &mut Vec<Placed>,
-) -> Result<(), AllocError>
-    requires { place + length (M.encoding subject.now ++
+) -> Result<usize, AllocError>
+    requires { place + length (message_of (format_of ⟦<D as Read>⟧) (subject_value subject.now) ++
         ⟦<Attestation<S> as Encoding>⟧.encoding attestation.now) < 2 ^ 64 }
-    ensures { OnOk result (places.new.items ≡ places.old.items ++
-        places_from (format_of ⟦<S::Signature as Read>⟧) (record {
-          round = M.round_of subject.now;
-          kind = kind;
-          place = place;
-          size = length (M.encoding subject.now);
-          is_listed = false;
-        })
-        (place + length (M.encoding subject.now)) (attestation.now ∷ [])) }
+    ensures { IfOk result (λ end.
+        (end ≡ place + length (message_of (format_of ⟦<D as Read>⟧) (subject_value subject.now) ++
+        ⟦<Attestation<S> as Encoding>⟧.encoding attestation.now)) ×
+        (places.new.items ≡ places.old.items ++
+        vote_places (format_of ⟦<D as Read>⟧) (format_of ⟦<S::Signature as Read>⟧) place
+        (subject_value subject.now) attestation.now)) }
 {
-    let size = subject.encode_size();
-    let signed = Signed {
-        round: subject.round(),
-        kind,
-        place,
-        size,
-        is_listed: false,
-    };
-    let _end = push_attestation(&signed, place + size, attestation, places)?;
-    Ok(())
+    let signed = signed_at(place, subject, false);
+    push_attestation(&signed, place + signed.size, attestation, places)
 }
 
 /// Appends the attestations of a certificate, whose subject begins at `place` and is followed by the certificate.
-fn push_certificate<M: EncodeSize + Roundable, S: Counted<D>, D: Digest>(
-    kind: u32,
+fn push_certificate<S: Counted<D>, D: Digest>(
     place: usize,
-    subject: &M,
+    subject: &Subject<'_, D>,
     certificate: &S::Certificate,
     places: &mut Vec<Placed>,
 ) -> Result<(), AllocError>
-    requires { place + length (M.encoding subject.now ++ S.Certificate.encoding certificate.now) <
-        2 ^ 64 }
+    requires { place + length (message_of (format_of ⟦<D as Read>⟧) (subject_value subject.now) ++
+        S.Certificate.encoding certificate.now) < 2 ^ 64 }
     ensures { OnOk result (places.new.items ≡ places.old.items ++
-        places_from (format_of ⟦<S::Signature as Read>⟧)
-        (record {
-          round = M.round_of subject.now;
-          kind = kind;
-          place = place;
-          size = length (M.encoding subject.now);
-          is_listed = true;
-        })
-        (place + length (M.encoding subject.now) +
-        length (number_32.encoding (length (S.listed certificate.now))))
-        (S.listed certificate.now)) }
+        certificate_places (format_of ⟦<D as Read>⟧) (format_of ⟦<S::Signature as Read>⟧) place
+        (subject_value subject.now) (S.listed certificate.now)) }
 {
-    let size = subject.encode_size();
-    let signed = Signed {
-        round: subject.round(),
-        kind,
-        place,
-        size,
-        is_listed: true,
-    };
-    let first = place + size + size_u32(S::count(certificate));
+    let signed = signed_at(place, subject, true);
+    let first = place + signed.size + size_u32(S::count(certificate));
     push_attestations(&signed, first, S::attestations(certificate), places)
 }
 
@@ -224,90 +232,18 @@ pub(crate) fn push_message<S: Counted<D>, D: Digest>(
         message.now) }
 {
     let place = place + 1;
-    match message {
-        Activity::Notarize(vote) => {
-            push_vote(NOTARIZE, place, &vote.proposal, &vote.attestation, places)
+    match message.contents() {
+        Contents::Vote(vote) => {
+            let _end = push_vote(place, &vote.subject, vote.attestation, places)?;
+            Ok(())
         }
-        Activity::Notarization(message) => {
-            push_certificate::<Proposal<D>, S, D>(
-                NOTARIZE,
-                place,
-                &message.proposal,
-                &message.certificate,
-                places,
-            )
+        Contents::Certificate(subject, certificate) => {
+            push_certificate::<S, D>(place, &subject, certificate, places)
         }
-        Activity::Certification(message) => {
-            push_certificate::<Proposal<D>, S, D>(
-                NOTARIZE,
-                place,
-                &message.proposal,
-                &message.certificate,
-                places,
-            )
-        }
-        Activity::Nullify(vote) => {
-            push_vote(NULLIFY, place, &vote.round, &vote.attestation, places)
-        }
-        Activity::Nullification(message) => {
-            push_certificate::<Round, S, D>(
-                NULLIFY,
-                place,
-                &message.round,
-                &message.certificate,
-                places,
-            )
-        }
-        Activity::Finalize(vote) => {
-            push_vote(FINALIZE, place, &vote.proposal, &vote.attestation, places)
-        }
-        Activity::Finalization(message) => {
-            push_certificate::<Proposal<D>, S, D>(
-                FINALIZE,
-                place,
-                &message.proposal,
-                &message.certificate,
-                places,
-            )
-        }
-        Activity::ConflictingNotarize(conflict) => {
-            let first = conflict.notarize_1();
-            let second = conflict.notarize_2();
-            push_vote(NOTARIZE, place, &first.proposal, &first.attestation, places)?;
-            let next = place + first.encode_size();
-            push_vote(
-                NOTARIZE,
-                next,
-                &second.proposal,
-                &second.attestation,
-                places,
-            )
-        }
-        Activity::ConflictingFinalize(conflict) => {
-            let first = conflict.finalize_1();
-            let second = conflict.finalize_2();
-            push_vote(FINALIZE, place, &first.proposal, &first.attestation, places)?;
-            let next = place + first.encode_size();
-            push_vote(
-                FINALIZE,
-                next,
-                &second.proposal,
-                &second.attestation,
-                places,
-            )
-        }
-        Activity::NullifyFinalize(conflict) => {
-            let first = conflict.nullify();
-            let second = conflict.finalize();
-            push_vote(NULLIFY, place, &first.round, &first.attestation, places)?;
-            let next = place + first.encode_size();
-            push_vote(
-                FINALIZE,
-                next,
-                &second.proposal,
-                &second.attestation,
-                places,
-            )
+        Contents::Evidence(first, second) => {
+            let next = push_vote(place, &first.subject, first.attestation, places)?;
+            let _end = push_vote(next, &second.subject, second.attestation, places)?;
+            Ok(())
         }
     }
 }

@@ -1,6 +1,6 @@
 //! Reads the messages of a stream one after another, with nothing verified, and notes where their attestations stand.
 
-ghost use Rattle.std.specs.Prelude.{◌≢◌, ◌≡◌, IfOk};
+ghost use Rattle.std.specs.Prelude.{◌≡◌, ◌+◌, ◌<◌, ◌^◌, IfOk};
 ghost use Rattle.simplex_detector.specs.Rules.{AreLawful};
 ghost use Rattle.simplex_detector.specs.declared.judging.Judging.TheVariants.{Claimed};
 ghost use Rattle.simplex_places.specs.Suspects.{AreRead};
@@ -8,13 +8,15 @@ ghost use Rattle.simplex_places.specs.Suspects.{AreRead};
 use crate::located::{Counted, Located};
 use crate::places::{Placed, push_message};
 use simplex_audit::basis::Audited;
-use simplex_base::codec::{Error, Read};
+use simplex_base::codec::Encoding;
 use simplex_detector::committees::Committees;
 use simplex_detector::detector::Detector;
 use simplex_detector::judging::Judging;
 use simplex_detector::laws::committees_are_lawful;
+use simplex_detector::rules::Judges;
 use simplex_evidence::types::Activity;
 use simplex_scheme::scheme::{Digest, SchemeTypes};
+use simplex_stream::messages::{Visitor, for_each_message};
 use std::alloc::{AllocError, Global};
 
 /// What was read of a stream.
@@ -26,6 +28,58 @@ pub struct Claims<S: SchemeTypes, D: Digest> {
     pub places: Vec<Placed>,
 }
 
+/// Reads what messages claim, one after another.
+#[derive(Drop)]
+pub struct ClaimReader<S: SchemeTypes, D: Digest> {
+    /// What was read so far.
+    pub claims: Claims<S, D>,
+    /// The place behind the last message.
+    pub place: usize,
+}
+
+impl<S: Counted<D>, D: Digest> Visitor<Activity<S, D>> for ClaimReader<S, D> {
+    ghost use Rattle.std.proofs.Common.{arith};
+    ghost use Rattle.simplex_places.specs.Claims.{ReadsClaims};
+    ghost use Rattle.simplex_places.specs.ClaimsLaws.{claims_none, claims_more};
+    ghost use Rattle.simplex_stream.specs.PlaceLaws.{room_behind};
+
+    type Context = Committees<S>;
+
+    ghost follows = { λ committees. ReadsClaims
+        (⟦<S as Judges<D>>⟧.rules_under Claimed committees)
+        ⟦<S as Located<D>>⟧.places ⟦<Activity<S, D> as Encoding>⟧.encoding };
+
+    ghost has_room = { λ state size. state.place + size < 2 ^ 64 };
+
+    fn take(
+        &mut self,
+        alloc: Global,
+        committees: &Committees<S>,
+        size: usize,
+        message: &Activity<S, D>,
+    ) -> Result<(), AllocError> {
+        push_message(self.place, message, &mut self.claims.places)?;
+        self.claims
+            .detector
+            .observe(alloc, committees, &Judging::Claimed, message)?;
+        self.place += size;
+        Ok(())
+    }
+
+    ghost none = { λ committees. claims_none
+        (⟦<S as Judges<D>>⟧.rules_under Claimed committees)
+        ⟦<S as Located<D>>⟧.places ⟦<Activity<S, D> as Encoding>⟧.encoding };
+
+    ghost more = { λ committees. claims_more
+        (⟦<S as Judges<D>>⟧.rules_under Claimed committees)
+        ⟦<S as Located<D>>⟧.places ⟦<Activity<S, D> as Encoding>⟧.encoding };
+
+    ghost less = { λ state n k room. Prim.omega (arith, room) };
+
+    ghost left = { λ committees m a b n one. room_behind ⟦<Activity<S, D> as Encoding>⟧.encoding
+        a.place b.place n m one.place_is };
+}
+
 /// The bound under which messages are read. The clause `lawful` states that the committees judge lawfully.
 pub fn reading_bound<S: Counted<D>, D: Digest>(committees: &Committees<S>) -> u32
     ensures value { result ≡ (⟦<S as Audited<D>>⟧.basis committees.now).bound }
@@ -33,16 +87,6 @@ pub fn reading_bound<S: Counted<D>, D: Digest>(committees: &Committees<S>) -> u3
 {
     committees_are_lawful::<S, D>();
     committees.bound()
-}
-
-/// Returns `AllocError` if the error of a reading is an allocation failure.
-pub(crate) fn ended(error: Error) -> Result<(), AllocError>
-    ensures { IfOk result (λ _. error ≢ Error.OutOfMemory) }
-{
-    match error {
-        Error::OutOfMemory => Err(AllocError),
-        _ => Ok(()),
-    }
 }
 
 /// Reads the messages of a stream, as many as there are. The bound is that of the committees.
@@ -57,23 +101,20 @@ pub fn read_claims<S: Counted<D>, D: Digest>(
         (⟦<S as Audited<D>>⟧.basis_under Claimed committees.now).rules
         ⟦<S as Located<D>>⟧.places stream.now claims.detector claims.places.items) }
 {
-    let mut detector = Detector::new(alloc);
-    let mut places = Vec::new(alloc);
-    let mut rest: &[u8] = stream;
-    'messages: while !rest.is_empty() {
-        let place = stream.len() - rest.len();
-        match Activity::<S, D>::read_cfg(alloc, &mut rest, &bound) {
-            Ok(message) => {
-                let placed = push_message(place, &message, &mut places);
-                let observed = detector.observe(alloc, committees, &Judging::Claimed, message);
-                placed?;
-                observed?;
-            }
-            Err(error) => {
-                ended(error)?;
-                return Ok(Claims { detector, places });
-            }
-        }
-    }
-    Ok(Claims { detector, places })
+    let mut reader = ClaimReader {
+        claims: Claims {
+            detector: Detector::new(alloc),
+            places: Vec::new(alloc),
+        },
+        place: 0,
+    };
+    for_each_message::<Activity<S, D>, ClaimReader<S, D>>(
+        alloc,
+        committees,
+        bound,
+        stream,
+        &mut reader,
+    )?;
+    let ClaimReader { claims, .. } = reader;
+    Ok(claims)
 }

@@ -135,8 +135,8 @@ fn records_by<K: Key<D, S::Signature>, S: Listing<D>, D: Digest>(
         stream.now report.now found.items) }
 {
     let evidence = report.evidence.as_slice();
-    let mut places = sought::<K, S, D>(alloc, evidence)?;
-    find::<K, S, D>(alloc, committees.bound(), stream, &mut places)?;
+    let keys = sought::<K, S, D>(alloc, evidence)?;
+    let places = find::<K, S, D>(alloc, committees.bound(), stream, keys)?;
     let found = listed(alloc, &places, evidence)?;
     Ok(found)
 }

@@ -91,7 +91,7 @@ pub fn attested<K: Key<D, S::Signature>, S: SchemeTypes, D: Digest>(
 }
 
 /// The key of a notarize.
-pub fn notarize<K: Key<D, S::Signature>, S: SchemeTypes, D: Digest>(vote: &Notarize<S, D>) -> K
+fn notarize<K: Key<D, S::Signature>, S: SchemeTypes, D: Digest>(vote: &Notarize<S, D>) -> K
     ensures { result ≡ K.key_of (notarize_vote vote.now) }
 {
     let subject = Subject::Notarize {
@@ -101,7 +101,7 @@ pub fn notarize<K: Key<D, S::Signature>, S: SchemeTypes, D: Digest>(vote: &Notar
 }
 
 /// The key of a nullify.
-pub fn nullify<K: Key<D, S::Signature>, S: SchemeTypes, D: Digest>(vote: &Nullify<S>) -> K
+fn nullify<K: Key<D, S::Signature>, S: SchemeTypes, D: Digest>(vote: &Nullify<S>) -> K
     ensures { result ≡ K.key_of (nullify_vote vote.now) }
 {
     let subject: Subject<'_, D> = Subject::Nullify { round: vote.round };
@@ -109,7 +109,7 @@ pub fn nullify<K: Key<D, S::Signature>, S: SchemeTypes, D: Digest>(vote: &Nullif
 }
 
 /// The key of a finalize.
-pub fn finalize<K: Key<D, S::Signature>, S: SchemeTypes, D: Digest>(vote: &Finalize<S, D>) -> K
+fn finalize<K: Key<D, S::Signature>, S: SchemeTypes, D: Digest>(vote: &Finalize<S, D>) -> K
     ensures { result ≡ K.key_of (finalize_vote vote.now) }
 {
     let subject = Subject::Finalize {

@@ -12,6 +12,7 @@ use simplex_base::codec::{EncodeSize, Encoding, Error, Fixed, Read, Write};
 use simplex_base::positions::{Round, Roundable};
 use simplex_base::values::EqByParts;
 use simplex_scheme::scheme::{CertificateScheme, Digest, Scheme, Subject};
+use simplex_stream::messages::Message;
 use simplex_votes::map_ok;
 use simplex_votes::types::{
     Finalization, Finalize, Notarization, Notarize, Nullification, Nullify,
@@ -301,4 +302,10 @@ impl<S: CertificateScheme, D: Digest> Tagged for Activity<S, D> {
             _ => Err(Error::Invalid("consensus::simplex::Activity", "Invalid type")),
         }
     }
+}
+
+impl<S: CertificateScheme, D: Digest> Message for Activity<S, D> {
+    ghost use Rattle.std.proofs.Common.{arith};
+
+    ghost never_empty = { λ message. Prim.omega arith };
 }

@@ -16,7 +16,8 @@ returns-in_err-committees-clause-ends g c =
 
 pub returns-in_err-summary-in-Full-clause-ends : goal.returns-in_err-summary-in-Full-clause-ends
 returns-in_err-summary-in-Full-clause-ends g c =
-    let p = err_from_is_err_and c.from_residual-in_err-summary-in-Full.result c.from_residual-in_err-summary-in-Full.ensures.1 in
+    let p =
+    err_from_is_err_and c.from_residual-in_err-summary-in-Full.result c.from_residual-in_err-summary-in-Full.ensures.1 in
     let input = c.run.new.reader in
     let output = c.run.new.writer in
     let ran = c.in_err-summary-in-Full.ensures in
@@ -25,12 +26,27 @@ returns-in_err-summary-in-Full-clause-ends g c =
     c.in_ok-committees.committees c.in_err-summary-in-Full.field-0.0 c.in_ok-committees.ensures.committees
     (λ e. ran.read_failed.1 (ap Err e)) (λ e. ran.too_long (ap Err e)) (λ other. ran.nothing other)
     (λ e.
-    let (bytes, text, summary, consumed, ended, account, beginning) = ran.beginning (ap Err e) in
-    (text, summary.fault, record { committees = c.in_ok-committees.committees; input = bytes; summary = summary; named = c.in_ok-committees.ensures.committees; consumed = consumed; ended = ended; account = account; fault_is = refl }, beginning, ran.write_failed.1 (ap Err e))))
+    let (bytes, text, summary, consumed, ended, account, beginning) = ran.beginning (ap Err e) in (
+      text,
+      summary.fault,
+      record {
+        committees = c.in_ok-committees.committees;
+        input = bytes;
+        summary = summary;
+        named = c.in_ok-committees.ensures.committees;
+        consumed = consumed;
+        ended = ended;
+        account = account;
+        fault_is = refl;
+      },
+      beginning,
+      ran.write_failed.1 (ap Err e),
+    )))
 
 pub returns-in_err-summary-in-Deferred-clause-ends : goal.returns-in_err-summary-in-Deferred-clause-ends
 returns-in_err-summary-in-Deferred-clause-ends g c =
-    let p = err_from_is_err_and c.from_residual-in_err-summary-in-Deferred.result c.from_residual-in_err-summary-in-Deferred.ensures.1 in
+    let p = err_from_is_err_and c.from_residual-in_err-summary-in-Deferred.result
+    c.from_residual-in_err-summary-in-Deferred.ensures.1 in
     let input = c.run_deferred.new.reader in
     let output = c.run_deferred.new.writer in
     let ran = c.in_err-summary-in-Deferred.ensures in
@@ -39,14 +55,30 @@ returns-in_err-summary-in-Deferred-clause-ends g c =
     c.in_ok-committees.committees c.in_err-summary-in-Deferred.field-0.0 c.in_ok-committees.ensures.committees
     (λ e. ran.read_failed.1 (ap Err e)) (λ e. absurd (ran.too_long (ap Err e))) (λ other. ran.nothing other)
     (λ e.
-    let (bytes, text, summary, consumed, ended, account, beginning) = ran.beginning (ap Err e) in
-    (text, summary.fault, record { committees = c.in_ok-committees.committees; input = bytes; summary = summary; named = c.in_ok-committees.ensures.committees; consumed = consumed; ended = ended; account = account; fault_is = refl }, beginning, ran.write_failed.1 (ap Err e))))
+    let (bytes, text, summary, consumed, ended, account, beginning) = ran.beginning (ap Err e) in (
+      text,
+      summary.fault,
+      record {
+        committees = c.in_ok-committees.committees;
+        input = bytes;
+        summary = summary;
+        named = c.in_ok-committees.ensures.committees;
+        consumed = consumed;
+        ended = ended;
+        account = account;
+        fault_is = refl;
+      },
+      beginning,
+      ran.write_failed.1 (ap Err e),
+    )))
 
 pub returns-in_err-summary-in-Full-clause-untouched : goal.returns-in_err-summary-in-Full-clause-untouched
-returns-in_err-summary-in-Full-clause-untouched g c = λ none. absurd (committees-named _ _ c.in_ok-committees.ensures.committees none)
+returns-in_err-summary-in-Full-clause-untouched g c = λ none.
+    absurd (committees-named _ _ c.in_ok-committees.ensures.committees none)
 
 pub returns-in_err-summary-in-Deferred-clause-untouched : goal.returns-in_err-summary-in-Deferred-clause-untouched
-returns-in_err-summary-in-Deferred-clause-untouched g c = λ none. absurd (committees-named _ _ c.in_ok-committees.ensures.committees none)
+returns-in_err-summary-in-Deferred-clause-untouched g c = λ none.
+    absurd (committees-named _ _ c.in_ok-committees.ensures.committees none)
 
 pub returns-in-Full-clause-untouched : goal.returns-in-Full-clause-untouched
 returns-in-Full-clause-untouched g c = λ none. absurd (committees-named _ _ c.in_ok-committees.ensures.committees none)

@@ -8,5 +8,8 @@ use Rattle.audit_cli.proofs.command.say.Goals as goal
 
 pub parts-preserved-in-Ok : goal.parts-preserved-in-Ok
 parts-preserved-in-Ok g c =
-    let next = rw take_rest at c.in-Ok.ensures.bytes in
-    (search rules, subst (Appends (g.E.Write.contents (inner_of c.args.errors.now)) (g.E.Write.contents (inner_of c.write.new.self))) (sym (take-add c.parts.count c.in-Ok.taken c.args.text.now)) (Appends-trans _ _ _ _ _ c.parts.invariant.1 next))
+    let next = rw take_rest at c.in-Ok.ensures.bytes in (
+      search rules,
+      subst (Appends (g.E.Write.contents (inner_of c.args.errors.now)) (g.E.Write.contents (inner_of c.write.new.self)))
+          (sym (take-add c.parts.count c.in-Ok.taken c.args.text.now)) (Appends-trans _ _ _ _ _ c.parts.invariant.1 next),
+    )

@@ -4,7 +4,9 @@ use Rattle.simplex_audit.specs.Watched.{inner_of}
 use Rattle.audit_cli.proofs.command.say.Given as goal
 
 abbrev pub invariant-parts : goal.invariant-parts
-invariant-parts g l = (l.count ≤ length l.text) × Appends (g.E.Write.contents (inner_of l.fn.errors)) (g.E.Write.contents (inner_of l.errors)) (take l.count l.text)
+invariant-parts g l =
+    (l.count ≤ length l.text)
+    × Appends (g.E.Write.contents (inner_of l.fn.errors)) (g.E.Write.contents (inner_of l.errors)) (take l.count l.text)
 
 -- a write takes a byte at least, or uses up one of those that are made again
 abbrev pub decreases-parts : goal.decreases-parts

@@ -16,8 +16,10 @@ returns-then-is_group-clause-group c =
 
 pub texts-preserved : goal.texts-preserved
 texts-preserved c =
-    All-more (λ (text : String Global). BeginsGroup (string_bytes text) → ⊥) c.args.texts.now c.texts.i c.index-texts-i.result c.texts-test.true c.texts.invariant
-    (λ begins. false≢true (sym c.if-is_group.false ∙ c.is_group.ensures.1 (subst BeginsGroup (sym (c.as_str.ensures.value ∙ ap string_bytes c.index-texts-i.is)) begins)))
+    All-more (λ (text : String Global). BeginsGroup (string_bytes text) → ⊥) c.args.texts.now c.texts.i c.index-texts-i.result
+    c.texts-test.true c.texts.invariant
+    (λ begins. false≢true (sym c.if-is_group.false
+    ∙ c.is_group.ensures.1 (subst BeginsGroup (sym (c.as_str.ensures.value ∙ ap string_bytes c.index-texts-i.is)) begins)))
 
 pub returns-clause-keys : goal.returns-clause-keys
 returns-clause-keys c = no_group c.args.texts.now c.texts.i c.texts-test.false c.texts.invariant

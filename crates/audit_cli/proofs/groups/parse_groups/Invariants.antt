@@ -8,7 +8,8 @@ use Rattle.audit_cli.proofs.groups.parse_groups.Given as goal
 
 abbrev pub invariant-groups : goal.invariant-groups
 invariant-groups l = record {
-  named : (more : List (ℕ × PlainScheme)) → AreGroups l.namespace (map string_bytes l.rest) more → AreGroups l.namespace (map string_bytes l.texts) (l.pairs.items ++ more);
+  named : (more : List (ℕ × PlainScheme)) → AreGroups l.namespace (map string_bytes l.rest) more →
+      AreGroups l.namespace (map string_bytes l.texts) (l.pairs.items ++ more);
   rising : AreRising l.pairs.items;
   read : AreRead l.namespace (map string_bytes l.texts) (map string_bytes l.rest) l.pairs.items;
   only : Continues l.namespace (map string_bytes l.texts) (map string_bytes l.rest) l.pairs.items;

@@ -10,6 +10,8 @@ texts-preserved c =
     let text = c.text-item.result in
     let behind = map string_bytes (drop (c.texts.text-index + 1) c.args.texts.now) in
     let parts : map string_bytes (drop c.texts.text-index c.args.texts.now) ≡ string_bytes text ∷ behind =
-    ap (map string_bytes) (drop_more c.args.texts.now c.texts.text-index text c.texts-test.true) ∙ ap (λ t. string_bytes t ∷ behind) (sym c.text-item.is) in
-    let named = with_keys-named keys (string_bytes text) behind c.in-Ok.field-0 (ap key_named (sym c.as_str.ensures.value) ∙ c.in-Ok.ensures.key) in
+    ap (map string_bytes) (drop_more c.args.texts.now c.texts.text-index text c.texts-test.true)
+    ∙ ap (λ t. string_bytes t ∷ behind) (sym c.text-item.is) in
+    let named = with_keys-named keys (string_bytes text) behind c.in-Ok.field-0
+    (ap key_named (sym c.as_str.ensures.value) ∙ c.in-Ok.ensures.key) in
     (keys ++ c.in-Ok.field-0 ∷ [], named ∙ (ap (λ (ts : List (List ℕ)). with_keys keys (keys_named ts)) (sym parts) ∙ is))

@@ -20,7 +20,8 @@ returns-in_err-keys-clause-memory c = λ e.
 
 pub returns-in-Ok-clause-named : goal.returns-in-Ok-clause-named
 returns-in-Ok-clause-named c =
-    let sizes = size-named c.args.texts.now c.in_ok-keys.keys.items c.in-Ok.keys c.in_ok-keys.ensures.keys c.in-Ok.ensures.same (c.if-not-is_committee_size.ensures.0 refl) in (
+    let sizes = size-named c.args.texts.now c.in_ok-keys.keys.items c.in-Ok.keys c.in_ok-keys.ensures.keys c.in-Ok.ensures.same
+    (c.if-not-is_committee_size.ensures.0 refl) in (
       c.in_ok-keys.keys.items,
       record {
         named = c.in_ok-keys.ensures.keys;
@@ -32,9 +33,11 @@ returns-in-Ok-clause-named c =
 
 pub returns-in-Ok-clause-size : goal.returns-in-Ok-clause-size
 returns-in-Ok-clause-size c =
-    let sizes = size-named c.args.texts.now c.in_ok-keys.keys.items c.in-Ok.keys c.in_ok-keys.ensures.keys c.in-Ok.ensures.same (c.if-not-is_committee_size.ensures.0 refl) in
+    let sizes = size-named c.args.texts.now c.in_ok-keys.keys.items c.in-Ok.keys c.in_ok-keys.ensures.keys c.in-Ok.ensures.same
+    (c.if-not-is_committee_size.ensures.0 refl) in
     sizes.1
 
 pub returns-in-Err-clause-usage : goal.returns-in-Err-clause-usage
 returns-in-Err-clause-usage c = λ e.
-    no_keys-repeated _ _ c.in_ok-keys.ensures.keys (λ apart. false≢true (c.in-Err.ensures.distinct.1 (IsDistinct-from_AllPairs bytes_eq-Decides _ apart)))
+    no_keys-repeated _ _ c.in_ok-keys.ensures.keys
+    (λ apart. false≢true (c.in-Err.ensures.distinct.1 (IsDistinct-from_AllPairs bytes_eq-Decides _ apart)))

@@ -9,12 +9,15 @@ use Rattle.audit_cli.proofs.start.start.Goals as goal
 
 pub returns-in-Ok-without_name-clause-refused : goal.returns-in-Ok-without_name-clause-refused
 returns-in-Ok-without_name-clause-refused g c =
-    let words : words_of (into_iter_items c.in-Ok.given) ≡ map string_bytes c.as_slice.result.now = sym (ap (map string_bytes) c.as_slice.ensures.value ∙ c.in-Ok-without_name.ensures) in
-    rw (c.in-Ok.is, c.number-in-Ok-without_name.ensures) (λ none. refused-number _ (c.command.ensures.refused (subst AreNoArguments words none)))
+    let words : words_of (into_iter_items c.in-Ok.given) ≡ map string_bytes c.as_slice.result.now =
+    sym (ap (map string_bytes) c.as_slice.ensures.value ∙ c.in-Ok-without_name.ensures) in
+    rw (c.in-Ok.is, c.number-in-Ok-without_name.ensures)
+    (λ none. refused-number _ (c.command.ensures.refused (subst AreNoArguments words none)))
 
 pub returns-in-Ok-without_name-clause-untouched : goal.returns-in-Ok-without_name-clause-untouched
 returns-in-Ok-without_name-clause-untouched g c =
-    let words : words_of (into_iter_items c.in-Ok.given) ≡ map string_bytes c.as_slice.result.now = sym (ap (map string_bytes) c.as_slice.ensures.value ∙ c.in-Ok-without_name.ensures) in
+    let words : words_of (into_iter_items c.in-Ok.given) ≡ map string_bytes c.as_slice.result.now =
+    sym (ap (map string_bytes) c.as_slice.ensures.value ∙ c.in-Ok-without_name.ensures) in
     rw c.in-Ok.is (λ none. c.command.ensures.untouched (subst AreNoArguments words none))
 
 pub returns-in-Ok-without_name-clause-read_failed : goal.returns-in-Ok-without_name-clause-read_failed
@@ -29,4 +32,9 @@ returns-in-Ok-without_name-clause-write_failed g c = λ failed.
 
 pub returns-in-Err-without_name-clause-ends : goal.returns-in-Err-without_name-clause-ends
 returns-in-Err-without_name-clause-ends g c =
-    rw c.in-Ok.is (Err failures.OutOfMemory, c.number-in-Err-without_name.ensures ∙ ap number_of c.conclude-in-Err-without_name.ensures.status, c.conclude-in-Err-without_name.ensures.said, Keeps-refl _)
+    rw c.in-Ok.is (
+      Err failures.OutOfMemory,
+      c.number-in-Err-without_name.ensures ∙ ap number_of c.conclude-in-Err-without_name.ensures.status,
+      c.conclude-in-Err-without_name.ensures.said,
+      Keeps-refl _,
+    )

@@ -12,7 +12,8 @@ returns-in_err-committees-clause-usage c = λ usage.
     let failed = sym (p.1 ∙ ap Err p.2) ∙ usage in
     let is : c.in_err-committees.field-0.0 ≡ failures.Usage = cc in
     let some = eqb-false (length c.args.arguments.now) 0 (sym c.is_empty.ensures ∙ c.if-is_empty.false) in
-    not_given _ (λ none. some (sym (length-map c.args.arguments.now string_bytes) ∙ ap length none)) (c.in_err-committees.ensures.usage (ap Err is))
+    not_given _ (λ none. some (sym (length-map c.args.arguments.now string_bytes) ∙ ap length none))
+    (c.in_err-committees.ensures.usage (ap Err is))
 
 pub returns-in_err-committees-clause-memory : goal.returns-in_err-committees-clause-memory
 returns-in_err-committees-clause-memory c = λ memory.

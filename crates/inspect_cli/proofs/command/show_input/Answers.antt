@@ -23,8 +23,15 @@ returns-in_err-fault-clause-ends g c =
     rw (p.1, p.2) (ends_given_up _ _
     (reader_use g.R.Read.remaining c.args.input.now input) (writer_use g.W.Write.contents c.args.output.now output)
     c.in_err-fault.field-0.0
-    (λ e. c.in_err-fault.ensures.read_failed.1 (ap Err e)) (λ e. c.in_err-fault.ensures.too_long (ap Err e)) (λ e. c.in_err-fault.ensures.write_failed.1 (ap Err e))
-    (record { committees = c.in_ok-committees.committees; input = bytes; given = c.in_ok-committees.ensures.given; input_is = is; written = begun }))
+    (λ e. c.in_err-fault.ensures.read_failed.1 (ap Err e)) (λ e. c.in_err-fault.ensures.too_long (ap Err e))
+    (λ e. c.in_err-fault.ensures.write_failed.1 (ap Err e))
+    (record {
+      committees = c.in_ok-committees.committees;
+      input = bytes;
+      given = c.in_ok-committees.ensures.given;
+      input_is = is;
+      written = begun;
+    }))
 
 pub returns-in_err-fault-clause-untouched : goal.returns-in_err-fault-clause-untouched
 returns-in_err-fault-clause-untouched g c = λ none. absurd (given_stands _ _ c.in_ok-committees.ensures.given none)
@@ -35,4 +42,12 @@ returns-clause-untouched g c = λ none. absurd (given_stands _ _ c.in_ok-committ
 pub returns-clause-ends : goal.returns-clause-ends
 returns-clause-ends g c =
     let (bytes, is, text) = c.in_ok-fault.ensures.whole in
-    record { committees = c.in_ok-committees.committees; input = bytes; given = c.in_ok-committees.ensures.given; input_is = is; ended = c.in_ok-fault.ensures.end; written = text; flushed = c.in_ok-fault.ensures.flushed }
+    record {
+      committees = c.in_ok-committees.committees;
+      input = bytes;
+      given = c.in_ok-committees.ensures.given;
+      input_is = is;
+      ended = c.in_ok-fault.ensures.end;
+      written = text;
+      flushed = c.in_ok-fault.ensures.flushed;
+    }

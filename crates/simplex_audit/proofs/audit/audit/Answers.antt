@@ -2,13 +2,16 @@ use Rattle.std.proofs.Common.{arith}
 use Rattle.simplex_detector.specs.Committees.{Schedule, rules_of}
 use Rattle.simplex_detector.specs.Rules.{Rules}
 use Rattle.simplex_audit.proofs.AccusedLemmas.{if_ok, if_both, audited, accused_stay}
-use Rattle.simplex_audit.proofs.StreamLemmas.{messages_once}
+use Rattle.simplex_stream.specs.StreamLaws.{messages_once}
 use Rattle.simplex_audit.proofs.audit.audit.Given as given
 use Rattle.simplex_audit.proofs.audit.audit.Goals as goal
 
 -- the rules by which messages are judged
-abbrev rules : (g : given.Over) → Schedule g.row.S.Denot → Rules g.row.S.Denot g.row.D.Denot g.row.S-Certificate.Denot g.row.S-PublicKey.Denot g.row.S-Signature.Denot
-rules g schedule = rules_of g.D.PartialEq.eq g.S.CertificateScheme.keys g.S.Scheme.good g.S.CertificateVerifier.certified g.S.Listing.listed schedule
+abbrev rules : (g : given.Over) → Schedule g.row.S.Denot →
+    Rules g.row.S.Denot g.row.D.Denot g.row.S-Certificate.Denot g.row.S-PublicKey.Denot g.row.S-Signature.Denot
+rules g schedule =
+    rules_of g.D.PartialEq.eq g.S.CertificateScheme.keys g.S.Scheme.good g.S.CertificateVerifier.certified
+    g.S.Listing.listed schedule
 
 pub returns-clause-audit : goal.returns-clause-audit
 returns-clause-audit g c =
@@ -45,20 +48,24 @@ pub returns-clause-again : goal.returns-clause-again
 returns-clause-again g c = if_ok _ _ (λ report audit. audit.again) c.audit_stream.result (returns-clause-audit g c)
 
 pub returns-clause-single : goal.returns-clause-single
-returns-clause-single g c = λ messages others rest left are are'. messages_once _ c.audit_stream.ensures.readable c.args.stream.now rest left messages others are are'
+returns-clause-single g c = λ messages others rest left are are'.
+    messages_once _ c.audit_stream.ensures.readable c.args.stream.now rest left messages others are are'
 
 pub returns-clause-any_order : goal.returns-clause-any_order
 returns-clause-any_order g c = λ messages. c.accused_stay.ensures.any_order (rules g c.args.committees.now) messages
 
 pub returns-clause-stays : goal.returns-clause-stays
 returns-clause-stays g c = λ more n messages rest are later left are'.
-    accused_stay _ (rules g c.args.committees.now) c.audit_stream.ensures.readable c.args.stream.now more rest left messages later (c.accused_stay.ensures.later (rules g c.args.committees.now) messages) are are' n
+    accused_stay _ (rules g c.args.committees.now) c.audit_stream.ensures.readable c.args.stream.now more rest left messages
+    later (c.accused_stay.ensures.later (rules g c.args.committees.now) messages) are are' n
 
 pub returns-clause-enough : goal.returns-clause-enough
-returns-clause-enough g c = λ messages rest are. c.certificates_are_accountable.ensures.enough (rules g c.args.committees.now) messages c.audit_stream.ensures.lawful
+returns-clause-enough g c = λ messages rest are.
+    c.certificates_are_accountable.ensures.enough (rules g c.args.committees.now) messages c.audit_stream.ensures.lawful
 
 pub returns-clause-accountable : goal.returns-clause-accountable
-returns-clause-accountable g c = λ messages rest are. c.certificates_are_accountable.ensures.signers (rules g c.args.committees.now) messages c.audit_stream.ensures.lawful
+returns-clause-accountable g c = λ messages rest are.
+    c.certificates_are_accountable.ensures.signers (rules g c.args.committees.now) messages c.audit_stream.ensures.lawful
 
 pub returns-clause-determined : goal.returns-clause-determined
 returns-clause-determined g c = record {

@@ -9,7 +9,10 @@ pub returns-clause-signers : goal.returns-clause-signers
 returns-clause-signers g c = All-contains_from_tree_list signer_cmp_total _ c.in_ok-signers.signers c.in_ok-signers.ensures
 
 pub returns-clause-only_rounds : goal.returns-clause-only_rounds
-returns-clause-only_rounds g c round has = (btree_set_contains_from_list round_cmp_total exact_rounds _ c.in_ok-rounds.rounds c.in_ok-rounds.ensures round).0 has
+returns-clause-only_rounds g c round has =
+    (btree_set_contains_from_list round_cmp_total exact_rounds _ c.in_ok-rounds.rounds c.in_ok-rounds.ensures round).0 has
 
 pub returns-clause-only_signers : goal.returns-clause-only_signers
-returns-clause-only_signers g c round signer has = (btree_set_contains_from_list signer_cmp_total exact_signers _ c.in_ok-signers.signers c.in_ok-signers.ensures (round, signer)).0 has
+returns-clause-only_signers g c round signer has =
+    (btree_set_contains_from_list signer_cmp_total exact_signers _ c.in_ok-signers.signers c.in_ok-signers.ensures
+    (round, signer)).0 has

@@ -7,4 +7,5 @@ returns-clause-any_order g c rules messages = accused_in_any_order rules message
 
 pub returns-clause-later : goal.returns-clause-later
 returns-clause-later g c rules messages more n h =
-    ap (λ vs. is_accused rules.eq vs n) (valid_votes-append rules messages more) ∙ accused_by_more rules.eq _ (valid_votes rules messages) (Contains-append_left (valid_votes rules messages) (valid_votes rules more)) n h
+    ap (λ vs. is_accused rules.eq vs n) (valid_votes-append rules messages more) ∙ accused_by_more rules.eq _
+    (valid_votes rules messages) (Contains-append_left (valid_votes rules messages) (valid_votes rules more)) n h

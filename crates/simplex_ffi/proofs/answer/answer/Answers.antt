@@ -11,7 +11,8 @@ returns-then-put-clause-audited g c = λ _.
       text_is = inl (
         subst (λ (t : List ℕ). length t ≤ length c.args.buffer.now) same (c.put.ensures.fits c.if-put.true),
         c.ended.ensures,
-        subst (λ (t : List ℕ). c.put.new.buffer ≡ t ++ drop (length t) c.args.buffer.now) same (c.put.ensures.there c.if-put.true),
+        subst (λ (t : List ℕ). c.put.new.buffer ≡ t ++ drop (length t) c.args.buffer.now) same
+            (c.put.ensures.there c.if-put.true),
       );
     }
 

@@ -15,7 +15,8 @@ returns-then-put-clause-recorded g c = λ _.
       records_are = inl (
         subst (λ (found : List Record). length found ≤ length c.args.buffer.now) same (c.put.ensures.fits c.if-put.true),
         c.ended.ensures,
-        subst (λ (found : List Record). c.put.new.buffer ≡ found ++ drop (length found) c.args.buffer.now) same (c.put.ensures.there c.if-put.true),
+        subst (λ (found : List Record). c.put.new.buffer ≡ found ++ drop (length found) c.args.buffer.now) same
+            (c.put.ensures.there c.if-put.true),
       );
     }
 

@@ -10,33 +10,52 @@ use Rattle.simplex_inspect.proofs.input.inspect_input.Invariants.{lines}
 use Rattle.simplex_inspect.proofs.input.inspect_input.Goals as goal
 
 pub reads-init : goal.reads-init
-reads-init g c = (search rules, search rules, search rules, ([], Consumes-nil _, nothing_left (lines g c.args.committees.now) _ _ _ c.nothing-left.ensures.offset c.nothing-left.ensures.held))
+reads-init g c = (
+  search rules,
+  search rules,
+  search rules,
+  (
+    [],
+    Consumes-nil _,
+    nothing_left (lines g c.args.committees.now) _ _ _ c.nothing-left.ensures.offset c.nothing-left.ensures.held,
+  ),
+)
 
 pub returns-in_err-piece-clause-begun : goal.returns-in_err-piece-clause-begun
 returns-in_err-piece-clause-begun g c =
     let bytes = g.R.Read.remaining (inner_of c.args.reader.now) in
     let start = g.W.Write.contents (inner_of c.args.writer.now) in
     let shown = lines g c.args.committees.now in
-    if_err c.from_residual.result _ (input_begun shown bytes bytes [] start start (Consumes-nil bytes) (begun_now shown [] 0 [] start start (nothing_left shown 0 [] start refl refl)))
+    if_err c.from_residual.result _ (input_begun shown bytes bytes [] start start (Consumes-nil bytes)
+    (begun_now shown [] 0 [] start start (nothing_left shown 0 [] start refl refl)))
 
 pub returns-in_err-piece-clause-taken : goal.returns-in_err-piece-clause-taken
 returns-in_err-piece-clause-taken g c =
     let bytes = g.R.Read.remaining (inner_of c.args.reader.now) in
     let start = g.W.Write.contents (inner_of c.args.writer.now) in
     let shown = lines g c.args.committees.now in
-    if_err c.from_residual.result _ ([], Consumes-nil bytes, part_of_begun shown [] start start (begun_now shown [] 0 [] start start (nothing_left shown 0 [] start refl refl)))
+    if_err c.from_residual.result _ (
+      [],
+      Consumes-nil bytes,
+      part_of_begun shown [] start start (begun_now shown [] 0 [] start start (nothing_left shown 0 [] start refl refl)),
+    )
 
 pub returns-in_err-count-clause-begun : goal.returns-in_err-count-clause-begun
 returns-in_err-count-clause-begun g c =
     let (input, consumed, far) = c.reads.invariant.3 in
     let shown = lines g c.args.committees.now in
-    if_err c.from_residual-in_err-count.result _ (input_begun shown _ _ input _ _ (Consumes-kept _ _ _ _ consumed c.in_err-count.ensures.kept) (begun_now shown input c.reads.left.offset c.reads.left.held.items _ _ far))
+    if_err c.from_residual-in_err-count.result _ (input_begun shown _ _ input _ _ (Consumes-kept _ _ _ _ consumed
+    c.in_err-count.ensures.kept) (begun_now shown input c.reads.left.offset c.reads.left.held.items _ _ far))
 
 pub returns-in_err-count-clause-taken : goal.returns-in_err-count-clause-taken
 returns-in_err-count-clause-taken g c =
     let (input, consumed, far) = c.reads.invariant.3 in
     let shown = lines g c.args.committees.now in
-    if_err c.from_residual-in_err-count.result _ (input, Consumes-kept _ _ _ _ consumed c.in_err-count.ensures.kept, part_of_begun shown input _ _ (begun_now shown input c.reads.left.offset c.reads.left.held.items _ _ far))
+    if_err c.from_residual-in_err-count.result _ (
+      input,
+      Consumes-kept _ _ _ _ consumed c.in_err-count.ensures.kept,
+      part_of_begun shown input _ _ (begun_now shown input c.reads.left.offset c.reads.left.held.items _ _ far),
+    )
 
 pub returns-in_err-left-clause-begun : goal.returns-in_err-left-clause-begun
 returns-in_err-left-clause-begun g c =
@@ -45,9 +64,13 @@ returns-in_err-left-clause-begun g c =
     let within = c.in_ok-count.ensures.within in
     let long = c.as_mut_slice.ensures.len in
     let same : take c.in_ok-count.count c.deref.result.now ≡ take c.in_ok-count.count c.read_some.new.piece =
-    ap (λ (xs : List ℕ). take c.in_ok-count.count xs) c.deref.ensures.value ∙ front_of c.read_some.new.piece _ c.in_ok-count.count _ within (omega arith) in
-    let came = subst (Consumes (g.R.Read.remaining (inner_of c.reads.reader)) (g.R.Read.remaining (inner_of c.read_some.new.reader))) (sym same) c.in_ok-count.ensures.bytes in
-    if_err c.from_residual-in_err-left.result _ (input_begun shown _ _ (input ++ _) _ _ (Consumes-trans _ _ _ _ _ consumed came) (c.in_err-left.ensures.begun input _ far))
+    ap (λ (xs : List ℕ). take c.in_ok-count.count xs) c.deref.ensures.value
+    ∙ front_of c.read_some.new.piece _ c.in_ok-count.count _ within (omega arith) in
+    let came =
+    subst (Consumes (g.R.Read.remaining (inner_of c.reads.reader)) (g.R.Read.remaining (inner_of c.read_some.new.reader)))
+    (sym same) c.in_ok-count.ensures.bytes in
+    if_err c.from_residual-in_err-left.result _
+    (input_begun shown _ _ (input ++ _) _ _ (Consumes-trans _ _ _ _ _ consumed came) (c.in_err-left.ensures.begun input _ far))
 
 pub returns-in_err-left-clause-taken : goal.returns-in_err-left-clause-taken
 returns-in_err-left-clause-taken g c =
@@ -56,9 +79,16 @@ returns-in_err-left-clause-taken g c =
     let within = c.in_ok-count.ensures.within in
     let long = c.as_mut_slice.ensures.len in
     let same : take c.in_ok-count.count c.deref.result.now ≡ take c.in_ok-count.count c.read_some.new.piece =
-    ap (λ (xs : List ℕ). take c.in_ok-count.count xs) c.deref.ensures.value ∙ front_of c.read_some.new.piece _ c.in_ok-count.count _ within (omega arith) in
-    let came = subst (Consumes (g.R.Read.remaining (inner_of c.reads.reader)) (g.R.Read.remaining (inner_of c.read_some.new.reader))) (sym same) c.in_ok-count.ensures.bytes in
-    if_err c.from_residual-in_err-left.result _ (input ++ _, Consumes-trans _ _ _ _ _ consumed came, part_of_begun shown (input ++ _) _ _ (c.in_err-left.ensures.begun input _ far))
+    ap (λ (xs : List ℕ). take c.in_ok-count.count xs) c.deref.ensures.value
+    ∙ front_of c.read_some.new.piece _ c.in_ok-count.count _ within (omega arith) in
+    let came =
+    subst (Consumes (g.R.Read.remaining (inner_of c.reads.reader)) (g.R.Read.remaining (inner_of c.read_some.new.reader)))
+    (sym same) c.in_ok-count.ensures.bytes in
+    if_err c.from_residual-in_err-left.result _ (
+      input ++ _,
+      Consumes-trans _ _ _ _ _ consumed came,
+      part_of_begun shown (input ++ _) _ _ (c.in_err-left.ensures.begun input _ far),
+    )
 
 pub returns-in_err-left-clause-too_long : goal.returns-in_err-left-clause-too_long
 returns-in_err-left-clause-too_long g c = λ e.
@@ -68,8 +98,11 @@ returns-in_err-left-clause-too_long g c = λ e.
     let within = c.in_ok-count.ensures.within in
     let long = c.as_mut_slice.ensures.len in
     let same : take c.in_ok-count.count c.deref.result.now ≡ take c.in_ok-count.count c.read_some.new.piece =
-    ap (λ (xs : List ℕ). take c.in_ok-count.count xs) c.deref.ensures.value ∙ front_of c.read_some.new.piece _ c.in_ok-count.count _ within (omega arith) in
-    let came = subst (Consumes (g.R.Read.remaining (inner_of c.reads.reader)) (g.R.Read.remaining (inner_of c.read_some.new.reader))) (sym same) c.in_ok-count.ensures.bytes in
+    ap (λ (xs : List ℕ). take c.in_ok-count.count xs) c.deref.ensures.value
+    ∙ front_of c.read_some.new.piece _ c.in_ok-count.count _ within (omega arith) in
+    let came =
+    subst (Consumes (g.R.Read.remaining (inner_of c.reads.reader)) (g.R.Read.remaining (inner_of c.read_some.new.reader)))
+    (sym same) c.in_ok-count.ensures.bytes in
     (input ++ _, rw length-append (omega (arith, seen, many)), Consumes-trans _ _ _ _ _ consumed came)
 
 pub reads-preserved : goal.reads-preserved
@@ -78,35 +111,55 @@ reads-preserved g c =
     let within = c.in_ok-count.ensures.within in
     let long = c.as_mut_slice.ensures.len in
     let same : take c.in_ok-count.count c.deref.result.now ≡ take c.in_ok-count.count c.read_some.new.piece =
-    ap (λ (xs : List ℕ). take c.in_ok-count.count xs) c.deref.ensures.value ∙ front_of c.read_some.new.piece _ c.in_ok-count.count _ within (omega arith) in
-    let came = subst (Consumes (g.R.Read.remaining (inner_of c.reads.reader)) (g.R.Read.remaining (inner_of c.read_some.new.reader))) (sym same) c.in_ok-count.ensures.bytes in
-    (search rules, search rules, search rules, (input ++ _, Consumes-trans _ _ _ _ _ consumed came, c.in_ok-left.ensures.written input _ far))
+    ap (λ (xs : List ℕ). take c.in_ok-count.count xs) c.deref.ensures.value
+    ∙ front_of c.read_some.new.piece _ c.in_ok-count.count _ within (omega arith) in
+    let came =
+    subst (Consumes (g.R.Read.remaining (inner_of c.reads.reader)) (g.R.Read.remaining (inner_of c.read_some.new.reader)))
+    (sym same) c.in_ok-count.ensures.bytes in (
+      search rules,
+      search rules,
+      search rules,
+      (input ++ _, Consumes-trans _ _ _ _ _ consumed came, c.in_ok-left.ensures.written input _ far),
+    )
 
 pub returns-then-count-eq0-clause-whole : goal.returns-then-count-eq0-clause-whole
 returns-then-count-eq0-clause-whole g c =
     let (input, consumed, far) = c.reads.invariant.3 in
     let start = g.W.Write.contents (inner_of c.args.writer.now) in
     let now = g.W.Write.contents (inner_of c.reads.writer) in
-    let held = subst (λ (held : List ℕ). IsWritten (lines g c.args.committees.now) input c.reads.left.offset held start now) (sym c.as_slice.ensures.value) far in
+    let held = subst (λ (held : List ℕ). IsWritten (lines g c.args.committees.now) input c.reads.left.offset held start now)
+    (sym c.as_slice.ensures.value) far in
     let none : c.in_ok-count.count ≡ 0 = search rules in
     let ended = c.in_ok-count.ensures.end (ap Ok none) in
-    if_ok_then c.finish.result _ _ (λ fault h. (input, input_ended _ _ input (consumed_nothing _ _ _ input _ _ none consumed c.in_ok-count.ensures.bytes) ended, h input start held)) c.finish.ensures.whole
+    if_ok_then c.finish.result _ _ (λ fault h. (
+      input,
+      input_ended _ _ input (consumed_nothing _ _ _ input _ _ none consumed c.in_ok-count.ensures.bytes) ended,
+      h input start held,
+    )) c.finish.ensures.whole
 
 pub returns-then-count-eq0-clause-begun : goal.returns-then-count-eq0-clause-begun
 returns-then-count-eq0-clause-begun g c =
     let (input, consumed, far) = c.reads.invariant.3 in
     let start = g.W.Write.contents (inner_of c.args.writer.now) in
     let now = g.W.Write.contents (inner_of c.reads.writer) in
-    let held = subst (λ (held : List ℕ). IsWritten (lines g c.args.committees.now) input c.reads.left.offset held start now) (sym c.as_slice.ensures.value) far in
+    let held = subst (λ (held : List ℕ). IsWritten (lines g c.args.committees.now) input c.reads.left.offset held start now)
+    (sym c.as_slice.ensures.value) far in
     let none : c.in_ok-count.count ≡ 0 = search rules in
     let ended = c.in_ok-count.ensures.end (ap Ok none) in
-    if_err_then c.finish.result _ _ (λ e h. (input, input_ended _ _ input (consumed_nothing _ _ _ input _ _ none consumed c.in_ok-count.ensures.bytes) ended, h input start held)) c.finish.ensures.begun
+    if_err_then c.finish.result _ _ (λ e h. (
+      input,
+      input_ended _ _ input (consumed_nothing _ _ _ input _ _ none consumed c.in_ok-count.ensures.bytes) ended,
+      h input start held,
+    )) c.finish.ensures.begun
 
 pub returns-then-count-eq0-clause-taken : goal.returns-then-count-eq0-clause-taken
 returns-then-count-eq0-clause-taken g c =
     let (input, consumed, far) = c.reads.invariant.3 in
     let start = g.W.Write.contents (inner_of c.args.writer.now) in
     let now = g.W.Write.contents (inner_of c.reads.writer) in
-    let held = subst (λ (held : List ℕ). IsWritten (lines g c.args.committees.now) input c.reads.left.offset held start now) (sym c.as_slice.ensures.value) far in
+    let held = subst (λ (held : List ℕ). IsWritten (lines g c.args.committees.now) input c.reads.left.offset held start now)
+    (sym c.as_slice.ensures.value) far in
     let none : c.in_ok-count.count ≡ 0 = search rules in
-    if_err_then c.finish.result _ _ (λ e h. (input, consumed_nothing _ _ _ input _ _ none consumed c.in_ok-count.ensures.bytes, h input start held)) c.finish.ensures.begun
+    if_err_then c.finish.result _ _
+    (λ e h. (input, consumed_nothing _ _ _ input _ _ none consumed c.in_ok-count.ensures.bytes, h input start held))
+    c.finish.ensures.begun

@@ -12,16 +12,23 @@ use Rattle.simplex_inspect.specs.Shown.{shown_of}
 use Rattle.simplex_inspect.proofs.input.inspect_input.Given as given
 
 -- how messages are read, and the line of each
-abbrev pub lines : (g : given.Over) → Option (Schedule g.row.S.Denot) → Lines (Activity g.row.S.Denot g.row.D.Denot g.row.S-Certificate.Denot g.row.S-PublicKey.Denot g.row.S-Signature.Denot)
+abbrev pub lines : (g : given.Over) → Option (Schedule g.row.S.Denot) →
+    Lines (Activity g.row.S.Denot g.row.D.Denot g.row.S-Certificate.Denot g.row.S-PublicKey.Denot g.row.S-Signature.Denot)
 lines g committees = let bound = bound_under g.S.CertificateScheme.keys committees in record {
-  format = activity_format g.D.PartialEq.eq (fixed g.D.FixedSize.SIZE g.D.Fixed.bytes_of g.D.Fixed.of_bytes) (record { is_value = g.S.Certificate.Read.fits bound; encoding = g.S.Certificate.Encoding.encoding; reading = g.S.Certificate.Read.reading bound }) (fixed g.S.Signature.FixedSize.SIZE g.S.Signature.Fixed.bytes_of g.S.Signature.Fixed.of_bytes);
-  line = line_json (shown_of g.D.Fixed.bytes_of g.S.Signature.Fixed.bytes_of g.D.PartialEq.eq g.S.CertificateScheme.keys g.S.Scheme.good g.S.CertificateVerifier.certified g.S.Listing.listed committees);
+  format = activity_format g.D.PartialEq.eq (fixed g.D.FixedSize.SIZE g.D.Fixed.bytes_of g.D.Fixed.of_bytes) (record {
+    is_value = g.S.Certificate.Read.fits bound;
+    encoding = g.S.Certificate.Encoding.encoding;
+    reading = g.S.Certificate.Read.reading bound;
+  }) (fixed g.S.Signature.FixedSize.SIZE g.S.Signature.Fixed.bytes_of g.S.Signature.Fixed.of_bytes);
+  line = line_json (shown_of g.D.Fixed.bytes_of g.S.Signature.Fixed.bytes_of g.D.PartialEq.eq g.S.CertificateScheme.keys
+      g.S.Scheme.good g.S.CertificateVerifier.certified g.S.Listing.listed committees);
 }
 
 abbrev pub invariant-reads : given.invariant-reads
 invariant-reads g l = (has_failed l.reader ≡ false) × (has_failed l.writer ≡ false) × (0 < vec_len l.piece)
     × ((input : List ℕ) × Consumes (g.R.Read.remaining (inner_of l.fn.reader)) (g.R.Read.remaining (inner_of l.reader)) input
-    × IsLeft (lines g l.committees) l.left input (g.W.Write.contents (inner_of l.fn.writer)) (g.W.Write.contents (inner_of l.writer)))
+    × IsLeft (lines g l.committees) l.left input (g.W.Write.contents (inner_of l.fn.writer))
+    (g.W.Write.contents (inner_of l.writer)))
 
 -- how many bytes may still be seen
 abbrev pub decreases-reads : given.decreases-reads

@@ -12,20 +12,33 @@ use Rattle.simplex_inspect.proofs.input.take_piece.Given as given
 use Rattle.simplex_inspect.proofs.input.take_piece.Goals as goal
 
 -- how messages are read, and the line of each
-abbrev pub lines : (g : given.Over) → Option (Schedule g.row.S.Denot) → Lines (Activity g.row.S.Denot g.row.D.Denot g.row.S-Certificate.Denot g.row.S-PublicKey.Denot g.row.S-Signature.Denot)
+abbrev pub lines : (g : given.Over) → Option (Schedule g.row.S.Denot) →
+    Lines (Activity g.row.S.Denot g.row.D.Denot g.row.S-Certificate.Denot g.row.S-PublicKey.Denot g.row.S-Signature.Denot)
 lines g committees = let bound = bound_under g.S.CertificateScheme.keys committees in record {
-  format = activity_format g.D.PartialEq.eq (fixed g.D.FixedSize.SIZE g.D.Fixed.bytes_of g.D.Fixed.of_bytes) (record { is_value = g.S.Certificate.Read.fits bound; encoding = g.S.Certificate.Encoding.encoding; reading = g.S.Certificate.Read.reading bound }) (fixed g.S.Signature.FixedSize.SIZE g.S.Signature.Fixed.bytes_of g.S.Signature.Fixed.of_bytes);
-  line = line_json (shown_of g.D.Fixed.bytes_of g.S.Signature.Fixed.bytes_of g.D.PartialEq.eq g.S.CertificateScheme.keys g.S.Scheme.good g.S.CertificateVerifier.certified g.S.Listing.listed committees);
+  format = activity_format g.D.PartialEq.eq (fixed g.D.FixedSize.SIZE g.D.Fixed.bytes_of g.D.Fixed.of_bytes) (record {
+    is_value = g.S.Certificate.Read.fits bound;
+    encoding = g.S.Certificate.Encoding.encoding;
+    reading = g.S.Certificate.Read.reading bound;
+  }) (fixed g.S.Signature.FixedSize.SIZE g.S.Signature.Fixed.bytes_of g.S.Signature.Fixed.of_bytes);
+  line = line_json (shown_of g.D.Fixed.bytes_of g.S.Signature.Fixed.bytes_of g.D.PartialEq.eq g.S.CertificateScheme.keys
+      g.S.Scheme.good g.S.CertificateVerifier.certified g.S.Listing.listed committees);
 }
 
 pub returns-in_err-left-clause-begun : goal.returns-in_err-left-clause-begun
 returns-in_err-left-clause-begun g c = if_err c.from_residual.result _ (λ input start far.
-    begun_of_more (lines g c.args.committees.now) input c.args.piece.now start _ (begun_now (lines g c.args.committees.now) input c.args.left.offset c.args.left.held.items start _ far))
+    begun_of_more (lines g c.args.committees.now) input c.args.piece.now start _
+    (begun_now (lines g c.args.committees.now) input c.args.left.offset c.args.left.held.items start _ far))
 
 pub returns-clause-written : goal.returns-clause-written
 returns-clause-written g c =
-    if_ok_then c.advance.result _ _ (λ next h input start far. h (input ++ c.args.piece.now) start (held_more (lines g c.args.committees.now) input c.args.left.offset c.in_ok-left.left.offset c.args.left.held.items start _ c.args.piece.now c.in_ok-left.left.held.items c.in_ok-left.ensures.offset c.in_ok-left.ensures.held far)) c.advance.ensures.written
+    if_ok_then c.advance.result _ _ (λ next h input start far. h (input ++ c.args.piece.now) start
+    (held_more (lines g c.args.committees.now) input c.args.left.offset c.in_ok-left.left.offset c.args.left.held.items start _
+    c.args.piece.now c.in_ok-left.left.held.items c.in_ok-left.ensures.offset c.in_ok-left.ensures.held far))
+    c.advance.ensures.written
 
 pub returns-clause-begun : goal.returns-clause-begun
 returns-clause-begun g c =
-    if_err_then c.advance.result _ _ (λ e h input start far. h (input ++ c.args.piece.now) start (held_more (lines g c.args.committees.now) input c.args.left.offset c.in_ok-left.left.offset c.args.left.held.items start _ c.args.piece.now c.in_ok-left.left.held.items c.in_ok-left.ensures.offset c.in_ok-left.ensures.held far)) c.advance.ensures.begun
+    if_err_then c.advance.result _ _ (λ e h input start far. h (input ++ c.args.piece.now) start
+    (held_more (lines g c.args.committees.now) input c.args.left.offset c.in_ok-left.left.offset c.args.left.held.items start _
+    c.args.piece.now c.in_ok-left.left.held.items c.in_ok-left.ensures.offset c.in_ok-left.ensures.held far))
+    c.advance.ensures.begun

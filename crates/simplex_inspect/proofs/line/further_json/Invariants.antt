@@ -7,5 +7,8 @@ use Rattle.simplex_inspect.proofs.line.further_json.Given as goal
 
 abbrev pub invariant-loop-attestation : goal.invariant-loop-attestation
 invariant-loop-attestation g l =
-    let one = attestation_json (shown_of g.D.Fixed.bytes_of g.S.Signature.Fixed.bytes_of g.D.PartialEq.eq g.S.CertificateScheme.keys g.S.Scheme.good g.S.CertificateVerifier.certified g.S.Listing.listed l.committees) (subject_value l.subject) in
-    each_behind (map one l.attestations) ≡ string_bytes l.text ++ each_behind (map one (drop l.attestation-index l.attestations))
+    let one =
+    attestation_json (shown_of g.D.Fixed.bytes_of g.S.Signature.Fixed.bytes_of g.D.PartialEq.eq g.S.CertificateScheme.keys
+    g.S.Scheme.good g.S.CertificateVerifier.certified g.S.Listing.listed l.committees) (subject_value l.subject) in
+    each_behind (map one l.attestations)
+    ≡ string_bytes l.text ++ each_behind (map one (drop l.attestation-index l.attestations))

@@ -6,4 +6,5 @@ use Rattle.simplex_places.proofs.first_places.note_all.Given as goal
 
 abbrev pub invariant-attestations : goal.invariant-attestations
 invariant-attestations g l =
-    Notes g.K.Ord.cmp g.K.PartialEq.eq g.K.Key.key_of l.place (map (vote_on (subject_value l.subject)) (take l.attestation-index l.attestations)) l.fn.places l.places
+    Notes g.K.Ord.cmp g.K.PartialEq.eq g.K.Key.key_of l.place
+    (map (vote_on (subject_value l.subject)) (take l.attestation-index l.attestations)) l.fn.places l.places

@@ -8,7 +8,7 @@ use Rattle.simplex_detector.specs.Committees.{rules_of}
 use Rattle.simplex_detector.specs.Rules.{is_valid}
 use Rattle.simplex_detector.specs.Values.{evidence_value}
 use Rattle.simplex_votes.specs.Votes.{SignedVote}
-use Rattle.simplex_audit.specs.Messages.{AreMessages}
+use Rattle.simplex_stream.specs.Messages.{AreMessages}
 use Rattle.simplex_places.specs.FirstPlaces.{AreSought, NotesAlong}
 use Rattle.simplex_places.specs.Records.{IsOfEvidence, IsRecord}
 use Rattle.simplex_places.specs.Votes.{carries, same_signed_vote}
@@ -24,13 +24,19 @@ Message g = Activity g.row.S.Denot g.row.D.Denot g.row.S-Certificate.Denot g.row
 abbrev format : (g : given.Over) → ℕ → Format (Message g)
 format g bound =
     activity_format g.D.PartialEq.eq (fixed g.D.FixedSize.SIZE g.D.Fixed.bytes_of g.D.Fixed.of_bytes)
-    (record { is_value = g.S.Certificate.Read.fits bound; encoding = g.S.Certificate.Encoding.encoding; reading = g.S.Certificate.Read.reading bound })
+    (record {
+      is_value = g.S.Certificate.Read.fits bound;
+      encoding = g.S.Certificate.Encoding.encoding;
+      reading = g.S.Certificate.Read.reading bound;
+    })
     (fixed g.S.Signature.FixedSize.SIZE g.S.Signature.Fixed.bytes_of g.S.Signature.Fixed.of_bytes)
 
 pub returns-clause-whose : goal.returns-clause-whose
 returns-clause-whose g c =
     let es = c.args.report.now.evidence.items in
-    subst (AllZip IsOfEvidence (map evidence_value es)) (sym (c.in_ok-found.ensures ∙ ap (map _) c.as_slice-evidence.ensures.value)) (all_of_evidence g.K.Ord.cmp g.K.Key.key_of c.find.new.places evidence_value es)
+    let found = c.in_ok-found.ensures ∙ ap (map _) c.as_slice-evidence.ensures.value in
+    subst (AllZip IsOfEvidence (map evidence_value es)) (sym found)
+    (all_of_evidence g.K.Ord.cmp g.K.Key.key_of c.in_ok-places.places evidence_value es)
 
 pub returns-clause-records : goal.returns-clause-records
 returns-clause-records g c audit messages rest are =
@@ -40,16 +46,26 @@ returns-clause-records g c audit messages rest are =
     let payload_eq = g.D.PartialEq.eq in
     let signature_eq = g.S.Signature.PartialEq.eq in
     let listed = g.S.Listing.listed in
-    let rules = rules_of payload_eq g.S.CertificateScheme.keys g.S.Scheme.good g.S.CertificateVerifier.certified listed c.args.committees.now in
-    let alike : (v w : SignedVote g.row.D.Denot g.row.S-Signature.Denot) → eq (key_of v) (key_of w) ≡ same_signed_vote payload_eq signature_eq v w = g.met.K.Key.alike in
-    let itself : (v : SignedVote g.row.D.Denot g.row.S-Signature.Denot) → same_signed_vote payload_eq signature_eq v v ≡ true = λ v. sym (alike v v) ∙ g.met.K.Eq.laws.refl (key_of v) in
+    let rules = rules_of payload_eq g.S.CertificateScheme.keys g.S.Scheme.good g.S.CertificateVerifier.certified listed
+    c.args.committees.now in
+    let alike : (v w : SignedVote g.row.D.Denot g.row.S-Signature.Denot) →
+    eq (key_of v) (key_of w) ≡ same_signed_vote payload_eq signature_eq v w =
+    g.met.K.Key.alike in
+    let itself : (v : SignedVote g.row.D.Denot g.row.S-Signature.Denot) → same_signed_vote payload_eq signature_eq v v ≡ true =
+    λ v. sym (alike v v) ∙ g.met.K.Eq.laws.refl (key_of v) in
     let es = c.args.report.now.evidence.items in
-    let before = c.in_ok-places.places in
-    let after = c.find.new.places in
-    let noted = c.in_ok-find.ensures in
-    let bounded = subst (λ b. AreMessages (format g b) c.args.stream.now noted.messages noted.rest) c.bound.ensures.value noted.are_messages in
+    let before = c.in_ok-keys.keys in
+    let after = c.in_ok-places.places in
+    let noted = c.in_ok-places.ensures in
+    let bounded = subst (λ b. AreMessages (format g b) c.args.stream.now noted.messages noted.rest) c.bound.ensures.value
+    noted.are_messages in
     let same = (audit.single messages noted.messages rest noted.rest are bounded).0 in
-    let found = subst (NotesAlong cmp eq key_of (votes_in listed) (format g c.bound.result).encoding before after) (sym same) noted.found in
-    let sought = subst (All (λ e. AreSought cmp key_of before (evidence_value e))) c.as_slice-evidence.ensures.value c.in_ok-places.ensures in
-    let stand = records_stand cmp eq key_of (same_signed_vote payload_eq signature_eq) alike itself (votes_in listed) (is_valid rules) (format g c.bound.result).encoding messages before after found evidence_value payload_eq es (audit.sound messages rest are) sought in
-    subst (AllZip (IsRecord (carries payload_eq signature_eq listed) (format g c.bound.result).encoding messages) (map evidence_value es)) (sym (c.in_ok-found.ensures ∙ ap (map _) c.as_slice-evidence.ensures.value)) stand
+    let encoding = (format g c.bound.result).encoding in
+    let found = subst (NotesAlong cmp eq key_of (votes_in listed) encoding 0 before after) (sym same) noted.found in
+    let sought = subst (All (λ e. AreSought cmp key_of before (evidence_value e))) c.as_slice-evidence.ensures.value
+    c.in_ok-keys.ensures in
+    let stand = records_stand cmp eq key_of (same_signed_vote payload_eq signature_eq) alike itself (votes_in listed)
+    (is_valid rules) (format g c.bound.result).encoding messages before after found evidence_value payload_eq es
+    (audit.sound messages rest are) sought in
+    subst (AllZip (IsRecord (carries payload_eq signature_eq listed) (format g c.bound.result).encoding messages)
+    (map evidence_value es)) (sym (c.in_ok-found.ensures ∙ ap (map _) c.as_slice-evidence.ensures.value)) stand

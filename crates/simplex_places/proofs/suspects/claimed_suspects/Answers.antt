@@ -17,29 +17,37 @@ use Rattle.simplex_places.proofs.suspects.claimed_suspects.Goals as goal
 pub returns-clause-signers : goal.returns-clause-signers
 returns-clause-signers g c = λ committees messages lawful recalls round signer.
     let eq = g.D.PartialEq.eq in
-    let rules = rules_of eq g.S.CertificateScheme.keys g.S.Scheme.good g.S.CertificateVerifier.certified g.S.Listing.listed committees in
+    let rules =
+    rules_of eq g.S.CertificateScheme.keys g.S.Scheme.good g.S.CertificateVerifier.certified g.S.Listing.listed committees in
     let items = c.in_ok-evidence.evidence.items in
     let claims = map evidence_value items in
     let suspects = c.in_ok-suspects.suspects in
-    let is = subst (λ judged. IsEvidence eq (valid_votes judged messages) claims) (claims_are_claimed eq g.S.CertificateScheme.keys g.S.Scheme.good g.S.CertificateVerifier.certified g.S.Listing.listed committees)
+    let is = subst (λ judged. IsEvidence eq (valid_votes judged messages) claims) (claims_are_claimed eq
+    g.S.CertificateScheme.keys g.S.Scheme.good g.S.CertificateVerifier.certified g.S.Listing.listed committees)
     (c.in_ok-evidence.ensures.evidence Claimed committees messages recalls) in
     let law = c.suspects_suffice.ensures.signers rules messages claims lawful is round signer in
     let same : map (λ e. suspect_of (evidence_value e)) c.deref.result.now ≡ map suspect_of claims =
     ap (map (λ e. suspect_of (evidence_value e))) c.deref.ensures.value ∙ sym (map-map suspect_of evidence_value items) in
-    holds_alike (contains signer_cmp suspects.signers) (λ (s : Round × ℕ). is_suspect rules messages s.0 s.1) (map (λ e. suspect_of (evidence_value e)) c.deref.result.now) (map suspect_of claims) (round, signer)
+    holds_alike (contains signer_cmp suspects.signers) (λ (s : Round × ℕ). is_suspect rules messages s.0 s.1)
+    (map (λ e. suspect_of (evidence_value e)) c.deref.result.now) (map suspect_of claims) (round, signer)
     same c.in_ok-suspects.ensures.signers (c.in_ok-suspects.ensures.only_signers round signer) law
 
 pub returns-clause-rounds : goal.returns-clause-rounds
 returns-clause-rounds g c = λ committees messages lawful recalls round.
     let eq = g.D.PartialEq.eq in
-    let rules = rules_of eq g.S.CertificateScheme.keys g.S.Scheme.good g.S.CertificateVerifier.certified g.S.Listing.listed committees in
+    let rules =
+    rules_of eq g.S.CertificateScheme.keys g.S.Scheme.good g.S.CertificateVerifier.certified g.S.Listing.listed committees in
     let items = c.in_ok-evidence.evidence.items in
     let claims = map evidence_value items in
     let suspects = c.in_ok-suspects.suspects in
-    let is = subst (λ judged. IsEvidence eq (valid_votes judged messages) claims) (claims_are_claimed eq g.S.CertificateScheme.keys g.S.Scheme.good g.S.CertificateVerifier.certified g.S.Listing.listed committees)
+    let is = subst (λ judged. IsEvidence eq (valid_votes judged messages) claims) (claims_are_claimed eq
+    g.S.CertificateScheme.keys g.S.Scheme.good g.S.CertificateVerifier.certified g.S.Listing.listed committees)
     (c.in_ok-evidence.ensures.evidence Claimed committees messages recalls) in
     let law = c.suspects_suffice.ensures.rounds rules messages claims lawful is round in
-    let same : map (λ e. round_of (evidence_value e).first.subject) c.deref.result.now ≡ map (λ e. round_of e.first.subject) claims =
-    ap (map (λ e. round_of (evidence_value e).first.subject)) c.deref.ensures.value ∙ sym (map-map (λ e. round_of e.first.subject) evidence_value items) in
-    holds_alike (contains round_cmp suspects.rounds) (is_suspect_round rules messages) (map (λ e. round_of (evidence_value e).first.subject) c.deref.result.now) (map (λ e. round_of e.first.subject) claims) round
+    let same : map (λ e. round_of (evidence_value e).first.subject) c.deref.result.now
+    ≡ map (λ e. round_of e.first.subject) claims =
+    ap (map (λ e. round_of (evidence_value e).first.subject)) c.deref.ensures.value
+    ∙ sym (map-map (λ e. round_of e.first.subject) evidence_value items) in
+    holds_alike (contains round_cmp suspects.rounds) (is_suspect_round rules messages)
+    (map (λ e. round_of (evidence_value e).first.subject) c.deref.result.now) (map (λ e. round_of e.first.subject) claims) round
     same c.in_ok-suspects.ensures.rounds (c.in_ok-suspects.ensures.only_rounds round) law

@@ -5,4 +5,5 @@ use Rattle.simplex_places.proofs.suspects.sought.Given as goal
 
 abbrev pub invariant-places : goal.invariant-places
 invariant-places g l =
-    l.found.items ≡ sought_of (suspected_by l.suspects) (λ epoch. size_by g.S.CertificateScheme.keys (committee_of l.committees epoch)) (take l.place-index l.places)
+    l.found.items ≡ sought_of (suspected_by l.suspects)
+    (λ epoch. size_by g.S.CertificateScheme.keys (committee_of l.committees epoch)) (take l.place-index l.places)

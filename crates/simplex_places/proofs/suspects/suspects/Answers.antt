@@ -12,10 +12,12 @@ returns-clause-listed g c =
     let committees = c.args.committees.now in
     let payload = fixed g.D.FixedSize.SIZE g.D.Fixed.bytes_of g.D.Fixed.of_bytes in
     let signature = fixed g.S.Signature.FixedSize.SIZE g.S.Signature.Fixed.bytes_of g.S.Signature.Fixed.of_bytes in
-    let rules = rules_of g.D.PartialEq.eq g.S.CertificateScheme.keys g.S.Scheme.good g.S.CertificateVerifier.certified g.S.Listing.listed committees in
+    let rules = rules_of g.D.PartialEq.eq g.S.CertificateScheme.keys g.S.Scheme.good g.S.CertificateVerifier.certified
+    g.S.Listing.listed committees in
     let size : ℕ → ℕ = λ epoch. size_by g.S.CertificateScheme.keys (committee_of committees epoch) in
     let read = c.in_ok-claims.ensures c.reading_bound-bound.ensures.value in
-    let places = places_along (message_places payload signature g.S.Listing.listed) (activity_encoding g.D.PartialEq.eq payload g.S.Certificate.Encoding.encoding signature) 0 read.messages in
+    let places = places_along (message_places payload signature g.S.Listing.listed)
+    (activity_encoding g.D.PartialEq.eq payload g.S.Certificate.Encoding.encoding signature) 0 read.messages in
     let claimed = suspected_by c.in_ok-suspects.suspects in
     let lawful = c.reading_bound-bound.ensures.lawful in
     record {
@@ -30,4 +32,5 @@ returns-clause-listed g c =
     }
 
 pub returns-clause-votes : goal.returns-clause-votes
-returns-clause-votes g c = c.suspects_are_votes.ensures c.args.committees.now c.args.stream.now c.in_ok-found.found.items (returns-clause-listed g c)
+returns-clause-votes g c =
+    c.suspects_are_votes.ensures c.args.committees.now c.args.stream.now c.in_ok-found.found.items (returns-clause-listed g c)

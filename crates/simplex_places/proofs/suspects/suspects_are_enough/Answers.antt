@@ -16,10 +16,17 @@ returns g c stream found are =
     let committees = c.args.committees.now in
     let payload = fixed g.D.FixedSize.SIZE g.D.Fixed.bytes_of g.D.Fixed.of_bytes in
     let signature : Format (List ℕ) = fixed g.row.N (λ bytes. bytes) (λ bytes. bytes) in
-    let signatures = fixed_lawful g.row.N (λ (bytes : List ℕ). bytes) (λ bytes. bytes) (λ bytes fits. refl) (λ bytes fits. refl) in
+    let signatures =
+    fixed_lawful g.row.N (λ (bytes : List ℕ). bytes) (λ bytes. bytes) (λ bytes fits. refl) (λ bytes fits. refl) in
     let keys : VouchedScheme → List (List ℕ) = λ s. s.keys in
     let bound = bound_of keys committees in
-    let law = activity_lawful {S = VouchedScheme} {P = List ℕ} eq payload (record { is_value = ListedFits signature bound; encoding = listed_encoding signature; reading = listed_at signature bound }) signature g.met.D.Fixed.lawful (listed_lawful signature bound signatures) signatures in
-    let rules = rules_of {C = List _} eq keys (λ s. vouched_valid s.keys) (λ s x. is_quorum (length s.keys) (vouched_valid s.keys x)) (λ certificate. certificate) committees in
+    let law = activity_lawful {S = VouchedScheme} {P = List ℕ} eq payload (record {
+      is_value = ListedFits signature bound;
+      encoding = listed_encoding signature;
+      reading = listed_at signature bound;
+    }) signature g.met.D.Fixed.lawful (listed_lawful signature bound signatures) signatures in
+    let rules = rules_of {C = List _} eq keys (λ s. vouched_valid s.keys)
+    (λ s x. is_quorum (length s.keys) (vouched_valid s.keys x)) (λ certificate. certificate) committees in
     let lawful = c.reading_bound.ensures.lawful in
-    determined VouchedScheme g.row.D.Denot (List ℕ) g.row.N g.R.Role.sized.0 eq payload bound (listed_at signature bound) rules.good rules.certified rules.size lawful law (c.suspects_decide.ensures rules lawful) stream found are
+    determined VouchedScheme g.row.D.Denot (List ℕ) g.row.N g.R.Role.sized.0 eq payload bound (listed_at signature bound)
+    rules.good rules.certified rules.size lawful law (c.suspects_decide.ensures rules lawful) stream found are

@@ -20,6 +20,9 @@ returns g c committees stream found are =
       messages = are.messages;
       rest = are.rest;
       are_messages = are.are_messages;
-      each = subst (All (IsCast eq payload g.S.Certificate.Encoding.encoding signature listed g.met.S.Counted.counted stream cast)) (sym are.found_are)
-          (sought_stand eq payload g.S.Certificate.Encoding.encoding signature listed g.met.S.Counted.counted stream cast (suspected_in rules are.messages) rules.size are.messages are.rest are.are_messages.whole (λ v c. c));
+      each =
+          subst (All (IsCast eq payload g.S.Certificate.Encoding.encoding signature listed g.met.S.Counted.counted stream cast))
+          (sym are.found_are)
+          (sought_stand eq payload g.S.Certificate.Encoding.encoding signature listed g.met.S.Counted.counted stream cast
+          (suspected_in rules are.messages) rules.size are.messages are.rest are.are_messages.whole (λ v c. c));
     }

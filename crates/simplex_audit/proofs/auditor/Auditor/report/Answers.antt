@@ -4,13 +4,16 @@ use Rattle.simplex_detector.specs.Rules.{Rules}
 use Rattle.simplex_detector.specs.declared.judging.Judging.TheVariants.{Verified}
 use Rattle.simplex_audit.proofs.AuditorLemmas.{stands_reported, stands_audited}
 use Rattle.simplex_audit.proofs.AccusedLemmas.{if_both}
-use Rattle.simplex_audit.proofs.StreamLemmas.{messages_once}
+use Rattle.simplex_stream.specs.StreamLaws.{messages_once}
 use Rattle.simplex_audit.proofs.auditor.Auditor.report.Given as given
 use Rattle.simplex_audit.proofs.auditor.Auditor.report.Goals as goal
 
 -- the rules by which messages are judged
-abbrev rules : (g : given.Over) → Schedule g.row.S.Denot → Rules g.row.S.Denot g.row.D.Denot g.row.S-Certificate.Denot g.row.S-PublicKey.Denot g.row.S-Signature.Denot
-rules g schedule = rules_of g.D.PartialEq.eq g.S.CertificateScheme.keys g.S.Scheme.good g.S.CertificateVerifier.certified g.S.Listing.listed schedule
+abbrev rules : (g : given.Over) → Schedule g.row.S.Denot →
+    Rules g.row.S.Denot g.row.D.Denot g.row.S-Certificate.Denot g.row.S-PublicKey.Denot g.row.S-Signature.Denot
+rules g schedule =
+    rules_of g.D.PartialEq.eq g.S.CertificateScheme.keys g.S.Scheme.good g.S.CertificateVerifier.certified
+    g.S.Listing.listed schedule
 
 pub returns-clause-audit : goal.returns-clause-audit
 returns-clause-audit g c =
@@ -35,7 +38,8 @@ returns-clause-audit g c =
     c.make_report.result c.make_report.ensures.report c.make_report.ensures.encoded
 
 pub returns-clause-single : goal.returns-clause-single
-returns-clause-single g c committees stream other stands = λ messages others rest left are are'. messages_once _ stands.fed.readable other rest left messages others are are'
+returns-clause-single g c committees stream other stands = λ messages others rest left are are'.
+    messages_once _ stands.fed.readable other rest left messages others are are'
 
 pub returns-clause-determined : goal.returns-clause-determined
 returns-clause-determined g c committees = record {

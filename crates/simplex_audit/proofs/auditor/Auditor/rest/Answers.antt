@@ -1,5 +1,5 @@
 use Rattle.std.proofs.Common.{◌∙◌}
-use Rattle.simplex_audit.proofs.StreamLemmas.{messages_once}
+use Rattle.simplex_stream.specs.StreamLaws.{messages_once}
 use Rattle.simplex_audit.proofs.auditor.Auditor.rest.Goals as goal
 
 pub returns : goal.returns

@@ -5,8 +5,11 @@ use Rattle.simplex_detector.proofs.detector.Detector.splits.Given as goal
 abbrev pub invariant-rounds : goal.invariant-rounds
 invariant-rounds g l =
     (judging : Judging) →
-    let rules = rules_under g.D.PartialEq.eq g.S.CertificateScheme.keys g.S.Scheme.good g.S.CertificateVerifier.certified g.S.Listing.listed judging l.committees in
-    (messages : List (Activity g.row.S.Denot g.row.D.Denot g.row.S-Certificate.Denot g.row.S-PublicKey.Denot g.row.S-Signature.Denot)) →
+    let rules = rules_under g.D.PartialEq.eq g.S.CertificateScheme.keys g.S.Scheme.good g.S.CertificateVerifier.certified
+    g.S.Listing.listed judging l.committees in
+    (messages : List
+    (Activity g.row.S.Denot g.row.D.Denot g.row.S-Certificate.Denot g.row.S-PublicKey.Denot g.row.S-Signature.Denot)) →
     HaveCommittees rules → AllByRecursion (λ e. RecallsRound rules messages e.0 e.1) l.self.rounds.entries →
     AllByRecursion (λ e. RecallsRound rules messages e.0 e.1) l.round-iterator ×
-    (l.splits.items ++ filter_map (split_of rules messages) (map (λ e. e.0) l.round-iterator) ≡ filter_map (split_of rules messages) (map (λ e. e.0) l.self.rounds.entries))
+    (l.splits.items ++ filter_map (split_of rules messages) (map (λ e. e.0) l.round-iterator)
+    ≡ filter_map (split_of rules messages) (map (λ e. e.0) l.self.rounds.entries))

@@ -5,7 +5,9 @@ use Rattle.simplex_detector.proofs.detector.Detector.votes.Goals as goal
 pub returns : goal.returns
 returns g c judging schedule messages holds =
     let ordered : IsOrdered round_cmp c.args.self.now.rounds = search std_rules in
-    let all = counted_votes (rules_under g.D.PartialEq.eq g.S.CertificateScheme.keys g.S.Scheme.good g.S.CertificateVerifier.certified g.S.Listing.listed judging schedule) messages c.args.self.now ordered holds g.met.D.Eq.laws in
+    let all =
+    counted_votes (rules_under g.D.PartialEq.eq g.S.CertificateScheme.keys g.S.Scheme.good g.S.CertificateVerifier.certified
+    g.S.Listing.listed judging schedule) messages c.args.self.now ordered holds g.met.D.Eq.laws in
     let walked = c.rounds.invariant.1 in
     let done = ap rounds_count c.in-None.ensures.steps.0 in
     omega (arith, all, walked, done)

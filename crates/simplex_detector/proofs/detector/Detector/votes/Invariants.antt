@@ -3,4 +3,6 @@ use Rattle.simplex_detector.proofs.CountLemmas.{rounds_count}
 use Rattle.simplex_detector.proofs.detector.Detector.votes.Given as goal
 
 abbrev pub invariant-rounds : goal.invariant-rounds
-invariant-rounds g l = (l.count < 2 ^ 64) × (min (l.count + rounds_count l.round_state-iterator) (2 ^ 64 - 1) ≡ min (rounds_count l.self.rounds.entries) (2 ^ 64 - 1))
+invariant-rounds g l =
+    (l.count < 2 ^ 64)
+    × (min (l.count + rounds_count l.round_state-iterator) (2 ^ 64 - 1) ≡ min (rounds_count l.self.rounds.entries) (2 ^ 64 - 1))

@@ -3,15 +3,24 @@ use Rattle.simplex_detector.proofs.ReportLemmas.{Walked, walked_next, report_of_
 use Rattle.simplex_detector.proofs.detector.Detector.walk.Goals as goal
 
 pub rounds-init : goal.rounds-init
-rounds-init g c = record { steps = []; over = c.into_iter-round_state-iterator.ensures.into_iter_gives.0; listed = λ k d lt. absurd (omega (arith, lt)); is = ap (map evidence_value) c.new-found.ensures.items }
+rounds-init g c = record {
+  steps = [];
+  over = c.into_iter-round_state-iterator.ensures.into_iter_gives.0;
+  listed = λ k d lt. absurd (omega (arith, lt));
+  is = ap (map evidence_value) c.new-found.ensures.items;
+}
 
 pub rounds-preserved : goal.rounds-preserved
 rounds-preserved g c =
     let (signers, lists, is) = c.in_ok-report_to.ensures in
-    walked_next g.D.PartialEq.eq c.args.self.now.rounds.entries c.rounds.round_state-iterator c.next.new.self c.in-Some.field-0-0.now c.in-Some.round_state.now signers (map evidence_value c.rounds.found.items) (map evidence_value c.report_to.new.found.items) c.in-Some.ensures.steps lists is c.rounds.invariant
+    walked_next g.D.PartialEq.eq c.args.self.now.rounds.entries c.rounds.round_state-iterator c.next.new.self
+    c.in-Some.field-0-0.now c.in-Some.round_state.now signers (map evidence_value c.rounds.found.items)
+    (map evidence_value c.report_to.new.found.items) c.in-Some.ensures.steps lists is c.rounds.invariant
 
 pub returns : goal.returns
 returns g c = λ judging schedule messages.
     let ordered : IsOrdered round_cmp c.args.self.now.rounds = search std_rules in
-    report_of_walk (rules_under g.D.PartialEq.eq g.S.CertificateScheme.keys g.S.Scheme.good g.S.CertificateVerifier.certified g.S.Listing.listed judging schedule) g.met.D.Eq.laws c.args.self.now ordered (map evidence_value c.rounds.found.items)
-    (subst (λ rest. Walked g.D.PartialEq.eq c.args.self.now.rounds.entries rest (map evidence_value c.rounds.found.items)) c.in-None.ensures.steps.0 c.rounds.invariant) messages
+    report_of_walk (rules_under g.D.PartialEq.eq g.S.CertificateScheme.keys g.S.Scheme.good g.S.CertificateVerifier.certified
+    g.S.Listing.listed judging schedule) g.met.D.Eq.laws c.args.self.now ordered (map evidence_value c.rounds.found.items)
+    (subst (λ rest. Walked g.D.PartialEq.eq c.args.self.now.rounds.entries rest (map evidence_value c.rounds.found.items))
+    c.in-None.ensures.steps.0 c.rounds.invariant) messages

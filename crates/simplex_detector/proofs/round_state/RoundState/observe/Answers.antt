@@ -13,6 +13,7 @@ returns-in-Certificate g c = rw c.in-Certificate.is (λ conflict. c.observe_cert
 pub returns-in_ok-observe_vote-in-Evidence : goal.returns-in_ok-observe_vote-in-Evidence
 returns-in_ok-observe_vote-in-Evidence g c = rw c.in-Evidence.is (λ conflict.
     on_ok_weaker c.observe_vote-in-Evidence-2.result
-    (takes_two _ _ _ _ _ _ _ (one_round g.D.PartialEq.eq conflict.0 (signed_value c.in-Evidence.first) (signed_value c.in-Evidence.second) conflict.1)
+    (takes_two _ _ _ _ _ _ _
+    (one_round g.D.PartialEq.eq conflict.0 (signed_value c.in-Evidence.first) (signed_value c.in-Evidence.second) conflict.1)
     c.in_ok-observe_vote-in-Evidence.ensures)
     c.observe_vote-in-Evidence-2.ensures)

@@ -1,0 +1,5 @@
+pub mod Messages
+pub mod Progress
+pub mod Fault
+pub mod StreamLaws
+pub mod PlaceLaws

@@ -1,0 +1,15 @@
+-- What was read of a stream.
+use Rattle.std.specs.Prelude.{◌≡◌, ℕ, List, length, Option}
+use Rattle.simplex_base.specs.Format.{Format}
+use Rattle.simplex_base.specs.declared.codec.error.Error.{Error}
+use Rattle.simplex_stream.specs.Messages.{AreMessages, IsStop}
+
+-- the stream's messages, `read` of them, were read up to the undecoded tail `rest`, `stop` says why none follows, and the
+-- messages are recorded
+pub record IsProgress {M : Type 0} (format : Format M) (Recorded : List M → Type 0)
+    (stream rest : List ℕ) (read : ℕ) (stop : Option Error) : Type 0 where
+  pub messages : List M
+  pub are_messages : AreMessages format stream messages rest
+  pub read_is : read ≡ length messages
+  pub stop_is : IsStop format.reading rest stop
+  pub recorded : Recorded messages

@@ -1,0 +1,145 @@
+-- What holds of the messages of streams, of streams with more behind them, and of streams that come in pieces.
+use Rattle.std.proofs.Common.{◌≡◌, ℕ, ◌+◌, ◌<◌, Option, Some, None, List, [], ◌∷◌, ◌++◌, length, refl, sym, ap, subst, ◌∙◌, arith, append_assoc, append-nil, length-append}
+use Rattle.std.specs.Prelude.{All}
+use Rattle.std.specs.List.{flat_map}
+use Rattle.std.proofs.lemmas.Grind.{flat_map-append}
+use Rattle.std.proofs.lemmas.List.Elements.{All-head, All-tail, All-append}
+use Rattle.simplex_base.specs.Reading.{Reading}
+use Rattle.simplex_base.specs.Format.{Format, IsLawful}
+use Rattle.simplex_base.specs.FormatLaws.{one_encoding}
+use Rattle.simplex_base.specs.declared.codec.error.Error.{Error}
+use Rattle.simplex_stream.specs.Messages.{AreMessages, IsStuck, IsStop}
+use Rattle.simplex_stream.specs.Progress.{IsProgress}
+use Rattle.simplex_stream.specs.Fault.{IsFault, fault_of}
+use Rattle.simplex_stream.specs.declared.fault.Fault.{Fault}
+
+-- no encoding is empty
+abbrev pub IsNeverEmpty : {M : Type 0} → Format M → Type 0
+IsNeverEmpty {M} format = (m : M) → 0 < length (format.encoding m)
+
+-- no message begins an empty list of bytes
+pub nothing_stuck : {M : Type 0} (format : Format M) (rest : List ℕ) → IsNeverEmpty format → rest ≡ [] →
+    IsStuck format rest
+nothing_stuck format rest some none m more v p =
+    let longer = some m in
+    let len = ap length p in
+    let end = ap length none in
+    absurd (omega (arith, length-append (format.encoding m) more))
+
+-- ---- the messages of a stream, and of the stream with more behind it
+
+pub record Continued {M : Type 0} (format : Format M) (messages later : List M) (rest more left : List ℕ) : Type 0 where
+  pub further : List M
+  pub same : later ≡ messages ++ further
+  pub after : rest ++ more ≡ flat_map format.encoding further ++ left
+
+-- the messages of a stream are the first of those of the stream with anything appended
+pub messages_continue : {M : Type 0} (format : Format M) → IsLawful format →
+    (stream more rest left : List ℕ) (messages later : List M) →
+    AreMessages format stream messages rest → AreMessages format (stream ++ more) later left →
+    Continued format messages later rest more left
+messages_continue {M} format law stream more rest left messages later are are' =
+    go messages later are.each are'.each
+    (sym (append_assoc _ rest more) ∙ (ap (λ (t : List ℕ). t ++ more) (sym are.whole) ∙ are'.whole))
+  where
+    encoded : List M → List ℕ
+    encoded = flat_map format.encoding
+
+    go : (ms ks : List M) → All format.is_value ms → All format.is_value ks →
+        encoded ms ++ (rest ++ more) ≡ encoded ks ++ left → Continued format ms ks rest more left
+    go [] ks each each' e = record { further = ks; same = refl; after = e }
+    go (m ∷ ms) [] each each' e =
+        absurd (are'.stuck m (encoded ms ++ (rest ++ more)) (All-head format.is_value m ms each)
+        (sym e ∙ append_assoc (format.encoding m) (encoded ms) (rest ++ more)))
+    go (m ∷ ms) (k ∷ ks) each each' e =
+        let one = one_encoding law m k (encoded ms ++ (rest ++ more)) (encoded ks ++ left)
+        (All-head format.is_value m ms each) (All-head format.is_value k ks each')
+        (sym (append_assoc (format.encoding m) (encoded ms) (rest ++ more)) ∙
+        (e ∙ append_assoc (format.encoding k) (encoded ks) left)) in
+        let c = go ms ks (All-tail format.is_value m ms each) (All-tail format.is_value k ks each') one.1 in
+        record {
+          further = c.further;
+          same = ap (λ (x : M). x ∷ ks) (sym one.0) ∙ ap (λ (xs : List M). m ∷ xs) c.same;
+          after = c.after;
+        }
+
+All-behind : {A : Type 0} (P : A → Type 0) (xs ys : List A) → All P (xs ++ ys) → All P ys
+All-behind P [] ys each = each
+All-behind P (x ∷ xs) ys each = All-behind P xs ys (All-tail P x (xs ++ ys) each)
+
+-- a stream has one list of messages
+pub messages_once : {M : Type 0} (format : Format M) → IsLawful format → (stream rest left : List ℕ) (messages later : List M) →
+    AreMessages format stream messages rest → AreMessages format stream later left → (messages ≡ later) × (rest ≡ left)
+messages_once {M} format law stream rest left messages later are are' =
+    let whole = subst (λ (s : List ℕ). AreMessages format s later left) (sym (append-nil stream)) are' in
+    let c = messages_continue format law stream [] rest left messages later are whole in
+    go c.further c.same (sym (append-nil rest) ∙ c.after) (λ m ms e. All-head format.is_value m ms
+    (All-behind format.is_value messages (m ∷ ms)
+    (subst (All format.is_value) (c.same ∙ ap (λ (xs : List M). messages ++ xs) e) are'.each)))
+  where
+    go : (further : List M) → later ≡ messages ++ further → rest ≡ flat_map format.encoding further ++ left →
+        ((m : M) (ms : List M) → further ≡ m ∷ ms → format.is_value m) → (messages ≡ later) × (rest ≡ left)
+    go [] same after value = (sym (same ∙ append-nil messages), after)
+    go (m ∷ ms) same after value =
+        absurd (are.stuck m (flat_map format.encoding ms ++ left) (value m ms refl)
+        (after ∙ append_assoc (format.encoding m) (flat_map format.encoding ms) left))
+
+-- messages that are joined in order are those of their stream
+pub are_joined : {M : Type 0} (format : Format M) → IsNeverEmpty format → (messages : List M) →
+    All format.is_value messages → AreMessages format (flat_map format.encoding messages) messages []
+are_joined format some messages each = record {
+  whole = sym (append-nil (flat_map format.encoding messages));
+  each = each;
+  stuck = nothing_stuck format [] some refl;
+}
+
+-- ---- the messages of a stream that comes in pieces
+
+-- the messages of a stream with a piece appended are its own, and then those of its undecoded tail with the piece appended
+pub messages_of_pieces : {M : Type 0} (format : Format M) (stream piece rest left : List ℕ) (messages further : List M) →
+    AreMessages format stream messages rest → AreMessages format (rest ++ piece) further left →
+    AreMessages format (stream ++ piece) (messages ++ further) left
+messages_of_pieces {M} format stream piece rest left messages further are are' =
+    let encoded : List M → List ℕ = flat_map format.encoding in
+    record {
+      whole = ap (λ (t : List ℕ). t ++ piece) are.whole ∙ (append_assoc (encoded messages) rest piece ∙
+          (ap (λ (t : List ℕ). encoded messages ++ t) are'.whole ∙
+          (sym (append_assoc (encoded messages) (encoded further) left) ∙
+          ap (λ (t : List ℕ). t ++ left) (sym (flat_map-append format.encoding messages further)))));
+      each = All-append format.is_value messages further are.each are'.each;
+      stuck = are'.stuck;
+    }
+
+-- what was read of a stream, and then of its undecoded tail with a piece appended, was read of the stream with the piece
+pub progress_of_pieces : {M : Type 0} (format : Format M) (Recorded Recorded' Recorded'' : List M → Type 0)
+    (stream piece rest left : List ℕ) (read more : ℕ) (stop stop' : Option Error) →
+    IsProgress format Recorded stream rest read stop → IsProgress format Recorded' (rest ++ piece) left more stop' →
+    ((ms ks : List M) → Recorded ms → Recorded' ks → Recorded'' (ms ++ ks)) →
+    IsProgress format Recorded'' (stream ++ piece) left (read + more) stop'
+progress_of_pieces format Recorded Recorded' Recorded'' stream piece rest left read more stop stop' p q keep = record {
+  messages = p.messages ++ q.messages;
+  are_messages = messages_of_pieces format stream piece rest left p.messages q.messages p.are_messages q.are_messages;
+  read_is = let a = p.read_is in let b = q.read_is in omega (arith, length-append p.messages q.messages);
+  stop_is = q.stop_is;
+  recorded = keep p.messages q.messages p.recorded q.recorded;
+}
+
+-- ---- the fault of a stream
+
+-- where reading was refused, its error is the fault there
+pub fault_here : {M : Type 0} (reading : List ℕ → Reading M) (rest : List ℕ) (place at : ℕ) (stop : Option Error) →
+    at ≡ place → IsStop reading rest stop → IsFault reading place rest (fault_of at stop)
+fault_here reading rest place at None same h = h
+fault_here reading rest place at (Some e) same h = (h.0, same, h.1)
+
+-- the fault at the place where the undecoded tail begins is the stream's
+pub fault_is : {M : Type 0} (format : Format M) (stream rest : List ℕ) (messages : List M) (place : ℕ)
+    (stop : Option Error) (fault : Option Fault) → AreMessages format stream messages rest →
+    place + length rest ≡ length stream → IsStop format.reading rest stop → fault ≡ fault_of place stop →
+    IsFault format.reading (length (flat_map format.encoding messages)) rest fault
+fault_is format stream rest messages place stop fault are at h same =
+    let ends = length (flat_map format.encoding messages) in
+    let len = ap length are.whole in
+    let here : place ≡ ends = omega (arith, length-append (flat_map format.encoding messages) rest) in
+    subst (λ (f : Option Fault). IsFault format.reading ends rest f) (sym same)
+    (fault_here format.reading rest ends place stop here h)

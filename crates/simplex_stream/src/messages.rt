@@ -1,0 +1,102 @@
+//! Reads the messages of a stream one after another.
+
+ghost use Rattle.std.specs.Prelude.{◌≡◌, ◌+◌, ◌<◌, ◌≤◌, ℕ, List, [], ◌∷◌, ◌++◌, length, IfOk, OnOk};
+ghost use Rattle.simplex_base.specs.Format.{format_under};
+ghost use Rattle.simplex_stream.specs.Progress.{IsProgress};
+
+use crate::fault::refusal;
+use simplex_base::codec::{Error, Read};
+use std::alloc::{AllocError, Global};
+
+/// A type whose values stand one after another in a stream. Each is read under the bound of the greatest committee.
+pub trait Message: Read<Cfg = u32> {
+    /// No encoding is empty.
+    ghost never_empty: { (m : Self) → 0 < length (Self.encoding m) };
+}
+
+/// Takes messages one after another.
+pub trait Visitor<M: Message> {
+    /// What it looks at beside its state and the messages.
+    type Context;
+
+    /// The second state is the first after these messages.
+    ghost follows: { Self.Context → List M → Self → Self → Type 0 };
+
+    /// The state can take messages of this many bytes.
+    ghost has_room: { Self → ℕ → Type 0 };
+
+    /// Takes one more message, whose encoding has `size` bytes. `AllocError` only where an allocation failed.
+    fn take(
+        &mut self,
+        alloc: Global,
+        context: &Self::Context,
+        size: usize,
+        message: &M,
+    ) -> Result<(), AllocError>
+        requires size { size ≡ length (M.encoding message.now) }
+        requires room { has_room self.old size }
+        ensures { OnOk result (follows context.now (message.now ∷ []) self.old self.new) };
+
+    /// After no message the state is as it was.
+    ghost none: { (context : Self.Context) (state : Self) → follows context [] state state };
+
+    /// One message more.
+    ghost more: { (context : Self.Context) (ms : List M) (m : M) (a b c : Self) →
+        follows context ms a b → follows context (m ∷ []) b c →
+        follows context (ms ++ m ∷ []) a c };
+
+    /// Where there is room for some bytes, there is room for fewer,
+    ghost less: { (a : Self) (n k : ℕ) → has_room a (n + k) → has_room a n };
+
+    /// and a message takes no more room than its bytes.
+    ghost left: { (context : Self.Context) (m : M) (a b : Self) (n : ℕ) →
+        follows context (m ∷ []) a b → has_room a (length (M.encoding m) + n) → has_room b n };
+}
+
+/// What was read of some bytes.
+#[derive(Clone, Copy)]
+pub struct Progress<'a> {
+    /// How many messages were read.
+    pub read: usize,
+    /// The bytes after the last message.
+    pub rest: &'a [u8],
+    /// The error of reading a message there, if anything is left.
+    pub stop: Option<Error>,
+}
+
+/// Reads the messages of some bytes under a bound, as many as there are, and shows each to the visitor. `AllocError` only where
+/// an allocation failed; the visitor may then have taken some of the messages.
+pub fn for_each_message<'a, M: Message + Drop, V: Visitor<M>>(
+    alloc: Global,
+    context: &V::Context,
+    bound: u32,
+    bytes: &'a [u8],
+    visitor: &mut V,
+) -> Result<Progress<'a>, AllocError>
+    requires { V.has_room visitor.old (length bytes.now) }
+    ensures progress { IfOk result (λ p. IsProgress (format_under ⟦<M as Read>⟧ bound)
+        (λ messages. V.follows context.now messages visitor.old visitor.new) bytes.now p.rest.now p.read
+        p.stop) }
+    ensures room { IfOk result (λ p. p.read + length p.rest.now ≤ length bytes.now) }
+{
+    let mut rest: &[u8] = bytes;
+    let mut read = 0;
+    'messages: while !rest.is_empty() {
+        let before = rest.len();
+        match M::read_cfg(alloc, &mut rest, &bound) {
+            Ok(message) => {
+                read += 1;
+                visitor.take(alloc, context, before - rest.len(), &message)?;
+            }
+            Err(error) => {
+                let stop = Some(refusal(error)?);
+                return Ok(Progress { read, rest, stop });
+            }
+        }
+    }
+    Ok(Progress {
+        read,
+        rest,
+        stop: None,
+    })
+}
