@@ -2,7 +2,7 @@
 use Rattle.std.proofs.Common.{◌≡◌, ℕ, zero, suc, ◌<◌, ◌≤◌, List, [], ◌∷◌, Result, Some, Err, take, drop, get_or, length, refl, sym, ap, subst, ◌∙◌, arith}
 use Rattle.std.specs.Prelude.{◌≢◌, All}
 use Rattle.std.proofs.lemmas.List.Elements.{All-head}
-use Rattle.simplex_plain.specs.Plain.{PlainScheme}
+use Rattle.simplex_schemes.specs.Plain.{PlainScheme}
 use Rattle.simplex_detector.specs.Committees.{Schedule, Every, Listed, AreRising}
 use Rattle.simplex_detector.specs.declared.committees.CommitteesError.{CommitteesError}
 use Rattle.simplex_detector.specs.declared.committees.CommitteesError.TheVariants as errors

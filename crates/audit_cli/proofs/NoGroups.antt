@@ -2,7 +2,7 @@
 use Rattle.std.proofs.Common.{◌≡◌, ℕ, List, [], ◌∷◌, ◌++◌, ◌<◌, ◌^◌, take, drop, map, refl, sym, ap, subst, ◌∙◌, append_assoc}
 use Rattle.std.specs.Prelude.{◌≢◌, All}
 use Rattle.std.proofs.lemmas.List.{map-append}
-use Rattle.simplex_plain.specs.Plain.{PlainScheme}
+use Rattle.simplex_schemes.specs.Plain.{PlainScheme}
 use Rattle.simplex_detector.specs.Committees.{AreRising}
 use Rattle.audit_cli.specs.Arguments.{AreNoKeys, AreGroups, BeginsGroup, StandsBeforeGroup, epoch_text}
 use Rattle.audit_cli.proofs.GroupLemmas.{first_group, epoch_told, risen}

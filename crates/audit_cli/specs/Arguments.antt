@@ -7,7 +7,7 @@ use Rattle.std.specs.Global.{Global}
 use Rattle.hex.specs.Hex.{decode_sized}
 use Rattle.hex.specs.declared.error.FromHexError.{FromHexError}
 use Rattle.simplex_scheme.specs.Namespace.{names_of}
-use Rattle.simplex_plain.specs.Plain.{PlainScheme}
+use Rattle.simplex_schemes.specs.Plain.{PlainScheme}
 use Rattle.simplex_detector.specs.Committees.{Schedule, Every, Listed, AreRising}
 
 -- the words of the arguments of a process: those after the program's name

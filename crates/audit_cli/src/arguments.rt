@@ -7,7 +7,7 @@ use crate::groups::{count_keys, parse_groups};
 use crate::keys::parse_committee;
 use crate::status::Failure;
 use simplex_audit::audit::Committees;
-use simplex_plain::plain::Plain;
+use simplex_schemes::plain::Plain;
 use std::alloc::Global;
 
 /// Reads the arguments, without the program's name: a namespace, and then keys, or groups of an epoch and keys. They are

@@ -12,8 +12,8 @@ use crate::stored::run_deferred;
 use simplex_audit::audit::{Fault, Watched, run};
 use simplex_audit::basis::Audited;
 use simplex_base::values::{EqByParts, ExactClone, InfallibleClone};
-use simplex_plain::plain::Plain;
 use simplex_scheme::scheme::Sha256Digest;
+use simplex_schemes::plain::Plain;
 use std::alloc::Global;
 use std::io::{ErrorKind, Read, Write};
 

@@ -2,14 +2,14 @@
 
 ghost use Rattle.std.specs.Prelude.{◌≡◌, ◌≢◌, ◌↔◌, ◌≤◌, ◌<◌, ◌^◌, ◌⊎◌, ℕ, List, Ok, Err, All, IfOk, IfErr, map, length, take, drop, string_bytes, IsTrue};
 ghost use Rattle.simplex_detector.specs.Committees.{AreRising};
-ghost use Rattle.simplex_plain.specs.Plain.{PlainScheme};
+ghost use Rattle.simplex_schemes.specs.Plain.{PlainScheme};
 ghost use Rattle.audit_cli.specs.Arguments.{AreGroups, BeginAsGroups, BeginsGroup, StandsBeforeGroup, epoch_text};
 
 use crate::keys::parse_committee;
 use crate::status::Failure;
 use itoa::Buffer;
 use simplex_base::positions::Epoch;
-use simplex_plain::plain::Plain;
+use simplex_schemes::plain::Plain;
 use std::alloc::{AllocError, Global};
 
 /// Whether a text begins a group.

@@ -7,8 +7,8 @@ ghost use Rattle.audit_cli.specs.Arguments.{AreKeyTexts, AreNoKeys, IsCommitteeS
 use crate::status::Failure;
 use hex::FromHex;
 use simplex_base::codec::Fixed;
-use simplex_plain::plain::{Plain, PlainKey};
 use simplex_scheme::scheme::Set;
+use simplex_schemes::plain::{Plain, PlainKey};
 use std::alloc::{AllocError, Global};
 
 /// The greatest number of keys of a committee.

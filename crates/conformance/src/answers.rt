@@ -4,7 +4,7 @@ use crate::audits::{audit_vector, committees, feed_vector};
 use crate::clients::{follow, store};
 use conformance_messages::answers::message_vector;
 use conformance_messages::vectors::{Unanswered, bytes};
-use simplex_plain::marked::MarkedDigest;
+use simplex_schemes::marked::MarkedDigest;
 use std::alloc::{AllocError, Global};
 
 /// The answer to a line that is no test vector.

@@ -7,8 +7,8 @@ use simplex_audit::audit::{
     Auditor, Committees, Evidence, Fault, Report, RunError, Watched, audit, audit_deferred, run,
 };
 use simplex_base::positions::Epoch;
-use simplex_plain::marked::Marked;
 use simplex_scheme::scheme::{Digest, Listing, SchemeTypes};
+use simplex_schemes::marked::Marked;
 use std::alloc::{AllocError, Global};
 
 /// The marked committee of this many participants for every epoch, or from `EPOCH:NUMBER`s, separated by commas, one for each

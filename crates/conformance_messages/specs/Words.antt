@@ -5,7 +5,7 @@ use Rattle.hex.specs.Hex.{decode_of}
 use Rattle.hex.specs.declared.FromHexError.{FromHexError}
 use Rattle.simplex_base.specs.declared.codec.error.Error.{Error}
 use Rattle.simplex_base.specs.declared.codec.error.Error.TheVariants as errors
-use Rattle.simplex_plain.specs.Marked.{MarkedScheme, numbered}
+use Rattle.simplex_schemes.specs.Marked.{MarkedScheme, numbered}
 
 -- a word is decimal digits, at least one, and encodes the number
 pub record IsDecimal (word : List ℕ) (number : ℕ) : Type 0 where

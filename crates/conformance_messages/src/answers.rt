@@ -17,7 +17,7 @@ use crate::windows::{
 };
 use simplex_base::positions::Round;
 use simplex_lead::{Lookahead, Viewport};
-use simplex_plain::marked::MarkedDigest;
+use simplex_schemes::marked::MarkedDigest;
 use std::alloc::Global;
 
 /// The answer to the test vector of these words, as docs/CONFORMANCE.md has it; here those that ask

@@ -6,8 +6,8 @@ use crate::vectors::{Unanswered, bytes};
 use simplex_base::positions::{Round, TermLength, ViewDelta};
 use simplex_lead::elector::{Config, Elector, RoundRobin, can_be_stable};
 use simplex_node::voter;
-use simplex_plain::marked::Marked;
 use simplex_scheme::scheme::{CertificateScheme, Sha256};
+use simplex_schemes::marked::Marked;
 use std::alloc::Global;
 use std::time::Duration;
 

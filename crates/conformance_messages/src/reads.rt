@@ -11,9 +11,9 @@ use simplex_base::positions::{Epoch, Participant, Round, View};
 use simplex_evidence::types::{
     Activity, ConflictingFinalize, ConflictingNotarize, NullifyFinalize,
 };
-use simplex_plain::marked::{Marked, MarkedDigest};
-use simplex_plain::plain::{Plain, PlainKey};
 use simplex_scheme::scheme::{Attestation, Digest, Proposal, Scheme, Sha256Digest};
+use simplex_schemes::marked::{Marked, MarkedDigest};
+use simplex_schemes::plain::{Plain, PlainKey};
 use simplex_votes::types::{
     Artifact, Certificate, Context, Finalization, Finalize, Notarization, Notarize, Nullification,
     Nullify, Vote,

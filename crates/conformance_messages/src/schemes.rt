@@ -5,9 +5,9 @@ ghost use Rattle.std.specs.Prelude.{◌≤◌, ◌<◌, ◌^◌, length, IfOk};
 use crate::vectors::{Unanswered, bytes, committee_size, participant, small};
 use simplex_base::codec::Fixed;
 use simplex_base::positions::Participant;
-use simplex_plain::marked::Marked;
-use simplex_plain::plain::{Plain, PlainKey};
 use simplex_scheme::scheme::Set;
+use simplex_schemes::marked::Marked;
+use simplex_schemes::plain::{Plain, PlainKey};
 use std::alloc::{AllocError, Global};
 
 /// The marked scheme of a committee of `N` participants, or by `N/SIGNER` that of this participant of it.

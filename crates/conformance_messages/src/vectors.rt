@@ -5,7 +5,7 @@ ghost use Rattle.std.specs.List.{flat_map};
 ghost use Rattle.conformance_messages.specs.Words.{IsDecimal, IsMarkedCommittee, decoded};
 
 use simplex_base::positions::{Epoch, Participant, TermLength, View, ViewDelta};
-use simplex_plain::marked::Marked;
+use simplex_schemes::marked::Marked;
 use std::alloc::{AllocError, Global};
 
 /// Why a line is not answered as a test vector.

@@ -7,10 +7,10 @@ use crate::schemes::{marked, plain};
 use crate::vectors::{Unanswered, bytes};
 use simplex_base::codec::{Encode, Error, Read, decode};
 use simplex_evidence::types::Activity;
-use simplex_plain::marked::MarkedDigest;
 use simplex_scheme::scheme::{
     AssemblyError, CertificateScheme, Digest, Scheme, Sha256Digest, quorum,
 };
+use simplex_schemes::marked::MarkedDigest;
 use simplex_votes::types::{
     Finalization, Finalize, Notarization, Notarize, Nullification, Nullify,
 };

@@ -5,7 +5,7 @@ use Rattle.std.specs.Ordering.{nat_cmp}
 use Rattle.std.specs.Prelude.{◌≡◌, ◌≢◌, ℕ, ◌<◌, ◌≤◌, ◌^◌, List, length, map, None, AllPairs, IsPermutation}
 use Rattle.simplex_base.specs.Positions.{Round}
 use Rattle.simplex_scheme.specs.Namespace.{names_of}
-use Rattle.simplex_plain.specs.Plain.{PlainScheme}
+use Rattle.simplex_schemes.specs.Plain.{PlainScheme}
 use Rattle.simplex_scheme.specs.Subject.{round_of}
 use Rattle.simplex_detector.specs.Committees.{Schedule, Every}
 use Rattle.simplex_detector.specs.Values.{evidence_value}

@@ -7,8 +7,8 @@ ghost use Rattle.example.specs.Accused.{AreAccused, AreCommitteeKeys, IsPlainCom
 use simplex_audit::audit::{Committees, Evidence, audit};
 use simplex_audit::basis::Audited;
 use simplex_base::positions::{Participant, Round};
-use simplex_plain::plain::{Plain, PlainKey};
 use simplex_scheme::scheme::{Set, Sha256Digest};
+use simplex_schemes::plain::{Plain, PlainKey};
 use std::alloc::{AllocError, Global};
 
 /// The rounds and the signers that the stream accuses, in the order of the evidence. One committee judges every epoch.

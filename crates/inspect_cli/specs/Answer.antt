@@ -1,7 +1,7 @@
 -- What the program makes of its arguments and its input.
 use Rattle.std.specs.Prelude.{◌⊎◌, ℕ, IsTrue, List, [], Option, Some, None, Ok, Err}
 use Rattle.std.specs.Io.KnownBytes.{IsAtEnd, Keeps}
-use Rattle.simplex_plain.specs.Plain.{PlainScheme}
+use Rattle.simplex_schemes.specs.Plain.{PlainScheme}
 use Rattle.simplex_evidence.specs.declared.types.activity.Activity.{Activity}
 use Rattle.simplex_detector.specs.Committees.{Schedule}
 use Rattle.simplex_stream.specs.declared.fault.Fault.{Fault}

@@ -1,6 +1,6 @@
 -- What the arguments of the program name.
 use Rattle.std.specs.Prelude.{◌≡◌, ℕ, List, [], Option, Some, None}
-use Rattle.simplex_plain.specs.Plain.{PlainScheme}
+use Rattle.simplex_schemes.specs.Plain.{PlainScheme}
 use Rattle.simplex_detector.specs.Committees.{Schedule}
 use Rattle.audit_cli.specs.Arguments.{AreArguments}
 

@@ -7,7 +7,7 @@ ghost use Rattle.inspect_cli.specs.Arguments.{AreGiven, AreNotGiven};
 use audit_cli::arguments::parse;
 use audit_cli::status::Failure;
 use simplex_audit::audit::Committees;
-use simplex_plain::plain::Plain;
+use simplex_schemes::plain::Plain;
 use std::alloc::Global;
 
 /// Reads the arguments, without the program's name: none, or a namespace, and then keys, or groups of an epoch and keys.

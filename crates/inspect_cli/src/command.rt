@@ -14,8 +14,8 @@ use audit_cli::status::{Failure, Status};
 use simplex_audit::audit::{Fault, Watched};
 use simplex_inspect::basis::Inspected;
 use simplex_inspect::input::inspect_input;
-use simplex_plain::plain::Plain;
 use simplex_scheme::scheme::Sha256Digest;
+use simplex_schemes::plain::Plain;
 use std::alloc::Global;
 use std::io::{Read, Write};
 

@@ -6,21 +6,21 @@ ghost use Rattle.std.specs.Str.{bytes_eq};
 ghost use Rattle.std.proofs.Common.{lit≤};
 ghost use Rattle.simplex_scheme.specs.Subject.{SubjectValue, subject_value};
 ghost use Rattle.simplex_scheme.specs.Committee.{IsInOrder, is_quorum, quorum_of, signers_of, RefusesFew};
-ghost use Rattle.simplex_plain.specs.CommitteeLaws.{quorum_meaning, listed_size};
-ghost use Rattle.simplex_plain.specs.Marked.{marked_good, marked_members};
+ghost use Rattle.simplex_schemes.specs.CommitteeLaws.{quorum_meaning, listed_size};
+ghost use Rattle.simplex_schemes.specs.Marked.{marked_good, marked_members};
 ghost use Rattle.simplex_audit_tests.specs.Counted.{nobody};
 
 use simplex_base::codec::Fixed;
 use simplex_base::codec::fixed_bytes::FixedBytes;
 use simplex_base::positions::Participant;
 use simplex_places::located;
-use simplex_plain::certificates::{AttestationVerifier, are_certified, assembled, is_certified};
-use simplex_plain::listed::Listed;
-use simplex_plain::marked::{MarkedKey, MarkedKeyRole, MarkedSignatureRole};
 use simplex_scheme::scheme::{
     AssemblyError, Attestation, CertificateScheme, CertificateVerifier, Digest, Listing, Scheme,
     SchemeTypes, Set, Subject,
 };
+use simplex_schemes::certificates::{AttestationVerifier, are_certified, assembled, is_certified};
+use simplex_schemes::listed::Listed;
+use simplex_schemes::marked::{MarkedKey, MarkedKeyRole, MarkedSignatureRole};
 use std::alloc::{AllocError, Global};
 use std::cell::Cell;
 use std::marker::Model;

@@ -4,8 +4,8 @@ ghost use Rattle.std.specs.Prelude.{◌≤◌};
 
 use simplex_audit::audit::{Committees, Fault, Report, audit, audit_deferred};
 use simplex_base::positions::Epoch;
-use simplex_plain::marked::Marked;
 use simplex_scheme::scheme::{Digest, Listing};
+use simplex_schemes::marked::Marked;
 use std::alloc::Global;
 use std::test::Fail;
 

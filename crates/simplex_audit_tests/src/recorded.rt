@@ -8,10 +8,10 @@ use crate::outcome::marked;
 use simplex_audit::audit::{Auditor, Committees};
 use simplex_audit::basis::Audited;
 use simplex_base::codec::Fixed;
-use simplex_plain::listed::lists_within;
-use simplex_plain::marked::{Marked, MarkedDigest};
-use simplex_plain::plain::{Plain, PlainKey};
 use simplex_scheme::scheme::{Digest, Listing, Set, Sha256Digest};
+use simplex_schemes::listed::lists_within;
+use simplex_schemes::marked::{Marked, MarkedDigest};
+use simplex_schemes::plain::{Plain, PlainKey};
 use std::alloc::{AllocError, Global};
 use std::test::Fail;
 

@@ -5,8 +5,8 @@ use simplex_audit::audit::{Committees, audit};
 use simplex_places::records::{
     CONFLICTING_FINALIZE, CONFLICTING_NOTARIZE, NULLIFY_FINALIZE, Record, records,
 };
-use simplex_plain::marked::MarkedDigest;
-use simplex_vouched::vouched::Vouched;
+use simplex_schemes::marked::MarkedDigest;
+use simplex_schemes::vouched::Vouched;
 use std::alloc::{AllocError, Global};
 use std::test::Fail;
 

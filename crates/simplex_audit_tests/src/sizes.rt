@@ -8,9 +8,9 @@ use simplex_audit::audit::{Committees, audit};
 use simplex_base::codec::fixed_bytes::{FixedBytes, Role};
 use simplex_base::codec::{Write, decode, decode_cfg};
 use simplex_base::positions::{Epoch, Participant, Round, View};
-use simplex_plain::marked::MarkedDigest;
 use simplex_scheme::scheme::{Attestation, CertificateScheme, Digest, Listing, Subject};
-use simplex_vouched::vouched::Vouched;
+use simplex_schemes::marked::MarkedDigest;
+use simplex_schemes::vouched::Vouched;
 use std::alloc::{AllocError, Global};
 use std::test::Fail;
 

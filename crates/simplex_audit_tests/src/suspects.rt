@@ -9,8 +9,8 @@ use simplex_base::codec::fixed_bytes::Role;
 use simplex_base::positions::Epoch;
 use simplex_places::places::Suspect;
 use simplex_places::suspects::suspects;
-use simplex_plain::marked::MarkedDigest;
-use simplex_vouched::vouched::Vouched;
+use simplex_schemes::marked::MarkedDigest;
+use simplex_schemes::vouched::Vouched;
 use std::alloc::{AllocError, Global};
 use std::test::Fail;
 

@@ -11,7 +11,7 @@ use simplex_base::positions::Epoch;
 use simplex_clients::ledger::store_batch;
 use simplex_places::records::records;
 use simplex_places::suspects::suspects;
-use simplex_plain::marked::MarkedDigest;
+use simplex_schemes::marked::MarkedDigest;
 use std::alloc::{AllocError, Global};
 use std::process::Abort;
 use std::test::Fail;

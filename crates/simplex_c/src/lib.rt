@@ -20,9 +20,9 @@ ghost use Rattle.std.specs.Prelude.{◌≡◌, ◌≢◌, ◌⊎◌, ◌-◌, �
 ghost use Rattle.simplex_base.specs.Terms.{term_start};
 ghost use Rattle.simplex_scheme.specs.Committee.{faults_of, quorum_of};
 ghost use Rattle.simplex_lead.specs.Windows.{FitsWindow, IsAdmitted, IsOutbound};
-ghost use Rattle.simplex_plain.specs.Plain.{PlainScheme};
+ghost use Rattle.simplex_schemes.specs.Plain.{PlainScheme};
 ghost use Rattle.simplex_detector.specs.Committees.{Schedule};
-ghost use Rattle.simplex_vouched.specs.Vouched.{VouchedScheme};
+ghost use Rattle.simplex_schemes.specs.Vouched.{VouchedScheme};
 ghost use Rattle.simplex_ffi.specs.Answer.{AreRecorded, AreStored, AreSuspectsGiven, IsAudited};
 ghost use Rattle.simplex_ffi.specs.Keys.{AreKeys, AreOfKeys, IsLengthOfKeys};
 ghost use Rattle.simplex_ffi.specs.Leaders.{LeadsRound};
@@ -39,9 +39,9 @@ use simplex_ffi::{leaders, numbers};
 use simplex_places::located::Located;
 use simplex_places::places::Suspect;
 use simplex_places::records::Record;
-use simplex_plain::plain::Plain;
 use simplex_scheme::scheme::{Hasher, Sha256, Sha256Digest};
-use simplex_vouched::vouched::Vouched;
+use simplex_schemes::plain::Plain;
+use simplex_schemes::vouched::Vouched;
 use std::alloc::Global;
 
 /// The version of these calls: 1.

@@ -10,7 +10,7 @@ use Rattle.std.proofs.lemmas.Bool.Decides.{nat_tests}
 use Rattle.std.proofs.lemmas.List.Elements.{All-nil, All-cons}
 use Rattle.std.proofs.lemmas.List.{drop_more, drop_all, length-map}
 use Rattle.std.proofs.lemmas.Map.Keys.{below_from_sorted, sorted_from_strictly_increasing}
-use Rattle.simplex_vouched.specs.Vouched.{VouchedScheme}
+use Rattle.simplex_schemes.specs.Vouched.{VouchedScheme}
 use Rattle.simplex_detector.specs.Committees.{Schedule, Every, Listed, AreRising}
 use Rattle.simplex_detector.specs.declared.committees.CommitteesError.{CommitteesError}
 use Rattle.simplex_detector.specs.declared.committees.CommitteesError.TheVariants as errors

@@ -1,8 +1,8 @@
 -- Committees by their sizes.
 use Rattle.std.specs.Prelude.{◌≡◌, ◌≢◌, ℕ, ◌≤◌, List, [], ◌∷◌, All, length}
 use Rattle.simplex_detector.specs.Committees.{Schedule, Every, Listed, AreRising}
-use Rattle.simplex_plain.specs.Marked.{numbered}
-use Rattle.simplex_vouched.specs.Vouched.{VouchedScheme}
+use Rattle.simplex_schemes.specs.Marked.{numbered}
+use Rattle.simplex_schemes.specs.Vouched.{VouchedScheme}
 
 -- the committee of this many participants
 abbrev pub of_size : ℕ → VouchedScheme

@@ -6,8 +6,8 @@ ghost use Rattle.simplex_ffi.specs.Keys.{AreKeys, AreOfKeys, IsLengthOfKeys, key
 
 use simplex_base::codec::Fixed;
 use simplex_detector::committees::Committees;
-use simplex_plain::plain::{Plain, PlainKey};
 use simplex_scheme::scheme::Set;
+use simplex_schemes::plain::{Plain, PlainKey};
 use std::alloc::{AllocError, Global};
 
 /// The greatest number of keys of a committee.

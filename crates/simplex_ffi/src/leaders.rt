@@ -7,8 +7,8 @@ ghost use Rattle.simplex_ffi.specs.Leaders.{LeadsRound};
 use crate::answer::{ARGUMENTS, MEMORY, WHOLE};
 use simplex_base::positions::{Epoch, Round, TermLength, View, ViewDelta};
 use simplex_lead::elector::{Elector, RoundRobin, can_be_stable};
-use simplex_plain::marked::Marked;
 use simplex_scheme::scheme::{Hasher, Sha256, Sha256Digest};
+use simplex_schemes::marked::Marked;
 use std::alloc::{AllocError, Global};
 use std::time::Duration;
 

@@ -1,7 +1,7 @@
 //! Audits of streams of the plain scheme.
 
 ghost use Rattle.std.specs.Prelude.{◌≡◌, ◌≢◌, ◌⊎◌, ◌++◌, length};
-ghost use Rattle.simplex_plain.specs.Plain.{PlainScheme};
+ghost use Rattle.simplex_schemes.specs.Plain.{PlainScheme};
 ghost use Rattle.simplex_detector.specs.Committees.{Schedule};
 ghost use Rattle.simplex_ffi.specs.Answer.{AreStored, IsAudited};
 ghost use Rattle.simplex_ffi.specs.Keys.{AreKeys, AreOfKeys, IsLengthOfKeys};
@@ -11,8 +11,8 @@ use crate::keys::committees;
 use crate::store::store;
 use simplex_audit::basis::Audited;
 use simplex_base::codec::Fixed;
-use simplex_plain::plain::Plain;
 use simplex_scheme::scheme::Sha256Digest;
+use simplex_schemes::plain::Plain;
 use std::alloc::Global;
 
 /// Audits a stream under the committee of these keys, for every epoch. The status is that of

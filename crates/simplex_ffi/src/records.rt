@@ -5,8 +5,8 @@ ghost use Rattle.simplex_audit.specs.Guarantees.{IsAudit};
 ghost use Rattle.simplex_audit.specs.Run.{report_text};
 ghost use Rattle.simplex_detector.specs.Committees.{Schedule};
 ghost use Rattle.simplex_places.specs.Records.{AreRecords};
-ghost use Rattle.simplex_plain.specs.Plain.{PlainScheme};
-ghost use Rattle.simplex_vouched.specs.Vouched.{VouchedScheme};
+ghost use Rattle.simplex_schemes.specs.Plain.{PlainScheme};
+ghost use Rattle.simplex_schemes.specs.Vouched.{VouchedScheme};
 ghost use Rattle.simplex_ffi.specs.Answer.{AreRecorded};
 ghost use Rattle.simplex_ffi.specs.Keys.{AreKeys, AreOfKeys, IsLengthOfKeys};
 ghost use Rattle.simplex_ffi.specs.Sizes.{AreSizes, AreCommitteeSizes};
@@ -19,9 +19,9 @@ use simplex_base::codec::Fixed;
 use simplex_base::codec::fixed_bytes::Role;
 use simplex_places::located::Located;
 use simplex_places::records::{Record, records};
-use simplex_plain::plain::Plain;
 use simplex_scheme::scheme::{Digest, Listing, Sha256Digest};
-use simplex_vouched::vouched::Vouched;
+use simplex_schemes::plain::Plain;
+use simplex_schemes::vouched::Vouched;
 use std::alloc::{AllocError, Global};
 
 /// The report of a stream, its text, and its evidence as records.

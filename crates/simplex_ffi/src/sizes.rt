@@ -2,13 +2,13 @@
 
 ghost use Rattle.std.specs.Prelude.{◌≡◌, ◌↔◌, ◌≤◌, All, None, Ok, IsTrue, IfOk, IfErr, IfSome, length};
 ghost use Rattle.simplex_detector.specs.Committees.{Schedule};
-ghost use Rattle.simplex_vouched.specs.Vouched.{VouchedScheme};
+ghost use Rattle.simplex_schemes.specs.Vouched.{VouchedScheme};
 ghost use Rattle.simplex_ffi.specs.Sizes.{AreSizes, AreCommitteeSizes, pairs_of};
 
 use simplex_base::positions::Epoch;
 use simplex_detector::committees::Committees;
 use simplex_scheme::scheme::Set;
-use simplex_vouched::vouched::Vouched;
+use simplex_schemes::vouched::Vouched;
 use std::alloc::{AllocError, Global};
 
 /// The committees of these sizes: without epochs one committee for every epoch, of the one size; else

@@ -2,7 +2,7 @@
 
 ghost use Rattle.std.specs.Prelude.{◌≡◌, ◌≢◌, ◌⊎◌};
 ghost use Rattle.simplex_detector.specs.Committees.{Schedule};
-ghost use Rattle.simplex_vouched.specs.Vouched.{VouchedScheme};
+ghost use Rattle.simplex_schemes.specs.Vouched.{VouchedScheme};
 ghost use Rattle.simplex_ffi.specs.Answer.{AreSuspectsGiven};
 ghost use Rattle.simplex_ffi.specs.Sizes.{AreSizes, AreCommitteeSizes};
 
@@ -15,7 +15,7 @@ use simplex_places::located::{Counted, Located};
 use simplex_places::places::Suspect;
 use simplex_places::suspects::suspects;
 use simplex_scheme::scheme::{Digest, Sha256Digest};
-use simplex_vouched::vouched::Vouched;
+use simplex_schemes::vouched::Vouched;
 use std::alloc::Global;
 
 /// Puts the attestations of a stream that have to be verified at the start of a buffer. The status is

@@ -3,7 +3,7 @@
 ghost use Rattle.std.specs.Prelude.{◌≡◌, ◌≢◌, ◌⊎◌, ◌++◌};
 ghost use Rattle.std.proofs.Common.{lit<, lit≤};
 ghost use Rattle.simplex_detector.specs.Committees.{Schedule};
-ghost use Rattle.simplex_vouched.specs.Vouched.{VouchedScheme};
+ghost use Rattle.simplex_schemes.specs.Vouched.{VouchedScheme};
 ghost use Rattle.simplex_ffi.specs.Answer.{AreStored, IsAudited};
 ghost use Rattle.simplex_ffi.specs.Sizes.{AreSizes, AreCommitteeSizes};
 
@@ -14,7 +14,7 @@ use simplex_audit::basis::Audited;
 use simplex_base::codec::Fixed;
 use simplex_base::codec::fixed_bytes::Role;
 use simplex_scheme::scheme::Sha256Digest;
-use simplex_vouched::vouched::Vouched;
+use simplex_schemes::vouched::Vouched;
 use std::alloc::Global;
 
 /// The role of a signature of 64 bytes, such as one of Ed25519, with its verdict.

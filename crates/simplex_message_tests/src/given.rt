@@ -3,11 +3,11 @@
 use crate::without_memory::is_out;
 use simplex_base::codec::MaxEncodeSize;
 use simplex_base::positions::{Epoch, Participant, Round, View};
-use simplex_plain::marked::{Marked, MarkedDigest};
-use simplex_plain::plain::Plain;
 use simplex_scheme::scheme::{
     Attestation, CertificateScheme, Digest, Proposal, Sha256Digest, max_faults, quorum,
 };
+use simplex_schemes::marked::{Marked, MarkedDigest};
+use simplex_schemes::plain::Plain;
 use simplex_votes::types::{
     Certificate, Context, Finalization, Finalize, Kind, Notarization, Notarize, Nullification,
     Nullify, Vote,

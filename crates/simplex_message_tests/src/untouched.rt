@@ -1,8 +1,8 @@
 //! What is as before where an allocation failed, which no test vector can state.
 
 use simplex_base::codec::{Encode, Read, Write};
-use simplex_plain::marked::{Marked, MarkedDigest};
 use simplex_scheme::scheme::{CertificateScheme, Digest};
+use simplex_schemes::marked::{Marked, MarkedDigest};
 use simplex_votes::types::{Certificate, Vote};
 use std::process::Abort;
 

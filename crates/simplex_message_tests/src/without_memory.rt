@@ -9,14 +9,14 @@ use crate::bisection::{four_keys, key, plain};
 use simplex_base::codec::{EncodeSize, Fixed, MaxEncodeSize, Read, ReadExt, decode, decode_cfg};
 use simplex_base::positions::{Epoch, Epochable, Participant, Round, Roundable, View, Viewable};
 use simplex_evidence::types::{ConflictingFinalize, ConflictingNotarize, NullifyFinalize};
-use simplex_plain::listed::Listed;
-use simplex_plain::marked::{Marked, MarkedDigest, MarkedKey, MarkedSignature};
-use simplex_plain::plain::{Plain, PlainKey};
 use simplex_scheme::assembly::can_assemble;
 use simplex_scheme::scheme::{
     AssemblyError, Attestation, CertificateScheme, CertificateSubject, CertificateVerifier, Digest,
     Listing, Namespace, Proposal, Scheme, SchemeTypes, Set, SetError, Sha256Digest, Subject,
 };
+use simplex_schemes::listed::Listed;
+use simplex_schemes::marked::{Marked, MarkedDigest, MarkedKey, MarkedSignature};
+use simplex_schemes::plain::{Plain, PlainKey};
 use simplex_votes::types::{
     Artifact, Attributable, Certificate, Context, Finalize, Notarize, Nullify, Vote,
 };

@@ -10,7 +10,7 @@ use Rattle.simplex_base.specs.VarintLaws.{groups_some}
 use Rattle.simplex_scheme.specs.Attestation.{attestation_format}
 use Rattle.simplex_scheme.specs.Subject.{SubjectValue, Notarizes, Nullifies, Finalizes, message_of}
 use Rattle.simplex_scheme.specs.declared.scheme.Attestation.{Attestation}
-use Rattle.simplex_plain.specs.Listed.{listed_encoding}
+use Rattle.simplex_schemes.specs.Listed.{listed_encoding}
 use Rattle.simplex_votes.specs.Votes.{SignedVote, vote_on}
 use Rattle.simplex_evidence.specs.Activity.{activity_body, activity_encoding, activity_tag, votes_in}
 use Rattle.simplex_evidence.specs.declared.types.activity.Activity.{Activity}

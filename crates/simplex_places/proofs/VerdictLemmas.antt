@@ -10,7 +10,7 @@ use Rattle.simplex_base.specs.Varint.{number_32}
 use Rattle.simplex_scheme.specs.Attestation.{attestation_format}
 use Rattle.simplex_scheme.specs.Subject.{SubjectValue, Notarizes, Nullifies, Finalizes, message_of, round_of}
 use Rattle.simplex_scheme.specs.declared.scheme.Attestation.{Attestation}
-use Rattle.simplex_plain.specs.Listed.{ListedFits, listed_encoding}
+use Rattle.simplex_schemes.specs.Listed.{ListedFits, listed_encoding}
 use Rattle.simplex_votes.specs.Votes.{SignedVote, vote_on}
 use Rattle.simplex_votes.specs.declared.types.finalize.Finalize.{Finalize}
 use Rattle.simplex_votes.specs.declared.types.notarize.Notarize.{Notarize}

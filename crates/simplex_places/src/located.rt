@@ -3,7 +3,7 @@
 ghost use Rattle.std.specs.Prelude.{◌≡◌, ℕ, Bool, List, length, refl};
 ghost use Rattle.simplex_base.specs.Format.{format_of};
 ghost use Rattle.simplex_evidence.specs.declared.types.activity.Activity.{Activity};
-ghost use Rattle.simplex_plain.specs.Listed.{listed_encoding};
+ghost use Rattle.simplex_schemes.specs.Listed.{listed_encoding};
 ghost use Rattle.simplex_votes.specs.Votes.{SignedVote};
 ghost use Rattle.simplex_places.specs.Places.{message_places};
 ghost use Rattle.simplex_places.specs.Votes.{carries};
@@ -11,9 +11,9 @@ ghost use Rattle.simplex_places.specs.declared.places.Placed.{Placed};
 
 use simplex_base::codec::fixed_bytes::Role;
 use simplex_base::codec::{Encoding, Read};
-use simplex_plain::listed::Listed;
 use simplex_scheme::scheme::{Digest, Listing};
-use simplex_vouched::vouched::Vouched;
+use simplex_schemes::listed::Listed;
+use simplex_schemes::vouched::Vouched;
 
 /// A scheme whose certificates are encoded as the attestations that they list: their count, and then each.
 pub trait Counted<D: Digest>: Listing<D> {

@@ -28,7 +28,7 @@ use simplex_detector::detector::Detector;
 use simplex_detector::judging::{SuspectSigners, suspects_of};
 use simplex_detector::laws::{suspects_decide, suspects_suffice};
 use simplex_scheme::scheme::{CertificateScheme, Digest};
-use simplex_vouched::vouched::Vouched;
+use simplex_schemes::vouched::Vouched;
 use std::alloc::{AllocError, Global};
 
 /// The suspects and the suspect rounds, from the claimed evidence.

@@ -3,7 +3,7 @@
 ghost use Rattle.std.specs.Prelude.{◌≤◌};
 
 use simplex_audit::audit::Committees;
-use simplex_plain::marked::Marked;
+use simplex_schemes::marked::Marked;
 use std::alloc::Global;
 use std::test::Fail;
 

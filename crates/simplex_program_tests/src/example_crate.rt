@@ -3,7 +3,7 @@
 use example::accused;
 use simplex_base::codec::Fixed;
 use simplex_base::positions::{Epoch, Participant, Round, View};
-use simplex_plain::plain::PlainKey;
+use simplex_schemes::plain::PlainKey;
 use std::test::Fail;
 
 /// Two messages: the notarizes of two payloads for view 10 of epoch 0, after view 5, that the one participant with a key of

@@ -1,7 +1,7 @@
 use Rattle.std.proofs.Common.{◌≡◌, subst, ℕ, List}
 use Rattle.std.specs.Prelude.{map}
 use Rattle.simplex_base.specs.Positions.{Round}
-use Rattle.simplex_plain.specs.Plain.{PlainScheme}
+use Rattle.simplex_schemes.specs.Plain.{PlainScheme}
 use Rattle.simplex_detector.specs.Committees.{Schedule, Every}
 use Rattle.simplex_audit.specs.Basis.{Basis}
 use Rattle.simplex_audit.specs.Report.{IsReport}

@@ -1,6 +1,6 @@
 use Rattle.std.proofs.Common.{◌≡◌, [], ap, map, string_bytes, sym, subst, List, ℕ, ◌∙◌, Err, inl, inr}
 use Rattle.std.proofs.lemmas.Result.{err_from_is_err_and}
-use Rattle.simplex_plain.specs.Plain.{PlainScheme}
+use Rattle.simplex_schemes.specs.Plain.{PlainScheme}
 use Rattle.audit_cli.specs.Arguments.{IsNamedCommittee, NameCommittees, AreGroups, BeginAsGroups}
 use Rattle.audit_cli.specs.declared.status.Failure.TheVariants as failures
 use Rattle.audit_cli.proofs.ArgumentLemmas.{no_keys, no_rising, no_texts_named, no_arguments, refused_empty}

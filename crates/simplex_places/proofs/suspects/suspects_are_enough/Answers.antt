@@ -2,9 +2,9 @@ use Rattle.std.proofs.Common.{ℕ, List, length, refl}
 use Rattle.simplex_base.specs.Format.{Format, fixed}
 use Rattle.simplex_base.specs.FormatLaws.{fixed_lawful}
 use Rattle.simplex_scheme.specs.Committee.{is_quorum}
-use Rattle.simplex_plain.specs.Listed.{ListedFits, listed_at, listed_encoding}
-use Rattle.simplex_plain.specs.ListedLaws.{listed_lawful}
-use Rattle.simplex_vouched.specs.Vouched.{VouchedScheme, vouched_valid}
+use Rattle.simplex_schemes.specs.Listed.{ListedFits, listed_at, listed_encoding}
+use Rattle.simplex_schemes.specs.ListedLaws.{listed_lawful}
+use Rattle.simplex_schemes.specs.Vouched.{VouchedScheme, vouched_valid}
 use Rattle.simplex_evidence.specs.Activity.{activity_lawful}
 use Rattle.simplex_detector.specs.Committees.{bound_of, rules_of}
 use Rattle.simplex_places.proofs.RewrittenLemmas.{determined}

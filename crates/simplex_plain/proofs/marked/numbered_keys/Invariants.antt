@@ -1,6 +1,0 @@
-use Rattle.std.proofs.Common.{◌≡◌}
-use Rattle.simplex_plain.specs.Marked.{numbered}
-use Rattle.simplex_plain.proofs.marked.numbered_keys.Given as goal
-
-abbrev pub invariant-loop-number : goal.invariant-loop-number
-invariant-loop-number l = l.keys.items ≡ numbered l.number

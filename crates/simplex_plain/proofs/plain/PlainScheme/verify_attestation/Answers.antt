@@ -1,5 +1,0 @@
-use Rattle.simplex_plain.proofs.HashedLemmas.{hashed_decides}
-use Rattle.simplex_plain.proofs.plain.PlainScheme.verify_attestation.Goals as goal
-
-pub returns-clause-decided : goal.returns-clause-decided
-returns-clause-decided g c = hashed_decides

@@ -1,0 +1,49 @@
+-- A scheme by verdicts: the caller found elsewhere which signatures are valid. The proof at the end stands here, since
+-- a ghost member of the scheme cites it.
+use Rattle.std.specs.Prelude.{◌≡◌, ℕ, ◌<◌, ◌==◌, ◌&&◌, Bool, true, false, List, length, nat_lt, Option, None}
+use Rattle.std.specs.List.{list_any}
+use Rattle.std.specs.Str.{bytes_eq}
+use Rattle.std.proofs.Common.{arith}
+use Rattle.std.proofs.lemmas.Bool.Decides.{nat_tests}
+use Rattle.simplex_base.specs.Format.{Format}
+use Rattle.simplex_scheme.specs.Subject.{SubjectValue, Notarizes, Nullifies, Finalizes, message_of}
+use Rattle.simplex_schemes.specs.declared.judged.Verdict.{Verdict}
+use Rattle.simplex_schemes.specs.declared.judged.JudgedVote.{JudgedVote}
+use Rattle.simplex_schemes.specs.declared.judged.JudgedVote.TheVariants as votes
+
+-- the keys of a committee, and the signatures that were found valid
+pub record JudgedScheme : Type 0 where
+  pub keys : List (List ℕ)
+  pub verdicts : List Verdict
+
+-- who signs here
+abbrev pub nobody : Option ℕ
+nobody = None
+
+-- the kind of vote that a subject is of
+abbrev pub vote_of : {D : Type 0} → SubjectValue D → JudgedVote
+vote_of (Notarizes p) = votes.Notarize
+vote_of (Nullifies r) = votes.Nullify
+vote_of (Finalizes p) = votes.Finalize
+
+-- whether two kinds of vote are one
+abbrev pub same_judged_vote : JudgedVote → JudgedVote → Bool
+same_judged_vote votes.Notarize votes.Notarize = true
+same_judged_vote votes.Nullify votes.Nullify = true
+same_judged_vote votes.Finalize votes.Finalize = true
+same_judged_vote _ _ = false
+
+-- whether a verdict is on this signature of this signer for the subject
+abbrev pub is_on : {D : Type 0} → Format D → SubjectValue D → ℕ → List ℕ → Verdict → Bool
+is_on payload subject signer signature v =
+    same_judged_vote v.vote (vote_of subject)
+    && ((v.signer == signer) && (bytes_eq v.signature signature && bytes_eq v.message.items (message_of payload subject)))
+
+-- the signer is in the committee, and there is a verdict
+abbrev pub judged_good : {D : Type 0} → Format D → JudgedScheme → SubjectValue D → ℕ → List ℕ → Bool
+judged_good payload scheme subject signer signature =
+    nat_lt signer (length scheme.keys) && list_any (is_on payload subject signer signature) scheme.verdicts
+
+pub judged_members : {D : Type 0} (payload : Format D) (scheme : JudgedScheme) (subject : SubjectValue D) (signer : ℕ)
+    (signature : List ℕ) → judged_good payload scheme subject signer signature ≡ true → signer < length scheme.keys
+judged_members payload scheme subject signer signature h = grind (arith, nat_tests)
