@@ -3,16 +3,16 @@
 //! certificates contradict.
 #![tactic(auto)]
 
-use audit_cli::command::Verification;
-use audit_cli::start::start;
 use simplex_audit::audit::Watched;
+use simplex_cli::program::{Program, Verification};
+use simplex_cli::start::start;
 use std::env;
 use std::process::ExitCode;
 
 fn main(rt: HostRuntime) -> ExitCode {
     let number = start(
         rt.alloc(),
-        Verification::Full,
+        Program::Audit(Verification::Full),
         env::args(&rt),
         &mut Watched::new(rt.stdin()),
         &mut Watched::new(rt.stdout()),

@@ -3,14 +3,16 @@
 //! for the fault, if there is one.
 #![tactic(auto)]
 
-use inspect_cli::start::start;
 use simplex_audit::audit::Watched;
+use simplex_cli::program::Program;
+use simplex_cli::start::start;
 use std::env;
 use std::process::ExitCode;
 
 fn main(rt: HostRuntime) -> ExitCode {
     let number = start(
         rt.alloc(),
+        Program::Inspect,
         env::args(&rt),
         &mut Watched::new(rt.stdin()),
         &mut Watched::new(rt.stdout()),

@@ -4,7 +4,7 @@
 //! report, verifies none.
 
 use crate::counted::Counted;
-use audit_cli::stored::run_deferred;
+use simplex_cli::stored::run_deferred;
 use faulty_io::{Source, Target, Trouble};
 use simplex_audit::audit::{Auditor, Committees, Watched, audit, audit_deferred, run};
 use simplex_base::positions::Epoch;

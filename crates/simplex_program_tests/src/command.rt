@@ -2,11 +2,12 @@
 
 use crate::example_crate::TWICE;
 use crate::without_memory::memory_ends;
-use audit_cli::command::{Verification, command};
-use audit_cli::status::{Status, complaint};
 use faulty_io::{Source, Target, Trouble};
-use inspect_cli::complaints::inspect_complaint_at;
 use simplex_audit::audit::Watched;
+use simplex_cli::command::command;
+use simplex_cli::complaints::complaint_at;
+use simplex_cli::program::{Program, Verification};
+use simplex_cli::status::Status;
 use std::alloc::{AllocError, Global};
 use std::io::ErrorKind;
 use std::process::Abort;
@@ -81,7 +82,7 @@ fn is_refused(rt: &impl Abort, alloc: Global, verification: Verification, case: 
     let arguments = arguments.as_slice();
     let status = command(
         alloc,
-        verification,
+        Program::Audit(verification),
         arguments,
         &mut input,
         &mut output,
@@ -261,13 +262,13 @@ fn refused(rt: HostRuntime) {
 #[test]
 fn without_memory_longest_complaint(rt: HostRuntime) {
     memory_ends(rt.alloc());
-    let longest = complaint(usize::MAX);
+    let longest = complaint_at(Program::Audit(Verification::Full), usize::MAX);
     assert_eq!(rt;
         longest.as_str(),
         "audit: fault at byte 18446744073709551615\n"
     );
     assert_eq!(rt; longest.len(), 42);
-    let longest = inspect_complaint_at(usize::MAX);
+    let longest = complaint_at(Program::Inspect, usize::MAX);
     assert_eq!(rt;
         longest.as_str(),
         "inspect: fault at byte 18446744073709551615\n"

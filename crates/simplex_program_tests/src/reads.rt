@@ -6,7 +6,7 @@ ghost use Rattle.simplex_audit.specs.Watched.{has_failed};
 use crate::committee::marked;
 use crate::inspected::STREAM;
 use crate::long::nullification;
-use audit_cli::stored::run_deferred;
+use simplex_cli::stored::run_deferred;
 use faulty_io::{Source, Target, Trouble};
 use simplex_audit::audit::{Committees, RunError, Watched, run};
 use simplex_inspect::input::inspect_input;

@@ -2,9 +2,9 @@
 //!
 //! `.ci/refusals` runs each test here with every allocation made to fail, from that of `memory_ends` on.
 
-use audit_cli::status::{Failure, Status};
 use faulty_io::{Source, Target, Trouble};
 use simplex_audit::audit::Watched;
+use simplex_cli::status::{Failure, Status};
 use std::alloc::Global;
 use std::io::{ErrorKind, Read};
 

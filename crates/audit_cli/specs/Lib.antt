@@ -1,4 +1,0 @@
-pub mod Arguments
-pub mod Answer
-pub mod Status
-pub mod Verification

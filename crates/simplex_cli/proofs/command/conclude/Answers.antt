@@ -1,0 +1,9 @@
+use Rattle.std.proofs.Common.{rules, ◌≡◌, subst}
+use Rattle.simplex_cli.specs.Answer.{Says, writer_use}
+use Rattle.simplex_cli.specs.Complaints.{said_of}
+use Rattle.simplex_cli.proofs.command.conclude.Goals as goal
+
+pub returns-in-Ok-Some-clause-said : goal.returns-in-Ok-Some-clause-said
+returns-in-Ok-Some-clause-said g c =
+    let text : c.as_bytes.result.now ≡ said_of c.args.program c.args.ended = search rules in
+    subst (Says (writer_use g.E.Write.contents c.args.errors.now c.say.new.errors)) text c.say.ensures.said

@@ -1,0 +1,132 @@
+-- What the arguments of a program name.
+use Rattle.std.specs.Cmp.Lexicographic.{slice_cmp}
+use Rattle.std.specs.List.Sorted.{IsStrictlySortedBy}
+use Rattle.std.specs.Ordering.{nat_cmp}
+use Rattle.std.specs.Prelude.{⊤, ◌≡◌, ◌≢◌, ◌⊎◌, ℕ, ◌<◌, ◌≤◌, ◌^◌, List, [], ◌∷◌, ◌++◌, length, Option, Some, None, Result, Ok, Err, All, AllPairs, IsPermutation, String, string_bytes, codes, decimal, drop, map}
+use Rattle.std.specs.Global.{Global}
+use Rattle.hex.specs.Hex.{decode_sized}
+use Rattle.hex.specs.declared.error.FromHexError.{FromHexError}
+use Rattle.simplex_scheme.specs.Namespace.{names_of}
+use Rattle.simplex_schemes.specs.Plain.{PlainScheme}
+use Rattle.simplex_detector.specs.Committees.{Schedule, Every, Listed, AreRising}
+
+-- the words of the arguments of a process: those after the program's name
+abbrev pub words_of : List (String Global) → List (List ℕ)
+words_of given = map string_bytes (drop 1 given)
+
+-- the key of these bytes
+abbrev pub key_of : Result (List ℕ) FromHexError → Option (List ℕ)
+key_of (Ok bytes) = Some bytes
+key_of (Err e) = None
+
+-- the key that a text names: 64 hexadecimal digits of either case
+abbrev pub key_named : List ℕ → Option (List ℕ)
+key_named text = key_of (decode_sized text 32)
+
+-- a key in front of others, where all are there
+abbrev pub with_key : Option (List ℕ) → Option (List (List ℕ)) → Option (List (List ℕ))
+with_key None keys = None
+with_key (Some key) None = None
+with_key (Some key) (Some keys) = Some (key ∷ keys)
+
+-- the keys that texts name, in the order of the texts
+abbrev pub keys_named : List (List ℕ) → Option (List (List ℕ))
+keys_named [] = Some []
+keys_named (text ∷ texts) = with_key (key_named text) (keys_named texts)
+
+-- a committee may have this many keys: at least one, fewer than 2^32
+abbrev pub IsCommitteeSize : ℕ → Type 0
+IsCommitteeSize count = (1 ≤ count) × (count < 2 ^ 32)
+
+-- each text names a key, and a committee may have as many
+abbrev pub NameKeys : List (List ℕ) → Type 0
+NameKeys texts = (keys : List (List ℕ)) × (keys_named texts ≡ Some keys) × IsCommitteeSize (length keys)
+
+-- the texts name these keys: as many as a committee may have, and none twice
+pub record AreKeyTexts (texts : List (List ℕ)) (keys : List (List ℕ)) : Type 0 where
+  pub named : keys_named texts ≡ Some keys
+  pub size : IsCommitteeSize (length keys)
+  pub distinct : AllPairs (λ a b. a ≢ b) keys
+
+-- the texts name no such keys
+abbrev pub AreNoKeys : List (List ℕ) → Type 0
+AreNoKeys texts = (keys : List (List ℕ)) → ¬ AreKeyTexts texts keys
+
+-- these keys ascend: each is before the next by the first byte in which they differ
+abbrev pub Ascend : List (List ℕ) → Type 0
+Ascend = IsStrictlySortedBy (slice_cmp nat_cmp)
+
+-- the scheme verifies for the committee whose keys the texts name, in any order: a participant's number is the place of its
+-- key among them in ascending order
+pub record IsNamedCommittee (namespace : List ℕ) (texts : List (List ℕ)) (scheme : PlainScheme) : Type 0 where
+  pub keys : List (List ℕ)
+  pub participants : List (List ℕ)
+  pub named : AreKeyTexts texts keys
+  pub same : IsPermutation keys participants
+  pub ascending : Ascend participants
+  pub verifies : scheme ≡ record { names = names_of namespace; keys = participants; me = None }
+
+-- the text begins a group: its first byte is an `@`
+abbrev pub BeginsGroup : List ℕ → Type 0
+BeginsGroup text = (rest : List ℕ) × (text ≡ codes "@" ++ rest)
+
+-- there are no texts, or the first begins a group
+abbrev pub StandsBeforeGroup : List (List ℕ) → Type 0
+StandsBeforeGroup [] = ⊤
+StandsBeforeGroup (text ∷ texts) = BeginsGroup text
+
+-- the text that begins the group of an epoch: `@` and the epoch in decimal
+abbrev pub epoch_text : ℕ → List ℕ
+epoch_text epoch = codes "@" ++ decimal epoch
+
+-- the texts are groups, each of the text of its epoch and the texts of its committee's keys
+abbrev pub AreGroups : List ℕ → List (List ℕ) → List (ℕ × PlainScheme) → Type 0
+AreGroups namespace texts [] = texts ≡ []
+AreGroups namespace texts (pair ∷ pairs) =
+    (keys rest : List (List ℕ)) × (texts ≡ epoch_text pair.0 ∷ (keys ++ rest)) × (pair.0 < 2 ^ 64)
+    × IsNamedCommittee namespace keys pair.1 × AreGroups namespace rest pairs
+
+-- the texts name one committee for every epoch, or in groups one for each of some epochs, which rise strictly
+abbrev pub NameCommittees : List ℕ → List (List ℕ) → Schedule PlainScheme → Type 0
+NameCommittees namespace texts (Every committee) = IsNamedCommittee namespace texts committee
+NameCommittees namespace texts (Listed pairs) = (pairs ≢ []) × AreRising pairs × AreGroups namespace texts pairs
+
+-- the words are a namespace and texts that name these committees
+abbrev pub AreArguments : List (List ℕ) → Schedule PlainScheme → Type 0
+AreArguments words committees =
+    (namespace : List ℕ) × (texts : List (List ℕ)) × (words ≡ namespace ∷ texts) × NameCommittees namespace texts committees
+
+-- the words are no namespace and texts that name committees
+abbrev pub AreNoArguments : List (List ℕ) → Type 0
+AreNoArguments words = (committees : Schedule PlainScheme) → ¬ AreArguments words committees
+
+-- the texts begin with groups whose epochs rise, and behind them come the text of an epoch above theirs and texts that name
+-- keys
+pub record BeginAsGroups (namespace : List ℕ) (texts : List (List ℕ)) : Type 0 where
+  pub before : List (List ℕ)
+  pub pairs : List (ℕ × PlainScheme)
+  pub epoch : ℕ
+  pub keys : List (List ℕ)
+  pub rest : List (List ℕ)
+  pub texts_are : texts ≡ before ++ epoch_text epoch ∷ (keys ++ rest)
+  pub groups : AreGroups namespace before pairs
+  pub rising : AreRising pairs
+  pub above : All (λ pair. pair.0 < epoch) pairs
+  pub small : epoch < 2 ^ 64
+  pub named : NameKeys keys
+  pub ends : StandsBeforeGroup rest
+
+-- the words are a namespace and texts that name keys, or that begin as groups do
+abbrev pub BeginAsArguments : List (List ℕ) → Type 0
+BeginAsArguments words =
+    (namespace : List ℕ) × (texts : List (List ℕ)) × (words ≡ namespace ∷ texts)
+    × (NameKeys texts ⊎ BeginAsGroups namespace texts)
+
+-- there are no words, or they name these committees as the arguments of `audit` do
+abbrev pub AreGiven : List (List ℕ) → Option (Schedule PlainScheme) → Type 0
+AreGiven words None = words ≡ []
+AreGiven words (Some committees) = AreArguments words committees
+
+-- there are words, and they name no committees
+abbrev pub AreNotGiven : List (List ℕ) → Type 0
+AreNotGiven words = (committees : Option (Schedule PlainScheme)) → ¬ AreGiven words committees

@@ -1,0 +1,7 @@
+pub mod Arguments
+pub mod Answer
+pub mod Inspecting
+pub mod Endings
+pub mod Program
+pub mod Complaints
+pub mod Status

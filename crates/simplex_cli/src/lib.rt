@@ -1,0 +1,20 @@
+//! The programs `audit`, `audit_stored` and `inspect` as functions over arguments and any reader and writers. [`arguments`]
+//! reads their committees: by [`keys`] one for every epoch, or by [`groups`] one for each listed epoch; `inspect` may also have
+//! none. [`auditing`] and [`inspecting`] have what they do, and [`stored`] the run that holds its input and verifies less.
+//! [`status`] has how they end, and [`complaints`] what they say then. [`command`] runs them over arguments and streams, and
+//! [`start`] over what their process is given.
+//!
+//! Each program rests on [`start::start`] alone, and names itself by [`program::Program`].
+#![tactic(auto)]
+
+pub mod arguments;
+mod auditing;
+pub mod command;
+pub mod complaints;
+pub mod groups;
+mod inspecting;
+pub mod keys;
+pub mod program;
+pub mod start;
+pub mod status;
+pub mod stored;

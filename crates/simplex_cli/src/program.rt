@@ -1,0 +1,71 @@
+//! The programs, and how they speak of themselves.
+
+ghost use Rattle.std.specs.Prelude.{◌≡◌, ◌≤◌, length};
+ghost use Rattle.simplex_cli.specs.Program.{name_of, usage_of};
+
+use simplex_base::values::{EqByParts, ExactClone, InfallibleClone};
+
+/// Which signatures a run verifies, and what it holds. The text, the fault and the status of a run are the same either way,
+/// unless an allocation fails.
+#[derive(Clone, Copy, Debug, PartialEq, Eq)]
+pub enum Verification {
+    /// Those of the votes and certificates that can change the state of their round. The input is read in pieces; only the
+    /// bytes after the last whole message are held, after a fault all that follow.
+    Full,
+    /// Only those of the votes of suspects and of the certificates of their rounds. The whole input is held.
+    Deferred,
+}
+
+impl ExactClone for Verification {
+    ghost exact = { λ x y same. same };
+}
+
+impl InfallibleClone for Verification {
+    ghost infallible = { λ _. tt };
+}
+
+impl EqByParts for Verification {
+    ghost use Rattle.std.specs.Prelude.{refl};
+    ghost use Rattle.simplex_cli.specs.Program.{same_verification};
+    ghost use Rattle.simplex_cli.specs.declared.program.Verification.TheVariants.{Full, Deferred};
+
+    ghost same = { same_verification };
+
+    ghost equal = { elim [
+      | Full ↦ elim [ Full ↦ refl | _ ↦ refl ]
+      | Deferred ↦ elim [ Deferred ↦ refl | _ ↦ refl ]
+    ] };
+}
+
+/// The programs.
+#[derive(Clone, Copy)]
+pub enum Program {
+    /// `audit`, which verifies in full, and `audit_stored`, which defers it.
+    Audit(Verification),
+    /// `inspect`.
+    Inspect,
+}
+
+impl Program {
+    /// The name that its complaints have. Both audits say `audit`.
+    pub(crate) fn name(self) -> &'static str
+        ensures name { result.now ≡ name_of self }
+        ensures short { length result.now ≤ 7 }
+    {
+        match self {
+            Program::Audit(_) => "audit",
+            Program::Inspect => "inspect",
+        }
+    }
+
+    /// What stands after its name where the usage is said.
+    pub(crate) fn usage(self) -> &'static str
+        ensures usage { result.now ≡ usage_of self }
+        ensures short { length result.now ≤ 20 }
+    {
+        match self {
+            Program::Audit(_) => " NAMESPACE KEY...\n",
+            Program::Inspect => " [NAMESPACE KEY...]\n",
+        }
+    }
+}
