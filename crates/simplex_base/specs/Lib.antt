@@ -5,6 +5,7 @@ pub mod Union
 pub mod Varint
 pub mod VarintLaws
 pub mod Sizes
+pub mod LeastSize
 pub mod Positions
 pub mod Terms
 pub mod TermLaws

@@ -6,6 +6,7 @@ ghost use Rattle.std.specs.Cmp.Lexicographic.{slice_cmp};
 ghost use Rattle.simplex_base.specs.Reading.{Reading, Gives, GivesAll, all_of};
 ghost use Rattle.simplex_base.specs.Format.{Lawful, IsFixed, fixed, fixed_at};
 ghost use Rattle.simplex_base.specs.FormatLaws.{fixed_lawful};
+ghost use Rattle.simplex_base.specs.LeastSize.{NoneShorter};
 ghost use Rattle.simplex_base.specs.Sizes.{IsWithin, Longest, fixed_within, fixed_longest};
 
 pub mod counted;
@@ -97,6 +98,14 @@ pub trait Read: Encoding {
     fn read_cfg(alloc: Global, input: &mut &[u8], cfg: &Self::Cfg) -> Result<Self, Error>
         ensures { Gives takes_memory result input.old.now input.new.now
             (reading cfg.now input.old.now) };
+
+    /// A lower bound of the sizes of the values whose encodings begin with these bytes: unless an implementation finds a
+    /// greater one, the number of these bytes. Before there are as many bytes, no such value can be read.
+    fn least_size(_alloc: Global, bytes: &[u8], cfg: &Self::Cfg) -> usize
+        ensures { NoneShorter (fits cfg.now) Self.encoding bytes.now result }
+    {
+        bytes.len()
+    }
 
     /// What is read is the value whose encoding is a prefix of the input, and each value is read whose encoding is
     /// one.

@@ -83,6 +83,15 @@ impl<A: Read<Cfg = ()> + Drop, B: Read> Read for (A, B) {
         Ok((first, second))
     }
 
+    fn least_size(alloc: Global, bytes: &[u8], cfg: &B::Cfg) -> usize {
+        let mut rest: &[u8] = known_bytes(bytes);
+        let Ok(_) = A::read_cfg(alloc, &mut rest, &()) else {
+            return bytes.len();
+        };
+        let first = bytes.len() - rest.len();
+        first.saturating_add(B::least_size(alloc, rest, cfg))
+    }
+
     ghost lawful = { λ cfg. both_lawful (A.lawful tt) (B.lawful cfg) };
 }
 
@@ -127,6 +136,10 @@ impl<T: Fixed> Read for T {
         let (front, rest) = bytes.split_at(T::SIZE);
         *input = rest;
         Ok(T::from_bytes(front))
+    }
+
+    fn least_size(_alloc: Global, _bytes: &[u8], _cfg: &()) -> usize {
+        T::SIZE
     }
 
     ghost lawful = { λ _. T.lawful };
