@@ -1,6 +1,8 @@
 -- Committees that are listed by epoch, and the rules that they give.
-use Rattle.simplex_detector.proofs.Prelude.{All, All-cons, All-contains, All-nil, AreLawful, AreRising, Attestation, Bool, Claimed, Err, Every, HaveCommittees, IfErr, IfOk, IsBinarySearchResult, IsEquivalence, IsNonDecreasingBy, IsQuorum, IsSchedule, IsSearchInRange, Judging, List, Listed, None, Ok, Option, Result, Schedule, Some, SubjectValue, Suspects, Verified, [], and_parts, ap, arith, bound_of, cases_lt, certified_by, certified_under, committee_of, contains, drop, drop_more, eqb, eqb-true, false, false≢true, find, get_or, get_or_default, greatest, inl, inr, is_le, keys, length, ltb-true, max, nat_cmp, nat_tests, option_map, ord_max, ordering_index, parted, ranked, refl, round_cmp, round_of, rules_of, same_Some, signer_cmp, size_by, subst, suc, sym, true, valid_by, valid_under, zero, ℕ, ◌+◌, ◌-◌, ◌<◌, ◌∙◌, ◌∷◌, ◌≡◌, ◌≤◌}
+use Rattle.simplex_detector.proofs.Prelude.{All, All-cons, All-contains, All-nil, AreLawful, AreRising, Attestation, Bool, Claimed, Err, Every, HaveCommittees, IfErr, IfOk, IsBinarySearchResult, IsEquivalence, IsNonDecreasingBy, IsQuorum, IsSchedule, IsSearchInRange, Judging, List, Listed, None, Ok, Option, Result, Schedule, Some, SubjectValue, Suspects, Verified, [], and_parts, ap, arith, bound_of, cases_lt, certified_by, certified_under, committee_of, contains, drop, drop_more, eqb, eqb-true, false, false≢true, find, get_or, get_or_default, greatest, if◌then◌else◌, inl, inr, is_le, keys, length, ltb-true, max, nat_cmp, nat_tests, option_map, ord_max, ordering_index, parted, ranked, refl, round_cmp, round_of, rules_of, same_Some, signer_cmp, size_by, subst, suc, sym, true, valid_by, valid_under, zero, ℕ, ◌+◌, ◌-◌, ◌<◌, ◌∙◌, ◌∷◌, ◌≡◌, ◌≤◌}
 use Rattle.simplex_detector.proofs.Lists.{found_mapped, none_found}
+use Rattle.simplex_detector.specs.declared.judge.Signatures.{Signatures}
+use Rattle.simplex_detector.specs.declared.judge.Signatures.TheVariants as signatures
 
 -- a number that is not at most another is greater
 pub not_le : (a b : ℕ) → is_le (nat_cmp a b) ≡ false → b < a
@@ -170,3 +172,13 @@ certified_by_scheme certified Verified s x certificate h = h
 certified_by_scheme certified Claimed s x certificate h = absurd (false≢true h)
 certified_by_scheme certified (Suspects suspects) s x certificate h =
     (and_parts (contains round_cmp suspects.rounds (round_of x)) (certified s x certificate) h).1
+
+-- ---- which signatures are known to be valid
+
+-- whether they are verified
+abbrev pub known_if : Bool → Signatures
+known_if verified = if verified then signatures.Verified else signatures.Unverified
+
+pub when_known : (verified : Bool) (given : Signatures) → given ≡ known_if verified → given ≡ signatures.Verified → verified ≡ true
+when_known true given is known = refl
+when_known false given is known = absurd cc

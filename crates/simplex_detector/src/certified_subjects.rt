@@ -7,7 +7,7 @@ ghost use Rattle.simplex_votes.specs.Votes.{Sort, sort_of};
 ghost use Rattle.simplex_detector.specs.Judging.{certified_under};
 ghost use Rattle.simplex_detector.specs.FirstCertified.{nothing_certified, RecordsFirsts, firsts_of, first_with, changes_firsts, excludes_first, excludes_some};
 
-use crate::judging::Judging;
+use crate::judge::{Judge, Signatures};
 use simplex_base::positions::Round;
 use simplex_scheme::scheme::{CertificateVerifier, Digest, Proposal, Subject};
 
@@ -41,37 +41,37 @@ impl<D: Digest> CertifiedSubjects<D> {
         none && self.finalized.is_none() && !self.split
     }
 
-    /// Takes in a certificate of a subject of the round, and returns whether it was found to certify the subject. It is
-    /// verified only where that can change what is recorded: the round is not known to be split, and the subject is the
-    /// first of its sort or contradicts a recorded one.
+    /// Takes in a certificate of a subject of the round. It is verified only where that can change what is recorded: the round
+    /// is not known to be split, and the subject is the first of its sort or contradicts a recorded one. If it was found to
+    /// certify the subject, the signatures that it lists are verified by that.
     pub fn observe<S: CertificateVerifier<D>>(
         &mut self,
-        scheme: &S,
+        judge: &Judge<'_, S>,
         subject: &Subject<'_, D>,
         certificate: &S::Certificate,
-        judging: &Judging,
-    ) -> bool
+    ) -> Signatures
         ensures records { (subjects : List (SubjectValue D)) →
             RecordsFirsts D.eq subjects (round_of (subject_value subject.now)) self.old →
             RecordsFirsts D.eq (subjects ++
-            (if certified_under S.certified judging.now scheme.now
+            (if certified_under S.certified judge.now.judging.now judge.now.committee.now
             (subject_value subject.now) certificate.now
             then subject_value subject.now ∷ [] else []))
             (round_of (subject_value subject.now)) self.new }
-        // True exactly where the subject would change what is recorded and the certificate certifies it.
+        // `Verified` exactly where the subject would change what is recorded and the certificate certifies it.
         ensures verified { result ≡
-            (changes_firsts D.eq (firsts_of self.old) self.old.split (subject_value subject.now) &&
-            certified_under S.certified judging.now scheme.now
-            (subject_value subject.now) certificate.now) }
+            (if changes_firsts D.eq (firsts_of self.old) self.old.split (subject_value subject.now) &&
+            certified_under S.certified judge.now.judging.now judge.now.committee.now
+            (subject_value subject.now) certificate.now
+            then Signatures.Verified else Signatures.Unverified) }
     {
         if !self.is_news(subject) {
-            return false;
+            return Signatures::Unverified;
         }
-        if !judging.certifies(scheme, subject, certificate) {
-            return false;
+        if !judge.certifies(subject, certificate) {
+            return Signatures::Unverified;
         }
         self.set_first(subject);
-        true
+        Signatures::Verified
     }
 
     /// Whether a certified subject of the round would change what is recorded.

@@ -9,6 +9,7 @@ ghost use Rattle.simplex_detector.specs.Values.{evidence_value};
 
 use crate::committees::Committees;
 use crate::evidence::{Evidence, are_encoded};
+use crate::judge::Judge;
 use crate::judging::Judging;
 use crate::round_state::RoundState;
 use crate::rules::Judges;
@@ -55,11 +56,12 @@ impl<S: Listing<D>, D: Digest> Detector<S, D> {
         let Some(committee) = committees.get(round.epoch()) else {
             return Ok(());
         };
+        let judge = Judge { committee, judging };
         if let Some(round_state) = self.rounds.get_mut(&round) {
-            return round_state.observe(committee, judging, &contents);
+            return round_state.observe(&judge, &contents);
         }
         let mut round_state = RoundState::new(alloc, committee.participants().len());
-        round_state.observe(committee, judging, &contents)?;
+        round_state.observe(&judge, &contents)?;
         if !round_state.is_empty() {
             self.rounds.insert(round, round_state)?;
         }

@@ -1,19 +1,16 @@
 //! How strictly votes and certificates are judged.
 
-ghost use Rattle.std.specs.Prelude.{◌≡◌, ℕ, true, All, Contains, IfOk, IsTrue, map};
+ghost use Rattle.std.specs.Prelude.{◌≡◌, ℕ, All, Contains, IfOk, IsTrue, map};
 ghost use Rattle.std.specs.BTreeSet.{contains, IsFromIterResult};
 ghost use Rattle.simplex_base.specs.Positions as positions;
 ghost use Rattle.simplex_scheme.specs.Subject.{subject_value, round_of};
-ghost use Rattle.simplex_detector.specs.Judging.{is_verified, are_verified, valid_under, certified_under};
 ghost use Rattle.simplex_detector.specs.Accusation.{round_cmp, signer_cmp};
 ghost use Rattle.simplex_detector.specs.Suspects.{suspect_of};
 ghost use Rattle.simplex_detector.specs.Values.{evidence_value};
 
 use crate::evidence::Evidence;
 use simplex_base::positions::{Participant, Round, Roundable};
-use simplex_scheme::scheme::{
-    Attestation, CertificateVerifier, Digest, Scheme, SchemeTypes, Subject,
-};
+use simplex_scheme::scheme::{Digest, SchemeTypes, Subject};
 use std::alloc::{AllocError, Global};
 use std::collections::BTreeSet;
 
@@ -38,102 +35,9 @@ pub enum Judging {
     Suspects(SuspectSigners),
 }
 
-impl Judging {
-    /// Whether an attestation of a subject is valid.
-    pub fn accepts<S: Scheme<D>, D: Digest>(
-        &self,
-        committee: &S,
-        subject: &Subject<'_, D>,
-        attestation: &Attestation<S>,
-    ) -> bool
-        ensures { result ≡ valid_under S.keys S.good self.now committee.now
-            (subject_value subject.now) attestation.now.signer attestation.now.signature }
-    {
-        match self {
-            Judging::Verified => self.verify_attestation(committee, subject, attestation),
-            Judging::Claimed => {
-                (attestation.signer.get() as usize) < committee.participants().len()
-            }
-            Judging::Suspects(suspects) => {
-                suspects.has(subject, attestation.signer)
-                    && self.verify_attestation(committee, subject, attestation)
-            }
-        }
-    }
-
-    /// `accepts` of an attestation whose signature is known to be valid: nothing is verified.
-    pub(crate) fn accepts_known<S: Scheme<D>, D: Digest>(
-        &self,
-        committee: &S,
-        subject: &Subject<'_, D>,
-        attestation: &Attestation<S>,
-    ) -> bool
-        requires { S.good committee.now (subject_value subject.now)
-            attestation.now.signer attestation.now.signature ≡ true }
-        ensures { result ≡ valid_under S.keys S.good self.now committee.now
-            (subject_value subject.now) attestation.now.signer attestation.now.signature }
-    {
-        match self {
-            Judging::Verified => true,
-            Judging::Claimed => {
-                (attestation.signer.get() as usize) < committee.participants().len()
-            }
-            Judging::Suspects(suspects) => suspects.has(subject, attestation.signer),
-        }
-    }
-
-    /// Whether a certificate certifies a subject.
-    pub fn certifies<S: CertificateVerifier<D>, D: Digest>(
-        &self,
-        committee: &S,
-        subject: &Subject<'_, D>,
-        certificate: &S::Certificate,
-    ) -> bool
-        ensures { result ≡ certified_under S.certified self.now committee.now
-            (subject_value subject.now) certificate.now }
-    {
-        match self {
-            Judging::Verified => self.verify_certificate(committee, subject, certificate),
-            Judging::Claimed => false,
-            Judging::Suspects(suspects) => {
-                suspects.rounds.contains(&subject.round())
-                    && self.verify_certificate(committee, subject, certificate)
-            }
-        }
-    }
-
-    /// Has the scheme verify an attestation, of a signer whose votes in the round are verified. No other function here does.
-    fn verify_attestation<S: Scheme<D>, D: Digest>(
-        &self,
-        committee: &S,
-        subject: &Subject<'_, D>,
-        attestation: &Attestation<S>,
-    ) -> bool
-        requires { IsTrue (is_verified self.now (round_of (subject_value subject.now))
-            attestation.now.signer) }
-        ensures { result ≡ S.good committee.now (subject_value subject.now)
-            attestation.now.signer attestation.now.signature }
-    {
-        committee.verify_attestation(subject.reborrow(), attestation)
-    }
-
-    /// Has the scheme verify a certificate, of a round whose certificates are verified. No other function here does.
-    fn verify_certificate<S: CertificateVerifier<D>, D: Digest>(
-        &self,
-        committee: &S,
-        subject: &Subject<'_, D>,
-        certificate: &S::Certificate,
-    ) -> bool
-        requires { IsTrue (are_verified self.now (round_of (subject_value subject.now))) }
-        ensures { result ≡ S.certified committee.now (subject_value subject.now) certificate.now }
-    {
-        committee.verify_certificate(subject.reborrow(), certificate)
-    }
-}
-
 impl SuspectSigners {
     /// Whether a signer is suspect in the round of a subject.
-    fn has<D: Digest>(&self, subject: &Subject<'_, D>, signer: Participant) -> bool
+    pub(crate) fn has<D: Digest>(&self, subject: &Subject<'_, D>, signer: Participant) -> bool
         ensures { result ≡ contains signer_cmp self.now.signers
             (round_of (subject_value subject.now), signer) }
     {

@@ -2,7 +2,7 @@
 //! others of their signer and the certified subjects, and it reports the evidence and the splits.
 //!
 //! Crates above rest on [`detector::Detector`], which records messages and reports; on [`committees::Committees`], which
-//! says who judges an epoch; on [`judging::Judging`], which says how strictly; on the reported [`evidence::Evidence`] and
+//! says who judges an epoch; on [`judging::Judging`], which says how strictly, and [`judge::Judge`]; on the reported [`evidence::Evidence`] and
 //! [`split::Split`]; and on [`laws`], which hold of all messages. [`rules::Judges`] gives contracts the rules by which
 //! messages are judged.
 #![tactic(auto)]
@@ -12,6 +12,7 @@ mod certified_subjects;
 pub mod committees;
 pub mod detector;
 pub mod evidence;
+pub mod judge;
 pub mod judging;
 pub mod laws;
 mod round_state;

@@ -15,7 +15,7 @@ ghost use Rattle.simplex_detector.specs.Values.{evidence_value};
 use crate::certified_subjects::CertifiedSubjects;
 use crate::committees::Committees;
 use crate::evidence::Evidence;
-use crate::judging::Judging;
+use crate::judge::{Judge, Signatures};
 use crate::round_votes::RoundVotes;
 use crate::rules::Judges;
 use crate::split::Split;
@@ -63,22 +63,21 @@ impl<S: Listing<D>, D: Digest> RoundState<S, D> {
     /// Takes in what a message of the round holds, judged by the committee of its epoch.
     pub fn observe(
         &mut self,
-        committee: &S,
-        judging: &Judging,
+        judge: &Judge<'_, S>,
         contents: &Contents<'_, S, D>,
     ) -> Result<(), AllocError>
         ensures { AreInConflict D.eq (contents_value contents.now) → OnOk result (TakesContents
-            (⟦<S as Judges<D>>⟧.rules_under judging.now) committee.now
+            (⟦<S as Judges<D>>⟧.rules_under judge.now.judging.now) judge.now.committee.now
             S.listed (contents_value contents.now) self.old self.new) }
     {
         match contents {
-            Contents::Vote(vote) => self.observe_vote(committee, judging, vote),
+            Contents::Vote(vote) => self.observe_vote(judge, vote),
             Contents::Certificate(subject, certificate) => {
-                self.observe_certificate(committee, judging, subject, certificate)
+                self.observe_certificate(judge, subject, certificate)
             }
             Contents::Evidence(first, second) => {
-                self.observe_vote(committee, judging, first)?;
-                self.observe_vote(committee, judging, second)
+                self.observe_vote(judge, first)?;
+                self.observe_vote(judge, second)
             }
         }
     }
@@ -86,40 +85,37 @@ impl<S: Listing<D>, D: Digest> RoundState<S, D> {
     /// Takes in a vote of the round.
     fn observe_vote(
         &mut self,
-        committee: &S,
-        judging: &Judging,
+        judge: &Judge<'_, S>,
         vote: &Signed<'_, S, D>,
     ) -> Result<(), AllocError>
         ensures { OnOk result (TakesIn
-            (⟦<S as Judges<D>>⟧.rules_under judging.now) committee.now
+            (⟦<S as Judges<D>>⟧.rules_under judge.now.judging.now) judge.now.committee.now
             (round_of (signed_value vote.now).subject)
             (signed_value vote.now ∷ []) None self.old self.new) }
     {
+        let signatures = Signatures::Unverified;
         self.votes
-            .observe(committee, &vote.subject, vote.attestation, judging, false)
+            .observe(judge, &vote.subject, vote.attestation, signatures)
     }
 
     /// Takes in a certificate of the round and the votes that it lists. If it is found to certify the subject, the listed
     /// signatures are known to be valid; else each is verified by itself.
     fn observe_certificate(
         &mut self,
-        committee: &S,
-        judging: &Judging,
+        judge: &Judge<'_, S>,
         subject: &Subject<'_, D>,
         certificate: &S::Certificate,
     ) -> Result<(), AllocError>
         ensures { OnOk result (TakesIn
-            (⟦<S as Judges<D>>⟧.rules_under judging.now) committee.now
+            (⟦<S as Judges<D>>⟧.rules_under judge.now.judging.now) judge.now.committee.now
             (round_of (subject_value subject.now))
             (map (vote_on (subject_value subject.now)) (S.listed certificate.now))
             (Some (subject_value subject.now, certificate.now)) self.old self.new) }
     {
-        let certifies = self
-            .certified
-            .observe(committee, subject, certificate, judging);
+        let signatures = self.certified.observe(judge, subject, certificate);
         let attestations = S::attestations(certificate);
         self.votes
-            .observe_all(committee, subject, attestations, judging, certifies)
+            .observe_all(judge, subject, attestations, signatures)
     }
 
     /// The split of the round, if it is split.

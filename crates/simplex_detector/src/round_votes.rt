@@ -13,7 +13,7 @@ ghost use Rattle.simplex_detector.specs.Values.{evidence_value};
 
 use crate::boxed_map::BoxedMap;
 use crate::evidence::Evidence;
-use crate::judging::Judging;
+use crate::judge::{Judge, Signatures};
 use crate::vote_pairs::{VotePairs, add_signers};
 use simplex_base::positions::Participant;
 use simplex_evidence::types::{ConflictingFinalize, ConflictingNotarize, NullifyFinalize};
@@ -115,60 +115,58 @@ impl<S: SchemeTypes, D: Digest> RoundVotes<S, D> {
     /// valid, and copied only if it is recorded.
     pub fn observe(
         &mut self,
-        scheme: &S,
+        judge: &Judge<'_, S>,
         subject: &Subject<'_, D>,
         attestation: &Attestation<S>,
-        judging: &Judging,
-        known: bool,
+        signatures: Signatures,
     ) -> Result<(), AllocError>
     where
         S: Scheme<D>,
-        requires { IsTrue known → S.good scheme.now (subject_value subject.now)
-            attestation.now.signer attestation.now.signature ≡ true }
+        requires { signatures ≡ Signatures.Verified → S.good judge.now.committee.now
+            (subject_value subject.now) attestation.now.signer attestation.now.signature ≡ true }
         ensures { OnOk result ((vs : List (SignedVote D S.Signature)) →
-            HoldsRound D.eq (length (S.keys scheme.now)) vs (round_of (subject_value subject.now))
-            self.old →
-            HoldsRound D.eq (length (S.keys scheme.now))
-            (vs ++ filter (λ v. valid_under S.keys S.good judging.now scheme.now
-            v.subject v.signer v.signature)
+            HoldsRound D.eq (length (S.keys judge.now.committee.now)) vs
+            (round_of (subject_value subject.now)) self.old →
+            HoldsRound D.eq (length (S.keys judge.now.committee.now))
+            (vs ++ filter (λ v. valid_under S.keys S.good judge.now.judging.now
+            judge.now.committee.now v.subject v.signer v.signature)
             (vote_on (subject_value subject.now) attestation.now ∷ []))
             (round_of (subject_value subject.now)) self.new) }
     {
         if !self.is_news(subject, attestation.signer) {
             return Ok(());
         }
-        if !is_valid(scheme, subject, attestation, judging, known) {
+        if !judge.accepts(subject, attestation, signatures) {
             return Ok(());
         }
         let (signer, signature) = (attestation.signer, attestation.signature);
         self.add(subject, Attestation { signer, signature })
     }
 
-    /// Records, of some votes on one subject, each that is valid and news, as `observe` does. `known` says that all their
-    /// signatures are known to be valid.
+    /// Records, of some votes on one subject, each that is valid and news, as `observe` does. `signatures` is of all of
+    /// them.
     pub fn observe_all(
         &mut self,
-        scheme: &S,
+        judge: &Judge<'_, S>,
         subject: &Subject<'_, D>,
         attestations: &[Attestation<S>],
-        judging: &Judging,
-        known: bool,
+        signatures: Signatures,
     ) -> Result<(), AllocError>
     where
         S: Scheme<D>,
-        requires { IsTrue known → All (λ a. S.good scheme.now (subject_value subject.now)
-            a.signer a.signature ≡ true) attestations.now }
+        requires { signatures ≡ Signatures.Verified → All (λ a. S.good judge.now.committee.now
+            (subject_value subject.now) a.signer a.signature ≡ true) attestations.now }
         ensures { OnOk result ((vs : List (SignedVote D S.Signature)) →
-            HoldsRound D.eq (length (S.keys scheme.now)) vs (round_of (subject_value subject.now))
-            self.old →
-            HoldsRound D.eq (length (S.keys scheme.now))
-            (vs ++ filter (λ v. valid_under S.keys S.good judging.now scheme.now
-            v.subject v.signer v.signature)
+            HoldsRound D.eq (length (S.keys judge.now.committee.now)) vs
+            (round_of (subject_value subject.now)) self.old →
+            HoldsRound D.eq (length (S.keys judge.now.committee.now))
+            (vs ++ filter (λ v. valid_under S.keys S.good judge.now.judging.now
+            judge.now.committee.now v.subject v.signer v.signature)
             (map (vote_on (subject_value subject.now)) attestations.now))
             (round_of (subject_value subject.now)) self.new) }
     {
         'listed: for attestation in attestations {
-            self.observe(scheme, subject, attestation, judging, known)?;
+            self.observe(judge, subject, attestation, signatures)?;
         }
         Ok(())
     }
@@ -256,25 +254,6 @@ impl<S: SchemeTypes, D: Digest> RoundVotes<S, D> {
         }
         Some(Evidence::NullifyFinalize(NullifyFinalize::new(nullify.copy(), finalize.copy())))
     }
-}
-
-/// Whether an attestation is valid. It is not verified if its signature is known to be valid.
-fn is_valid<S: Scheme<D>, D: Digest>(
-    scheme: &S,
-    subject: &Subject<'_, D>,
-    attestation: &Attestation<S>,
-    judging: &Judging,
-    known: bool,
-) -> bool
-    requires { IsTrue known → S.good scheme.now (subject_value subject.now)
-        attestation.now.signer attestation.now.signature ≡ true }
-    ensures { result ≡ valid_under S.keys S.good judging.now scheme.now
-        (subject_value subject.now) attestation.now.signer attestation.now.signature }
-{
-    if known {
-        return judging.accepts_known(scheme, subject, attestation);
-    }
-    judging.accepts(scheme, subject, attestation)
 }
 
 /// Appends an evidence, if there is one.

@@ -1,4 +1,5 @@
-use Rattle.simplex_detector.proofs.Prelude.{true, refl, RecordsFirsts, and_from, and_left, and_right, false≢true, round_of, subject_value, sym, ◌∙◌}
+use Rattle.simplex_detector.proofs.Prelude.{ap, true, refl, RecordsFirsts, and_from, and_left, and_right, false≢true, round_of, subject_value, sym, ◌∙◌}
+use Rattle.simplex_detector.proofs.CommitteeLemmas.{known_if}
 use Rattle.simplex_detector.proofs.Lists.{if_appended}
 use Rattle.simplex_detector.proofs.SplitLemmas.{records_push, records_no_news}
 use Rattle.simplex_detector.proofs.Places.{same_round-from}
@@ -28,11 +29,13 @@ returns-clause-records g c subjects records =
     (same_round-from (round_of y) (round_of y) refl) (λ whole. c.set_first.ensures.firsts) c.set_first.ensures.split records)
 
 pub returns-then-not-is_news-clause-verified : goal.returns-then-not-is_news-clause-verified
-returns-then-not-is_news-clause-verified g c = sym (and_left _ _ (sym c.is_news.ensures ∙ c.if-not-is_news.true))
+returns-then-not-is_news-clause-verified g c =
+    ap known_if (sym (and_left _ _ (sym c.is_news.ensures ∙ c.if-not-is_news.true)))
 
 pub returns-then-not-certifies-clause-verified : goal.returns-then-not-certifies-clause-verified
-returns-then-not-certifies-clause-verified g c = sym (and_right _ _ (sym c.certifies.ensures ∙ c.if-not-certifies.true))
+returns-then-not-certifies-clause-verified g c =
+    ap known_if (sym (and_right _ _ (sym c.certifies.ensures ∙ c.if-not-certifies.true)))
 
 pub returns-clause-verified : goal.returns-clause-verified
-returns-clause-verified g c =
-    sym (and_from _ _ (sym c.is_news.ensures ∙ c.if-not-is_news.false) (sym c.certifies.ensures ∙ c.if-not-certifies.false))
+returns-clause-verified g c = ap known_if
+    (sym (and_from _ _ (sym c.is_news.ensures ∙ c.if-not-is_news.false) (sym c.certifies.ensures ∙ c.if-not-certifies.false)))

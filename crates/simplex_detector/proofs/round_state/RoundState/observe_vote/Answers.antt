@@ -5,6 +5,6 @@ use Rattle.simplex_detector.proofs.round_state.RoundState.observe_vote.Goals as 
 pub returns : goal.returns
 returns g c =
     on_ok_weaker c.observe.result (takes_vote g.D.PartialEq.eq g.S.CertificateScheme.keys
-    (valid_under g.S.CertificateScheme.keys g.S.Scheme.good c.args.judging.now)
-    (certified_under g.S.CertificateVerifier.certified c.args.judging.now) g.S.Listing.listed c.args.committee.now
+    (valid_under g.S.CertificateScheme.keys g.S.Scheme.good c.args.judge.now.judging.now)
+    (certified_under g.S.CertificateVerifier.certified c.args.judge.now.judging.now) g.S.Listing.listed c.args.judge.now.committee.now
     (subject_value c.args.vote.now.subject) c.args.vote.now.attestation.now c.args.self.now _ refl) c.observe.ensures

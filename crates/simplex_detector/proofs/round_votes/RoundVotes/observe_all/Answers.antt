@@ -8,7 +8,7 @@ listed-init g c vs holds = rw (append-nil vs) holds
 -- the signature of each is known to be valid where all are
 pub observe-requires : goal.observe-requires
 observe-requires g c = λ known.
-    subst (λ a. g.S.Scheme.good c.args.scheme.now (subject_value c.args.subject.now) a.signer a.signature ≡ true)
+    subst (λ a. g.S.Scheme.good c.args.judge.now.committee.now (subject_value c.args.subject.now) a.signer a.signature ≡ true)
     (sym c.attestation-item.is)
     (c.requires known c.listed.attestation-index c.attestation-item.result c.listed-test.true)
 
@@ -18,8 +18,8 @@ listed-preserved g c =
       take_more c.args.attestations.now c.listed.attestation-index c.attestation-item.result c.listed-test.true,
       sym c.attestation-item.is,
     )
-    (holds_one_more g.D.PartialEq.eq _ (valid_under g.S.CertificateScheme.keys g.S.Scheme.good c.args.judging.now
-    c.args.scheme.now) (subject_value c.args.subject.now) _ c.attestation-item.result c.args.self.now c.listed.self
+    (holds_one_more g.D.PartialEq.eq _ (valid_under g.S.CertificateScheme.keys g.S.Scheme.good c.args.judge.now.judging.now
+    c.args.judge.now.committee.now) (subject_value c.args.subject.now) _ c.attestation-item.result c.args.self.now c.listed.self
     c.observe.new.self c.listed.invariant c.in_ok-observe.ensures)
 
 pub returns : goal.returns

@@ -1,0 +1,119 @@
+//! The judge of the votes and the certificates of an epoch.
+
+ghost use Rattle.std.specs.Prelude.{◌≡◌, true, IsTrue};
+ghost use Rattle.simplex_scheme.specs.Subject.{subject_value, round_of};
+ghost use Rattle.simplex_detector.specs.Judging.{is_verified, are_verified, valid_under, certified_under};
+
+use crate::judging::Judging;
+use simplex_base::positions::Roundable;
+use simplex_scheme::scheme::{Attestation, CertificateVerifier, Digest, Scheme, Subject};
+
+/// Whether the signatures of some attestations are known to be valid.
+#[derive(Clone, Copy)]
+pub enum Signatures {
+    /// They were verified, and are valid.
+    Verified,
+    /// Nothing is known of them yet.
+    Unverified,
+}
+
+/// The committee of an epoch, and how strictly it judges.
+#[derive(Drop)]
+pub struct Judge<'a, S> {
+    /// The committee.
+    pub committee: &'a S,
+    /// How strictly it judges.
+    pub judging: &'a Judging,
+}
+
+impl<S> Judge<'_, S> {
+    /// Whether an attestation of a subject is valid. A signature that is known to be valid is not verified again.
+    pub fn accepts<D: Digest>(
+        &self,
+        subject: &Subject<'_, D>,
+        attestation: &Attestation<S>,
+        signatures: Signatures,
+    ) -> bool
+    where
+        S: Scheme<D>,
+        requires { signatures ≡ Signatures.Verified → S.good self.now.committee.now
+            (subject_value subject.now) attestation.now.signer attestation.now.signature ≡ true }
+        ensures { result ≡ valid_under S.keys S.good self.now.judging.now self.now.committee.now
+            (subject_value subject.now) attestation.now.signer attestation.now.signature }
+    {
+        match self.judging {
+            Judging::Verified => self.verify_attestation(subject, attestation, signatures),
+            Judging::Claimed => {
+                (attestation.signer.get() as usize) < self.committee.participants().len()
+            }
+            Judging::Suspects(suspects) => {
+                suspects.has(subject, attestation.signer)
+                    && self.verify_attestation(subject, attestation, signatures)
+            }
+        }
+    }
+
+    /// Whether a certificate certifies a subject.
+    pub fn certifies<D: Digest>(
+        &self,
+        subject: &Subject<'_, D>,
+        certificate: &S::Certificate,
+    ) -> bool
+    where
+        S: CertificateVerifier<D>,
+        ensures { result ≡ certified_under S.certified self.now.judging.now self.now.committee.now
+            (subject_value subject.now) certificate.now }
+    {
+        match self.judging {
+            Judging::Verified => self.verify_certificate(subject, certificate),
+            Judging::Claimed => false,
+            Judging::Suspects(suspects) => {
+                suspects.rounds.contains(&subject.round())
+                    && self.verify_certificate(subject, certificate)
+            }
+        }
+    }
+
+    /// Has the scheme verify an attestation whose signature is not known to be valid, of a signer whose votes in the round are
+    /// verified. No other function here does.
+    fn verify_attestation<D: Digest>(
+        &self,
+        subject: &Subject<'_, D>,
+        attestation: &Attestation<S>,
+        signatures: Signatures,
+    ) -> bool
+    where
+        S: Scheme<D>,
+        requires verified { IsTrue (is_verified self.now.judging.now
+            (round_of (subject_value subject.now)) attestation.now.signer) }
+        requires known { signatures ≡ Signatures.Verified → S.good self.now.committee.now
+            (subject_value subject.now) attestation.now.signer attestation.now.signature ≡ true }
+        ensures { result ≡ S.good self.now.committee.now (subject_value subject.now)
+            attestation.now.signer attestation.now.signature }
+    {
+        match signatures {
+            Signatures::Verified => true,
+            Signatures::Unverified => {
+                self.committee
+                    .verify_attestation(subject.reborrow(), attestation)
+            }
+        }
+    }
+
+    /// Has the scheme verify a certificate, of a round whose certificates are verified. No other function here does.
+    fn verify_certificate<D: Digest>(
+        &self,
+        subject: &Subject<'_, D>,
+        certificate: &S::Certificate,
+    ) -> bool
+    where
+        S: CertificateVerifier<D>,
+        requires { IsTrue (are_verified self.now.judging.now
+            (round_of (subject_value subject.now))) }
+        ensures { result ≡ S.certified self.now.committee.now (subject_value subject.now)
+            certificate.now }
+    {
+        self.committee
+            .verify_certificate(subject.reborrow(), certificate)
+    }
+}
