@@ -9,6 +9,7 @@ ghost use Rattle.simplex_scheme.specs.Committee.{IsQuorum, IsInOrder, signers_of
 pub use crate::attributable::Attributable;
 pub use crate::faults::{max_faults, quorum};
 pub use crate::hash::{Hasher, Sha256, Sha256Digest, Sha256Role};
+pub use crate::kind::VoteKind;
 pub use crate::namespace::{CertificateNamespace, Namespace};
 pub use crate::proposal::Proposal;
 pub use crate::set::{Set, SetError};

@@ -3,6 +3,7 @@
 ghost use Rattle.std.specs.Prelude.{◌≡◌, ◌↔◌, ℕ, List, IfOk, IsTrue};
 ghost use Rattle.simplex_base.specs.Format.{format_of};
 
+use crate::kind::VoteKind;
 use crate::message::{is_proposal, is_round};
 use crate::namespace::Namespace;
 use crate::proposal::Proposal;
@@ -54,7 +55,19 @@ impl<D: Clone> InfallibleClone for Subject<'_, D> {
 }
 
 impl<D> Subject<'_, D> {
+    ghost use Rattle.simplex_scheme.specs.Kind.{kind_of};
     ghost use Rattle.simplex_scheme.specs.Subject.{subject_value};
+
+    /// The kind of the votes on the subject.
+    pub fn kind(&self) -> VoteKind
+        ensures { result ≡ kind_of (subject_value self.now) }
+    {
+        match self {
+            Subject::Notarize { .. } => VoteKind::Notarize,
+            Subject::Nullify { .. } => VoteKind::Nullify,
+            Subject::Finalize { .. } => VoteKind::Finalize,
+        }
+    }
 
     /// The same subject, for a call that takes it by value.
     pub fn reborrow(&self) -> Subject<'_, D>
