@@ -206,5 +206,9 @@ impl<S: CertificateScheme, D: Digest> Read for Notarization<S, D> {
         }
     }
 
+    fn least_size(alloc: Global, bytes: &[u8], bound: &u32) -> usize {
+        <(Proposal<D>, S::Certificate)>::least_size(alloc, bytes, bound)
+    }
+
     ghost lawful = { λ bound. notarization_lawful _ _ D.lawful (S.Certificate.lawful bound) };
 }

@@ -202,5 +202,9 @@ impl<S: CertificateScheme> Read for Nullification<S> {
         }
     }
 
+    fn least_size(alloc: Global, bytes: &[u8], bound: &u32) -> usize {
+        <(Round, S::Certificate)>::least_size(alloc, bytes, bound)
+    }
+
     ghost lawful = { λ bound. nullification_lawful _ (S.Certificate.lawful bound) };
 }

@@ -1,0 +1,4 @@
+use Rattle.simplex_votes.proofs.types.notarization.NotarizationRead.least_size.Goals as goal
+
+pub returns : goal.returns
+returns g c x more fits e = c.least_size.ensures (x.proposal, x.certificate) more fits e
