@@ -2,10 +2,13 @@ pub mod Reading
 pub mod Format
 pub mod FormatLaws
 pub mod Union
+pub mod UnionLaws
 pub mod Varint
 pub mod VarintLaws
 pub mod Sizes
+pub mod SizeLaws
 pub mod LeastSize
 pub mod Positions
+pub mod PositionLaws
 pub mod Terms
 pub mod TermLaws

@@ -2,13 +2,13 @@
 -- Each law is by induction on the groups: what holds of the rest holds with one more group before it.
 -- They stand beside the definitions because ghost members of impls cite them, and those see no proofs.
 use Rattle.std.proofs.Math.Nat.{mul-le-mul_left, le-mul_of_pos_right, one-le-pow}
-use Rattle.std.proofs.Common.{◌≡◌, ℕ, zero, suc, length, nat_lt, ◌+◌, ◌-◌, ◌*◌, ◌/◌, ◌%◌, ◌^◌, ◌<◌, ◌≤◌, Bool, true, false, cond, List, [], ◌∷◌, ◌++◌, Result, Ok, Err, refl, sym, ap, subst, ◌∙◌, arith, inl, inr, ltb, eqb, ◌⊎◌}
+use Rattle.std.proofs.Common.{◌≡◌, ℕ, zero, suc, length, nat_lt, ◌+◌, ◌-◌, ◌*◌, ◌/◌, ◌%◌, ◌^◌, ◌<◌, ◌≤◌, Bool, true, false, cond, List, [], ◌∷◌, ◌++◌, Result, Ok, Err, refl, sym, ap, subst, ◌∙◌, arith, inl, inr, ltb, ◌⊎◌}
 use Rattle.std.proofs.Math.Dec.{eqb-suc-zero}
 use Rattle.std.proofs.lemmas.Bool.{cases_Bool, cases_lt, lt-ltb, le-ltb, ltb-true, ltb-false}
 use Rattle.std.specs.Prelude.{⊤, ◌≢◌}
 use Rattle.simplex_base.specs.declared.codec.error.Error.{Error}
 use Rattle.simplex_base.specs.declared.codec.error.Error.TheVariants as errors
-use Rattle.simplex_base.specs.Reading.{Reading, end_of_buffer, invalid_varint, ◌>>=◌, IsBytes, Fails, Gives}
+use Rattle.simplex_base.specs.Reading.{Reading, end_of_buffer, invalid_varint, IsBytes, Gives}
 use Rattle.simplex_base.specs.Format.{Lawful, IsLawful}
 use Rattle.simplex_base.specs.Varint.{groups, groups_at, number_at, with_group, IsNumber, BeginsWith, IsCutOff, ReadsNumber, number_64, number_32}
 

@@ -7,7 +7,8 @@ ghost use Rattle.simplex_base.specs.Reading.{Reading, Gives, GivesAll, all_of};
 ghost use Rattle.simplex_base.specs.Format.{Lawful, IsFixed, fixed, fixed_at};
 ghost use Rattle.simplex_base.specs.FormatLaws.{fixed_lawful};
 ghost use Rattle.simplex_base.specs.LeastSize.{NoneShorter};
-ghost use Rattle.simplex_base.specs.Sizes.{IsWithin, Longest, fixed_within, fixed_longest};
+ghost use Rattle.simplex_base.specs.Sizes.{IsWithin, Longest};
+ghost use Rattle.simplex_base.specs.SizeLaws.{fixed_within, fixed_longest};
 
 pub mod counted;
 mod error;

@@ -11,5 +11,6 @@
 #![tactic(auto)]
 
 pub mod codec;
+mod derived;
 pub mod positions;
 pub mod values;

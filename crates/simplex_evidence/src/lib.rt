@@ -10,4 +10,5 @@
 //! whether a message is valid; and on the contracts of the map and of [`types::verify_certificates`].
 #![tactic(auto)]
 
+mod derived;
 pub mod types;

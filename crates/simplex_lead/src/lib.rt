@@ -8,6 +8,7 @@
 //! of [`Lookahead`] and [`Viewport`], whose views are counted exactly.
 #![tactic(auto)]
 
+mod derived;
 pub mod elector;
 mod lookahead;
 mod plan;

@@ -6,7 +6,6 @@ ghost use Rattle.simplex_lead.specs.Windows.{FitsWindow, IsAdmitted, IsInReach, 
 
 use crate::elector::Terms;
 use simplex_base::positions::{TermLength, View, ViewDelta};
-use simplex_base::values::{ExactClone, InfallibleClone};
 
 /// How far ahead of its own view a node looks within a term, and how long terms are.
 #[derive(Clone, Copy, Debug)]
@@ -15,14 +14,6 @@ pub struct Lookahead {
     pub term_length: TermLength,
     /// The number of views that a node may run ahead within a term.
     pub optimistic_views: ViewDelta,
-}
-
-impl ExactClone for Lookahead {
-    ghost exact = { λ x y same. same };
-}
-
-impl InfallibleClone for Lookahead {
-    ghost infallible = { λ _. tt };
 }
 
 #[tactic(auto, using(simplex_base::specs::TermLaws::term_facts))]

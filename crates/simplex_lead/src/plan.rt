@@ -1,10 +1,8 @@
 //! What a node plans to send of a round's proposal, and to whom.
 
-ghost use Rattle.std.specs.Prelude.{refl};
 ghost use Rattle.simplex_lead.specs.Plans.{IsRecipientsClone, IsPlanClone};
 
 use simplex_base::positions::Round;
-use simplex_base::values::{CloneByParts, EqByParts};
 use std::alloc::AllocError;
 
 /// Whom something is sent to, of participants that are known by their keys.
@@ -28,25 +26,6 @@ impl<P: Clone> Clone for Recipients<P> {
             Recipients::One(key) => Ok(Recipients::One(key.clone()?)),
         }
     }
-}
-
-impl<P: Clone> CloneByParts for Recipients<P> {
-    ghost copied = { IsRecipientsClone P.is_clone };
-
-    ghost cloned = { λ x y same. same };
-}
-
-impl<P: Eq> EqByParts for Recipients<P> {
-    ghost use Rattle.simplex_lead.specs.Plans.{same_recipients};
-    ghost use Rattle.simplex_lead.specs.declared.plan.Recipients.TheVariants.{All, Some, One};
-
-    ghost same = { same_recipients P.eq };
-
-    ghost equal = { elim [
-      | All ↦ elim [ All ↦ refl | Some ys ↦ refl | One y ↦ refl ]
-      | Some xs ↦ elim [ All ↦ refl | Some ys ↦ refl | One y ↦ refl ]
-      | One x ↦ elim [ All ↦ refl | Some ys ↦ refl | One y ↦ refl ]
-    ] };
 }
 
 /// How the payload of a round's proposal is to be sent.
@@ -84,23 +63,4 @@ impl<P: Clone> Clone for Plan<P> {
             }),
         }
     }
-}
-
-impl<P: Clone> CloneByParts for Plan<P> {
-    ghost copied = { IsPlanClone P.is_clone };
-
-    ghost cloned = { λ x y same. same };
-}
-
-impl<P: Eq> EqByParts for Plan<P> {
-    ghost use Rattle.simplex_lead.specs.Plans.{same_plan};
-    ghost use Rattle.simplex_lead.specs.declared.plan.Plan.TheVariants.{Prepare, Propose, Forward};
-
-    ghost same = { same_plan ⟦<Recipients<P> as PartialEq>⟧.eq };
-
-    ghost equal = { elim [
-      | Prepare x ↦ elim [ Prepare y ↦ refl | Propose y ↦ refl | Forward y to ↦ refl ]
-      | Propose x ↦ elim [ Prepare y ↦ refl | Propose y ↦ refl | Forward y to ↦ refl ]
-      | Forward x from ↦ elim [ Prepare y ↦ refl | Propose y ↦ refl | Forward y to ↦ refl ]
-    ] };
 }

@@ -5,7 +5,6 @@ ghost use Rattle.simplex_lead.specs.Windows.{FitsWindow, IsAdmitted, IsRetained,
 
 use crate::lookahead::Lookahead;
 use simplex_base::positions::{View, ViewDelta};
-use simplex_base::values::{ExactClone, InfallibleClone};
 
 /// The views that a node looks at.
 #[derive(Clone, Copy, Debug)]
@@ -18,14 +17,6 @@ pub struct Viewport {
     pub view_retention: ViewDelta,
     /// How far ahead of its view the node looks.
     pub lookahead: Lookahead,
-}
-
-impl ExactClone for Viewport {
-    ghost exact = { λ x y same. same };
-}
-
-impl InfallibleClone for Viewport {
-    ghost infallible = { λ _. tt };
 }
 
 impl Viewport {

@@ -2,9 +2,11 @@
 use Rattle.std.proofs.Common.{◌≡◌, ℕ, List, [], ◌++◌, ap}
 use Rattle.simplex_base.specs.Format.{Format, IsLawful}
 use Rattle.simplex_base.specs.FormatLaws.{one_encoding}
-use Rattle.simplex_base.specs.Positions.{round_format, round_lawful}
+use Rattle.simplex_base.specs.Positions.{round_format}
+use Rattle.simplex_base.specs.PositionLaws.{round_lawful}
 use Rattle.simplex_scheme.specs.Namespace.{names_of}
-use Rattle.simplex_scheme.specs.Proposal.{proposal_format, proposal_lawful}
+use Rattle.simplex_scheme.specs.Proposal.{proposal_format}
+use Rattle.simplex_scheme.specs.ProposalLaws.{proposal_lawful}
 use Rattle.simplex_scheme.specs.Subject.{SubjectValue, Notarizes, Nullifies, Finalizes, IsSubject, name_of, message_of}
 use Rattle.simplex_scheme.proofs.NamespaceLemmas.{names_apart}
 

@@ -1,28 +1,9 @@
 -- How attestations are encoded.
-use Rattle.std.proofs.Common.{ℕ, ◌+◌, refl}
-use Rattle.simplex_base.specs.Format.{Format, IsLawful, both, made}
-use Rattle.simplex_base.specs.FormatLaws.{both_lawful, made_lawful}
-use Rattle.simplex_base.specs.Sizes.{IsWithin, Longest, both_within, both_longest, made_longest, number_32_within, number_32_longest}
+use Rattle.simplex_base.specs.Format.{Format, both, made}
 use Rattle.simplex_base.specs.Varint.{number_32}
-use Rattle.simplex_base.specs.VarintLaws.{number_32_lawful}
 use Rattle.simplex_scheme.specs.declared.scheme.Attestation.{Attestation}
 
 -- the signer, and then the signature
 abbrev pub attestation_format : {S P G : Type 0} → Format G → Format (Attestation S P G)
 attestation_format signature =
     made (λ p. record { signer = p.0; signature = p.1 }) (λ a. (a.signer, a.signature)) (both number_32 signature)
-
-pub attestation_lawful : {S P G : Type 0} (signature : Format G) → IsLawful signature →
-    IsLawful (attestation_format {S = S} {P = P} signature)
-attestation_lawful signature law = made_lawful _ _ (λ a. refl) (λ p. refl) (both_lawful number_32_lawful law)
-
--- ---- greatest sizes, with a signature of n bytes at most
-
-pub attestation_within : {S P G : Type 0} (signature : Format G) (n : ℕ) → IsWithin signature n →
-    IsWithin (attestation_format {S = S} {P = P} signature) (5 + n)
-attestation_within signature n within a h = both_within number_32 signature number_32_within within (a.signer, a.signature) h
-
-pub attestation_longest : {S P G : Type 0} (signature : Format G) (n : ℕ) → Longest signature n →
-    Longest (attestation_format {S = S} {P = P} signature) (5 + n)
-attestation_longest signature n longest =
-    made_longest (both number_32 signature) _ _ (λ p. refl) (both_longest number_32 signature number_32_longest longest)

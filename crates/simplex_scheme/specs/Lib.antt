@@ -1,7 +1,9 @@
 pub mod Namespace
 pub mod Proposal
+pub mod ProposalLaws
 pub mod Subject
 pub mod Kind
 pub mod Committee
 pub mod Hashing
 pub mod Attestation
+pub mod AttestationLaws

@@ -15,6 +15,7 @@
 
 pub mod assembly;
 mod attributable;
+mod derived;
 mod faults;
 mod hash;
 mod kind;

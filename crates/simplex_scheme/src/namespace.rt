@@ -3,7 +3,6 @@
 ghost use Rattle.std.specs.Prelude.{◌≡◌, ℕ, List, ◌++◌, IfOk};
 ghost use Rattle.simplex_scheme.specs.Namespace.{names_of, AreApart, DetermineBases};
 
-use simplex_base::values::ExactClone;
 use std::alloc::{AllocError, Global};
 use std::marker::Model;
 
@@ -59,10 +58,6 @@ impl Clone for Namespace {
             seed: self.seed.clone()?,
         })
     }
-}
-
-impl ExactClone for Namespace {
-    ghost exact = { λ x y same. same };
 }
 
 /// What a certificate's attestations are signed under, made of the application's base namespace.

@@ -1,7 +1,6 @@
 //! Proposals, which are voted on.
 
-ghost use Rattle.std.specs.Prelude.{◌≡◌, ◌↔◌, ◌&&◌, ⊤, ◌+◌, IsTrue, false, nat_eq, refl};
-ghost use Rattle.std.specs.Ordering.{nat_cmp, ordering_then};
+ghost use Rattle.std.specs.Prelude.{◌≡◌, ◌↔◌, ⊤, ◌+◌, IsTrue, false};
 ghost use Rattle.simplex_base.specs.Format.{format_of};
 
 use crate::scheme::Digest;
@@ -10,7 +9,6 @@ use simplex_base::codec::{
     EncodeSize, Encoding, Error, Fixed, FixedSize, MaxEncodeSize, Read, ReadExt, Write,
 };
 use simplex_base::positions::{Round, Roundable, View};
-use simplex_base::values::{EqByParts, ExactClone, InfallibleClone, OrdByParts};
 use std::alloc::{AllocError, Global};
 
 /// A payload that is proposed for a round, on top of the proposal of the parent's view. It is
@@ -64,28 +62,6 @@ impl<D: Copy> Clone for Proposal<D> {
 
 impl<D: Copy> Copy for Proposal<D> {}
 
-impl<D: Copy> ExactClone for Proposal<D> {
-    ghost exact = { λ x y same. same };
-}
-
-impl<D: Copy> InfallibleClone for Proposal<D> {
-    ghost infallible = { λ _. tt };
-}
-
-impl<D: Eq> EqByParts for Proposal<D> {
-    ghost same = { λ x y. ⟦<Round as PartialEq>⟧.eq x.round y.round &&
-        (nat_eq x.parent y.parent && D.eq x.payload y.payload) };
-
-    ghost equal = { λ x y. refl };
-}
-
-impl<D: Ord> OrdByParts for Proposal<D> {
-    ghost order = { λ x y. ordering_then (⟦<Round as Ord>⟧.cmp x.round y.round)
-        (ordering_then (nat_cmp x.parent y.parent) (D.cmp x.payload y.payload)) };
-
-    ghost ordered = { λ x y. refl };
-}
-
 impl<D> Roundable for Proposal<D> {
     ghost round_of = { λ proposal. proposal.round };
 
@@ -117,7 +93,7 @@ impl<D: Digest> EncodeSize for Proposal<D> {
 }
 
 impl<D: Digest> MaxEncodeSize for Proposal<D> {
-    ghost use Rattle.simplex_scheme.specs.Proposal.{proposal_within, proposal_longest};
+    ghost use Rattle.simplex_scheme.specs.ProposalLaws.{proposal_within, proposal_longest};
 
     ghost max_size = { 30 + D.SIZE };
 
@@ -131,7 +107,8 @@ impl<D: Digest> MaxEncodeSize for Proposal<D> {
 }
 
 impl<D: Digest> Read for Proposal<D> {
-    ghost use Rattle.simplex_scheme.specs.Proposal.{proposal_format, proposal_lawful};
+    ghost use Rattle.simplex_scheme.specs.Proposal.{proposal_format};
+    ghost use Rattle.simplex_scheme.specs.ProposalLaws.{proposal_lawful};
 
     type Cfg = ();
 

@@ -1,6 +1,6 @@
 //! The traits of schemes that sign and verify, with the laws that each scheme proves.
 
-ghost use Rattle.std.specs.Prelude.{◌≡◌, ⊤, ◌+◌, ℕ, Bool, true, false, List, Option, Some, None, Ok, IfOk, IfSome, MatchOption, All, length, nat_eq, ◌&&◌, ◌<◌, ◌≤◌, ◌^◌, refl};
+ghost use Rattle.std.specs.Prelude.{◌≡◌, ⊤, ◌+◌, ℕ, Bool, true, false, List, Option, Some, None, Ok, IfOk, IfSome, MatchOption, All, length, nat_eq, ◌<◌, ◌≤◌, ◌^◌};
 ghost use Rattle.std.specs.List.{IsDistinct, list_all};
 ghost use Rattle.simplex_base.specs.Format.{format_of};
 ghost use Rattle.simplex_scheme.specs.Subject.{SubjectValue, subject_value};
@@ -20,7 +20,6 @@ use simplex_base::codec::{
     EncodeSize, Encoding, Error, Fixed, FixedSize, MaxEncodeSize, Read, ReadExt, Write,
 };
 use simplex_base::positions::Participant;
-use simplex_base::values::{EqByParts, ExactClone, InfallibleClone};
 use std::alloc::{AllocError, Global};
 use std::hash::Hash;
 
@@ -72,26 +71,12 @@ impl<S: SchemeTypes> Clone for Attestation<S> {
     }
 }
 
-impl<S: SchemeTypes> ExactClone for Attestation<S> {
-    ghost exact = { λ x y same. same };
-}
-
-impl<S: SchemeTypes> InfallibleClone for Attestation<S> {
-    ghost infallible = { λ _. tt };
-}
-
 impl<S: SchemeTypes> Attributable for Attestation<S> {
     ghost signer_of = { λ attestation. attestation.signer };
 
     fn signer(&self) -> Participant {
         self.signer
     }
-}
-
-impl<S: SchemeTypes> EqByParts for Attestation<S> {
-    ghost same = { λ x y. nat_eq x.signer y.signer && S.Signature.eq x.signature y.signature };
-
-    ghost equal = { λ x y. refl };
 }
 
 /// Why attestations make no certificate.
@@ -103,27 +88,6 @@ pub enum AssemblyError {
     /// An allocation failed.
     #[error("out of memory")]
     OutOfMemory,
-}
-
-impl ExactClone for AssemblyError {
-    ghost exact = { λ x y same. same };
-}
-
-impl InfallibleClone for AssemblyError {
-    ghost infallible = { λ _. tt };
-}
-
-impl EqByParts for AssemblyError {
-    ghost use Rattle.std.specs.Prelude.{refl};
-    ghost use Rattle.simplex_scheme.specs.Committee.{same_assembly_error};
-    ghost use Rattle.simplex_scheme.specs.declared.scheme.AssemblyError.TheVariants.{InsufficientAttestations, OutOfMemory};
-
-    ghost same = { same_assembly_error };
-
-    ghost equal = { elim [
-      | InsufficientAttestations _ _ ↦ elim [ InsufficientAttestations _ _ ↦ refl | _ ↦ refl ]
-      | OutOfMemory ↦ elim [ OutOfMemory ↦ refl | _ ↦ refl ]
-    ] };
 }
 
 /// A committee, which participant of it this is, if any, and the type of its certificates.
@@ -303,7 +267,7 @@ impl<S: SchemeTypes> EncodeSize for Attestation<S> {
 }
 
 impl<S: SchemeTypes> MaxEncodeSize for Attestation<S> {
-    ghost use Rattle.simplex_scheme.specs.Attestation.{attestation_within, attestation_longest};
+    ghost use Rattle.simplex_scheme.specs.AttestationLaws.{attestation_within, attestation_longest};
 
     ghost max_size = { 5 + S.Signature.SIZE };
 
@@ -319,7 +283,8 @@ impl<S: SchemeTypes> MaxEncodeSize for Attestation<S> {
 }
 
 impl<S: SchemeTypes> Read for Attestation<S> {
-    ghost use Rattle.simplex_scheme.specs.Attestation.{attestation_format, attestation_lawful};
+    ghost use Rattle.simplex_scheme.specs.Attestation.{attestation_format};
+    ghost use Rattle.simplex_scheme.specs.AttestationLaws.{attestation_lawful};
 
     type Cfg = ();
 

@@ -3,7 +3,6 @@
 ghost use Rattle.std.specs.Prelude.{◌≡◌, ◌↔◌, ◌==◌, List, length, IsPermutation, IsOk, IsTrue, IfOk, IfSome, IfNone, IsSomeAnd, All, slice_get, option_copied, false, true};
 ghost use Rattle.std.specs.List.{IsDistinct};
 
-use simplex_base::values::{EqByParts, ExactClone, InfallibleClone};
 use std::marker::Model;
 use thiserror::Error;
 
@@ -13,23 +12,6 @@ pub enum SetError {
     /// Two of the keys are equal.
     #[error("a key is repeated")]
     Repeated,
-}
-
-impl ExactClone for SetError {
-    ghost exact = { λ x y same. same };
-}
-
-impl InfallibleClone for SetError {
-    ghost infallible = { λ _. tt };
-}
-
-impl EqByParts for SetError {
-    ghost use Rattle.std.specs.Prelude.{true, refl};
-    ghost use Rattle.simplex_scheme.specs.declared.set.SetError.TheVariants.{Repeated};
-
-    ghost same = { λ _ _. true };
-
-    ghost equal = { elim [ Repeated ↦ elim [ Repeated ↦ refl ] ] };
 }
 
 /// Distinct keys in ascending order. A participant's number is the place of its key.

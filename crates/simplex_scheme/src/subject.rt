@@ -11,7 +11,6 @@ use crate::scheme::Digest;
 use bytes::Bytes;
 use simplex_base::codec::{Encode, Read};
 use simplex_base::positions::{Round, Roundable};
-use simplex_base::values::{ExactClone, InfallibleClone};
 use std::alloc::{AllocError, Global};
 
 /// What a vote or a certificate says.
@@ -23,35 +22,6 @@ pub enum Subject<'a, D> {
     Nullify { round: Round },
     /// That a proposal is finalized; the round is the proposal's.
     Finalize { proposal: &'a Proposal<D> },
-}
-
-impl<D: Clone> ExactClone for Subject<'_, D> {
-    ghost use Rattle.std.proofs.Common.{rules};
-    ghost use Rattle.simplex_scheme.specs.declared.subject.Subject.TheVariants.{Notarize, Nullify, Finalize};
-
-    ghost exact = { elim [
-      | Notarize p ↦ elim [
-        | Notarize q ↦ λ same. Prim.search rules
-        | Nullify r ↦ λ same. Prim.search rules
-        | Finalize q ↦ λ same. Prim.search rules
-      ]
-      | Nullify p ↦ elim [
-        | Notarize q ↦ λ same. Prim.search rules
-        | Nullify r ↦ λ same. Prim.search rules
-        | Finalize q ↦ λ same. Prim.search rules
-      ]
-      | Finalize p ↦ elim [
-        | Notarize q ↦ λ same. Prim.search rules
-        | Nullify r ↦ λ same. Prim.search rules
-        | Finalize q ↦ λ same. Prim.search rules
-      ]
-    ] };
-}
-
-impl<D: Clone> InfallibleClone for Subject<'_, D> {
-    ghost use Rattle.simplex_scheme.specs.declared.subject.Subject.TheVariants.{Notarize, Nullify, Finalize};
-
-    ghost infallible = { elim [ Notarize p ↦ tt | Nullify r ↦ tt | Finalize p ↦ tt ] };
 }
 
 impl<D> Subject<'_, D> {

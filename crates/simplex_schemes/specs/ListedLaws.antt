@@ -13,7 +13,8 @@ use Rattle.simplex_base.specs.FormatLaws.{bind_ok, IsBytes-after}
 use Rattle.simplex_base.specs.Reading.{◌>>=◌, IsBytes}
 use Rattle.simplex_base.specs.Varint.{number_32}
 use Rattle.simplex_base.specs.VarintLaws.{number_32_lawful, groups_len_32}
-use Rattle.simplex_scheme.specs.Attestation.{attestation_format, attestation_lawful}
+use Rattle.simplex_scheme.specs.Attestation.{attestation_format}
+use Rattle.simplex_scheme.specs.AttestationLaws.{attestation_lawful}
 use Rattle.simplex_schemes.specs.Listed.{SignersAscend, ListedFits, listed_encoding, bad_count, bad_signer, attestation_at, attestations_at, listed_at}
 use Rattle.simplex_scheme.specs.declared.scheme.Attestation.{Attestation}
 

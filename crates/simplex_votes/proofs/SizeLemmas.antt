@@ -1,10 +1,13 @@
 -- How long certificate messages are at most.
 use Rattle.std.proofs.Common.{ℕ, List, ◌+◌, ◌≤◌, ◌++◌, length, arith, length-append}
 use Rattle.simplex_base.specs.Format.{Format, fixed}
-use Rattle.simplex_base.specs.Positions.{round_format, round_within}
-use Rattle.simplex_base.specs.Sizes.{IsWithin, fixed_within}
+use Rattle.simplex_base.specs.Positions.{round_format}
+use Rattle.simplex_base.specs.PositionLaws.{round_within}
+use Rattle.simplex_base.specs.Sizes.{IsWithin}
+use Rattle.simplex_base.specs.SizeLaws.{fixed_within}
 use Rattle.simplex_scheme.specs.declared.proposal.Proposal.{Proposal}
-use Rattle.simplex_scheme.specs.Proposal.{proposal_format, proposal_within}
+use Rattle.simplex_scheme.specs.Proposal.{proposal_format}
+use Rattle.simplex_scheme.specs.ProposalLaws.{proposal_within}
 use Rattle.simplex_votes.specs.Unions.{IsCertificate, certificate_encoding}
 use Rattle.simplex_votes.specs.declared.types.certificate.Certificate.{Certificate}
 use Rattle.simplex_votes.specs.declared.types.certificate.Certificate.TheVariants as certificate

@@ -1,6 +1,10 @@
 pub mod Votes
 pub mod Encodings
+pub mod EncodingLaws
 pub mod Assembly
 pub mod Unions
+pub mod UnionLaws
 pub mod Artifact
+pub mod ArtifactLaws
 pub mod Context
+pub mod ContextLaws

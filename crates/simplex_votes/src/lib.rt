@@ -10,5 +10,6 @@
 //! signer of a vote.
 #![tactic(auto)]
 
+mod derived;
 pub mod types;
 mod unions;

@@ -1,6 +1,5 @@
 //! Why bytes are not read as a value.
 
-use crate::values::{EqByParts, ExactClone, InfallibleClone};
 use thiserror::Error as ThisError;
 
 /// Why a value can't be read.
@@ -24,29 +23,4 @@ pub enum Error {
     /// An allocation failed.
     #[error("out of memory")]
     OutOfMemory,
-}
-
-impl EqByParts for Error {
-    ghost use Rattle.std.specs.Prelude.{refl};
-    ghost use Rattle.simplex_base.specs.Reading.{same_error};
-    ghost use Rattle.simplex_base.specs.declared.codec.error.Error.TheVariants.{EndOfBuffer, InvalidVarint, InvalidBool, Invalid, ExtraData, OutOfMemory};
-
-    ghost same = { same_error };
-
-    ghost equal = { elim [
-      | EndOfBuffer ↦ elim [ EndOfBuffer ↦ refl | _ ↦ refl ]
-      | InvalidVarint ↦ elim [ InvalidVarint ↦ refl | _ ↦ refl ]
-      | InvalidBool ↦ elim [ InvalidBool ↦ refl | _ ↦ refl ]
-      | Invalid _ _ ↦ elim [ Invalid _ _ ↦ refl | _ ↦ refl ]
-      | ExtraData ↦ elim [ ExtraData ↦ refl | _ ↦ refl ]
-      | OutOfMemory ↦ elim [ OutOfMemory ↦ refl | _ ↦ refl ]
-    ] };
-}
-
-impl ExactClone for Error {
-    ghost exact = { λ x y same. same };
-}
-
-impl InfallibleClone for Error {
-    ghost infallible = { λ _. tt };
 }

@@ -5,7 +5,6 @@ ghost use Rattle.std.proofs.lemmas.Slice.Eq.{bytes_eq-Decides};
 
 use crate::codec::parts::known_bytes;
 use crate::codec::{Fixed, FixedSize};
-use crate::values::{ExactClone, InfallibleClone};
 use std::alloc::AllocError;
 use std::marker::{Model, PhantomData};
 
@@ -47,14 +46,6 @@ impl<R, const N: usize> Clone for FixedBytes<R, N> {
 }
 
 impl<R, const N: usize> Copy for FixedBytes<R, N> {}
-
-impl<R, const N: usize> ExactClone for FixedBytes<R, N> {
-    ghost exact = { λ x y same. same };
-}
-
-impl<R, const N: usize> InfallibleClone for FixedBytes<R, N> {
-    ghost infallible = { λ _. tt };
-}
 
 impl<R: Role<N>, const N: usize> FixedSize for FixedBytes<R, N> {
     ghost SIZE = { N };

@@ -1,14 +1,12 @@
 //! Epochs, each of which has one committee.
 
-ghost use Rattle.std.specs.Prelude.{◌≡◌, ℕ, ◌-◌, ◌^◌, false, nat_eq, refl};
-ghost use Rattle.std.specs.Ordering.{nat_cmp};
+ghost use Rattle.std.specs.Prelude.{◌≡◌, ℕ, ◌-◌, ◌^◌, false};
 ghost use Rattle.std.proofs.Common.{lit<};
 ghost use Rattle.simplex_base.specs.Varint.{number_64};
 ghost use Rattle.simplex_base.specs.VarintLaws.{number_64_lawful, longest_64, groups_len};
 
 use crate::codec::varint::{read_u64, size_u64, write_u64};
 use crate::codec::{EncodeSize, Encoding, Error, MaxEncodeSize, Read, ReadExt, Write};
-use crate::values::{EqByParts, ExactClone, InfallibleClone, OrdByParts};
 use std::alloc::{AllocError, Global};
 use std::marker::Model;
 
@@ -22,26 +20,6 @@ impl Model for Epoch {
     ghost view = { λ epoch. epoch.0 };
 
     ghost inverse = { λ number. record { 0 = number } };
-}
-
-impl EqByParts for Epoch {
-    ghost same = { nat_eq };
-
-    ghost equal = { λ x y. refl };
-}
-
-impl OrdByParts for Epoch {
-    ghost order = { nat_cmp };
-
-    ghost ordered = { λ x y. refl };
-}
-
-impl ExactClone for Epoch {
-    ghost exact = { λ x y same. same };
-}
-
-impl InfallibleClone for Epoch {
-    ghost infallible = { λ _. tt };
 }
 
 impl Epoch {

@@ -1,14 +1,12 @@
 //! Participants, the members of a committee by number.
 
-ghost use Rattle.std.specs.Prelude.{◌≡◌, ℕ, ◌-◌, ◌^◌, false, nat_eq, refl};
-ghost use Rattle.std.specs.Ordering.{nat_cmp};
+ghost use Rattle.std.specs.Prelude.{◌≡◌, ℕ, ◌-◌, ◌^◌, false};
 ghost use Rattle.std.proofs.Common.{lit<};
 ghost use Rattle.simplex_base.specs.Varint.{number_32};
 ghost use Rattle.simplex_base.specs.VarintLaws.{number_32_lawful, longest_32, groups_len};
 
 use crate::codec::varint::{read_u32, size_u32, write_u32};
 use crate::codec::{EncodeSize, Encoding, Error, MaxEncodeSize, Read, ReadExt, Write};
-use crate::values::{EqByParts, ExactClone, InfallibleClone, OrdByParts};
 use std::alloc::{AllocError, Global};
 use std::marker::Model;
 
@@ -22,26 +20,6 @@ impl Model for Participant {
     ghost view = { λ participant. participant.0 };
 
     ghost inverse = { λ number. record { 0 = number } };
-}
-
-impl EqByParts for Participant {
-    ghost same = { nat_eq };
-
-    ghost equal = { λ x y. refl };
-}
-
-impl OrdByParts for Participant {
-    ghost order = { nat_cmp };
-
-    ghost ordered = { λ x y. refl };
-}
-
-impl ExactClone for Participant {
-    ghost exact = { λ x y same. same };
-}
-
-impl InfallibleClone for Participant {
-    ghost infallible = { λ _. tt };
 }
 
 impl Participant {

@@ -1,14 +1,13 @@
 //! Rounds, each a view of an epoch.
 
-ghost use Rattle.std.specs.Prelude.{◌≡◌, ◌&&◌, false, nat_eq, refl};
-ghost use Rattle.std.specs.Ordering.{nat_cmp, ordering_then};
-ghost use Rattle.simplex_base.specs.Positions.{round_format, round_lawful, round_within, longest_round};
+ghost use Rattle.std.specs.Prelude.{◌≡◌, false};
+ghost use Rattle.simplex_base.specs.Positions.{round_format};
+ghost use Rattle.simplex_base.specs.PositionLaws.{round_lawful, round_within, longest_round};
 
 use crate::codec::parts::{size_both, write_both};
 use crate::codec::{EncodeSize, Encoding, Error, MaxEncodeSize, Read, ReadExt, Write};
 use crate::positions::epoch::{Epoch, Epochable};
 use crate::positions::view::{View, Viewable};
-use crate::values::{EqByParts, ExactClone, InfallibleClone, OrdByParts};
 use std::alloc::{AllocError, Global};
 use std::marker::Model;
 
@@ -27,26 +26,6 @@ impl Model for Round {
     ghost view = { λ round. record { epoch = round.epoch; view = round.view } };
 
     ghost inverse = { λ round. record { epoch = round.epoch; view = round.view } };
-}
-
-impl EqByParts for Round {
-    ghost same = { λ x y. nat_eq x.epoch y.epoch && nat_eq x.view y.view };
-
-    ghost equal = { λ x y. refl };
-}
-
-impl OrdByParts for Round {
-    ghost order = { λ x y. ordering_then (nat_cmp x.epoch y.epoch) (nat_cmp x.view y.view) };
-
-    ghost ordered = { λ x y. refl };
-}
-
-impl ExactClone for Round {
-    ghost exact = { λ x y same. same };
-}
-
-impl InfallibleClone for Round {
-    ghost infallible = { λ _. tt };
 }
 
 impl Round {

@@ -3,12 +3,10 @@
 //! Term t from 1 on of terms of length L holds the views from (t - 1) * L + 1 to t * L; term 0 holds view 0
 //! (genesis) alone.
 
-ghost use Rattle.std.specs.Prelude.{◌≡◌, ℕ, ◌+◌, ◌<◌, ◌≤◌, ◌^◌, ◌↔◌, ◌⊎◌, IsTrue, nat_eq, refl};
-ghost use Rattle.std.specs.Ordering.{nat_cmp};
+ghost use Rattle.std.specs.Prelude.{◌≡◌, ℕ, ◌+◌, ◌<◌, ◌≤◌, ◌^◌, ◌↔◌, ◌⊎◌, IsTrue};
 ghost use Rattle.simplex_base.specs.Terms.{first_view, last_view, HoldsView, term_of, term_start, term_end};
 
 use crate::positions::view::View;
-use crate::values::{EqByParts, ExactClone, InfallibleClone, OrdByParts};
 use std::marker::Model;
 
 /// How many views a term has, from 1 to 2^32 - 1.
@@ -25,26 +23,6 @@ impl Model for TermLength {
     ghost invariant = { λ length. 1 ≤ length.0 };
 
     ghost inverse = { λ number. record { 0 = number } };
-}
-
-impl EqByParts for TermLength {
-    ghost same = { nat_eq };
-
-    ghost equal = { λ x y. refl };
-}
-
-impl OrdByParts for TermLength {
-    ghost order = { nat_cmp };
-
-    ghost ordered = { λ x y. refl };
-}
-
-impl ExactClone for TermLength {
-    ghost exact = { λ x y same. same };
-}
-
-impl InfallibleClone for TermLength {
-    ghost infallible = { λ _. tt };
 }
 
 impl TermLength {

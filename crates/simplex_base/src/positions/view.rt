@@ -1,7 +1,6 @@
 //! Views, the places in the order of an epoch.
 
-ghost use Rattle.std.specs.Prelude.{◌≡◌, ℕ, ◌+◌, ◌-◌, ◌^◌, ◌↔◌, IsTrue, min, false, nat_eq, refl};
-ghost use Rattle.std.specs.Ordering.{nat_cmp};
+ghost use Rattle.std.specs.Prelude.{◌≡◌, ℕ, ◌+◌, ◌-◌, ◌^◌, ◌↔◌, IsTrue, min, false};
 ghost use Rattle.std.proofs.Common.{lit<};
 ghost use Rattle.simplex_base.specs.Varint.{number_64};
 ghost use Rattle.simplex_base.specs.VarintLaws.{number_64_lawful, longest_64, groups_len};
@@ -9,7 +8,6 @@ ghost use Rattle.simplex_base.specs.VarintLaws.{number_64_lawful, longest_64, gr
 use crate::codec::varint::{read_u64, size_u64, write_u64};
 use crate::codec::{EncodeSize, Encoding, Error, MaxEncodeSize, Read, ReadExt, Write};
 use crate::positions::view_delta::ViewDelta;
-use crate::values::{EqByParts, ExactClone, InfallibleClone, OrdByParts};
 use std::alloc::{AllocError, Global};
 use std::marker::Model;
 
@@ -24,26 +22,6 @@ impl Model for View {
     ghost view = { λ place. place.0 };
 
     ghost inverse = { λ number. record { 0 = number } };
-}
-
-impl EqByParts for View {
-    ghost same = { nat_eq };
-
-    ghost equal = { λ x y. refl };
-}
-
-impl OrdByParts for View {
-    ghost order = { nat_cmp };
-
-    ghost ordered = { λ x y. refl };
-}
-
-impl ExactClone for View {
-    ghost exact = { λ x y same. same };
-}
-
-impl InfallibleClone for View {
-    ghost infallible = { λ _. tt };
 }
 
 impl View {

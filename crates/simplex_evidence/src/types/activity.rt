@@ -10,7 +10,6 @@ use crate::types::nullify_finalize::NullifyFinalize;
 use simplex_base::codec::unions::{Tagged, read_tagged, write_tagged};
 use simplex_base::codec::{EncodeSize, Encoding, Error, Fixed, Read, Write};
 use simplex_base::positions::{Round, Roundable};
-use simplex_base::values::EqByParts;
 use simplex_scheme::scheme::{CertificateScheme, Digest, Scheme, Subject};
 use simplex_stream::messages::Message;
 use simplex_votes::map_ok;
@@ -145,36 +144,6 @@ impl<S: Scheme<D>, D: Digest> Activity<S, D> {
     }
 }
 
-impl<S: CertificateScheme, D: Digest> EqByParts for Activity<S, D> {
-    ghost use Rattle.std.specs.Prelude.{refl};
-    ghost use Rattle.simplex_evidence.specs.Activity.{same_activity};
-    ghost use Rattle.simplex_evidence.specs.declared.types.activity.Activity.TheVariants.{Notarize, Notarization, Certification, Nullify, Nullification, Finalize, Finalization, ConflictingNotarize, ConflictingFinalize, NullifyFinalize};
-
-    ghost same = { same_activity
-        ⟦<Notarize<S, D> as PartialEq>⟧.eq
-        ⟦<Notarization<S, D> as PartialEq>⟧.eq
-        ⟦<Nullify<S> as PartialEq>⟧.eq
-        ⟦<Nullification<S> as PartialEq>⟧.eq
-        ⟦<Finalize<S, D> as PartialEq>⟧.eq
-        ⟦<Finalization<S, D> as PartialEq>⟧.eq
-        ⟦<ConflictingNotarize<S, D> as PartialEq>⟧.eq
-        ⟦<ConflictingFinalize<S, D> as PartialEq>⟧.eq
-        ⟦<NullifyFinalize<S, D> as PartialEq>⟧.eq };
-
-    ghost equal = { elim [
-      | Notarize _ ↦ elim [ Notarize _ ↦ refl | _ ↦ refl ]
-      | Notarization _ ↦ elim [ Notarization _ ↦ refl | _ ↦ refl ]
-      | Certification _ ↦ elim [ Certification _ ↦ refl | _ ↦ refl ]
-      | Nullify _ ↦ elim [ Nullify _ ↦ refl | _ ↦ refl ]
-      | Nullification _ ↦ elim [ Nullification _ ↦ refl | _ ↦ refl ]
-      | Finalize _ ↦ elim [ Finalize _ ↦ refl | _ ↦ refl ]
-      | Finalization _ ↦ elim [ Finalization _ ↦ refl | _ ↦ refl ]
-      | ConflictingNotarize _ ↦ elim [ ConflictingNotarize _ ↦ refl | _ ↦ refl ]
-      | ConflictingFinalize _ ↦ elim [ ConflictingFinalize _ ↦ refl | _ ↦ refl ]
-      | NullifyFinalize _ ↦ elim [ NullifyFinalize _ ↦ refl | _ ↦ refl ]
-    ] };
-}
-
 impl<S: CertificateScheme, D: Digest> Roundable for Activity<S, D> {
     ghost use Rattle.simplex_evidence.specs.Activity.{activity_round};
 
@@ -232,7 +201,8 @@ impl<S: CertificateScheme, D: Digest> EncodeSize for Activity<S, D> {
 }
 
 impl<S: CertificateScheme, D: Digest> Read for Activity<S, D> {
-    ghost use Rattle.simplex_evidence.specs.Activity.{activity_format, activity_lawful};
+    ghost use Rattle.simplex_evidence.specs.Activity.{activity_format};
+    ghost use Rattle.simplex_evidence.specs.ActivityLaws.{activity_lawful};
 
     type Cfg = u32;
 

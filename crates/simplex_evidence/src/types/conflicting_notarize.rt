@@ -1,6 +1,6 @@
 //! Two notarizes that contradict.
 
-ghost use Rattle.std.specs.Prelude.{◌≡◌, ◌&&◌, ◌+◌, ◌*◌, ⊤, false, IsTrue, refl};
+ghost use Rattle.std.specs.Prelude.{◌≡◌, ◌&&◌, ◌+◌, ◌*◌, ⊤, false, IsTrue};
 ghost use Rattle.simplex_base.specs.Format.{format_of};
 ghost use Rattle.simplex_scheme.specs.Subject.{Notarizes};
 ghost use Rattle.simplex_votes.specs.Votes.{notarize_vote};
@@ -10,7 +10,6 @@ use crate::types::conflict::{Conflict, read_conflict};
 use simplex_base::codec::parts::{size_both, write_both};
 use simplex_base::codec::{EncodeSize, Encoding, Error, Fixed, Read, ReadExt, Write};
 use simplex_base::positions::{Participant, Round, Roundable};
-use simplex_base::values::{EqByParts, ExactClone, InfallibleClone};
 use simplex_scheme::scheme::{Digest, Scheme, SchemeTypes};
 use simplex_votes::types::{Attributable, Notarize};
 use std::alloc::{AllocError, Global};
@@ -117,21 +116,6 @@ impl<S: SchemeTypes, D: Digest> Clone for ConflictingNotarize<S, D> {
     }
 }
 
-impl<S: SchemeTypes, D: Digest> ExactClone for ConflictingNotarize<S, D> {
-    ghost exact = { λ x y same. same };
-}
-
-impl<S: SchemeTypes, D: Digest> InfallibleClone for ConflictingNotarize<S, D> {
-    ghost infallible = { λ _. tt };
-}
-
-impl<S: SchemeTypes, D: Digest> EqByParts for ConflictingNotarize<S, D> {
-    ghost same = { λ x y. ⟦<Notarize<S, D> as PartialEq>⟧.eq x.first y.first &&
-        ⟦<Notarize<S, D> as PartialEq>⟧.eq x.second y.second };
-
-    ghost equal = { λ x y. refl };
-}
-
 impl<S: SchemeTypes, D: Digest> Attributable for ConflictingNotarize<S, D> {
     ghost signer_of = { λ conflict. conflict.first.attestation.signer };
 
@@ -208,7 +192,8 @@ impl<S: SchemeTypes, D: Digest> Conflict for ConflictingNotarize<S, D> {
 }
 
 impl<S: SchemeTypes, D: Digest> Read for ConflictingNotarize<S, D> {
-    ghost use Rattle.simplex_evidence.specs.Conflict.{conflicting_notarize_format, conflicting_notarize_lawful};
+    ghost use Rattle.simplex_evidence.specs.Conflict.{conflicting_notarize_format};
+    ghost use Rattle.simplex_evidence.specs.ConflictLaws.{conflicting_notarize_lawful};
 
     type Cfg = ();
 

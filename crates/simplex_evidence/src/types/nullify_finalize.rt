@@ -1,6 +1,6 @@
 //! A nullify and a finalize that contradict.
 
-ghost use Rattle.std.specs.Prelude.{◌≡◌, ◌&&◌, ◌+◌, ◌*◌, ⊤, false, IsTrue, refl};
+ghost use Rattle.std.specs.Prelude.{◌≡◌, ◌&&◌, ◌+◌, ◌*◌, ⊤, false, IsTrue};
 ghost use Rattle.simplex_base.specs.Format.{format_of};
 ghost use Rattle.simplex_scheme.specs.Subject.{Nullifies, Finalizes};
 ghost use Rattle.simplex_votes.specs.Votes.{nullify_vote, finalize_vote};
@@ -10,7 +10,6 @@ use crate::types::conflict::{Conflict, read_conflict};
 use simplex_base::codec::parts::{size_both, write_both};
 use simplex_base::codec::{EncodeSize, Encoding, Error, Fixed, Read, ReadExt, Write};
 use simplex_base::positions::{Participant, Round, Roundable};
-use simplex_base::values::{EqByParts, ExactClone, InfallibleClone};
 use simplex_scheme::scheme::{Digest, Scheme, SchemeTypes};
 use simplex_votes::types::{Attributable, Finalize, Nullify};
 use std::alloc::{AllocError, Global};
@@ -109,21 +108,6 @@ impl<S: SchemeTypes, D: Digest> Clone for NullifyFinalize<S, D> {
     }
 }
 
-impl<S: SchemeTypes, D: Digest> ExactClone for NullifyFinalize<S, D> {
-    ghost exact = { λ x y same. same };
-}
-
-impl<S: SchemeTypes, D: Digest> InfallibleClone for NullifyFinalize<S, D> {
-    ghost infallible = { λ _. tt };
-}
-
-impl<S: SchemeTypes, D: Digest> EqByParts for NullifyFinalize<S, D> {
-    ghost same = { λ x y. ⟦<Nullify<S> as PartialEq>⟧.eq x.first y.first &&
-        ⟦<Finalize<S, D> as PartialEq>⟧.eq x.second y.second };
-
-    ghost equal = { λ x y. refl };
-}
-
 impl<S: SchemeTypes, D: Digest> Attributable for NullifyFinalize<S, D> {
     ghost signer_of = { λ conflict. conflict.first.attestation.signer };
 
@@ -200,7 +184,8 @@ impl<S: SchemeTypes, D: Digest> Conflict for NullifyFinalize<S, D> {
 }
 
 impl<S: SchemeTypes, D: Digest> Read for NullifyFinalize<S, D> {
-    ghost use Rattle.simplex_evidence.specs.Conflict.{nullify_finalize_format, nullify_finalize_lawful};
+    ghost use Rattle.simplex_evidence.specs.Conflict.{nullify_finalize_format};
+    ghost use Rattle.simplex_evidence.specs.ConflictLaws.{nullify_finalize_lawful};
 
     type Cfg = ();
 

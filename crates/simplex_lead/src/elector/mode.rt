@@ -1,9 +1,7 @@
 //! What electors depend on.
 
-ghost use Rattle.std.specs.Prelude.{◌≡◌, refl};
+ghost use Rattle.std.specs.Prelude.{◌≡◌};
 ghost use Rattle.std.specs.Option.{option_copied};
-
-use simplex_base::values::{EqByParts, ExactClone, InfallibleClone};
 
 /// How an elector uses the certificate that leads to a view.
 #[derive(Clone, Copy, Debug, PartialEq, Eq)]
@@ -12,26 +10,6 @@ pub enum Mode {
     Scheduled,
     /// Leaders may depend on the certificate.
     Dynamic,
-}
-
-impl ExactClone for Mode {
-    ghost exact = { λ x y same. same };
-}
-
-impl InfallibleClone for Mode {
-    ghost infallible = { λ _. tt };
-}
-
-impl EqByParts for Mode {
-    ghost use Rattle.simplex_lead.specs.Election.{same_mode};
-    ghost use Rattle.simplex_lead.specs.declared.elector.mode.Mode.TheVariants.{Scheduled, Dynamic};
-
-    ghost same = { same_mode };
-
-    ghost equal = { elim [
-      | Scheduled ↦ elim [ Scheduled ↦ refl | Dynamic ↦ refl ]
-      | Dynamic ↦ elim [ Scheduled ↦ refl | Dynamic ↦ refl ]
-    ] };
 }
 
 impl Mode {

@@ -15,7 +15,6 @@ use crate::elector::mode::Mode;
 use crate::elector::order::Order;
 use crate::elector::terms::Terms;
 use simplex_base::positions::{Participant, Round, TermLength, ViewDelta};
-use simplex_base::values::ExactClone;
 use simplex_scheme::scheme::{CertificateScheme, Hasher, Set, Sha256};
 use std::alloc::{AllocError, Global};
 use std::marker::{Model, PhantomData};
@@ -139,10 +138,6 @@ impl<H: Hasher> Clone for RoundRobin<H> {
             hasher: PhantomData,
         })
     }
-}
-
-impl<H: Hasher> ExactClone for RoundRobin<H> {
-    ghost exact = { λ x y same. same };
 }
 
 /// The hash that decides a participant's place in the order.
@@ -271,10 +266,6 @@ impl<S> Clone for RoundRobinElector<S> {
             scheme: PhantomData,
         })
     }
-}
-
-impl<S> ExactClone for RoundRobinElector<S> {
-    ghost exact = { λ x y same. same };
 }
 
 impl<S> RoundRobinElector<S> {

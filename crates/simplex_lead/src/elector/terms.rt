@@ -1,11 +1,9 @@
 //! How views make up terms.
 
-ghost use Rattle.std.specs.Prelude.{◌≡◌, ◌<◌, ◌↔◌, ◌&&◌, IsTrue, IsSome, nat_eq, refl};
-ghost use Rattle.std.specs.Option.{option_eq};
+ghost use Rattle.std.specs.Prelude.{◌≡◌, ◌<◌, ◌↔◌, ◌&&◌, IsTrue, IsSome};
 ghost use Rattle.simplex_lead.specs.Terms.{CanBeStable, rotating};
 
 use simplex_base::positions::{TermLength, ViewDelta};
-use simplex_base::values::{EqByParts, ExactClone, InfallibleClone};
 use std::marker::Model;
 use std::time::Duration;
 
@@ -40,22 +38,6 @@ impl Model for Terms {
       timeout = terms.stall_timeout;
       optimistic_views = terms.optimistic_views;
     } };
-}
-
-impl ExactClone for Terms {
-    ghost exact = { λ x y same. same };
-}
-
-impl InfallibleClone for Terms {
-    ghost infallible = { λ _. tt };
-}
-
-impl EqByParts for Terms {
-    ghost same = { λ x y. nat_eq x.term_length y.term_length &&
-        (option_eq ⟦<Duration as PartialEq>⟧.eq x.stall_timeout y.stall_timeout &&
-        nat_eq x.optimistic_views y.optimistic_views) };
-
-    ghost equal = { λ x y. refl };
 }
 
 /// Whether terms of this many views can have this timeout: they have more than one view, and it is not zero.

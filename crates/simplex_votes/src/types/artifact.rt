@@ -15,7 +15,6 @@ use crate::types::vote::Vote;
 use simplex_base::codec::unions::{Tagged, read_tagged, write_tagged};
 use simplex_base::codec::{EncodeSize, Encoding, Error, Fixed, Read, Write};
 use simplex_base::positions::{Round, Roundable};
-use simplex_base::values::EqByParts;
 use simplex_scheme::scheme::{CertificateScheme, Digest};
 use std::alloc::{AllocError, Global};
 
@@ -64,32 +63,6 @@ impl<S: CertificateScheme, D: Digest> Artifact<S, D> {
             Artifact::Finalization(message) => map_ok!(message.clone(), Artifact::Finalization),
         }
     }
-}
-
-impl<S: CertificateScheme, D: Digest> EqByParts for Artifact<S, D> {
-    ghost use Rattle.std.specs.Prelude.{refl};
-    ghost use Rattle.simplex_votes.specs.Artifact.{same_artifact};
-    ghost use Rattle.simplex_votes.specs.declared.types.artifact.Artifact.TheVariants.{Notarize, Notarization, Certification, Nullify, Nullification, Finalize, Finalization};
-
-    ghost same = { same_artifact
-        ⟦<Notarize<S, D> as PartialEq>⟧.eq
-        ⟦<Notarization<S, D> as PartialEq>⟧.eq
-        ⟦<Round as PartialEq>⟧.eq
-        ⟦<bool as PartialEq>⟧.eq
-        ⟦<Nullify<S> as PartialEq>⟧.eq
-        ⟦<Nullification<S> as PartialEq>⟧.eq
-        ⟦<Finalize<S, D> as PartialEq>⟧.eq
-        ⟦<Finalization<S, D> as PartialEq>⟧.eq };
-
-    ghost equal = { elim [
-      | Notarize _ ↦ elim [ Notarize _ ↦ refl | _ ↦ refl ]
-      | Notarization _ ↦ elim [ Notarization _ ↦ refl | _ ↦ refl ]
-      | Certification _ _ ↦ elim [ Certification _ _ ↦ refl | _ ↦ refl ]
-      | Nullify _ ↦ elim [ Nullify _ ↦ refl | _ ↦ refl ]
-      | Nullification _ ↦ elim [ Nullification _ ↦ refl | _ ↦ refl ]
-      | Finalize _ ↦ elim [ Finalize _ ↦ refl | _ ↦ refl ]
-      | Finalization _ ↦ elim [ Finalization _ ↦ refl | _ ↦ refl ]
-    ] };
 }
 
 impl<S: CertificateScheme, D: Digest> From<Vote<S, D>> for Artifact<S, D> {
@@ -183,7 +156,8 @@ impl<S: CertificateScheme, D: Digest> EncodeSize for Artifact<S, D> {
 }
 
 impl<S: CertificateScheme, D: Digest> Read for Artifact<S, D> {
-    ghost use Rattle.simplex_votes.specs.Artifact.{artifact_format, artifact_lawful};
+    ghost use Rattle.simplex_votes.specs.Artifact.{artifact_format};
+    ghost use Rattle.simplex_votes.specs.ArtifactLaws.{artifact_lawful};
 
     type Cfg = u32;
 

@@ -12,7 +12,6 @@ use simplex_base::codec::{
     EncodeSize, Encoding, Error, Fixed, FixedSize, MaxEncodeSize, Read, Write,
 };
 use simplex_base::positions::{Round, Roundable};
-use simplex_base::values::{EqByParts, ExactClone, InfallibleClone};
 use simplex_scheme::scheme::{CertificateScheme, CertificateVerifier, Digest, Proposal};
 use std::alloc::{AllocError, Global};
 use std::fmt;
@@ -41,28 +40,6 @@ impl Kind {
             Kind::Finalization => "finalization",
         }
     }
-}
-
-impl ExactClone for Kind {
-    ghost exact = { λ x y same. same };
-}
-
-impl InfallibleClone for Kind {
-    ghost infallible = { λ _. tt };
-}
-
-impl EqByParts for Kind {
-    ghost use Rattle.std.specs.Prelude.{refl};
-    ghost use Rattle.simplex_votes.specs.Unions.{same_kind};
-    ghost use Rattle.simplex_votes.specs.declared.types.certificate.Kind.TheVariants.{Notarization, Nullification, Finalization};
-
-    ghost same = { same_kind };
-
-    ghost equal = { elim [
-      | Notarization ↦ elim [ Notarization ↦ refl | _ ↦ refl ]
-      | Nullification ↦ elim [ Nullification ↦ refl | _ ↦ refl ]
-      | Finalization ↦ elim [ Finalization ↦ refl | _ ↦ refl ]
-    ] };
 }
 
 impl fmt::Display for Kind {
@@ -161,21 +138,6 @@ impl<S: CertificateVerifier<D>, D: Digest> Certificate<S, D> {
     }
 }
 
-impl<S: CertificateScheme, D: Digest> EqByParts for Certificate<S, D> {
-    ghost use Rattle.std.specs.Prelude.{refl};
-    ghost use Rattle.simplex_votes.specs.Unions.{same_certificate};
-    ghost use Rattle.simplex_votes.specs.declared.types.certificate.Certificate.TheVariants.{Notarization, Nullification, Finalization};
-
-    ghost same = { same_certificate ⟦<Notarization<S, D> as PartialEq>⟧.eq
-        ⟦<Nullification<S> as PartialEq>⟧.eq ⟦<Finalization<S, D> as PartialEq>⟧.eq };
-
-    ghost equal = { elim [
-      | Notarization _ ↦ elim [ Notarization _ ↦ refl | _ ↦ refl ]
-      | Nullification _ ↦ elim [ Nullification _ ↦ refl | _ ↦ refl ]
-      | Finalization _ ↦ elim [ Finalization _ ↦ refl | _ ↦ refl ]
-    ] };
-}
-
 impl<S: CertificateScheme, D: Digest> Roundable for Certificate<S, D> {
     ghost use Rattle.simplex_votes.specs.Unions.{certificate_round};
 
@@ -221,7 +183,8 @@ impl<S: CertificateScheme, D: Digest> EncodeSize for Certificate<S, D> {
 }
 
 impl<S: CertificateScheme, D: Digest> Read for Certificate<S, D> {
-    ghost use Rattle.simplex_votes.specs.Unions.{certificate_format, certificate_lawful};
+    ghost use Rattle.simplex_votes.specs.Unions.{certificate_format};
+    ghost use Rattle.simplex_votes.specs.UnionLaws.{certificate_lawful};
 
     type Cfg = u32;
 

@@ -1,6 +1,6 @@
 //! What a payload is built on.
 
-ghost use Rattle.std.specs.Prelude.{◌≡◌, ⊤, ◌+◌, false, ◌&&◌, nat_eq, refl};
+ghost use Rattle.std.specs.Prelude.{◌≡◌, ⊤, ◌+◌, false};
 ghost use Rattle.simplex_base.specs.Format.{format_of};
 
 use simplex_base::codec::parts::{size_both, write_both};
@@ -8,7 +8,6 @@ use simplex_base::codec::{
     EncodeSize, Encoding, Error, Fixed, FixedSize, MaxEncodeSize, Read, ReadExt, Write,
 };
 use simplex_base::positions::{Round, Roundable, View};
-use simplex_base::values::{EqByParts, ExactClone, InfallibleClone};
 use simplex_scheme::scheme::{Digest, PublicKey};
 use std::alloc::{AllocError, Global};
 
@@ -36,21 +35,6 @@ impl<D: Copy + Drop, P: Copy + Drop> Clone for Context<D, P> {
             parent: self.parent,
         })
     }
-}
-
-impl<D: Copy + Drop, P: Copy + Drop> ExactClone for Context<D, P> {
-    ghost exact = { λ x y same. same };
-}
-
-impl<D: Copy + Drop, P: Copy + Drop> InfallibleClone for Context<D, P> {
-    ghost infallible = { λ _. tt };
-}
-
-impl<D: Eq, P: Eq> EqByParts for Context<D, P> {
-    ghost same = { λ x y. ⟦<Round as PartialEq>⟧.eq x.round y.round && (P.eq x.leader y.leader &&
-        (nat_eq x.parent.0 y.parent.0 && D.eq x.parent.1 y.parent.1)) };
-
-    ghost equal = { λ x y. refl };
 }
 
 impl<D, P> Roundable for Context<D, P> {
@@ -87,7 +71,7 @@ impl<D: Digest, P: PublicKey> EncodeSize for Context<D, P> {
 }
 
 impl<D: Digest, P: PublicKey> MaxEncodeSize for Context<D, P> {
-    ghost use Rattle.simplex_votes.specs.Context.{context_within, context_longest};
+    ghost use Rattle.simplex_votes.specs.ContextLaws.{context_within, context_longest};
 
     ghost max_size = { 30 + P.SIZE + D.SIZE };
 
@@ -103,7 +87,8 @@ impl<D: Digest, P: PublicKey> MaxEncodeSize for Context<D, P> {
 }
 
 impl<D: Digest, P: PublicKey> Read for Context<D, P> {
-    ghost use Rattle.simplex_votes.specs.Context.{context_format, context_lawful};
+    ghost use Rattle.simplex_votes.specs.Context.{context_format};
+    ghost use Rattle.simplex_votes.specs.ContextLaws.{context_lawful};
 
     type Cfg = ();
 

@@ -1,6 +1,6 @@
 //! Certificates that a proposal is finalized.
 
-ghost use Rattle.std.specs.Prelude.{◌≡◌, ◌↔◌, ◌+◌, ◌<◌, ◌≤◌, ◌^◌, true, IsTrue, IfOk, All, length, map, ◌&&◌, refl};
+ghost use Rattle.std.specs.Prelude.{◌≡◌, ◌↔◌, ◌+◌, ◌<◌, ◌≤◌, ◌^◌, true, IsTrue, IfOk, All, length, map};
 ghost use Rattle.simplex_base.specs.Format.{format_of, format_under};
 ghost use Rattle.simplex_scheme.specs.Committee.{RefusesFew, AssemblesQuorum};
 ghost use Rattle.simplex_scheme.specs.Subject.{Finalizes};
@@ -12,7 +12,6 @@ use simplex_base::codec::{
     EncodeSize, Encoding, Error, Fixed, FixedSize, MaxEncodeSize, Read, Write,
 };
 use simplex_base::positions::{Round, Roundable, View};
-use simplex_base::values::EqByParts;
 use simplex_scheme::scheme::{
     AssemblyError, CertificateScheme, CertificateVerifier, Digest, Proposal, Scheme, Subject,
 };
@@ -145,13 +144,6 @@ impl<S: Scheme<D>, D: Digest> Finalization<S, D> {
     }
 }
 
-impl<S: CertificateScheme, D: Digest> EqByParts for Finalization<S, D> {
-    ghost same = { λ x y. ⟦<Proposal<D> as PartialEq>⟧.eq x.proposal y.proposal &&
-        S.Certificate.eq x.certificate y.certificate };
-
-    ghost equal = { λ x y. refl };
-}
-
 impl<S: CertificateScheme, D: Digest> Roundable for Finalization<S, D> {
     ghost round_of = { λ finalization. finalization.proposal.round };
 
@@ -183,7 +175,8 @@ impl<S: CertificateScheme, D: Digest> EncodeSize for Finalization<S, D> {
 }
 
 impl<S: CertificateScheme, D: Digest> Read for Finalization<S, D> {
-    ghost use Rattle.simplex_votes.specs.Encodings.{finalization_format, finalization_lawful};
+    ghost use Rattle.simplex_votes.specs.Encodings.{finalization_format};
+    ghost use Rattle.simplex_votes.specs.EncodingLaws.{finalization_lawful};
 
     type Cfg = u32;
 

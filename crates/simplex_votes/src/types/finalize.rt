@@ -1,6 +1,6 @@
 //! Votes to finalize a proposal.
 
-ghost use Rattle.std.specs.Prelude.{◌≡◌, ⊤, ◌+◌, false, true, Ok, None, Some, IfOk, MatchOption, ◌&&◌, refl};
+ghost use Rattle.std.specs.Prelude.{◌≡◌, ⊤, ◌+◌, false, true, Ok, None, Some, IfOk, MatchOption};
 ghost use Rattle.simplex_base.specs.Format.{format_of};
 ghost use Rattle.simplex_scheme.specs.Subject.{Finalizes};
 
@@ -9,7 +9,6 @@ use simplex_base::codec::{
     EncodeSize, Encoding, Error, Fixed, FixedSize, MaxEncodeSize, Read, ReadExt, Write,
 };
 use simplex_base::positions::{Participant, Round, Roundable};
-use simplex_base::values::{EqByParts, ExactClone, InfallibleClone};
 use simplex_scheme::scheme::{
     Attestation, Attributable, Digest, Proposal, Scheme, SchemeTypes, Subject,
 };
@@ -90,21 +89,6 @@ impl<S: Scheme<D>, D: Digest> Finalize<S, D> {
     }
 }
 
-impl<S: SchemeTypes, D: Digest> ExactClone for Finalize<S, D> {
-    ghost exact = { λ x y same. same };
-}
-
-impl<S: SchemeTypes, D: Digest> InfallibleClone for Finalize<S, D> {
-    ghost infallible = { λ _. tt };
-}
-
-impl<S: SchemeTypes, D: Digest> EqByParts for Finalize<S, D> {
-    ghost same = { λ x y. ⟦<Proposal<D> as PartialEq>⟧.eq x.proposal y.proposal &&
-        ⟦<Attestation<S> as PartialEq>⟧.eq x.attestation y.attestation };
-
-    ghost equal = { λ x y. refl };
-}
-
 impl<S: SchemeTypes, D: Digest> Attributable for Finalize<S, D> {
     ghost signer_of = { λ vote. vote.attestation.signer };
 
@@ -146,7 +130,7 @@ impl<S: SchemeTypes, D: Digest> EncodeSize for Finalize<S, D> {
 }
 
 impl<S: SchemeTypes, D: Digest> MaxEncodeSize for Finalize<S, D> {
-    ghost use Rattle.simplex_votes.specs.Encodings.{finalize_within, finalize_longest};
+    ghost use Rattle.simplex_votes.specs.EncodingLaws.{finalize_within, finalize_longest};
 
     ghost max_size = { 35 + D.SIZE + S.Signature.SIZE };
 
@@ -163,7 +147,8 @@ impl<S: SchemeTypes, D: Digest> MaxEncodeSize for Finalize<S, D> {
 }
 
 impl<S: SchemeTypes, D: Digest> Read for Finalize<S, D> {
-    ghost use Rattle.simplex_votes.specs.Encodings.{finalize_format, finalize_lawful};
+    ghost use Rattle.simplex_votes.specs.Encodings.{finalize_format};
+    ghost use Rattle.simplex_votes.specs.EncodingLaws.{finalize_lawful};
 
     type Cfg = ();
 

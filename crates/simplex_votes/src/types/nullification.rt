@@ -1,6 +1,6 @@
 //! Certificates that a round is nullified.
 
-ghost use Rattle.std.specs.Prelude.{◌≡◌, ◌↔◌, ◌+◌, ◌<◌, ◌≤◌, ◌^◌, true, IsTrue, IfOk, All, length, map, ◌&&◌, refl};
+ghost use Rattle.std.specs.Prelude.{◌≡◌, ◌↔◌, ◌+◌, ◌<◌, ◌≤◌, ◌^◌, true, IsTrue, IfOk, All, length, map};
 ghost use Rattle.simplex_base.specs.Format.{format_under};
 ghost use Rattle.simplex_scheme.specs.Committee.{RefusesFew, AssemblesQuorum};
 ghost use Rattle.simplex_scheme.specs.Subject.{Nullifies};
@@ -10,7 +10,6 @@ use crate::types::nullify::Nullify;
 use simplex_base::codec::parts::{size_both, write_both};
 use simplex_base::codec::{EncodeSize, Encoding, Error, MaxEncodeSize, Read, Write};
 use simplex_base::positions::{Round, Roundable};
-use simplex_base::values::EqByParts;
 use simplex_scheme::scheme::{
     AssemblyError, CertificateScheme, CertificateVerifier, Digest, Scheme, Subject,
 };
@@ -145,13 +144,6 @@ impl<S: CertificateScheme> Nullification<S> {
     }
 }
 
-impl<S: CertificateScheme> EqByParts for Nullification<S> {
-    ghost same = { λ x y. ⟦<Round as PartialEq>⟧.eq x.round y.round &&
-        S.Certificate.eq x.certificate y.certificate };
-
-    ghost equal = { λ x y. refl };
-}
-
 impl<S: CertificateScheme> Roundable for Nullification<S> {
     ghost round_of = { λ nullification. nullification.round };
 
@@ -183,7 +175,8 @@ impl<S: CertificateScheme> EncodeSize for Nullification<S> {
 }
 
 impl<S: CertificateScheme> Read for Nullification<S> {
-    ghost use Rattle.simplex_votes.specs.Encodings.{nullification_format, nullification_lawful};
+    ghost use Rattle.simplex_votes.specs.Encodings.{nullification_format};
+    ghost use Rattle.simplex_votes.specs.EncodingLaws.{nullification_lawful};
 
     type Cfg = u32;
 

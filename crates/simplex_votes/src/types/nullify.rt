@@ -1,6 +1,6 @@
 //! Votes to nullify a round.
 
-ghost use Rattle.std.specs.Prelude.{◌≡◌, ⊤, ◌+◌, false, true, Ok, None, Some, IfOk, MatchOption, ◌&&◌, refl};
+ghost use Rattle.std.specs.Prelude.{◌≡◌, ⊤, ◌+◌, false, true, Ok, None, Some, IfOk, MatchOption};
 ghost use Rattle.simplex_base.specs.Format.{format_of};
 ghost use Rattle.simplex_scheme.specs.Subject.{Nullifies};
 
@@ -9,7 +9,6 @@ use simplex_base::codec::{
     EncodeSize, Encoding, Error, Fixed, FixedSize, MaxEncodeSize, Read, ReadExt, Write,
 };
 use simplex_base::positions::{Participant, Round, Roundable};
-use simplex_base::values::{EqByParts, ExactClone, InfallibleClone};
 use simplex_scheme::scheme::{Attestation, Attributable, Digest, Scheme, SchemeTypes, Subject};
 use std::alloc::{AllocError, Global};
 
@@ -83,21 +82,6 @@ impl<S: SchemeTypes> Clone for Nullify<S> {
     }
 }
 
-impl<S: SchemeTypes> ExactClone for Nullify<S> {
-    ghost exact = { λ x y same. same };
-}
-
-impl<S: SchemeTypes> InfallibleClone for Nullify<S> {
-    ghost infallible = { λ _. tt };
-}
-
-impl<S: SchemeTypes> EqByParts for Nullify<S> {
-    ghost same = { λ x y. ⟦<Round as PartialEq>⟧.eq x.round y.round &&
-        ⟦<Attestation<S> as PartialEq>⟧.eq x.attestation y.attestation };
-
-    ghost equal = { λ x y. refl };
-}
-
 impl<S: SchemeTypes> Attributable for Nullify<S> {
     ghost signer_of = { λ vote. vote.attestation.signer };
 
@@ -137,7 +121,7 @@ impl<S: SchemeTypes> EncodeSize for Nullify<S> {
 }
 
 impl<S: SchemeTypes> MaxEncodeSize for Nullify<S> {
-    ghost use Rattle.simplex_votes.specs.Encodings.{nullify_within, nullify_longest};
+    ghost use Rattle.simplex_votes.specs.EncodingLaws.{nullify_within, nullify_longest};
 
     ghost max_size = { 25 + S.Signature.SIZE };
 
@@ -153,7 +137,8 @@ impl<S: SchemeTypes> MaxEncodeSize for Nullify<S> {
 }
 
 impl<S: SchemeTypes> Read for Nullify<S> {
-    ghost use Rattle.simplex_votes.specs.Encodings.{nullify_format, nullify_lawful};
+    ghost use Rattle.simplex_votes.specs.Encodings.{nullify_format};
+    ghost use Rattle.simplex_votes.specs.EncodingLaws.{nullify_lawful};
 
     type Cfg = ();
 

@@ -12,7 +12,6 @@ use simplex_base::codec::{
     EncodeSize, Encoding, Error, Fixed, FixedSize, MaxEncodeSize, Read, ReadExt, Write,
 };
 use simplex_base::positions::{Participant, Round, Roundable};
-use simplex_base::values::{EqByParts, ExactClone, InfallibleClone};
 use simplex_scheme::scheme::{Attributable, Digest, SchemeTypes};
 use std::alloc::{AllocError, Global};
 
@@ -41,29 +40,6 @@ impl<S: SchemeTypes, D: Digest> Clone for Vote<S, D> {
             Vote::Finalize(vote) => Vote::Finalize(vote.copy()),
         })
     }
-}
-
-impl<S: SchemeTypes, D: Digest> ExactClone for Vote<S, D> {
-    ghost exact = { λ x y same. same };
-}
-
-impl<S: SchemeTypes, D: Digest> InfallibleClone for Vote<S, D> {
-    ghost infallible = { λ _. tt };
-}
-
-impl<S: SchemeTypes, D: Digest> EqByParts for Vote<S, D> {
-    ghost use Rattle.std.specs.Prelude.{refl};
-    ghost use Rattle.simplex_votes.specs.Unions.{same_vote};
-    ghost use Rattle.simplex_votes.specs.declared.types.vote.Vote.TheVariants.{Notarize, Nullify, Finalize};
-
-    ghost same = { same_vote ⟦<Notarize<S, D> as PartialEq>⟧.eq ⟦<Nullify<S> as PartialEq>⟧.eq
-        ⟦<Finalize<S, D> as PartialEq>⟧.eq };
-
-    ghost equal = { elim [
-      | Notarize _ ↦ elim [ Notarize _ ↦ refl | _ ↦ refl ]
-      | Nullify _ ↦ elim [ Nullify _ ↦ refl | _ ↦ refl ]
-      | Finalize _ ↦ elim [ Finalize _ ↦ refl | _ ↦ refl ]
-    ] };
 }
 
 impl<S: SchemeTypes, D: Digest> Attributable for Vote<S, D> {
@@ -127,7 +103,7 @@ impl<S: SchemeTypes, D: Digest> EncodeSize for Vote<S, D> {
 }
 
 impl<S: SchemeTypes, D: Digest> MaxEncodeSize for Vote<S, D> {
-    ghost use Rattle.simplex_votes.specs.Unions.{vote_within, vote_longest};
+    ghost use Rattle.simplex_votes.specs.UnionLaws.{vote_within, vote_longest};
 
     ghost max_size = { 36 + D.SIZE + S.Signature.SIZE };
 
@@ -143,7 +119,8 @@ impl<S: SchemeTypes, D: Digest> MaxEncodeSize for Vote<S, D> {
 }
 
 impl<S: SchemeTypes, D: Digest> Read for Vote<S, D> {
-    ghost use Rattle.simplex_votes.specs.Unions.{vote_format, vote_lawful};
+    ghost use Rattle.simplex_votes.specs.Unions.{vote_format};
+    ghost use Rattle.simplex_votes.specs.UnionLaws.{vote_lawful};
 
     type Cfg = ();
 

@@ -1,4 +1,4 @@
-use Rattle.simplex_evidence.specs.Activity.{activity_lawful}
+use Rattle.simplex_evidence.specs.ActivityLaws.{activity_lawful}
 use Rattle.simplex_audit.proofs.reading.reading_bound.Goals as goal
 
 pub returns-clause-readable : goal.returns-clause-readable

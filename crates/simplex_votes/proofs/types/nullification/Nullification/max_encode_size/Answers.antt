@@ -1,5 +1,6 @@
 use Rattle.std.proofs.Common.{arith}
-use Rattle.simplex_base.specs.Positions.{round_format, round_within}
+use Rattle.simplex_base.specs.Positions.{round_format}
+use Rattle.simplex_base.specs.PositionLaws.{round_within}
 use Rattle.simplex_votes.proofs.SizeLemmas.{certified_within}
 use Rattle.simplex_votes.proofs.types.nullification.Nullification.max_encode_size.Goals as goal
 
