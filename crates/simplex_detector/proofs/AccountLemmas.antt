@@ -16,7 +16,7 @@ apart x (y ∷ ys) h = let p = or_parts (nat_eq x y) (list_any (nat_eq x) ys) h 
 pub Contains-from_member : (xs : List ℕ) (x : ℕ) → is_member nat_eq xs x ≡ true → Contains xs x
 Contains-from_member xs x h = Contains-from_any eqb-true x xs h
 
-IsDistinct-filter : (p : ℕ → Bool) (xs : List ℕ) → IsDistinct nat_eq xs → IsDistinct nat_eq (filter p xs)
+pub IsDistinct-filter : (p : ℕ → Bool) (xs : List ℕ) → IsDistinct nat_eq xs → IsDistinct nat_eq (filter p xs)
 unfolding IsDistinct
 IsDistinct-filter p [] d = tt
 IsDistinct-filter p (x ∷ xs) d =
@@ -84,6 +84,13 @@ distinct_count-at_least zs xs d within =
     length-le_from_is_member nat_eq_equiv zs (unique_keys nat_eq xs) d
     (λ q h. is_member-unique_keys xs q ∙ list_any-from_Contains nat_eq_equiv q xs (within q (Contains-from_member zs q h)))
 
+-- a list has at least as many elements as there are distinct ones that it has
+pub distinct_count-at_most : (xs zs : List ℕ) → ((q : ℕ) → Contains xs q → Contains zs q) →
+    distinct_count nat_eq xs ≤ length zs
+distinct_count-at_most xs zs within =
+    length-le_from_is_member nat_eq_equiv (unique_keys nat_eq xs) zs (IsDistinct-unique_keys xs) (λ q h.
+    list_any-from_Contains nat_eq_equiv q zs (within q (Contains-from_member xs q (sym (is_member-unique_keys xs q) ∙ h))))
+
 -- lists with the same elements have the same number of distinct ones
 pub distinct_count-same : (xs ys : List ℕ) → ((q : ℕ) → Contains xs q → Contains ys q) →
     ((q : ℕ) → Contains ys q → Contains xs q) → distinct_count nat_eq xs ≡ distinct_count nat_eq ys
@@ -93,12 +100,6 @@ distinct_count-same xs ys to from =
     λ xs ys to. distinct_count-at_least (unique_keys nat_eq xs) ys (IsDistinct-unique_keys xs)
     (λ q h. to q (Contains-from_member xs q (sym (is_member-unique_keys xs q) ∙ list_any-from_Contains nat_eq_equiv q _ h))) in
     omega (arith, at_most xs ys to, at_most ys xs from)
-
--- and at most n where all are below n
-pub distinct_count-below : (n : ℕ) (xs : List ℕ) → ((q : ℕ) → Contains xs q → q < n) → distinct_count nat_eq xs ≤ n
-distinct_count-below n xs below =
-    length-le_from_distinct_below (unique_keys nat_eq xs) n (IsDistinct-unique_keys xs)
-    (λ q h. below q (Contains-from_member xs q (sym (is_member-unique_keys xs q) ∙ h)))
 
 -- ---- who is accused in a round
 

@@ -1,13 +1,14 @@
 -- How many votes are recorded, how many are accused in a round, and the split that this gives.
-use Rattle.simplex_detector.proofs.Prelude.{Activity, All, All-contains, AllByRecursion, AreSplits, Bool, CertifiedSubjects, Contains, Detector, Equal, Equivocation, Greater, HaveCommittees, IsEquivalence, IsNonDecreasing, IsOrdered, Less, Less-from_sorted, List, Accusation, None, Option, Recalls, RecallsRound, RecordsFirsts, Round, RoundState, Rules, SignedVote, Some, [], ap, append_assoc, arith, cases_lt, certified_subjects, cond, cond-false, cond-true, cons_option, distinct_count, drop, drop_more, eqb-false, evidence_of, false, false_from_ne_true, false≢true, faults_of, filter, filter_map, get_or, get_or-map, if◌then◌else◌, inl, inr, is_gt, is_member, is_accused, is_accused_in, is_some, is_split, kind_rank, le_from_not_gt, length, length-filter_both, length-map, map, min, accused_by, accused_cmp, accused_count, nat_cmp, nat_eq, not, not-true, option_eq, option_to_list, ordering_then, recorded_of, recursion_from_All, refl, round_cmp, round_count, round_of, split_of, subst, suc, sym, tied_itself, true, unique_keys, valid_votes, votes_recorded, ℕ, ⊎_elim, ◌++◌, ◌+◌, ◌-◌, ◌<◌, ◌^◌, ◌||◌, ◌∙◌, ◌∷◌, ◌≡◌, ◌≤◌}
+use Rattle.simplex_detector.proofs.Prelude.{Accusation, Activity, AllByRecursion, AreSplits, Bool, Conflicting_finalize, Conflicting_notarize, Contains, Detector, Equal, EquivocationKind, HaveCommittees, HoldsRound, IsEquivalence, IsOrdered, Less, List, None, Nullify_finalize, Option, Recalls, RecallsRound, Round, RoundState, RoundVotes, Rules, SignedVote, Some, [], accused_count, accuses, ap, append_assoc, arith, cond, cond-false, cond-true, cons_option, count_by, eqb-true, evidence_from, false, false_from_ne_true, false≢true, faults_of, filter, filter_map, get_or-range_with_len, is_accused, is_accused_in, is_some, is_split, length, length-filter, length-filter_both, length-range_with_len, map, nat_eq, not, not-true, option_to_list, range_with_len, recorded_of, recursion_from_All, refl, round_cmp, round_count, round_of, slots, split_of, subst, suc, sum_by-cons, sym, tied_itself, true, valid_votes, votes_recorded, zero, ℕ, ⊎_elim, ◌++◌, ◌+◌, ◌-◌, ◌<◌, ◌||◌, ◌∙◌, ◌∷◌, ◌≡◌, ◌≤◌}
+use Rattle.std.specs.Int.{from_bool}
+use Rattle.std.specs.List.{IsDistinct}
 use Rattle.std.specs.List.Sorted.{IsStrictlySortedBy}
-use Rattle.simplex_detector.proofs.AccountLemmas.{Contains-from_member, counted_signer, distinct_count-below, distinct_count-same, kind_from_accused_in, accused_in}
-use Rattle.simplex_detector.proofs.CommitteeLemmas.{most}
-use Rattle.simplex_detector.proofs.EvidenceLemmas.{accused-from_evidence, valid_from, votes_from_accused}
-use Rattle.simplex_detector.proofs.Lists.{Contains-cons_cases, Contains-first, Contains-from_filter, Contains-from_map, Contains-map, Contains-none, found}
+use Rattle.simplex_detector.proofs.AccountLemmas.{IsDistinct-filter, counted_signer, distinct_count-at_least, distinct_count-at_most, kind_from_accused_in}
+use Rattle.simplex_detector.proofs.EvidenceLemmas.{evidence_exists, valid_from, votes_from_accused}
+use Rattle.simplex_detector.proofs.Lists.{Contains-cons_cases, Contains-filter, Contains-first, Contains-from_filter, Contains-map, Contains-none, found}
 use Rattle.simplex_detector.proofs.Places.{is_of-true, round_cmp_total, same_round-from, same_round-true}
-use Rattle.simplex_detector.proofs.RecordedLemmas.{none_of_round, of_round}
-use Rattle.simplex_detector.proofs.ReportLemmas.{IsEvidenceIn, recalled, recalls_listed}
+use Rattle.simplex_detector.proofs.RecordedLemmas.{evidence_of-slots, none_of_round, of_round}
+use Rattle.simplex_detector.proofs.ReportLemmas.{recalled, recalls_listed}
 use Rattle.simplex_detector.proofs.SplitLemmas.{from_subjects, splits_of_rounds}
 
 -- how many of some votes are of some rounds, counted round by round
@@ -94,132 +95,105 @@ splits_next f found more all x xs o more_is o_is so_far =
 
 -- ---- how many are accused in a round
 
--- they are the distinct signers of its evidence
-counted_in : {D G : Type 0} (eq : D → D → Bool) (vs : List (SignedVote D G)) (round : Round) (es : List (Equivocation D G)) →
-    IsEvidenceIn eq vs round es → accused_count eq vs round ≡ distinct_count nat_eq (map (λ e. e.first.signer) es)
-counted_in {D} {G} eq vs round es is =
-    distinct_count-same _ _
-    (λ q h.
-    let (kind, e) = kind_from_accused_in eq vs round q (Contains-from_filter (is_accused_in eq vs round) _ q h).1 in
-    let (f, f_in, f_is) =
-    Contains-from_map accused_by es (record { round = round; signer = q; kind = kind }) (is.complete _ refl e) in
-    subst (Contains (map (λ e. e.first.signer) es)) (ap (λ (m : Accusation). m.signer) f_is)
-    (Contains-map (λ e. e.first.signer) es f f_in))
-    (λ q h.
-    let (f, f_in, f_is) = Contains-from_map (λ (e : Equivocation D G). e.first.signer) es q h in
-    let found = All-contains (λ e. evidence_of eq vs (accused_by e) ≡ Some e) es f is.sound f_in in
-    let at = All-contains (λ e. round_of e.first.subject ≡ round) es f is.here f_in in
-    counted_signer eq vs round q
-    (accused_in eq vs round q f.kind (sym (λ i. is_accused eq vs (record { round = at i; signer = f_is i; kind = f.kind }))
-    ∙ accused-from_evidence eq vs (accused_by f) (ap is_some found))))
+-- numbers that rise by one are distinct
+IsDistinct-range : (a n : ℕ) → IsDistinct nat_eq (range_with_len a n)
+unfolding IsDistinct
+IsDistinct-range a zero = tt
+IsDistinct-range a (suc n) = (above a (a + 1) n (omega arith), IsDistinct-range (a + 1) n)
+  where
+    above : (x b n : ℕ) → x < b → AllByRecursion (λ y. nat_eq x y ≡ false) (range_with_len b n)
+    above x b zero lt = tt
+    above x b (suc n) lt = (
+      false_from_ne_true (nat_eq x b) (λ e. absurd (omega (arith, lt, eqb-true x b e))),
+      above x (b + 1) n (omega (arith, lt)),
+    )
 
--- no more are accused than its committee has participants
-count_within : {S D C P G : Type 0} (rules : Rules S D C P G) → HaveCommittees rules → (messages : List (Activity S D C P G))
-    (round : Round) → accused_count rules.eq (valid_votes rules messages) round ≤ rules.size round.epoch
-count_within rules l messages round =
+-- they are as many as of the first numbers are accused, if all are among these
+counted_in : {D G : Type 0} (eq : D → D → Bool) (vs : List (SignedVote D G)) (round : Round) (n : ℕ) →
+    ((q : ℕ) → is_accused_in eq vs round q ≡ true → q < n) →
+    count_by (is_accused_in eq vs round) (range_with_len 0 n) ≡ accused_count eq vs round
+counted_in eq vs round n below =
+    let accused = is_accused_in eq vs round in
+    let signers = filter accused (map (λ v. v.signer) vs) in
+    let among = filter accused (range_with_len 0 n) in
+    let at_least = distinct_count-at_least among signers (IsDistinct-filter accused _ (IsDistinct-range 0 n))
+    (λ q h. counted_signer eq vs round q (Contains-from_filter accused (range_with_len 0 n) q h).1) in
+    let at_most = distinct_count-at_most signers among (λ q h.
+    let is = (Contains-from_filter accused (map (λ v. v.signer) vs) q h).1 in
+    let at : Contains (range_with_len 0 n) q =
+    (q, omega (arith, below q is, length-range_with_len 0 n), omega (arith, get_or-range_with_len 0 n q q (below q is))) in
+    Contains-filter accused (range_with_len 0 n) q at is) in
+    omega (arith, at_least, at_most, length-filter accused (range_with_len 0 n))
+
+-- who is accused is in the committee
+accused_member : {S D C P G : Type 0} (rules : Rules S D C P G) → HaveCommittees rules → (messages : List (Activity S D C P G))
+    (round : Round) (q : ℕ) → is_accused_in rules.eq (valid_votes rules messages) round q ≡ true → q < rules.size round.epoch
+accused_member rules l messages round q h =
     let vs = valid_votes rules messages in
-    let signers = map (λ v. v.signer) vs in
-    distinct_count-below (rules.size round.epoch) (filter (is_accused_in rules.eq vs round) signers) (λ q h.
-    let (kind, e) =
-    kind_from_accused_in rules.eq vs round q (Contains-from_filter (is_accused_in rules.eq vs round) signers q h).1 in
+    let (kind, e) = kind_from_accused_in rules.eq vs round q h in
     let (v, w, v_in, w_in, of_v, against) =
     votes_from_accused rules.eq vs (record { round = round; signer = q; kind = kind }) e in
     let (m, m_in, own, valid) = valid_from rules messages v v_in in
     let at = is_of-true round q v of_v in
     subst (λ s. s < rules.size round.epoch) at.1
-    (subst (λ r. v.signer < rules.size r.epoch) at.0 (l.members v.subject v.signer v.signature valid)))
+    (subst (λ r. v.signer < rules.size r.epoch) at.0 (l.members v.subject v.signer v.signature valid))
 
--- the signers of the evidence of a round are in order
-signers_in_order : {D G : Type 0} (round : Round) (es : List (Equivocation D G)) →
-    IsStrictlySortedBy accused_cmp (map accused_by es) → All (λ e. round_of e.first.subject ≡ round) es →
-    IsNonDecreasing (map (λ e. e.first.signer) es)
-signers_in_order round [] ordered here i j d le lt = absurd (omega (arith, lt))
-signers_in_order {D} {G} round (e ∷ es) ordered here i j d le lt =
-    let all = e ∷ es in
-    let within : j < length all = omega (arith, lt, length-map all (λ e. e.first.signer)) in
-    let at = λ (k : ℕ) (k_lt : k < length all). get_or-map (λ e. e.first.signer) all k e d k_lt in
-    elim (cases_lt i j) [
-      | inl less ↦ omega (
-        arith,
-        at i (omega arith),
-        at j within,
-        rise (accused_by (get_or all i e)) (accused_by (get_or all j e)) (here i e (omega arith) ∙ sym (here j e within))
-            ((λ k. accused_cmp (sym (get_or-map accused_by all i e (accused_by e) (omega arith)) k)
-            (sym (get_or-map accused_by all j e (accused_by e) within) k)) ∙ Less-from_sorted accused_cmp (map accused_by all) i
-            j (accused_by e) ordered less (omega (arith, within, length-map all accused_by))),
-      )
-      | inr more ↦ (let same : i ≡ j = omega arith in omega (arith, ap (λ k. get_or (map (λ e. e.first.signer) all) k d) same))
-    ]
+-- the slots of a round accuse exactly those whom the votes accuse there
+accused_by_slots : {S D P G : Type 0} (eq : D → D → Bool) → IsEquivalence eq → (size : ℕ) (vs : List (SignedVote D G))
+    (round : Round) (recorded : RoundVotes S D P G) → HoldsRound eq size vs round recorded → (signer : ℕ) →
+    accuses (slots recorded signer) ≡ is_accused_in eq vs round signer
+accused_by_slots eq l size vs round recorded holds signer = λ i.
+    of_kind Conflicting_notarize i || (of_kind Conflicting_finalize i || of_kind Nullify_finalize i)
   where
-    rise : (n m : Accusation) → n.round ≡ m.round → accused_cmp n m ≡ Less → n.signer ≤ m.signer
-    rise n m same less =
-        let kinds = nat_cmp (kind_rank n.kind) (kind_rank m.kind) in
-        let signers : ordering_then (nat_cmp n.signer m.signer) kinds ≡ Less =
-        sym (ap (λ o. ordering_then (ordering_then o (nat_cmp n.signer m.signer)) kinds)
-        (ap (λ r. round_cmp r m.round) same ∙ tied_itself round_cmp_total m.round)) ∙ less in
-        le_from_not_gt n.signer m.signer ((elim (nat_cmp n.signer m.signer) as (λ o. ordering_then o kinds ≡ Less →
-        is_gt o ≡ false) [ Less ↦ λ h. refl | Equal ↦ λ h. refl | Greater ↦ λ h. absurd cc ]) signers)
+    of_kind : (kind : EquivocationKind) → is_some (evidence_from (slots recorded signer) kind)
+        ≡ is_accused eq vs (record { round = round; signer = signer; kind = kind })
+    of_kind kind =
+        let n : Accusation = record { round = round; signer = signer; kind = kind } in
+        ap is_some ((λ i. evidence_from (λ sort. holds.held signer sort i) kind) ∙ sym (evidence_of-slots eq vs n))
+        ∙ evidence_exists eq vs l n
 
 -- ---- the split of a round
 
--- the split of a split round, from its evidence and its committee
-pub split_found : {S D C P G : Type 0} (rules : Rules S D C P G) → HaveCommittees rules →
-    (messages : List (Activity S D C P G)) (round : Round) (recorded : CertifiedSubjects D) →
-    RecordsFirsts rules.eq (certified_subjects rules messages) round recorded → recorded.split ≡ true →
-    (es : List (Equivocation D G)) → IsEvidenceIn rules.eq (valid_votes rules messages) round es → (n : ℕ) →
-    rules.size round.epoch ≡ n → n < 2 ^ 32 → (named least : ℕ) → (IsNonDecreasing (map (λ e. e.first.signer) es) →
-    named ≡ min (distinct_count nat_eq (map (λ e. e.first.signer) es)) (2 ^ 32 - 1)) → least ≡ faults_of n + 1 →
+-- the split of a split round, from its recorded votes and its committee
+pub split_found : {S D C P G : Type 0} (rules : Rules S D C P G) → HaveCommittees rules → IsEquivalence rules.eq →
+    (messages : List (Activity S D C P G)) (round : Round) (round_state : RoundState S D P G) →
+    RecallsRound rules messages round round_state → round_state.certified.split ≡ true → (n : ℕ) →
+    rules.size round.epoch ≡ n → (named least : ℕ) →
+    named ≡ count_by (λ q. accuses (slots round_state.votes q)) (range_with_len 0 n) → least ≡ faults_of n + 1 →
     Some (record { round = round; named = named; least = least }) ≡ split_of rules messages round
-split_found rules l messages round recorded records split es is n size small named least counted least_is =
-    let count = counted_in rules.eq (valid_votes rules messages) round es is in
-    let within = count_within rules l messages round in
-    let own = counted (signers_in_order round es is.ordered is.here) in
-    let accused_is : named ≡ accused_count rules.eq (valid_votes rules messages) round =
-    omega (arith, count, within, own, size, small) in
+split_found rules l e messages round round_state recalls split n size named least counted least_is =
+    let vs = valid_votes rules messages in
+    let accused_is : named ≡ accused_count rules.eq vs round =
+    counted
+    ∙ (λ i. count_by (λ q. accused_by_slots rules.eq e _ vs round round_state.votes recalls.votes q i)
+    (range_with_len 0 (sym size i)))
+    ∙ counted_in rules.eq vs round (rules.size round.epoch) (accused_member rules l messages round) in
     let least_of : least ≡ faults_of (rules.size round.epoch) + 1 = least_is ∙ ap (λ k. faults_of k + 1) (sym size) in
     (λ i. Some (record { round = round; named = accused_is i; least = least_of i }))
-    ∙ sym (cond-true (is_split rules messages round) _ None (from_subjects rules messages round ∙ sym records.split ∙ split))
+    ∙ sym (cond-true (is_split rules messages round) _ None (from_subjects rules messages round ∙ sym recalls.subjects.split
+    ∙ split))
 
--- ---- how many distinct numbers a list in order has
+-- ---- how many of the participants are accused
 
--- how many numbers differ from the one before, which for the first is `last`
-abbrev pub number_changes : Option ℕ → List ℕ → ℕ
-number_changes last [] = 0
-number_changes last (x ∷ xs) =
-    if option_eq nat_eq last (Some x) then number_changes (Some x) xs else number_changes (Some x) xs + 1
+-- one participant more is looked at
+pub counted_next : (test : ℕ → Bool) (number end count next all : ℕ) → number < end →
+    next ≡ count + from_bool (test number) →
+    count + count_by test (range_with_len number (end - number)) ≡ all →
+    next + count_by test (range_with_len (number + 1) (end - (number + 1))) ≡ all
+counted_next test number end count next all lt is so_far =
+    let left : end - number ≡ suc (end - (number + 1)) = omega (arith, lt) in
+    let more = range_with_len (number + 1) (end - (number + 1)) in
+    let one = elim (test number) as (λ b. from_bool b ≡ cond b 1 0) [ true ↦ refl | false ↦ refl ] in
+    omega (
+      arith,
+      is,
+      so_far,
+      one,
+      ap (λ k. count_by test (range_with_len number k)) left,
+      sum_by-cons (λ q. cond (test q) 1 0) number more,
+    )
 
--- what is counted behind a first number
-pub counted_behind : (y : ℕ) (xs : List ℕ) → IsNonDecreasing (y ∷ xs) →
-    number_changes (Some y) xs + 1 ≡ distinct_count nat_eq (y ∷ xs)
-counted_behind y [] s = refl
-counted_behind y (x ∷ xs) s =
-    by (nat_eq y x) refl (counted_behind x xs (λ i j d le lt. s (suc i) (suc j) d (omega (arith, le)) (omega (arith, lt))))
-  where
-    by : (b : Bool) → nat_eq y x ≡ b → number_changes (Some x) xs + 1 ≡ distinct_count nat_eq (x ∷ xs) →
-        cond b (number_changes (Some x) xs) (number_changes (Some x) xs + 1) + 1
-        ≡ length (cond (b || is_member nat_eq xs y) (unique_keys nat_eq (x ∷ xs)) (y ∷ unique_keys nat_eq (x ∷ xs)))
-    by true e rest = rest
-    by false e rest =
-        let none = false_from_ne_true (is_member nat_eq xs y) (λ m. absurd (omega (
-          arith,
-          eqb-false y x e,
-          s 0 1 x (omega arith) (omega arith),
-          All-contains (λ z. x ≤ z) xs y (λ k d lt. s 1 (suc (suc k)) d (omega arith) (omega (arith, lt)))
-              (Contains-from_member xs y m),
-        ))) in
-        let more = ap (λ c. length (cond c (unique_keys nat_eq (x ∷ xs)) (y ∷ unique_keys nat_eq (x ∷ xs)))) none in
-        omega (arith, rest, more)
-
--- one item more, whose number is counted, with a count that stops at `most`
-pub counted_item : {X : Type 0} (number : X → ℕ) (xs : List X) (i : ℕ) (x : X) → i < length xs → x ≡ get_or xs i x →
-    (count next most : ℕ) (last : Option ℕ) (n : ℕ) → n ≡ number x →
-    next ≡ cond (option_eq nat_eq last (Some n)) count (min (count + 1) most) →
-    min (next + number_changes (Some n) (map number (drop (i + 1) xs))) most
-    ≡ min (count + number_changes last (map number (drop i xs))) most
-counted_item number xs i x lt is count next most last n n_is next_is =
-    let more = number_changes (Some n) (map number (drop (i + 1) xs)) in
-    ap (λ k. min (k + more) most) next_is ∙
-    elim (option_eq nat_eq last (Some n)) as (λ b. min (cond b count (min (count + 1) most) + more) most
-    ≡ min (count + cond b more (more + 1)) most) [ true ↦ refl | false ↦ omega arith ] ∙
-    (λ j. min (count + number_changes last (n_is j ∷ map number (drop (i + 1) xs))) most) ∙ sym (ap
-    (λ ys. min (count + number_changes last (map number ys)) most) (drop_more xs i x lt ∙ (λ j. sym is j ∷ drop (i + 1) xs)))
+-- it counts at most one
+pub at_most_one : (b : Bool) → from_bool b ≤ 1
+at_most_one true = omega arith
+at_most_one false = omega arith

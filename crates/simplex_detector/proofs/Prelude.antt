@@ -11,7 +11,8 @@ pub use Rattle.std.proofs.lemmas.List.Filters.{dedup_is, length-filter_both}
 pub use Rattle.std.proofs.lemmas.List.Folds.{Any-from_list_any, find-append, flat_map-map, list_any-from_Any}
 pub use Rattle.std.proofs.lemmas.List.Kept.{Contains-dedup_nat, IsStrictlySortedBy-filter}
 pub use Rattle.std.proofs.lemmas.List.Sorted.{Contains-permutation, IsPermutation-sym, answers_always}
-pub use Rattle.std.proofs.lemmas.List.Sums.{count_by-le-length, length-filter}
+pub use Rattle.std.proofs.lemmas.List.FromFn.{get_or-range_with_len, length-range_with_len}
+pub use Rattle.std.proofs.lemmas.List.Sums.{count_by-le-length, length-filter, sum_by-cons}
 pub use Rattle.std.proofs.lemmas.Map.Keys.{IsStrictlyIncreasing-dedup, Less-from_sorted, le_from_not_gt, sorted_from_strictly_increasing, sorted_head}
 pub use Rattle.std.proofs.lemmas.Map.Lookups.{CmpEqualImpliesEq, btree_set_from_contains, exact_pairs, exact_unsigned}
 pub use Rattle.std.proofs.lemmas.Map.Made.{length-le_from_is_member}
@@ -23,7 +24,7 @@ pub use Rattle.std.proofs.lemmas.Simd.{map-map}
 pub use Rattle.std.specs.BTreeMap.{BTreeMap, IsOrdered, get, is_at as is_key, keys}
 pub use Rattle.std.specs.BTreeSet.{BTreeSet, contains}
 pub use Rattle.std.specs.Cmp.{IsEquivalence, IsTotalOrder}
-pub use Rattle.std.specs.List.{AllByRecursion, cons_option, dedup, filter_map, find, flat_map, list_any}
+pub use Rattle.std.specs.List.{AllByRecursion, cons_option, count_by, range_with_len, dedup, filter_map, find, flat_map, list_any}
 pub use Rattle.std.specs.List.Sorted.{IsBinarySearchResult, IsNonDecreasing, IsNonDecreasingBy, IsSearchInRange, IsSorted, IsStrictlySortedBy}
 pub use Rattle.std.specs.Option.{IsSome, is_none, is_some, option_eq, option_or, option_to_list}
 pub use Rattle.std.specs.Ordering.{is_eq, is_gt, is_le, nat_cmp, ord_max, ordering_index, ordering_then}
@@ -43,7 +44,7 @@ pub use Rattle.simplex_detector.specs.Laws.{ReorderingAccusesSame}
 pub use Rattle.simplex_detector.specs.Line.{line_of, parted}
 pub use Rattle.simplex_detector.specs.Accusation.{Accusation, is_accused, kind_rank, accused_by, accused_cmp, round_cmp, signer_cmp}
 pub use Rattle.simplex_detector.specs.Recorded.{RecordedAreSlots, Slot, changes, equivocation_of, evidence_from, if_differs, is_news, news_after, other_than, recorded_in, recorded_of, slot_of, slot_with, votes_in_slot, votes_recorded}
-pub use Rattle.simplex_detector.specs.Rounds.{HoldsRound, IsSized, ListsSigners, TakesVote, found_at, found_of_kind, if_contradicts, is_for, no_slot, round_count, slots}
+pub use Rattle.simplex_detector.specs.Rounds.{HoldsRound, IsSized, accuses, ListsSigners, TakesVote, found_at, found_of_kind, if_contradicts, is_for, no_slot, round_count, slots}
 pub use Rattle.simplex_detector.specs.Rules.{AreLawful, HaveCommittees, Rules, is_valid, valid_votes}
 pub use Rattle.simplex_detector.specs.SplitLaws.{EnoughAreAccused, IsAccountable, SignersAreAccountable, shared_signers}
 pub use Rattle.simplex_detector.specs.Splits.{AreSplits, certified_in, if_certified, is_certified_message, is_accused_in, is_split, accused_count, split_of}

@@ -1,18 +1,10 @@
 -- The evidence in what is recorded, signer by signer and round by round, is the evidence of the votes.
-use Rattle.simplex_detector.proofs.Prelude.{Activity, All, All-contains, All-from_recursion, All-push, AllByRecursion, Bool, Conflicting_finalize, Conflicting_notarize, Contains, Contains-append_left, Contains-append_right, Contains-dedup_nat, Contains-permutation, Detector, Equivocation, HoldsRound, IsEquivalence, IsEvidence, IsOrdered, IsPermutation, IsSorted, IsStrictlyIncreasing-dedup, IsTrue, EquivocationKind, Less, List, ListsSigners, Accusation, None, Nullify_finalize, Recalls, RecallsAt, RecallsNothing, RecallsRound, Round, RoundState, RoundVotes, Rules, SignedVote, Slot, Some, Sort, [], ap, append-nil, append_assoc, arith, btree_map_get_iff, cond-true, contradicts, dedup, eqb, eqb-true, evidence_from, evidence_of, false≢true, filter_map, filter_map-append, flat_map, flat_map_more, found_at, found_of_kind, get, get_or, if_contradicts, inl, inr, is_accused, is_some, item_of, kind_rank, length, map, map-append, map-id, accused_by, accused_cmp, nat_cmp, no_slot, option_map, option_to_list, ordering_then, recursion_from_All, refl, round_cmp, round_of, signer_cmp, slot_of, slots, sorted_from_strictly_increasing, subst, sym, take, take_more, tied_itself, true, valid_votes, ℕ, ◌++◌, ◌+◌, ◌<◌, ◌∙◌, ◌∷◌, ◌≡◌, ◌⊎◌}
+use Rattle.simplex_detector.proofs.Prelude.{Activity, All, All-contains, All-from_recursion, All-push, AllByRecursion, Bool, Conflicting_finalize, Conflicting_notarize, Contains, Contains-append_left, Contains-append_right, Contains-dedup_nat, Contains-permutation, Detector, Equivocation, HoldsRound, IsEquivalence, IsEvidence, IsOrdered, IsPermutation, IsSorted, IsStrictlyIncreasing-dedup, EquivocationKind, Less, List, ListsSigners, Accusation, None, Nullify_finalize, Recalls, RecallsAt, RecallsNothing, RecallsRound, Round, RoundState, RoundVotes, Rules, SignedVote, Slot, Some, Sort, [], ap, append-nil, append_assoc, arith, btree_map_get_iff, cond-true, contradicts, dedup, eqb, eqb-true, evidence_from, evidence_of, false≢true, filter_map, filter_map-append, flat_map, flat_map_more, found_at, found_of_kind, get, get_or, if_contradicts, inl, inr, is_some, item_of, kind_rank, length, map, map-append, map-id, accused_by, accused_cmp, nat_cmp, no_slot, option_map, option_to_list, ordering_then, recursion_from_All, refl, round_cmp, signer_cmp, slot_of, slots, sorted_from_strictly_increasing, subst, sym, take, take_more, tied_itself, true, valid_votes, ℕ, ◌++◌, ◌+◌, ◌<◌, ◌∙◌, ◌∷◌, ◌≡◌, ◌⊎◌}
 use Rattle.std.specs.List.Sorted.{IsStrictlySortedBy}
-use Rattle.simplex_detector.proofs.EvidenceLemmas.{evidence-from_accused, evidence_is, from_listing}
-use Rattle.simplex_detector.proofs.Lists.{found_mapped, Contains-flat_map, Contains-from_filter_map, Contains-from_flat_map, Contains-from_map, Contains-map, each, filter_map-joined, found, made_complete, made_ordered, made_sound, some_from_is_some, sorted_joined}
+use Rattle.simplex_detector.proofs.EvidenceLemmas.{evidence_is, from_listing}
+use Rattle.simplex_detector.proofs.Lists.{found_mapped, Contains-flat_map, Contains-from_flat_map, Contains-from_map, Contains-map, each, filter_map-joined, found, made_complete, made_ordered, made_sound, some_from_is_some, sorted_joined}
 use Rattle.simplex_detector.proofs.Places.{exact_rounds, round_cmp_total, signer_cmp_total}
 use Rattle.simplex_detector.proofs.RecordedLemmas.{equivocation_of-Some, evidence_of-slots}
-
--- es is the evidence of the votes in this round: in order, each that of its accusation, and nobody accused there left out
-pub record IsEvidenceIn {D G : Type 0} (eq : D → D → Bool) (vs : List (SignedVote D G)) (round : Round)
-    (es : List (Equivocation D G)) : Type 0 where
-  pub ordered : IsStrictlySortedBy accused_cmp (map accused_by es)
-  pub here : All (λ e. round_of e.first.subject ≡ round) es
-  pub sound : All (λ e. evidence_of eq vs (accused_by e) ≡ Some e) es
-  pub complete : (n : Accusation) → n.round ≡ round → IsTrue (is_accused eq vs n) → Contains (map accused_by es) n
 
 -- ---- the rounds of a detector
 
@@ -162,19 +154,6 @@ module _ {D G : Type 0} (eq : D → D → Bool) (vs : List (SignedVote D G)) whe
             item _ _ recorded.finalizes.others.items x.second lists.finalizers (equivocation_of-Some _ _ _ x is).1
         of_kind Nullify_finalize x is =
             item _ _ recorded.nullifies.items x.first lists.nullifiers (equivocation_of-Some _ _ _ x is).0
-
-    -- so what is found of the listed signers is the evidence of the round
-    pub evidence_in_round : IsEquivalence eq → (signers : List ℕ) → ListsSigners recorded signers →
-        IsEvidenceIn eq vs round (flat_map (λ signer. found_at eq (slots recorded signer)) signers)
-    evidence_in_round l signers lists = subst (IsEvidenceIn eq vs round) (sym (found_in_round signers)) (record {
-      ordered = made_ordered accused_by accused_cmp (evidence_of eq vs) accuses_own (names_in round signers)
-          (ordered_in round signers lists.ascending);
-      here = each _ _ (λ e e_in. let (n, n_in, is) = Contains-from_filter_map (evidence_of eq vs) (names_in round signers) e
-          e_in in ap (λ (m : Accusation). m.round) (accuses_own n e is) ∙ in_name round signers n n_in);
-      sound = made_sound accused_by accused_cmp (evidence_of eq vs) accuses_own (names_in round signers);
-      complete = λ n here h. let e = evidence-from_accused eq vs l n h in made_complete accused_by accused_cmp
-          (evidence_of eq vs) accuses_own (names_in round signers) n (listed_in_round signers lists n here e) e;
-    })
 
 -- ---- the walk over the rounds
 

@@ -1,6 +1,6 @@
 -- The recorded votes of one round, by the votes so far.
-use Rattle.std.specs.Prelude.{◌≡◌, ℕ, ◌+◌, ◌<◌, ◌==◌, ◌&&◌, Bool, IsTrue, List, length, ◌++◌, Contains, Option, option_map, Some, None, if◌then◌else◌}
-use Rattle.std.specs.Option.{option_to_list}
+use Rattle.std.specs.Prelude.{◌≡◌, ℕ, ◌+◌, ◌<◌, ◌==◌, ◌&&◌, ◌||◌, Bool, IsTrue, List, length, ◌++◌, Contains, Option, option_map, Some, None, if◌then◌else◌}
+use Rattle.std.specs.Option.{is_some, option_to_list}
 use Rattle.std.specs.List.Sorted.{IsStrictlySortedBy}
 use Rattle.std.specs.Ordering.{nat_cmp}
 use Rattle.simplex_base.specs.Positions.{Round}
@@ -84,6 +84,12 @@ found_at eq slot =
     option_to_list (found_of_kind eq slot Conflicting_notarize) ++
     (option_to_list (found_of_kind eq slot Conflicting_finalize) ++
     option_to_list (found_of_kind eq slot Nullify_finalize))
+
+-- whether the slots of a signer accuse it, for any kind of contradiction
+abbrev pub accuses : {D G : Type 0} → (Sort → Slot D G) → Bool
+accuses slot =
+    is_some (evidence_from slot Conflicting_notarize) ||
+    (is_some (evidence_from slot Conflicting_finalize) || is_some (evidence_from slot Nullify_finalize))
 
 -- the signers ascend, and every signer with another notarize, a nullify or another finalize is among them
 pub record ListsSigners {S D P G : Type 0} (recorded : RoundVotes S D P G) (signers : List ℕ) : Type 0 where

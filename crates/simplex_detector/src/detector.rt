@@ -107,7 +107,7 @@ impl<S: Listing<D>, D: Digest> Detector<S, D> {
     {
         let mut splits = Vec::new(alloc);
         'rounds: for (round, round_state) in &self.rounds {
-            push_split(&mut splits, round_state.split(alloc, committees, *round)?)?;
+            push_split(&mut splits, round_state.split(committees, *round))?;
         }
         Ok(splits)
     }

@@ -1,25 +1,20 @@
 //! The state of one round: its votes and its certified subjects.
 
-ghost use Rattle.std.specs.Prelude.{◌≡◌, ◌↔◌, ◌+◌, ◌-◌, ◌^◌, [], ◌∷◌, None, Some, ℕ, map, min, nat_eq, IfOk, OnOk, IsTrue, if◌then◌else◌};
-ghost use Rattle.std.specs.Option.{option_eq};
-ghost use Rattle.std.specs.List.Sorted.{IsNonDecreasing};
-ghost use Rattle.std.specs.Set.{distinct_count};
+ghost use Rattle.std.specs.Prelude.{◌≡◌, ◌↔◌, [], ◌∷◌, None, Some, ℕ, map, OnOk, IsTrue};
 ghost use Rattle.simplex_scheme.specs.Subject.{subject_value, round_of};
 ghost use Rattle.simplex_votes.specs.Votes.{Sort, vote_on};
 ghost use Rattle.simplex_evidence.specs.Contents.{AreInConflict, contents_value, signed_value};
 ghost use Rattle.simplex_detector.specs.Rounds.{round_count, IsSized, slots, no_slot};
 ghost use Rattle.simplex_detector.specs.FirstCertified.{nothing_certified};
 ghost use Rattle.simplex_detector.specs.Detector.{TakesIn, TakesContents, GivesSplit};
-ghost use Rattle.simplex_detector.specs.Values.{evidence_value};
 
 use crate::certified_subjects::CertifiedSubjects;
 use crate::committees::Committees;
-use crate::evidence::Evidence;
 use crate::judge::{Judge, Signatures};
 use crate::round_votes::RoundVotes;
 use crate::rules::Judges;
 use crate::split::Split;
-use simplex_base::positions::{Participant, Round};
+use simplex_base::positions::Round;
 use simplex_evidence::types::{Contents, Signed};
 use simplex_scheme::scheme::{Digest, Listing, SchemeTypes, Subject, max_faults};
 use std::alloc::{AllocError, Global};
@@ -119,56 +114,20 @@ impl<S: Listing<D>, D: Digest> RoundState<S, D> {
     }
 
     /// The split of the round, if it is split.
-    pub fn split(
-        &self,
-        alloc: Global,
-        committees: &Committees<S>,
-        round: Round,
-    ) -> Result<Option<Split>, AllocError>
-        ensures { IfOk result (λ split. GivesSplit ⟦<S as Judges<D>>⟧.rules_under
-            committees.now round self.now split) }
+    pub fn split(&self, committees: &Committees<S>, round: Round) -> Option<Split>
+        ensures { GivesSplit ⟦<S as Judges<D>>⟧.rules_under committees.now round self.now result }
     {
         if !self.certified.is_split() {
-            return Ok(None);
+            return None;
         }
         let Some(committee) = committees.get(round.epoch()) else {
-            return Ok(None);
+            return None;
         };
         let participants = committee.participants().len() as u32;
-        let mut evidence = Vec::new(alloc);
-        self.votes.report_to(alloc, &mut evidence)?;
-        Ok(Some(Split {
+        Some(Split {
             round,
-            named: count_signers(&evidence),
+            named: self.votes.count_accused(participants),
             least: max_faults(participants) + 1,
-        }))
+        })
     }
-}
-
-/// How many participants some evidence accuses, each counted once. The evidence is in the order of signers, so that
-/// one pass over it counts them.
-fn count_signers<S: SchemeTypes, D: Digest>(evidence: &[Evidence<S, D>]) -> u32
-    ensures { IsNonDecreasing (map (λ e. (evidence_value e).first.signer) evidence.now) →
-        result ≡ min (distinct_count nat_eq (map (λ e.
-        (evidence_value e).first.signer) evidence.now)) (2 ^ 32 - 1) }
-{
-    let mut count = 0;
-    let mut last = None;
-    'evidence: for item in evidence {
-        let signer = item.signer();
-        count = count_one(count, last, signer);
-        last = Some(signer);
-    }
-    count
-}
-
-/// One more than the count, unless this signer was counted last. The count stops at 2^32 - 1.
-fn count_one(count: u32, last: Option<Participant>, signer: Participant) -> u32
-    ensures { result ≡ (if option_eq nat_eq last (Some signer) then count else min (count +
-        1) (2 ^ 32 - 1)) }
-{
-    if last == Some(signer) {
-        return count;
-    }
-    count.saturating_add(1)
 }

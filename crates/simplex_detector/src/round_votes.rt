@@ -1,14 +1,14 @@
 //! The recorded votes of one round: enough to report every accused signer, and no more.
 
-ghost use Rattle.std.specs.Prelude.{◌≡◌, ◌↔◌, ◌-◌, ◌^◌, min, List, [], ◌∷◌, ◌++◌, ℕ, true, map, filter, length, option_map, All, IfOk, OnOk, IsTrue};
-ghost use Rattle.std.specs.List.{flat_map};
+ghost use Rattle.std.specs.Prelude.{◌≡◌, ◌↔◌, ◌-◌, ◌^◌, min, List, [], ◌∷◌, ◌++◌, ℕ, true, count_by, map, filter, length, option_map, All, IfOk, OnOk, IsTrue};
+ghost use Rattle.std.specs.List.{flat_map, range_with_len};
 ghost use Rattle.std.specs.Option.{option_to_list};
 ghost use Rattle.simplex_scheme.specs.Subject.{subject_value, round_of};
 ghost use Rattle.simplex_votes.specs.Votes.{SignedVote, Sort, sort_of, vote_on};
 ghost use Rattle.simplex_evidence.specs.Contradiction.{Conflicting_notarize, Conflicting_finalize, Nullify_finalize};
 ghost use Rattle.simplex_detector.specs.Judging.{valid_under};
 ghost use Rattle.simplex_detector.specs.Recorded.{changes};
-ghost use Rattle.simplex_detector.specs.Rounds.{round_count, slots, no_slot, IsSized, TakesVote, HoldsRound, found_of_kind, found_at, ListsSigners};
+ghost use Rattle.simplex_detector.specs.Rounds.{round_count, slots, no_slot, IsSized, TakesVote, HoldsRound, found_of_kind, found_at, accuses, ListsSigners};
 ghost use Rattle.simplex_detector.specs.Values.{evidence_value};
 
 use crate::boxed_map::BoxedMap;
@@ -169,6 +169,29 @@ impl<S: SchemeTypes, D: Digest> RoundVotes<S, D> {
             self.observe(judge, subject, attestation, signatures)?;
         }
         Ok(())
+    }
+
+    /// How many of the committee's participants, as many as are given, the recorded votes accuse.
+    pub fn count_accused(&self, participants: u32) -> u32
+        ensures { result ≡ count_by (λ signer. accuses (slots self.now signer))
+            (range_with_len 0 participants) }
+    {
+        let mut count = 0;
+        'participants: for number in 0..participants {
+            count += u32::from(self.accuses(Participant::new(number)));
+        }
+        count
+    }
+
+    /// Whether recorded votes of a signer contradict: it has notarizes or finalizes of different proposals, or a nullify beside
+    /// a finalize.
+    fn accuses(&self, signer: Participant) -> bool
+        ensures { result ≡ accuses (slots self.now signer) }
+    {
+        if self.notarizes.has_both(signer) || self.finalizes.has_both(signer) {
+            return true;
+        }
+        self.nullifies.get(signer).is_some() && self.finalizes.first(signer).is_some()
     }
 
     /// Appends the evidence in the recorded votes, in the order of signers and kinds.

@@ -1,7 +1,7 @@
 //! At most two votes of each signer.
 
-ghost use Rattle.std.specs.Prelude.{◌≡◌, ◌↔◌, ◌-◌, ◌^◌, min, ◌++◌, [], OnOk, IsTrue, map};
-ghost use Rattle.std.specs.Option.{option_copied};
+ghost use Rattle.std.specs.Prelude.{◌≡◌, ◌↔◌, ◌-◌, ◌^◌, ◌&&◌, min, ◌++◌, [], OnOk, IsTrue, map};
+ghost use Rattle.std.specs.Option.{is_some, option_copied};
 ghost use Rattle.simplex_evidence.specs.VoteMap.{item_of};
 ghost use Rattle.simplex_detector.specs.VotePairs.{pairs_count, PutsVote};
 
@@ -59,6 +59,14 @@ impl<V: Attributable> VotePairs<V> {
         ensures { option_copied result ≡ item_of V.signer_of self.now.others.items signer }
     {
         self.others.get(signer)
+    }
+
+    /// Whether a signer has both votes.
+    pub fn has_both(&self, signer: Participant) -> bool
+        ensures { result ≡ (is_some (item_of V.signer_of self.now.firsts.items signer) &&
+            is_some (item_of V.signer_of self.now.others.items signer)) }
+    {
+        self.first(signer).is_some() && self.other(signer).is_some()
     }
 
     /// Inserts a vote of a participant: as its first if it has none, else as its other if it has none.

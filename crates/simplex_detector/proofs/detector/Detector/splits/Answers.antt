@@ -23,7 +23,7 @@ rounds-preserved g c judging messages l held =
     let (left, so_far) = c.rounds.invariant judging messages l held in
     let here = subst (AllByRecursion (λ e. RecallsRound (rules g judging c.args.committees.now) messages e.0 e.1))
     c.in-Some.ensures.steps left in
-    let split = c.in_ok-split.ensures judging messages l here.0 in (
+    let split = c.split.ensures judging messages l here.0 in (
       here.1,
       splits_next (split_of (rules g judging c.args.committees.now) messages) c.rounds.splits.items
           c.push_split.new.splits.items _ c.in-Some.round.now (map (λ e. e.0) c.next.new.self) _ c.in_ok-push_split.ensures
