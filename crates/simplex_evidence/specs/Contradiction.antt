@@ -1,7 +1,10 @@
 -- Which two votes no honest participant casts both, and the evidence of them.
 use Rattle.std.specs.Prelude.{Bool, true, false, not, ◌&&◌}
+use Rattle.simplex_scheme.specs.declared.kind.VoteKind.{VoteKind}
+use Rattle.simplex_scheme.specs.declared.kind.VoteKind.TheVariants as kinds
+use Rattle.simplex_scheme.specs.Kind.{kind_of, same_kind}
 use Rattle.simplex_scheme.specs.Subject.{SubjectValue, Notarizes, Nullifies, Finalizes, round_of}
-use Rattle.simplex_votes.specs.Votes.{SignedVote, Sort, Notarizing, Nullifying, Finalizing, sort_of, same_sort, is_of, same_proposal}
+use Rattle.simplex_votes.specs.Votes.{SignedVote, is_of, same_proposal}
 
 -- whether two subjects of one round exclude each other: two proposals to notarize or two to finalize that differ, or
 -- to nullify the round and to finalize a proposal. `eq` compares payloads
@@ -18,21 +21,21 @@ pub data EquivocationKind : Type 0 where
   Conflicting_finalize : EquivocationKind
   Nullify_finalize : EquivocationKind
 
--- the sort of the first of two votes that contradict with that kind
-abbrev pub first_sort : EquivocationKind → Sort
-first_sort Conflicting_notarize = Notarizing
-first_sort Conflicting_finalize = Finalizing
-first_sort Nullify_finalize = Nullifying
+-- the kind of the first of two votes of such evidence
+abbrev pub first_kind : EquivocationKind → VoteKind
+first_kind Conflicting_notarize = kinds.Notarize
+first_kind Conflicting_finalize = kinds.Finalize
+first_kind Nullify_finalize = kinds.Nullify
 
--- the sort of the second
-abbrev pub second_sort : EquivocationKind → Sort
-second_sort Conflicting_notarize = Notarizing
-second_sort Conflicting_finalize = Finalizing
-second_sort Nullify_finalize = Finalizing
+-- the kind of the second
+abbrev pub second_kind : EquivocationKind → VoteKind
+second_kind Conflicting_notarize = kinds.Notarize
+second_kind Conflicting_finalize = kinds.Finalize
+second_kind Nullify_finalize = kinds.Finalize
 
--- whether subjects of one round clash with that kind, in this order: they are of its sorts, and exclude each other
+-- whether subjects of one round clash in that way, in this order: they are of its kinds, and exclude each other
 abbrev pub clash : {D : Type 0} → (D → D → Bool) → EquivocationKind → SubjectValue D → SubjectValue D → Bool
-clash eq kind x y = same_sort (sort_of x) (first_sort kind) && (same_sort (sort_of y) (second_sort kind) && excludes eq x y)
+clash eq way x y = same_kind (kind_of x) (first_kind way) && (same_kind (kind_of y) (second_kind way) && excludes eq x y)
 
 -- whether two votes contradict with that kind: one round, one signer, and subjects that clash
 abbrev pub contradicts : {D G : Type 0} → (D → D → Bool) → EquivocationKind → SignedVote D G → SignedVote D G → Bool

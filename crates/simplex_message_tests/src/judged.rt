@@ -4,24 +4,24 @@ use crate::bisection::four_keys;
 use crate::without_memory::{is_of_four, is_out, proposal};
 use simplex_base::codec::{Fixed, decode_cfg};
 use simplex_base::positions::Participant;
-use simplex_scheme::scheme::{Attestation, Digest, Proposal, Scheme, Subject};
-use simplex_schemes::judged::{Judged, JudgedVote, Verdict};
+use simplex_schemes::judged::{Judged, Verdict};
 use simplex_schemes::listed::Listed;
 use simplex_schemes::marked::MarkedDigest;
 use simplex_schemes::plain::PlainSignature;
+use simplex_scheme::scheme::{Attestation, Digest, Proposal, Scheme, Subject, VoteKind};
 use std::alloc::Global;
 use std::process::Abort;
 use std::test::Fail;
 
 /// What was found valid, each time the signature of bytes 0xaa: the kind of vote, the message and the signer. The proposal is
 /// that of payload 6 in round (0, 10). Participant 4 is outside the committee.
-const FOUND: [(JudgedVote, &[u8], u32); 6] = [
-    (JudgedVote::Notarize, &[0, 10, 5, 6], 0),
-    (JudgedVote::Notarize, &[0, 10, 5, 6], 1),
-    (JudgedVote::Notarize, &[0, 10, 5, 6], 2),
-    (JudgedVote::Notarize, &[0, 10, 5, 6], 4),
-    (JudgedVote::Nullify, &[0, 10], 1),
-    (JudgedVote::Finalize, &[0, 10, 5, 6], 2),
+const FOUND: [(VoteKind, &[u8], u32); 6] = [
+    (VoteKind::Notarize, &[0, 10, 5, 6], 0),
+    (VoteKind::Notarize, &[0, 10, 5, 6], 1),
+    (VoteKind::Notarize, &[0, 10, 5, 6], 2),
+    (VoteKind::Notarize, &[0, 10, 5, 6], 4),
+    (VoteKind::Nullify, &[0, 10], 1),
+    (VoteKind::Finalize, &[0, 10, 5, 6], 2),
 ];
 
 /// Certificates of a notarize, in hexadecimal: of a participant too few, a valid one, and one with an invalid signature.
@@ -49,7 +49,7 @@ pub(crate) fn judged(alloc: Global) -> Option<Judged> {
 /// Whether a signature of a proposal or its round, as a vote of this kind, is valid.
 fn is_valid<S: Scheme<D>, D: Digest>(
     scheme: &S,
-    kind: JudgedVote,
+    kind: VoteKind,
     proposal: &Proposal<D>,
     signer: u32,
     signature: S::Signature,
@@ -60,9 +60,9 @@ fn is_valid<S: Scheme<D>, D: Digest>(
     };
     let round = proposal.round;
     let subject = match kind {
-        JudgedVote::Notarize => Subject::Notarize { proposal },
-        JudgedVote::Nullify => Subject::Nullify { round },
-        JudgedVote::Finalize => Subject::Finalize { proposal },
+        VoteKind::Notarize => Subject::Notarize { proposal },
+        VoteKind::Nullify => Subject::Nullify { round },
+        VoteKind::Finalize => Subject::Finalize { proposal },
     };
     scheme.verify_attestation(subject, &attestation)
 }
@@ -70,7 +70,7 @@ fn is_valid<S: Scheme<D>, D: Digest>(
 /// Whether this signature by each of the participants from 0 to 4 is valid where it is wanted so.
 fn are_valid<S: Scheme<D>, D: Digest>(
     scheme: &S,
-    kind: JudgedVote,
+    kind: VoteKind,
     proposal: &Proposal<D>,
     signature: S::Signature,
     wanted: [bool; 5],
@@ -94,15 +94,15 @@ fn without_memory_attestations(rt: HostRuntime) -> Result<(), Fail> {
     let found = PlainSignature::from_bytes(&[0xaa; 32]);
     let zeros = PlainSignature::from_bytes(&[0; 32]);
     let cases = [
-        (JudgedVote::Notarize, [true, true, true, false, false]),
-        (JudgedVote::Nullify, [false, true, false, false, false]),
-        (JudgedVote::Finalize, [false, false, true, false, false]),
+        (VoteKind::Notarize, [true, true, true, false, false]),
+        (VoteKind::Nullify, [false, true, false, false, false]),
+        (VoteKind::Finalize, [false, false, true, false, false]),
     ];
     for (kind, wanted) in cases {
         assert!(rt; are_valid(&judged, kind, &voted, found, wanted));
         assert!(rt; are_valid(&judged, kind, &voted, zeros, [false; 5]));
     }
-    assert!(rt; are_valid(&judged, JudgedVote::Notarize, &other, found, [false; 5]));
+    assert!(rt; are_valid(&judged, VoteKind::Notarize, &other, found, [false; 5]));
     Ok(())
 }
 

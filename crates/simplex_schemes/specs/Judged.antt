@@ -6,10 +6,9 @@ use Rattle.std.specs.Str.{bytes_eq}
 use Rattle.std.proofs.Common.{arith}
 use Rattle.std.proofs.lemmas.Bool.Decides.{nat_tests}
 use Rattle.simplex_base.specs.Format.{Format}
-use Rattle.simplex_scheme.specs.Subject.{SubjectValue, Notarizes, Nullifies, Finalizes, message_of}
+use Rattle.simplex_scheme.specs.Kind.{kind_of, same_kind}
+use Rattle.simplex_scheme.specs.Subject.{SubjectValue, message_of}
 use Rattle.simplex_schemes.specs.declared.judged.Verdict.{Verdict}
-use Rattle.simplex_schemes.specs.declared.judged.JudgedVote.{JudgedVote}
-use Rattle.simplex_schemes.specs.declared.judged.JudgedVote.TheVariants as votes
 
 -- the keys of a committee, and the signatures that were found valid
 pub record JudgedScheme : Type 0 where
@@ -20,23 +19,10 @@ pub record JudgedScheme : Type 0 where
 abbrev pub nobody : Option ℕ
 nobody = None
 
--- the kind of vote that a subject is of
-abbrev pub vote_of : {D : Type 0} → SubjectValue D → JudgedVote
-vote_of (Notarizes p) = votes.Notarize
-vote_of (Nullifies r) = votes.Nullify
-vote_of (Finalizes p) = votes.Finalize
-
--- whether two kinds of vote are one
-abbrev pub same_judged_vote : JudgedVote → JudgedVote → Bool
-same_judged_vote votes.Notarize votes.Notarize = true
-same_judged_vote votes.Nullify votes.Nullify = true
-same_judged_vote votes.Finalize votes.Finalize = true
-same_judged_vote _ _ = false
-
 -- whether a verdict is on this signature of this signer for the subject
 abbrev pub is_on : {D : Type 0} → Format D → SubjectValue D → ℕ → List ℕ → Verdict → Bool
 is_on payload subject signer signature v =
-    same_judged_vote v.vote (vote_of subject)
+    same_kind v.vote (kind_of subject)
     && ((v.signer == signer) && (bytes_eq v.signature signature && bytes_eq v.message.items (message_of payload subject)))
 
 -- the signer is in the committee, and there is a verdict

@@ -8,14 +8,14 @@
 //! attestations that it was assembled from. With `AttestationVerifier` and the calls of
 //! [`certificates`](crate::certificates) it only has to say when one signature is valid.
 
-ghost use Rattle.std.specs.Prelude.{◌≡◌, ◌↔◌, ◌&&◌, ◌==◌, ◌<◌, ◌≤◌, ◌^◌, ◌+◌, ◌*◌, None, Some, Ok, IsOk, IsTrue, IfOk, MatchOption, All, length, nat_eq, refl, true};
+ghost use Rattle.std.specs.Prelude.{◌≡◌, ◌↔◌, ◌&&◌, ◌==◌, ◌<◌, ◌≤◌, ◌^◌, ◌+◌, ◌*◌, None, Some, Ok, IsOk, IsTrue, IfOk, MatchOption, All, length, nat_eq, true};
 ghost use Rattle.std.specs.List.{IsDistinct, list_any};
 ghost use Rattle.std.proofs.Common.{lit≤};
 ghost use Rattle.simplex_base.specs.Format.{format_of};
 ghost use Rattle.simplex_scheme.specs.Subject.{SubjectValue, subject_value};
 ghost use Rattle.simplex_scheme.specs.Committee.{IsInOrder, IsQuorum, is_quorum, quorum_of, signers_of, RefusesFew};
 ghost use Rattle.simplex_schemes.specs.CommitteeLaws.{quorum_meaning, listed_size};
-ghost use Rattle.simplex_schemes.specs.Judged.{nobody, vote_of, is_on, judged_good, judged_members};
+ghost use Rattle.simplex_schemes.specs.Judged.{nobody, is_on, judged_good, judged_members};
 
 use crate::certificates::{AttestationVerifier, are_certified, assembled, is_certified};
 use crate::listed::Listed;
@@ -23,10 +23,9 @@ use crate::plain::{PlainKey, PlainKeyRole, PlainSignatureRole};
 use simplex_base::codec::Read;
 use simplex_base::codec::fixed_bytes::FixedBytes;
 use simplex_base::positions::Participant;
-use simplex_base::values::{EqByParts, ExactClone, InfallibleClone};
 use simplex_scheme::scheme::{
     AssemblyError, Attestation, CertificateScheme, CertificateVerifier, Digest, Listing, Scheme,
-    SchemeTypes, Set, Subject,
+    SchemeTypes, Set, Subject, VoteKind,
 };
 use std::alloc::{AllocError, Global};
 use std::marker::Model;
@@ -34,8 +33,8 @@ use std::marker::Model;
 /// A signature that was found valid.
 #[derive(Drop)]
 pub struct Verdict {
-    /// What is voted for.
-    pub vote: JudgedVote,
+    /// The kind of the vote.
+    pub vote: VoteKind,
     /// The bytes that are signed, as `CertificateSubject::message` gives them.
     pub message: Vec<u8>,
     /// The number of the signer. Outside the committee no signature is valid.
@@ -64,56 +63,13 @@ impl Model for Judged {
         (length judged.participants < 2 ^ 32) };
 }
 
-/// What is voted for.
-#[derive(Clone, Copy, Debug, PartialEq, Eq)]
-pub enum JudgedVote {
-    /// To notarize a proposal.
-    Notarize,
-    /// To nullify a round.
-    Nullify,
-    /// To finalize a proposal.
-    Finalize,
-}
-
-impl ExactClone for JudgedVote {
-    ghost exact = { λ x y same. same };
-}
-
-impl InfallibleClone for JudgedVote {
-    ghost infallible = { λ _. tt };
-}
-
-impl EqByParts for JudgedVote {
-    ghost use Rattle.simplex_schemes.specs.Judged.{same_judged_vote};
-    ghost use Rattle.simplex_schemes.specs.declared.judged.JudgedVote.TheVariants.{Notarize, Nullify, Finalize};
-
-    ghost same = { same_judged_vote };
-
-    ghost equal = { elim [
-      | Notarize ↦ elim [ Notarize ↦ refl | Nullify ↦ refl | Finalize ↦ refl ]
-      | Nullify ↦ elim [ Notarize ↦ refl | Nullify ↦ refl | Finalize ↦ refl ]
-      | Finalize ↦ elim [ Notarize ↦ refl | Nullify ↦ refl | Finalize ↦ refl ]
-    ] };
-}
-
-/// The kind of vote that a subject is of.
-fn vote_on<D: Digest>(subject: &Subject<'_, D>) -> JudgedVote
-    ensures { result ≡ vote_of (subject_value subject.now) }
-{
-    match subject {
-        Subject::Notarize { .. } => JudgedVote::Notarize,
-        Subject::Nullify { .. } => JudgedVote::Nullify,
-        Subject::Finalize { .. } => JudgedVote::Finalize,
-    }
-}
-
 impl Verdict {
     /// Whether this is on the attestation to the subject.
     fn is_on<D: Digest>(&self, subject: &Subject<'_, D>, attestation: &Attestation<Judged>) -> bool
         ensures { result ≡ is_on (format_of ⟦<D as Read>⟧) (subject_value subject.now)
             attestation.now.signer attestation.now.signature self.now }
     {
-        self.vote == vote_on(subject)
+        self.vote == subject.kind()
             && self.signer == attestation.signer
             && self.signature == attestation.signature
             && subject.is_message(&self.message)

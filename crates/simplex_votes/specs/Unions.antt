@@ -83,11 +83,11 @@ vote_format payload signature = record {
 -- ---- certificate messages
 
 -- the same kind
-abbrev pub same_kind : Kind → Kind → Bool
-same_kind kind.Notarization kind.Notarization = true
-same_kind kind.Nullification kind.Nullification = true
-same_kind kind.Finalization kind.Finalization = true
-same_kind _ _ = false
+abbrev pub same_certificate_kind : Kind → Kind → Bool
+same_certificate_kind kind.Notarization kind.Notarization = true
+same_certificate_kind kind.Nullification kind.Nullification = true
+same_certificate_kind kind.Finalization kind.Finalization = true
+same_certificate_kind _ _ = false
 
 -- the same member, equal by its type's equality
 module _ {S D C P G : Type 0}
@@ -107,10 +107,10 @@ certificate_kind (certificate.Nullification n) = kind.Nullification
 certificate_kind (certificate.Finalization n) = kind.Finalization
 
 -- the name of a kind, as it prints
-abbrev pub kind_word : Kind → List ℕ
-kind_word kind.Notarization = codes "notarization"
-kind_word kind.Nullification = codes "nullification"
-kind_word kind.Finalization = codes "finalization"
+abbrev pub certificate_kind_word : Kind → List ℕ
+certificate_kind_word kind.Notarization = codes "notarization"
+certificate_kind_word kind.Nullification = codes "nullification"
+certificate_kind_word kind.Finalization = codes "finalization"
 
 -- the round that a certificate message is of
 abbrev pub certificate_round : {S D C P G : Type 0} → Certificate S D C P G → Round

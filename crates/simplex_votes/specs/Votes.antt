@@ -1,7 +1,9 @@
--- Votes as plain values, and their rounds, signers and sorts.
-use Rattle.std.specs.Prelude.{ℕ, Bool, true, false, ◌==◌, ◌&&◌}
+-- Votes as plain values, and their rounds, signers and kinds.
+use Rattle.std.specs.Prelude.{ℕ, Bool, ◌==◌, ◌&&◌}
 use Rattle.simplex_base.specs.Positions.{Round, same_round}
 use Rattle.simplex_scheme.specs.declared.proposal.Proposal.{Proposal}
+use Rattle.simplex_scheme.specs.declared.kind.VoteKind.{VoteKind}
+use Rattle.simplex_scheme.specs.Kind.{kind_of, same_kind}
 use Rattle.simplex_scheme.specs.Subject.{SubjectValue, Notarizes, Nullifies, Finalizes, round_of}
 use Rattle.simplex_scheme.specs.declared.scheme.Attestation.{Attestation}
 use Rattle.simplex_votes.specs.declared.types.notarize.Notarize.{Notarize}
@@ -28,25 +30,6 @@ nullify_vote v = vote_on (Nullifies v.round) v.attestation
 abbrev pub finalize_vote : {S D P G : Type 0} → Finalize S D P G → SignedVote D G
 finalize_vote v = vote_on (Finalizes v.proposal) v.attestation
 
--- the three sorts of votes
-pub data Sort : Type 0 where
-  Notarizing : Sort
-  Nullifying : Sort
-  Finalizing : Sort
-
--- the sort of the votes on a subject
-abbrev pub sort_of : {D : Type 0} → SubjectValue D → Sort
-sort_of (Notarizes p) = Notarizing
-sort_of (Nullifies r) = Nullifying
-sort_of (Finalizes p) = Finalizing
-
--- whether two sorts are one
-abbrev pub same_sort : Sort → Sort → Bool
-same_sort Notarizing Notarizing = true
-same_sort Nullifying Nullifying = true
-same_sort Finalizing Finalizing = true
-same_sort _ _ = false
-
 -- whether two proposals are the same, by a test `eq` of their payloads
 abbrev pub same_proposal : {D : Type 0} → (D → D → Bool) → Proposal D → Proposal D → Bool
 same_proposal eq p q = same_round p.round q.round && ((p.parent == q.parent) && eq p.payload q.payload)
@@ -55,6 +38,6 @@ same_proposal eq p q = same_round p.round q.round && ((p.parent == q.parent) && 
 abbrev pub is_of : {D G : Type 0} → Round → ℕ → SignedVote D G → Bool
 is_of round signer v = same_round (round_of v.subject) round && (v.signer == signer)
 
--- whether a vote is of this sort, round and signer
-abbrev pub is_at : {D G : Type 0} → Sort → Round → ℕ → SignedVote D G → Bool
-is_at sort round signer v = same_sort (sort_of v.subject) sort && is_of round signer v
+-- whether a vote is of this kind, round and signer
+abbrev pub is_at : {D G : Type 0} → VoteKind → Round → ℕ → SignedVote D G → Bool
+is_at kind round signer v = same_kind (kind_of v.subject) kind && is_of round signer v

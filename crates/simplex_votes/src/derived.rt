@@ -44,10 +44,10 @@ impl InfallibleClone for Kind {
 }
 
 impl EqByParts for Kind {
-    ghost use Rattle.simplex_votes.specs.Unions.{same_kind};
+    ghost use Rattle.simplex_votes.specs.Unions.{same_certificate_kind};
     ghost use Rattle.simplex_votes.specs.declared.types.certificate.Kind.TheVariants.{Notarization, Nullification, Finalization};
 
-    ghost same = { same_kind };
+    ghost same = { same_certificate_kind };
 
     ghost equal = { elim [
       | Notarization ↦ elim [ Notarization ↦ refl | _ ↦ refl ]

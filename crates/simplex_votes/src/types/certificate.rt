@@ -28,11 +28,11 @@ pub enum Kind {
 }
 
 impl Kind {
-    ghost use Rattle.simplex_votes.specs.Unions.{kind_word};
+    ghost use Rattle.simplex_votes.specs.Unions.{certificate_kind_word};
 
     /// The name of the kind, as it prints.
     pub fn as_str(self) -> &'static str
-        ensures { result.now ≡ kind_word self }
+        ensures { result.now ≡ certificate_kind_word self }
     {
         match self {
             Kind::Notarization => "notarization",
@@ -43,9 +43,9 @@ impl Kind {
 }
 
 impl fmt::Display for Kind {
-    ghost use Rattle.simplex_votes.specs.Unions.{kind_word};
+    ghost use Rattle.simplex_votes.specs.Unions.{certificate_kind_word};
 
-    ghost output = { λ kind. Some (kind_word kind) };
+    ghost output = { λ kind. Some (certificate_kind_word kind) };
 
     fn fmt<W: fmt::Write>(&self, f: &mut fmt::Formatter<W>) -> fmt::Result {
         f.write_str(self.as_str())
