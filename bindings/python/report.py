@@ -105,8 +105,6 @@ def read(given, committees):
         return report, inspected_stream(given.stream, given.programs, committees, report)
     with open(given.lines, "rb") if given.lines else contextlib.nullcontext(sys.stdin.buffer) as file:
         report = read_lines(file, given.lines or "standard input")
-    if committees:
-        committees.fit(report)
     if not given.inspect:
         return report, None
     with open(given.inspect, "rb") as file:
@@ -138,6 +136,8 @@ def main(words=None):
     try:
         given, committees = arguments(words)
         report, inspected = read(given, committees)
+        if committees:
+            committees.fit(report)
         write(given.out, page(report, inspected, committees, given.limit, given.title))
     except Refused as refused:
         print(f"report: {refused}", file=sys.stderr)

@@ -1,5 +1,6 @@
 """Tests of the page of a report."""
 import contextlib
+import hashlib
 import html.parser
 import io
 import json
@@ -125,6 +126,10 @@ class Tests(unittest.TestCase):
         self.contains(found, "3 accused participants", "3 evidence", "1 round with evidence", "0 splits", SIX, SEVEN)
         for signer, name in enumerate(report_page.NAMES.values()):
             self.contains(found, f"View 10, participant {signer}: {name}")
+        # of the notarizes the payloads are shaded, of the finalizes the parents
+        self.assertEqual(sum(it.get("class") == "other" for it in Shown(page(of)).of("td")), 4)
+        printed = lines(f"0 10 0 {NOTARIZES}", f"0 10 1 {FINALIZES}", f"0 10 2 {FINALIZE}")
+        self.contains(found, hashlib.sha256(printed).hexdigest())
         self.contains(found, "do not say whether the stream was read to its end", "With the lines of inspect signatures")
 
     def test_signatures_and_offsets(self):
@@ -149,7 +154,7 @@ class Tests(unittest.TestCase):
         for vote, kind, evidence in (("notarize", "certification", NOTARIZES), ("finalize", "finalization", FINALIZES)):
             evidence = evidence.replace(f"6 {SIX}", f"5 {SEVEN}")
             of = read(*(it(evidence) for it in accuse), "0 10 split 2 2")
-            whole = inspected(of, *fork(vote, kind), *fork(vote, kind)[:1])
+            whole = inspected(of, *fork(vote, kind) * 2)
             self.assertEqual([it.offset for it in whole.certificates[0, 10]], [0, 100])
             found = Shown(page(of, whole))
             self.contains(found.text, "2 participants are accused in this round ( named ). At least 2 had to be ( least )")
@@ -257,6 +262,7 @@ class Tests(unittest.TestCase):
             (f'"{SIX}"', "6", "payload has to be text"),
             ('"signature":"aa00"', '"signature":"<b>"', "signature"),
             ('"signer":0', f'"signer":{1 << 32}', "signer"),
+            ("]}]", ',{"signer":1,"signature":"aa01","valid":true}]}]', "other statements"),
         ):
             self.assertIn(old, good)
             with self.assertRaisesRegex(Refused, f"inspect, line 1: .*{why}"):
@@ -277,12 +283,18 @@ class Tests(unittest.TestCase):
         weak[1][3].update(valid=False, why="fewer signatures than a quorum")
         self.assertRaisesRegex(Refused, "no two certificates", inspected, of, *weak)
         self.assertEqual(inspected(of, *weak, *valid).certificates[0, 10][1].offset, 300)
+        # participant 2 signed both, and is not accused
+        of = read(*(f"0 10 {signer} {NOTARIZES}" for signer in (1, 3)), "0 10 split 2 2")
+        third = votes("notarize", 3, (5, SIX))
+        self.assertRaisesRegex(Refused, "no two certificates", inspected, of, *valid, *third)
 
     def test_committees(self):
         of = read(*(f"3 10 {signer} {NOTARIZES}" for signer in (2, 3)), "3 10 split 2 2")
         for words in (["base", *KEYS], ["base", "@3", *KEYS], ["", "@0", KEYS[0], "@3", *reversed(KEYS)]):
             Committees(words).fit(of)
             self.assertEqual(Committees(words).keys(3), KEYS)
+        self.assertEqual(Committees(["base", "AB" * 32]).keys(3), ["ab" * 32])
+        self.assertRaises(Refused, Committees(["base", *KEYS[:3]]).fit, read(f"3 10 3 {NOTARIZES}"))
         for words in (["base", *KEYS[:3]], ["base", "@2", *KEYS], ["base", *KEYS, *(f"{it:064x}" for it in range(9, 15))]):
             self.assertRaises(Refused, Committees(words).fit, of)
         one, other = KEYS[:2]
@@ -395,8 +407,9 @@ exit {status}
         self.addCleanup(os.umask, mask)
         self.assertEqual(run("-o", str(self.page))[0], 0)
         self.assertEqual(stat.S_IMODE(self.page.stat().st_mode), 0o640)
-        self.assertEqual([run("-o", it)[0] for it in (str(self.room), str(self.room / "no/page"), "/dev/null")], [3] * 3)
-        self.assertTrue(stat.S_ISCHR(os.stat("/dev/null").st_mode))
+        os.mkfifo(self.room / "fifo")
+        self.assertEqual([run("-o", str(self.room / it))[0] for it in (".", "no/page", "fifo")], [3] * 3)
+        self.assertTrue(stat.S_ISFIFO(os.stat(self.room / "fifo").st_mode))
 
     def test_files(self):
         of, messages = self.file("lines", lines(f"0 10 1 {FINALIZE}")), self.file("messages", self.messages)
@@ -414,6 +427,8 @@ exit {status}
         for words in ([], ["-o"], [*to, "base"], [*to, "base", "key"], [*to, "--limit", "0"], stream,
                       [*stream, "--lines", "lines", "base", KEYS[0]], [*stream, "--inspect", "lines", "base", KEYS[0]]):
             self.assertEqual(run(*words)[0], 2)
+        status, said = run(*to, "base", *KEYS[:3], given=lines(f"0 10 3 {FINALIZE}"))
+        self.assertEqual((status, said), (2, "report: participant 3 of epoch 0 is accused, and not in these committees\n"))
         self.assertFalse(self.page.exists())
 
     def test_a_stream(self):
