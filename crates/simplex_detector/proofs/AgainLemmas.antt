@@ -1,5 +1,6 @@
 -- The votes of a report's evidence have the same evidence.
-use Rattle.simplex_detector.proofs.Prelude.{with_first, with_second, Activity, All-contains, All-from_recursion, Bool, Conflicting_finalize, Conflicting_notarize, Contains, Equivocation, Finalizing, IsEquivalence, IsEvidence, EquivocationKind, List, Accusation, None, Notarizing, Nullify_finalize, Option, Rules, SignedVote, Some, [], and_parts, ap, arith, cond, cond-true, contradicts, evidence_of, evidence_value, excludes, false, false≢true, filter, find, first_sort, flat_map, flat_map-map, inl, inr, is_at, is_accused, is_some, is_valid, map, activity_of, accused_by, refl, round_of, same_Some, subst, sym, true, valid_votes, votes_in, ◌&&◌, ◌∙◌, ◌∷◌, ◌≡◌, ◌⊎◌}
+use Rattle.simplex_detector.proofs.Prelude.{with_first, with_second, Activity, All-contains, All-from_recursion, Bool, Conflicting_finalize, Conflicting_notarize, Contains, Equivocation, IsEquivalence, IsEvidence, EquivocationKind, List, Accusation, None, Nullify_finalize, Option, Rules, SignedVote, Some, [], and_parts, ap, arith, cond, cond-true, contradicts, evidence_of, evidence_value, excludes, false, false≢true, filter, find, first_kind, flat_map, flat_map-map, inl, inr, is_at, is_accused, is_some, is_valid, map, activity_of, accused_by, refl, round_of, same_Some, subst, sym, true, valid_votes, votes_in, ◌&&◌, ◌∙◌, ◌∷◌, ◌≡◌, ◌⊎◌}
+use Rattle.simplex_scheme.specs.declared.kind.VoteKind.TheVariants as kinds
 use Rattle.simplex_detector.proofs.EvidenceLemmas.{EvidenceIs, evidence_exists, evidence_is, first_spot, moved_evidence, accused_from_votes}
 use Rattle.simplex_detector.proofs.Lists.{Contains-cons, Contains-first, Contains-flat_map, Contains-from_filter, Contains-from_flat_map, Contains-from_map, found}
 use Rattle.simplex_detector.proofs.Places.{Spot, excludes_itself, is_at-from, is_at-true, is_of-from, spot}
@@ -29,7 +30,7 @@ find_pairs {D} {G} p Goal (e ∷ es) all x h =
 
 -- whether a vote is at a spot
 abbrev at : {D G : Type 0} → Spot → SignedVote D G → Bool
-at s = is_at s.sort s.round s.signer
+at s = is_at s.kind s.round s.signer
 
 module _ {D G : Type 0} (eq : D → D → Bool) (l : IsEquivalence eq) (vs : List (SignedVote D G)) (es : List (Equivocation D G))
     (report : IsEvidence eq vs es) where
@@ -70,11 +71,11 @@ module _ {D G : Type 0} (eq : D → D → Bool) (l : IsEquivalence eq) (vs : Lis
       by Conflicting_finalize here is =
           other _ here (sym (λ i. find (λ w. second_agrees eq Conflicting_finalize _ _ e.first here w i) vs) ∙ is)
       by Nullify_finalize here is =
-          let f : find (is_at Finalizing (round_of e.first.subject) e.first.signer) vs ≡ Some e.second =
+          let f : find (is_at kinds.Finalize (round_of e.first.subject) e.first.signer) vs ≡ Some e.second =
           sym (λ i. find (λ w. second_agrees eq Nullify_finalize _ _ e.first here w i) vs) ∙ is in
           inl (subst (λ (t : Spot). find (at t) vs ≡ Some e.second)
-          (sym (is_at-true (record { sort = Finalizing; round = round_of e.first.subject; signer = e.first.signer }) e.second
-          (found _ vs e.second f).1)) f)
+          (sym (is_at-true (record { kind = kinds.Finalize; round = round_of e.first.subject; signer = e.first.signer })
+          e.second (found _ vs e.second f).1)) f)
 
   -- a vote at a spot is the earliest there if it is the earliest at its own spot
   here : (s : Spot) (v : SignedVote D G) → at s v ≡ true → find (at (spot v)) vs ≡ Some v → find (at s) vs ≡ Some v
@@ -138,14 +139,14 @@ module _ {D G : Type 0} (eq : D → D → Bool) (l : IsEquivalence eq) (vs : Lis
       same None (Some x) f g = absurd (false≢true (g refl))
       same (Some x) p f g = sym (f x refl)
 
-      second : (kind : EquivocationKind) (a x : SignedVote D G) → find (is_at (first_sort kind) n.round n.signer) vs ≡ Some a →
+      second : (kind : EquivocationKind) (a x : SignedVote D G) → find (is_at (first_kind kind) n.round n.signer) vs ≡ Some a →
           find (second_by eq kind n.round n.signer a) (flat_map pair es) ≡ Some x →
           find (second_by eq kind n.round n.signer a) vs ≡ Some x
       second Conflicting_notarize a x is_a =
-          other_again (record { sort = Notarizing; round = n.round; signer = n.signer }) a x is_a
+          other_again (record { kind = kinds.Notarize; round = n.round; signer = n.signer }) a x is_a
       second Conflicting_finalize a x is_a =
-          other_again (record { sort = Finalizing; round = n.round; signer = n.signer }) a x is_a
-      second Nullify_finalize a x is_a = earliest_again (record { sort = Finalizing; round = n.round; signer = n.signer }) x
+          other_again (record { kind = kinds.Finalize; round = n.round; signer = n.signer }) a x is_a
+      second Nullify_finalize a x is_a = earliest_again (record { kind = kinds.Finalize; round = n.round; signer = n.signer }) x
 
       also : (e : Equivocation D G) → evidence_of eq (flat_map pair es) n ≡ Some e → evidence_of eq vs n ≡ Some e
       also e h =
@@ -183,7 +184,7 @@ evidence_again {S} {D} {C} {P} {G} rules l ms es report =
         (Contains-from_filter (is_valid rules) (flat_map (votes_in rules.listed) ms) w h).1 in
         All-contains (λ w. is_valid rules w ≡ true) (pair e) v (All-from_recursion (λ w. is_valid rules w ≡ true) (pair e) (
           keeps e.first
-              (found (is_at (first_sort (accused_by e).kind) (accused_by e).round (accused_by e).signer) vs e.first is.first).0,
+              (found (is_at (first_kind (accused_by e).kind) (accused_by e).round (accused_by e).signer) vs e.first is.first).0,
           (keeps e.second (found (contradicts rules.eq (accused_by e).kind e.first) vs e.second is.second).0, tt),
         )) v_at
 

@@ -1,5 +1,5 @@
 -- What is recorded, round by round, after one more message.
-use Rattle.simplex_detector.proofs.Prelude.{Activity, All, All-from_recursion, All-map, AllByRecursion, Attestation, BTreeMap, Bool, Detector, HoldsRound, IsEquivalence, IsSized, IsTrue, EquivocationKind, List, None, Option, Recalls, RecallsAt, RecallsNothing, RecallsRound, RecordsFirsts, Round, RoundState, RoundVotes, Rules, Schedule, SignedVote, Some, Sort, SubjectValue, TakesIn, TakesContents, [], activity_round, and_left, and_parts, and_right, ap, append-nil, append_assoc, arith, subject_and_certificate, certified_by, certified_subjects, clash, committee_of, cond, cond-false, contradicts, false, filter, filter-append, get, if_certified, is_at, is_key, is_news, is_of, is_valid, length, map, no_slot, nothing_certified, option_to_list, recorded_in, recursion_from_All, refl, round_cmp, round_count, round_of, rules_of, same_round, same_sort, size_by, slot_of, slots, sort_of, subst, sym, true, valid_by, valid_votes, vote_on, votes_in, ℕ, ◌++◌, ◌∙◌, ◌∷◌, ◌≡◌}
+use Rattle.simplex_detector.proofs.Prelude.{Activity, All, All-from_recursion, All-map, AllByRecursion, Attestation, BTreeMap, Bool, Detector, HoldsRound, IsEquivalence, IsSized, IsTrue, EquivocationKind, List, None, Option, Recalls, RecallsAt, RecallsNothing, RecallsRound, RecordsFirsts, Round, RoundState, RoundVotes, Rules, Schedule, SignedVote, Some, VoteKind, SubjectValue, TakesIn, TakesContents, [], activity_round, and_left, and_parts, and_right, ap, append-nil, append_assoc, arith, subject_and_certificate, certified_by, certified_subjects, clash, committee_of, cond, cond-false, contradicts, false, filter, filter-append, get, if_certified, is_at, is_key, is_news, is_of, is_valid, length, map, no_slot, nothing_certified, option_to_list, recorded_in, recursion_from_All, refl, round_cmp, round_count, round_of, rules_of, same_round, same_kind, size_by, slot_of, slots, kind_of, subst, sym, true, valid_by, valid_votes, vote_on, votes_in, ℕ, ◌++◌, ◌∙◌, ◌∷◌, ◌≡◌}
 use Rattle.simplex_detector.proofs.AccountLemmas.{certificate_parts}
 use Rattle.simplex_detector.proofs.EvidenceLemmas.{valid_votes-push}
 use Rattle.simplex_detector.proofs.Places.{is_of-true, key_tells, other_round}
@@ -51,11 +51,11 @@ module _ {S D C P G : Type 0} (rules : Rules S D C P G) (l : IsEquivalence rules
       RecallsAt rules messages q o → RecallsNext q o
   elsewhere q apart o recalls = by o recalls
     where
-      slot : (vs : List (SignedVote D G)) (v : SignedVote D G) → IsHere (activity_round m) v → (sort : Sort) (signer : ℕ) →
-          slot_of rules.eq (vs ++ v ∷ []) sort q signer ≡ slot_of rules.eq vs sort q signer
-      slot vs v v_here sort signer =
-          slot_after_vote rules.eq l vs v sort q signer ∙
-          cond-false (is_at sort q signer v) _ _ (and_right (same_sort (sort_of v.subject) sort) _
+      slot : (vs : List (SignedVote D G)) (v : SignedVote D G) → IsHere (activity_round m) v → (kind : VoteKind) (signer : ℕ) →
+          slot_of rules.eq (vs ++ v ∷ []) kind q signer ≡ slot_of rules.eq vs kind q signer
+      slot vs v v_here kind signer =
+          slot_after_vote rules.eq l vs v kind q signer ∙
+          cond-false (is_at kind q signer v) _ _ (and_right (same_kind (kind_of v.subject) kind) _
           (and_left (same_round (round_of v.subject) q) _ (ap (λ r. same_round r q) v_here ∙ apart)))
 
       many : (vs : List (SignedVote D G)) (v : SignedVote D G) → IsHere (activity_round m) v →
@@ -74,8 +74,8 @@ module _ {S D C P G : Type 0} (rules : Rules S D C P G) (l : IsEquivalence rules
 
       by : (o : Option (RoundState S D P G)) → RecallsAt rules messages q o → RecallsNext q o
       by None r = record {
-        votes = votes (λ vs. (signer : ℕ) (sort : Sort) → no_slot ≡ slot_of rules.eq vs sort q signer)
-            (λ vs v v_here e signer sort. e signer sort ∙ sym (slot vs v v_here sort signer)) r.votes;
+        votes = votes (λ vs. (signer : ℕ) (kind : VoteKind) → no_slot ≡ slot_of rules.eq vs kind q signer)
+            (λ vs v v_here e signer kind. e signer kind ∙ sym (slot vs v v_here kind signer)) r.votes;
         subjects = records_other_message rules l messages m q nothing_certified apart r.subjects;
       }
       by (Some round_state) r = record {
@@ -101,7 +101,7 @@ module _ {S D C P G : Type 0} (rules : Rules S D C P G) (l : IsEquivalence rules
   -- what is recorded where nothing is of the message's round, before and after
   pub recalls_still_none : (round : Round) → round ≡ activity_round m →
       (after : RoundState S D P G) (old : BTreeMap Round (RoundState S D P G)) → get round_cmp old round ≡ None →
-      ((signer : ℕ) (sort : Sort) → slots after.votes signer sort ≡ no_slot) → after.certified ≡ nothing_certified →
+      ((signer : ℕ) (kind : VoteKind) → slots after.votes signer kind ≡ no_slot) → after.certified ≡ nothing_certified →
       RecallsRound rules (messages ++ m ∷ []) (activity_round m) after →
       Recalls rules messages (let detector : Detector S D P G = record { rounds = old } in detector) → (q : Round) →
       RecallsNext q (get round_cmp old q)
@@ -109,7 +109,7 @@ module _ {S D C P G : Type 0} (rules : Rules S D C P G) (l : IsEquivalence rules
       recalls_changed round at None old old (λ q. (elim (is_key (round_cmp round)
       q) as (λ b. is_key (round_cmp round) q ≡ b → get round_cmp old q ≡ cond b None (get round_cmp old q))
       [ true ↦ λ e. ap (get round_cmp old) (sym (key_tells round q e)) ∙ none | false ↦ λ e. refl ]) refl) (record {
-        votes = λ signer sort. sym (empty signer sort) ∙ own.votes.held signer sort;
+        votes = λ signer kind. sym (empty signer kind) ∙ own.votes.held signer kind;
         subjects = subst (RecordsFirsts rules.eq (certified_subjects rules (messages ++ m ∷ [])) (activity_round m)) nothing
             own.subjects;
       })
@@ -189,7 +189,7 @@ module _ {S D C P G : Type 0} (eq : D → D → Bool) (keys : S → List P) (goo
     pub recalls_first : (s : S) → committee_of schedule (activity_round m).epoch ≡ Some s → IsEquivalence eq →
         (rounds : BTreeMap Round (RoundState S D P G)) (fresh new : RoundState S D P G) →
         None ≡ get round_cmp rounds (activity_round m) → IsSized (length (keys s)) fresh.votes →
-        ((signer : ℕ) (sort : Sort) → slots fresh.votes signer sort ≡ no_slot) → round_count fresh.votes ≡ 0 →
+        ((signer : ℕ) (kind : VoteKind) → slots fresh.votes signer kind ≡ no_slot) → round_count fresh.votes ≡ 0 →
         fresh.certified ≡ nothing_certified → TakesContents judges s listed (contents_of m) fresh new →
         Recalls (judges schedule) messages (let detector : Detector S D P G = record { rounds = rounds } in detector) →
         RecallsRound (judges schedule) (messages ++ m ∷ []) (activity_round m) new
@@ -199,7 +199,7 @@ module _ {S D C P G : Type 0} (eq : D → D → Bool) (keys : S → List P) (goo
         recalls_taken s is fresh new takes (record {
           votes = record {
             sized = subst (λ n. IsSized n fresh.votes) (ap (size_by keys) (sym is)) sized;
-            held = λ signer sort. empty signer sort ∙ at.votes signer sort;
+            held = λ signer kind. empty signer kind ∙ at.votes signer kind;
             counted = no_votes ∙ sym (none_in_round eq l (valid_votes (judges schedule) messages) (activity_round m) at.votes);
           };
           subjects = subst (RecordsFirsts eq (certified_subjects (judges schedule) messages) (activity_round m))
@@ -241,7 +241,7 @@ module _ {S D C P G : Type 0} (eq : D → D → Bool) (keys : S → List P) (goo
         by : (o : Option (RoundState S D P G)) → RecallsAt (judges schedule) messages q o →
             RecallsAt (judges schedule) (messages ++ m ∷ []) q o
         by None r = record {
-          votes = subst (λ vs. (signer : ℕ) (sort : Sort) → no_slot ≡ slot_of eq vs sort q signer) votes r.votes;
+          votes = subst (λ vs. (signer : ℕ) (kind : VoteKind) → no_slot ≡ slot_of eq vs kind q signer) votes r.votes;
           subjects = subst (λ xs. RecordsFirsts eq xs q nothing_certified) subjects r.subjects;
         }
         by (Some round_state) r = record {

@@ -1,5 +1,5 @@
 -- Who is accused, the evidence of everyone who is accused, and that the votes determine a report.
-use Rattle.simplex_detector.proofs.Prelude.{Activity, All, All-contains, Bool, Contains, Contains-permutation, Equivocation, IsEquivalence, IsEquivocation, IsEvidence, IsPermutation, IsPermutation-sym, List, Accusation, ReorderingAccusesSame, None, Rules, SignedVote, Some, [], and_from, and_parts, ap, append-nil, clash, contradicts, evidence_of, filter, filter-append, find, first_sort, flat_map, flat_map-append, is_at, is_accused, is_of, is_some, is_valid, list_any, accused_by, accused_cmp, refl, round_of, same_Some, same_sort, sort_of, subst, sym, true, valid_votes, votes_in, with_first, with_second, ⊎_elim, ◌&&◌, ◌++◌, ◌∙◌, ◌∷◌, ◌≡◌}
+use Rattle.simplex_detector.proofs.Prelude.{Activity, All, All-contains, Bool, Contains, Contains-permutation, Equivocation, IsEquivalence, IsEquivocation, IsEvidence, IsPermutation, IsPermutation-sym, List, Accusation, ReorderingAccusesSame, None, Rules, SignedVote, Some, [], and_from, and_parts, ap, append-nil, clash, contradicts, evidence_of, filter, filter-append, find, first_kind, flat_map, flat_map-append, is_at, is_accused, is_of, is_some, is_valid, list_any, accused_by, accused_cmp, refl, round_of, same_Some, same_kind, kind_of, subst, sym, true, valid_votes, votes_in, with_first, with_second, ⊎_elim, ◌&&◌, ◌++◌, ◌∙◌, ◌∷◌, ◌≡◌}
 use Rattle.simplex_detector.proofs.Lists.{Contains-filter, Contains-flat_map, Contains-from_filter, Contains-from_flat_map, Contains-from_list_any, IsListing, any_from_Contains, each, find_from_Contains, found, same_bool, some_from_is_some}
 use Rattle.simplex_detector.proofs.Places.{Spot, clash_parts, clash_with_one, is_at-from, is_at-true, is_of-from, is_of-true}
 
@@ -38,7 +38,7 @@ valid_votes-push rules ms m =
 
 -- the spot of the first vote of an accusation's evidence
 abbrev pub first_spot : Accusation → Spot
-first_spot n = record { sort = first_sort n.kind; round = n.round; signer = n.signer }
+first_spot n = record { kind = first_kind n.kind; round = n.round; signer = n.signer }
 
 module _ {D G : Type 0} (eq : D → D → Bool) (vs : List (SignedVote D G)) (n : Accusation) where
   -- two votes that contradict accuse their signer
@@ -80,14 +80,14 @@ accused_in_any_order {S} {D} {C} {P} {G} rules ms ks moved n =
 pub record EvidenceIs {D G : Type 0} (eq : D → D → Bool) (vs : List (SignedVote D G)) (n : Accusation)
     (e : Equivocation D G) : Type 0 where
   pub named : accused_by e ≡ n
-  pub first : find (is_at (first_sort n.kind) n.round n.signer) vs ≡ Some e.first
+  pub first : find (is_at (first_kind n.kind) n.round n.signer) vs ≡ Some e.first
   pub second : find (contradicts eq n.kind e.first) vs ≡ Some e.second
 
 module _ {D G : Type 0} (eq : D → D → Bool) (vs : List (SignedVote D G)) where
   pub evidence_is : (n : Accusation) (e : Equivocation D G) → evidence_of eq vs n ≡ Some e → EvidenceIs eq vs n e
   evidence_is n e h =
-      (elim (find (is_at (first_sort n.kind) n.round n.signer) vs) as (λ o.
-      find (is_at (first_sort n.kind) n.round n.signer) vs ≡ o → with_first eq vs n.kind o ≡ Some e → EvidenceIs eq vs n e) [
+      (elim (find (is_at (first_kind n.kind) n.round n.signer) vs) as (λ o.
+      find (is_at (first_kind n.kind) n.round n.signer) vs ≡ o → with_first eq vs n.kind o ≡ Some e → EvidenceIs eq vs n e) [
         | None ↦ λ first is. absurd cc
         | Some v ↦ λ first. (elim (find (contradicts eq n.kind v)
             vs) as (λ o. find (contradicts eq n.kind v) vs ≡ o → with_second n.kind v o ≡ Some e → EvidenceIs eq vs n e) [
@@ -110,7 +110,7 @@ module _ {D G : Type 0} (eq : D → D → Bool) (vs : List (SignedVote D G)) whe
       let (first_in, at) = found _ vs e.first is.first in
       let (second_in, against) = found _ vs e.second is.second in
       accused_from_votes eq vs n e.first e.second first_in second_in
-      (and_parts (same_sort (sort_of e.first.subject) (first_sort n.kind)) (is_of n.round n.signer e.first) at).1 against
+      (and_parts (same_kind (kind_of e.first.subject) (first_kind n.kind)) (is_of n.round n.signer e.first) at).1 against
 
   -- an accusation that the votes make has evidence
   pub evidence-from_accused : IsEquivalence eq → (n : Accusation) → is_accused eq vs n ≡ true →
@@ -120,15 +120,15 @@ module _ {D G : Type 0} (eq : D → D → Bool) (vs : List (SignedVote D G)) whe
       let p = and_parts (is_of (round_of v.subject) v.signer w) (clash eq n.kind v.subject w.subject) against in
       let v_at = is_of-true n.round n.signer v of_v in
       let w_at = is_of-true (round_of v.subject) v.signer w p.0 in
-      let a = find_from_Contains (is_at (first_sort n.kind) n.round n.signer) vs v v_in (is_at-from (first_spot n) v
-      (λ i. record { sort = (clash_parts eq n.kind v.subject w.subject p.1).0 i; round = v_at.0 i; signer = v_at.1 i })) in
+      let a = find_from_Contains (is_at (first_kind n.kind) n.round n.signer) vs v v_in (is_at-from (first_spot n) v
+      (λ i. record { kind = (clash_parts eq n.kind v.subject w.subject p.1).0 i; round = v_at.0 i; signer = v_at.1 i })) in
       let at = is_at-true (first_spot n) a.0 (found _ vs a.0 a.1).1 in
       let second : (u : SignedVote D G) → Contains vs u → round_of u.subject ≡ n.round → u.signer ≡ n.signer →
       clash eq n.kind a.0.subject u.subject ≡ true → (x : SignedVote D G) × (find (contradicts eq n.kind a.0) vs ≡ Some x) =
       λ u u_in r s c. find_from_Contains (contradicts eq n.kind a.0) vs u u_in
       (and_from _ _ (is_of-from _ _ u (r ∙ sym (λ i. (at i).round)) (s ∙ sym (λ i. (at i).signer))) c) in
       let b = ⊎_elim (second v v_in v_at.0 v_at.1) (second w w_in (w_at.0 ∙ v_at.0) (w_at.1 ∙ v_at.1))
-      (clash_with_one eq l n.kind a.0.subject v.subject w.subject (λ i. (at i).sort) p.1) in
+      (clash_with_one eq l n.kind a.0.subject v.subject w.subject (λ i. (at i).kind) p.1) in
       rw (a.1, b.1)
 
   pub evidence_exists : IsEquivalence eq → (n : Accusation) → is_some (evidence_of eq vs n) ≡ is_accused eq vs n

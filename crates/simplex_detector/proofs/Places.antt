@@ -1,8 +1,9 @@
--- Where votes are: the tests on rounds, signers, sorts and proposals, which subjects exclude each other, and the orders of a
+-- Where votes are: the tests on rounds, signers, kinds and proposals, which subjects exclude each other, and the orders of a
 -- report.
-use Rattle.simplex_detector.proofs.Prelude.{Bool, CmpEqualImpliesEq, Conflicting_finalize, Conflicting_notarize, Equal, Finalizes, Finalizing, IsEquivalence, IsTotalOrder, EquivocationKind, Accusation, Notarizes, Notarizing, Nullifies, Nullify_finalize, Nullifying, Proposal, Round, SignedVote, Sort, SubjectValue, and_equiv, and_from, and_parts, ap, cases_Bool, clash, eq-eqb, eqb, eqb-true, exact_pairs, exact_unsigned, excludes, false, false_from_ne_true, false≢true, first_sort, inl, inr, is_at, is_eq, is_key, is_of, kind_rank, accused_cmp, nat_cmp, nat_cmp_total, nat_eq_equiv, not, on_equiv, on_total, refl, round_cmp, round_of, same_proposal, same_round, same_sort, second_sort, signer_cmp, sort_of, subst, sym, then_total, tied_itself, true, ℕ, ⊎_elim, ◌∙◌, ◌≡◌, ◌⊎◌}
+use Rattle.simplex_detector.proofs.Prelude.{Bool, CmpEqualImpliesEq, Conflicting_finalize, Conflicting_notarize, Equal, Finalizes, IsEquivalence, IsTotalOrder, EquivocationKind, Accusation, Notarizes, Nullifies, Nullify_finalize, Proposal, Round, SignedVote, VoteKind, SubjectValue, and_equiv, and_from, and_parts, ap, cases_Bool, clash, eq-eqb, eqb, eqb-true, exact_pairs, exact_unsigned, excludes, false, false_from_ne_true, false≢true, first_kind, inl, inr, is_at, is_eq, is_key, is_of, kind_rank, accused_cmp, nat_cmp, nat_cmp_total, nat_eq_equiv, not, on_equiv, on_total, refl, round_cmp, round_of, same_proposal, same_round, same_kind, second_kind, signer_cmp, kind_of, subst, sym, then_total, tied_itself, true, ℕ, ⊎_elim, ◌∙◌, ◌≡◌, ◌⊎◌}
+use Rattle.simplex_scheme.specs.declared.kind.VoteKind.TheVariants as kinds
 
--- ---- rounds, proposals and sorts
+-- ---- rounds, proposals and kinds
 
 -- rounds that pass the test are equal
 pub same_round-true : (a b : Round) → same_round a b ≡ true → a ≡ b
@@ -23,17 +24,17 @@ same_proposal_equiv {D} l =
     and_equiv (on_equiv (λ (p : Proposal D). p.round) same_round_equiv)
     (and_equiv (on_equiv (λ (p : Proposal D). p.parent) nat_eq_equiv) (on_equiv (λ (p : Proposal D). p.payload) l))
 
--- sorts that pass the test are equal
-pub same_sort-true : (a b : Sort) → same_sort a b ≡ true → a ≡ b
-same_sort-true Notarizing Notarizing h = refl
-same_sort-true Nullifying Nullifying h = refl
-same_sort-true Finalizing Finalizing h = refl
-same_sort-true _ _ h = absurd (false≢true h)
+-- kinds that pass the test are equal
+pub same_kind-true : (a b : VoteKind) → same_kind a b ≡ true → a ≡ b
+same_kind-true kinds.Notarize kinds.Notarize h = refl
+same_kind-true kinds.Nullify kinds.Nullify h = refl
+same_kind-true kinds.Finalize kinds.Finalize h = refl
+same_kind-true _ _ h = absurd (false≢true h)
 
-pub same_sort-refl : (a : Sort) → same_sort a a ≡ true
-same_sort-refl Notarizing = refl
-same_sort-refl Nullifying = refl
-same_sort-refl Finalizing = refl
+pub same_kind-refl : (a : VoteKind) → same_kind a a ≡ true
+same_kind-refl kinds.Notarize = refl
+same_kind-refl kinds.Nullify = refl
+same_kind-refl kinds.Finalize = refl
 
 -- ---- where a vote is
 
@@ -49,27 +50,27 @@ pub is_of-from : {D G : Type 0} (r : Round) (s : ℕ) (v : SignedVote D G) → r
     is_of r s v ≡ true
 is_of-from r s v p q = and_from (same_round (round_of v.subject) r) (eqb v.signer s) (same_round-from _ _ p) (eq-eqb _ _ q)
 
--- a sort, a round and a signer
+-- a kind, a round and a signer
 pub record Spot : Type 0 where
-  pub sort : Sort
+  pub kind : VoteKind
   pub round : Round
   pub signer : ℕ
 
 -- the spot of a vote
 abbrev pub spot : {D G : Type 0} → SignedVote D G → Spot
-spot v = record { sort = sort_of v.subject; round = round_of v.subject; signer = v.signer }
+spot v = record { kind = kind_of v.subject; round = round_of v.subject; signer = v.signer }
 
 -- a vote that is at a spot has that spot
-pub is_at-true : {D G : Type 0} (s : Spot) (v : SignedVote D G) → is_at s.sort s.round s.signer v ≡ true → spot v ≡ s
+pub is_at-true : {D G : Type 0} (s : Spot) (v : SignedVote D G) → is_at s.kind s.round s.signer v ≡ true → spot v ≡ s
 is_at-true s v h =
-    let p = and_parts (same_sort (sort_of v.subject) s.sort) (is_of s.round s.signer v) h in
+    let p = and_parts (same_kind (kind_of v.subject) s.kind) (is_of s.round s.signer v) h in
     let q = is_of-true s.round s.signer v p.1 in
-    λ i. record { sort = same_sort-true (sort_of v.subject) s.sort p.0 i; round = q.0 i; signer = q.1 i }
+    λ i. record { kind = same_kind-true (kind_of v.subject) s.kind p.0 i; round = q.0 i; signer = q.1 i }
 
-pub is_at-from : {D G : Type 0} (s : Spot) (v : SignedVote D G) → spot v ≡ s → is_at s.sort s.round s.signer v ≡ true
+pub is_at-from : {D G : Type 0} (s : Spot) (v : SignedVote D G) → spot v ≡ s → is_at s.kind s.round s.signer v ≡ true
 is_at-from s v e =
-    subst (λ (t : Spot). is_at t.sort t.round t.signer v ≡ true) e (and_from (same_sort (sort_of v.subject) (sort_of v.subject))
-    (is_of (round_of v.subject) v.signer v) (same_sort-refl (sort_of v.subject)) (is_of-from _ _ v refl refl))
+    subst (λ (t : Spot). is_at t.kind t.round t.signer v ≡ true) e (and_from (same_kind (kind_of v.subject) (kind_of v.subject))
+    (is_of (round_of v.subject) v.signer v) (same_kind-refl (kind_of v.subject)) (is_of-from _ _ v refl refl))
 
 -- ---- which subjects exclude each other
 
@@ -93,8 +94,8 @@ differs_from_one : {X : Type 0} {same : X → X → Bool} → IsEquivalence same
 differs_from_one {same = same} l x y z h =
     elim (cases_Bool (same x y)) [ inl e ↦ inr (ap not (l.congr x y z e) ∙ h) | inr e ↦ inl (ap not e) ]
 
--- so any subject of the first one's sort excludes one of two subjects that exclude each other
-pub excludes_one : {D : Type 0} (eq : D → D → Bool) → IsEquivalence eq → (a x y : SubjectValue D) → sort_of a ≡ sort_of x →
+-- so any subject of the first one's kind excludes one of two subjects that exclude each other
+pub excludes_one : {D : Type 0} (eq : D → D → Bool) → IsEquivalence eq → (a x y : SubjectValue D) → kind_of a ≡ kind_of x →
     excludes eq x y ≡ true → (excludes eq a x ≡ true) ⊎ (excludes eq a y ≡ true)
 excludes_one eq l (Notarizes p) (Notarizes q) (Notarizes r) s h = differs_from_one (same_proposal_equiv l) p q r h
 excludes_one eq l (Finalizes p) (Finalizes q) (Finalizes r) s h = differs_from_one (same_proposal_equiv l) p q r h
@@ -102,19 +103,19 @@ excludes_one eq l (Finalizes p) (Finalizes q) (Nullifies r) s h = inr refl
 excludes_one eq l (Nullifies p) (Nullifies q) (Finalizes r) s h = inr refl
 excludes_one eq l _ _ _ s h = absurd cc
 
--- subjects that clash are of the sorts of the kind, and exclude each other
+-- subjects that clash are of the kinds of the kind, and exclude each other
 pub clash_parts : {D : Type 0} (eq : D → D → Bool) (kind : EquivocationKind) (x y : SubjectValue D) → clash eq kind x y ≡ true →
-    (sort_of x ≡ first_sort kind) × (sort_of y ≡ second_sort kind) × (excludes eq x y ≡ true)
+    (kind_of x ≡ first_kind kind) × (kind_of y ≡ second_kind kind) × (excludes eq x y ≡ true)
 clash_parts eq kind x y h =
-    let p = and_parts (same_sort (sort_of x) (first_sort kind)) _ h in
-    let q = and_parts (same_sort (sort_of y) (second_sort kind)) (excludes eq x y) p.1 in
-    (same_sort-true _ _ p.0, same_sort-true _ _ q.0, q.1)
+    let p = and_parts (same_kind (kind_of x) (first_kind kind)) _ h in
+    let q = and_parts (same_kind (kind_of y) (second_kind kind)) (excludes eq x y) p.1 in
+    (same_kind-true _ _ p.0, same_kind-true _ _ q.0, q.1)
 
-clash_from : {D : Type 0} (eq : D → D → Bool) (kind : EquivocationKind) (x y : SubjectValue D) → sort_of x ≡ first_sort kind →
-    sort_of y ≡ second_sort kind → excludes eq x y ≡ true → clash eq kind x y ≡ true
+clash_from : {D : Type 0} (eq : D → D → Bool) (kind : EquivocationKind) (x y : SubjectValue D) → kind_of x ≡ first_kind kind →
+    kind_of y ≡ second_kind kind → excludes eq x y ≡ true → clash eq kind x y ≡ true
 clash_from eq kind x y s t h =
-    and_from _ _ (ap (same_sort (sort_of x)) (sym s) ∙ same_sort-refl (sort_of x))
-    (and_from _ _ (ap (same_sort (sort_of y)) (sym t) ∙ same_sort-refl (sort_of y)) h)
+    and_from _ _ (ap (same_kind (kind_of x)) (sym s) ∙ same_kind-refl (kind_of x))
+    (and_from _ _ (ap (same_kind (kind_of y)) (sym t) ∙ same_kind-refl (kind_of y)) h)
 
 -- subjects that exclude each other clash with some kind, in one order
 pub kind_from_excludes : {D : Type 0} (eq : D → D → Bool) (x y : SubjectValue D) → excludes eq x y ≡ true →
@@ -125,16 +126,16 @@ kind_from_excludes eq (Nullifies r) (Finalizes q) h = (Nullify_finalize, inl ref
 kind_from_excludes eq (Finalizes p) (Nullifies r) h = (Nullify_finalize, inr refl)
 kind_from_excludes eq _ _ h = absurd (false≢true h)
 
--- a subject of the first sort clashes with one of any two that clash
+-- a subject of the first kind clashes with one of any two that clash
 pub clash_with_one : {D : Type 0} (eq : D → D → Bool) → IsEquivalence eq → (kind : EquivocationKind) (x y z : SubjectValue D) →
-    sort_of x ≡ first_sort kind → clash eq kind y z ≡ true → (clash eq kind x y ≡ true) ⊎ (clash eq kind x z ≡ true)
+    kind_of x ≡ first_kind kind → clash eq kind y z ≡ true → (clash eq kind x y ≡ true) ⊎ (clash eq kind x z ≡ true)
 clash_with_one {D} eq l kind x y z s h =
     let (first, second, against) = clash_parts eq kind y z h in
     ⊎_elim (λ e. inl (clash_from eq kind x y s (also_second kind x y s first e) e))
     (λ e. inr (clash_from eq kind x z s second e)) (excludes_one eq l x y z (s ∙ sym first) against)
   where
-    also_second : (kind : EquivocationKind) (x y : SubjectValue D) → sort_of x ≡ first_sort kind → sort_of y ≡ first_sort kind →
-        excludes eq x y ≡ true → sort_of y ≡ second_sort kind
+    also_second : (kind : EquivocationKind) (x y : SubjectValue D) → kind_of x ≡ first_kind kind → kind_of y ≡ first_kind kind →
+        excludes eq x y ≡ true → kind_of y ≡ second_kind kind
     also_second Nullify_finalize (Nullifies p) (Nullifies q) s t e = absurd (false≢true e)
     also_second Nullify_finalize _ _ s t e = absurd cc
     also_second Conflicting_notarize _ _ s t e = t

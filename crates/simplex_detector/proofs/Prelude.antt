@@ -59,11 +59,13 @@ pub use Rattle.simplex_detector.specs.declared.round_state.RoundState.{RoundStat
 pub use Rattle.simplex_detector.specs.declared.round_votes.RoundVotes.{RoundVotes}
 pub use Rattle.simplex_detector.specs.declared.split.Split.{Split}
 pub use Rattle.simplex_evidence.specs.Activity.{activity_encoding, activity_round, subject_and_certificate, votes_in}
-pub use Rattle.simplex_evidence.specs.Contradiction.{Conflicting_finalize, Conflicting_notarize, Equivocation, EquivocationKind, Nullify_finalize, clash, contradicts, excludes, first_sort, second_sort}
+pub use Rattle.simplex_evidence.specs.Contradiction.{Conflicting_finalize, Conflicting_notarize, Equivocation, EquivocationKind, Nullify_finalize, clash, contradicts, excludes, first_kind, second_kind}
 pub use Rattle.simplex_evidence.specs.VoteMap.{item_of}
 pub use Rattle.simplex_evidence.specs.declared.types.activity.Activity.{Activity}
 pub use Rattle.simplex_scheme.specs.Committee.{IsQuorum, faults_of, quorum_of, signers_of}
+pub use Rattle.simplex_scheme.specs.Kind.{kind_of, same_kind}
 pub use Rattle.simplex_scheme.specs.Subject.{Finalizes, Notarizes, Nullifies, SubjectValue, round_of, subject_value}
 pub use Rattle.simplex_scheme.specs.declared.proposal.Proposal.{Proposal}
 pub use Rattle.simplex_scheme.specs.declared.scheme.Attestation.{Attestation}
-pub use Rattle.simplex_votes.specs.Votes.{Finalizing, Notarizing, Nullifying, SignedVote, Sort, finalize_vote, is_at, is_of, notarize_vote, nullify_vote, same_proposal, same_sort, sort_of, vote_on}
+pub use Rattle.simplex_votes.specs.Votes.{SignedVote, finalize_vote, is_at, is_of, notarize_vote, nullify_vote, same_proposal, vote_on}
+pub use Rattle.simplex_scheme.specs.declared.kind.VoteKind.{VoteKind}

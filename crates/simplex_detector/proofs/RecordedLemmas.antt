@@ -1,57 +1,58 @@
 -- Which votes are recorded, vote by vote, slot by slot and round by round, and the evidence in the slots.
-use Rattle.simplex_detector.proofs.Prelude.{Attestation, Bool, Conflicting_finalize, Conflicting_notarize, Contains, Equivocation, Finalizes, Finalizing, HoldsRound, IsEquivalence, EquivocationKind, List, Accusation, None, Notarizing, Nullifies, Nullify_finalize, Nullifying, Option, RecordedAreSlots, Round, RoundVotes, SignedVote, Slot, Some, Sort, SubjectValue, TakesVote, [], and_from, and_left, and_parts, and_right, ap, append-nil, append_assoc, arith, equivocation_of, changes, clash, cond, cond-false, contradicts, eqb, evidence_from, evidence_of, excludes, false, false_from_ne_true, false≢true, filter, filter-append, find, find-append, first_sort, if_differs, if◌then◌else◌, is_at, is_for, is_news, is_of, length, length-append, map, map-append, news_after, no_slot, option_or, option_to_list, other_than, recorded_in, recorded_of, refl, round_of, same_Some, same_round, same_sort, second_sort, slot_of, slot_with, slots, sort_of, subst, sym, true, vote_on, votes_in_slot, with_first, with_second, ℕ, ◌&&◌, ◌++◌, ◌+◌, ◌<◌, ◌∙◌, ◌∷◌, ◌≡◌, ◌≤◌}
+use Rattle.simplex_detector.proofs.Prelude.{Attestation, Bool, Conflicting_finalize, Conflicting_notarize, Contains, Equivocation, Finalizes, HoldsRound, IsEquivalence, EquivocationKind, List, Accusation, None, Nullifies, Nullify_finalize, Option, RecordedAreSlots, Round, RoundVotes, SignedVote, Slot, Some, VoteKind, SubjectValue, TakesVote, [], and_from, and_left, and_parts, and_right, ap, append-nil, append_assoc, arith, equivocation_of, changes, clash, cond, cond-false, contradicts, eqb, evidence_from, evidence_of, excludes, false, false_from_ne_true, false≢true, filter, filter-append, find, find-append, first_kind, if_differs, if◌then◌else◌, is_at, is_for, is_news, is_of, length, length-append, map, map-append, news_after, no_slot, option_or, option_to_list, other_than, recorded_in, recorded_of, refl, round_of, same_Some, same_round, same_kind, second_kind, slot_of, slot_with, slots, kind_of, subst, sym, true, vote_on, votes_in_slot, with_first, with_second, ℕ, ◌&&◌, ◌++◌, ◌+◌, ◌<◌, ◌∙◌, ◌∷◌, ◌≡◌, ◌≤◌}
+use Rattle.simplex_scheme.specs.declared.kind.VoteKind.TheVariants as kinds
 use Rattle.simplex_detector.proofs.EvidenceLemmas.{first_spot}
 use Rattle.simplex_detector.proofs.Lists.{Contains-cons, Contains-filter, Contains-first, Contains-none, find_from_Contains, find_push, found, none_found}
-use Rattle.simplex_detector.proofs.Places.{Spot, excludes_itself, is_at-from, is_at-true, same_round-from, same_round-true, same_sort-refl, spot}
+use Rattle.simplex_detector.proofs.Places.{Spot, excludes_itself, is_at-from, is_at-true, same_round-from, same_round-true, same_kind-refl, spot}
 
 module _ {D G : Type 0} (eq : D → D → Bool) (l : IsEquivalence eq) (vs : List (SignedVote D G)) (v : SignedVote D G) where
   -- the earliest other vote, after one more vote
-  other_after : (sort : Sort) (round : Round) (signer : ℕ) (o : Option (SignedVote D G)) →
-      find (is_at sort round signer) vs ≡ o → (b : Bool) → is_at sort round signer v ≡ b →
-      other_than eq (vs ++ v ∷ []) sort round signer (cond b (option_or o (Some v)) o)
-      ≡ cond b (option_or (other_than eq vs sort round signer o) (if_differs eq o v)) (other_than eq vs sort round signer o)
-  other_after sort round signer None e true at =
-      let test = λ (w : _). is_at sort round signer w && excludes eq v.subject w.subject in
-      find_push test vs v ∙ cond-false (test v) _ _ (and_right (is_at sort round signer v) _ (excludes_itself eq l v.subject)) ∙
-      none_found test vs (λ w w_in passes. let (u, is) = find_from_Contains (is_at sort round signer) vs w w_in
-      (and_parts (is_at sort round signer w) (excludes eq v.subject w.subject) passes).0 in
+  other_after : (kind : VoteKind) (round : Round) (signer : ℕ) (o : Option (SignedVote D G)) →
+      find (is_at kind round signer) vs ≡ o → (b : Bool) → is_at kind round signer v ≡ b →
+      other_than eq (vs ++ v ∷ []) kind round signer (cond b (option_or o (Some v)) o)
+      ≡ cond b (option_or (other_than eq vs kind round signer o) (if_differs eq o v)) (other_than eq vs kind round signer o)
+  other_after kind round signer None e true at =
+      let test = λ (w : _). is_at kind round signer w && excludes eq v.subject w.subject in
+      find_push test vs v ∙ cond-false (test v) _ _ (and_right (is_at kind round signer v) _ (excludes_itself eq l v.subject)) ∙
+      none_found test vs (λ w w_in passes. let (u, is) = find_from_Contains (is_at kind round signer) vs w w_in
+      (and_parts (is_at kind round signer w) (excludes eq v.subject w.subject) passes).0 in
       let both_are : None ≡ Some u = sym e ∙ is in absurd cc)
-  other_after sort round signer None e false at = refl
-  other_after sort round signer (Some a) e true at =
-      let test = λ (w : _). is_at sort round signer w && excludes eq a.subject w.subject in
+  other_after kind round signer None e false at = refl
+  other_after kind round signer (Some a) e true at =
+      let test = λ (w : _). is_at kind round signer w && excludes eq a.subject w.subject in
       find-append test vs (v ∷ [])
       ∙ ap (λ c. option_or (find test vs) (cond (c && excludes eq a.subject v.subject) (Some v) None)) at
-  other_after sort round signer (Some a) e false at =
-      let test = λ (w : _). is_at sort round signer w && excludes eq a.subject w.subject in
+  other_after kind round signer (Some a) e false at =
+      let test = λ (w : _). is_at kind round signer w && excludes eq a.subject w.subject in
       find_push test vs v ∙ cond-false (test v) _ _ (and_left _ _ at)
 
   -- one more vote changes only its own slot
-  pub slot_after_vote : (sort : Sort) (round : Round) (signer : ℕ) → slot_of eq (vs ++ v ∷ []) sort round signer ≡ (if is_at
-      sort round signer v then slot_with eq v (slot_of eq vs sort round signer) else slot_of eq vs sort round signer)
-  slot_after_vote sort round signer =
-      let first = find_push (is_at sort round signer) vs v in
-      let other = ap (other_than eq (vs ++ v ∷ []) sort round signer) first
-      ∙ other_after sort round signer (find (is_at sort round signer) vs) refl (is_at sort round signer v) refl in
+  pub slot_after_vote : (kind : VoteKind) (round : Round) (signer : ℕ) → slot_of eq (vs ++ v ∷ []) kind round signer ≡ (if is_at
+      kind round signer v then slot_with eq v (slot_of eq vs kind round signer) else slot_of eq vs kind round signer)
+  slot_after_vote kind round signer =
+      let first = find_push (is_at kind round signer) vs v in
+      let other = ap (other_than eq (vs ++ v ∷ []) kind round signer) first
+      ∙ other_after kind round signer (find (is_at kind round signer) vs) refl (is_at kind round signer v) refl in
       (λ i. record { earliest = first i; other = other i }) ∙
-      elim (is_at sort round signer v) as (λ b. record {
+      elim (is_at kind round signer v) as (λ b. record {
         earliest =
-            cond b (slot_with eq v (slot_of eq vs sort round signer)).earliest (slot_of eq vs sort round signer).earliest;
-        other = cond b (slot_with eq v (slot_of eq vs sort round signer)).other (slot_of eq vs sort round signer).other;
-      } ≡ cond b (slot_with eq v (slot_of eq vs sort round signer)) (slot_of eq vs sort round signer))
+            cond b (slot_with eq v (slot_of eq vs kind round signer)).earliest (slot_of eq vs kind round signer).earliest;
+        other = cond b (slot_with eq v (slot_of eq vs kind round signer)).other (slot_of eq vs kind round signer).other;
+      } ≡ cond b (slot_with eq v (slot_of eq vs kind round signer)) (slot_of eq vs kind round signer))
       [ true ↦ refl | false ↦ refl ]
 
-  -- the slot of a vote's own sort, round and signer is that of each spot that it is at
-  pub own_slot : (s : Spot) → is_at s.sort s.round s.signer v ≡ true →
-      slot_of eq vs (sort_of v.subject) (round_of v.subject) v.signer ≡ slot_of eq vs s.sort s.round s.signer
-  own_slot s at = ap (λ (t : Spot). slot_of eq vs t.sort t.round t.signer) (is_at-true s v at)
+  -- the slot of a vote's own kind, round and signer is that of each spot that it is at
+  pub own_slot : (s : Spot) → is_at s.kind s.round s.signer v ≡ true →
+      slot_of eq vs (kind_of v.subject) (round_of v.subject) v.signer ≡ slot_of eq vs s.kind s.round s.signer
+  own_slot s at = ap (λ (t : Spot). slot_of eq vs t.kind t.round t.signer) (is_at-true s v at)
 
   -- a vote that is no news changes no slot
   pub no_news : is_news eq vs v ≡ false → (s : Spot) →
-      slot_of eq (vs ++ v ∷ []) s.sort s.round s.signer ≡ slot_of eq vs s.sort s.round s.signer
+      slot_of eq (vs ++ v ∷ []) s.kind s.round s.signer ≡ slot_of eq vs s.kind s.round s.signer
   no_news h s =
-      slot_after_vote s.sort s.round s.signer
-      ∙ (elim (is_at s.sort s.round s.signer v) as (λ b. is_at s.sort s.round s.signer v ≡ b → cond b (slot_with eq v (slot_of
-      eq vs s.sort s.round s.signer)) (slot_of eq vs s.sort s.round s.signer) ≡ slot_of eq vs s.sort s.round s.signer) [
+      slot_after_vote s.kind s.round s.signer
+      ∙ (elim (is_at s.kind s.round s.signer v) as (λ b. is_at s.kind s.round s.signer v ≡ b → cond b (slot_with eq v (slot_of
+      eq vs s.kind s.round s.signer)) (slot_of eq vs s.kind s.round s.signer) ≡ slot_of eq vs s.kind s.round s.signer) [
         | true ↦ λ e. stays _ _ (ap (λ (k : Slot D G). changes eq k.earliest k.other v.subject) (sym (own_slot s e)) ∙ h)
         | false ↦ λ e. refl
       ]) refl
@@ -78,12 +79,12 @@ equivocation_of-Some kind (Some v) (Some w) e h =
 module _ {D G : Type 0} (eq : D → D → Bool) where
   -- the test on the second vote, by its spot and its subject
   second_test : (n : Accusation) (v w : SignedVote D G) → spot v ≡ first_spot n →
-      contradicts eq n.kind v w ≡ (is_at (second_sort n.kind) n.round n.signer w && excludes eq v.subject w.subject)
+      contradicts eq n.kind v w ≡ (is_at (second_kind n.kind) n.round n.signer w && excludes eq v.subject w.subject)
   second_test n v w at =
       (λ i. is_of (at i).round (at i).signer w && clash eq n.kind v.subject w.subject) ∙
-      regroup (same_sort (sort_of v.subject) (first_sort n.kind)) (is_of n.round n.signer w)
-      (same_sort (sort_of w.subject) (second_sort n.kind)) (excludes eq v.subject w.subject)
-      (ap (λ (s : Spot). same_sort (sort_of v.subject) s.sort) (sym at) ∙ same_sort-refl (sort_of v.subject))
+      regroup (same_kind (kind_of v.subject) (first_kind n.kind)) (is_of n.round n.signer w)
+      (same_kind (kind_of w.subject) (second_kind n.kind)) (excludes eq v.subject w.subject)
+      (ap (λ (s : Spot). same_kind (kind_of v.subject) s.kind) (sym at) ∙ same_kind-refl (kind_of v.subject))
     where
       regroup : (f a s e : Bool) → f ≡ true → (a && (f && (s && e))) ≡ ((s && a) && e)
       regroup false a s e h = absurd (false≢true h)
@@ -92,9 +93,9 @@ module _ {D G : Type 0} (eq : D → D → Bool) where
 
   -- so it seeks another vote at the first one's spot, and beside a nullify any finalize
   abbrev pub second_by : EquivocationKind → Round → ℕ → SignedVote D G → SignedVote D G → Bool
-  second_by Conflicting_notarize round signer v w = is_at Notarizing round signer w && excludes eq v.subject w.subject
-  second_by Conflicting_finalize round signer v w = is_at Finalizing round signer w && excludes eq v.subject w.subject
-  second_by Nullify_finalize round signer v w = is_at Finalizing round signer w
+  second_by Conflicting_notarize round signer v w = is_at kinds.Notarize round signer w && excludes eq v.subject w.subject
+  second_by Conflicting_finalize round signer v w = is_at kinds.Finalize round signer w && excludes eq v.subject w.subject
+  second_by Nullify_finalize round signer v w = is_at kinds.Finalize round signer w
 
   pub second_agrees : (kind : EquivocationKind) (round : Round) (signer : ℕ) (v : SignedVote D G) →
       spot v ≡ first_spot (record { round = round; signer = signer; kind = kind }) → (w : SignedVote D G) →
@@ -105,10 +106,10 @@ module _ {D G : Type 0} (eq : D → D → Bool) where
       second_test (record { round = round; signer = signer; kind = Conflicting_finalize }) v w at
   second_agrees Nullify_finalize round signer v at w =
       second_test (record { round = round; signer = signer; kind = Nullify_finalize }) v w at
-      ∙ any v.subject w.subject (is_of round signer w) (λ i. (at i).sort)
+      ∙ any v.subject w.subject (is_of round signer w) (λ i. (at i).kind)
     where
-      any : (x y : SubjectValue D) (a : Bool) → sort_of x ≡ Nullifying →
-          ((same_sort (sort_of y) Finalizing && a) && excludes eq x y) ≡ (same_sort (sort_of y) Finalizing && a)
+      any : (x y : SubjectValue D) (a : Bool) → kind_of x ≡ kinds.Nullify →
+          ((same_kind (kind_of y) kinds.Finalize && a) && excludes eq x y) ≡ (same_kind (kind_of y) kinds.Finalize && a)
       any (Nullifies r) (Finalizes q) true e = refl
       any (Nullifies r) (Finalizes q) false e = refl
       any (Nullifies r) _ a e = refl
@@ -117,35 +118,35 @@ module _ {D G : Type 0} (eq : D → D → Bool) where
 module _ {D G : Type 0} (eq : D → D → Bool) (vs : List (SignedVote D G)) where
   -- the evidence of an accusation follows from the slots
   pub evidence_of-slots : (n : Accusation) →
-      evidence_of eq vs n ≡ evidence_from (λ sort. slot_of eq vs sort n.round n.signer) n.kind
-  evidence_of-slots n = by (find (is_at (first_sort n.kind) n.round n.signer) vs) refl ∙ slots_of n.kind
+      evidence_of eq vs n ≡ evidence_from (λ kind. slot_of eq vs kind n.round n.signer) n.kind
+  evidence_of-slots n = by (find (is_at (first_kind n.kind) n.round n.signer) vs) refl ∙ slots_of n.kind
     where
       -- the second vote, where there is a first
       second : EquivocationKind → Option (SignedVote D G) → Option (SignedVote D G)
       second kind None = None
       second kind (Some v) = find (second_by eq kind n.round n.signer v) vs
 
-      by : (o : Option (SignedVote D G)) → find (is_at (first_sort n.kind) n.round n.signer) vs ≡ o →
+      by : (o : Option (SignedVote D G)) → find (is_at (first_kind n.kind) n.round n.signer) vs ≡ o →
           with_first eq vs n.kind o ≡ equivocation_of n.kind o (second n.kind o)
       by None e = refl
       by (Some v) e = λ i.
           with_second n.kind v
           (find (λ w. second_agrees eq n.kind n.round n.signer v (is_at-true (first_spot n) v (found _ vs v e).1) w i) vs)
 
-      slots_of : (kind : EquivocationKind) → equivocation_of kind (find (is_at (first_sort kind) n.round n.signer) vs)
-          (second kind (find (is_at (first_sort kind) n.round n.signer) vs))
-          ≡ evidence_from (λ sort. slot_of eq vs sort n.round n.signer) kind
+      slots_of : (kind : EquivocationKind) → equivocation_of kind (find (is_at (first_kind kind) n.round n.signer) vs)
+          (second kind (find (is_at (first_kind kind) n.round n.signer) vs))
+          ≡ evidence_from (λ kind. slot_of eq vs kind n.round n.signer) kind
       slots_of Conflicting_notarize =
-          elim (find (is_at Notarizing n.round n.signer)
+          elim (find (is_at kinds.Notarize n.round n.signer)
           vs) as (λ o. equivocation_of Conflicting_notarize o (second Conflicting_notarize o) ≡ equivocation_of
-          Conflicting_notarize o (other_than eq vs Notarizing n.round n.signer o)) [ None ↦ refl | Some v ↦ refl ]
+          Conflicting_notarize o (other_than eq vs kinds.Notarize n.round n.signer o)) [ None ↦ refl | Some v ↦ refl ]
       slots_of Conflicting_finalize =
-          elim (find (is_at Finalizing n.round n.signer)
+          elim (find (is_at kinds.Finalize n.round n.signer)
           vs) as (λ o. equivocation_of Conflicting_finalize o (second Conflicting_finalize o) ≡ equivocation_of
-          Conflicting_finalize o (other_than eq vs Finalizing n.round n.signer o)) [ None ↦ refl | Some v ↦ refl ]
+          Conflicting_finalize o (other_than eq vs kinds.Finalize n.round n.signer o)) [ None ↦ refl | Some v ↦ refl ]
       slots_of Nullify_finalize =
-          elim (find (is_at Nullifying n.round n.signer) vs) as (λ o. equivocation_of Nullify_finalize o
-          (second Nullify_finalize o) ≡ equivocation_of Nullify_finalize o (find (is_at Finalizing n.round n.signer) vs))
+          elim (find (is_at kinds.Nullify n.round n.signer) vs) as (λ o. equivocation_of Nullify_finalize o
+          (second Nullify_finalize o) ≡ equivocation_of Nullify_finalize o (find (is_at kinds.Finalize n.round n.signer) vs))
           [ None ↦ refl | Some v ↦ refl ]
 
 -- ---- what is recorded, vote by vote
@@ -187,7 +188,7 @@ recorded_in_push eq vs v round =
 module _ {D G : Type 0} (eq : D → D → Bool) (l : IsEquivalence eq) (s : Spot) where
   -- the votes in the slot of a list
   abbrev in_slot : List (SignedVote D G) → List (SignedVote D G)
-  in_slot vs = votes_in_slot (slot_of eq vs s.sort s.round s.signer)
+  in_slot vs = votes_in_slot (slot_of eq vs s.kind s.round s.signer)
 
   -- a slot with one more vote has that vote too, if it changes the slot
   votes_with : (v : SignedVote D G) (first other : Option (SignedVote D G)) → (first ≡ None → other ≡ None) →
@@ -204,69 +205,70 @@ module _ {D G : Type 0} (eq : D → D → Bool) (l : IsEquivalence eq) (s : Spot
 
   -- the votes in the slot after one more vote
   in_slot_push : (vs : List (SignedVote D G)) (v : SignedVote D G) →
-      in_slot (vs ++ v ∷ []) ≡ in_slot vs ++ filter (is_at s.sort s.round s.signer) (if_news eq vs v)
+      in_slot (vs ++ v ∷ []) ≡ in_slot vs ++ filter (is_at s.kind s.round s.signer) (if_news eq vs v)
   in_slot_push vs v =
-      let k = slot_of eq vs s.sort s.round s.signer in
-      let first = find (is_at s.sort s.round s.signer) vs in
-      ap votes_in_slot (slot_after_vote eq l vs v s.sort s.round s.signer) ∙
-      (elim (is_at s.sort s.round s.signer v) as (λ b. is_at s.sort s.round s.signer v ≡ b →
+      let k = slot_of eq vs s.kind s.round s.signer in
+      let first = find (is_at s.kind s.round s.signer) vs in
+      ap votes_in_slot (slot_after_vote eq l vs v s.kind s.round s.signer) ∙
+      (elim (is_at s.kind s.round s.signer v) as (λ b. is_at s.kind s.round s.signer v ≡ b →
       votes_in_slot (cond b (slot_with eq v k) k) ≡ votes_in_slot k ++ cond (b && is_news eq vs v) (v ∷ []) []) [
         | true ↦ λ e.
-            votes_with v first (other_than eq vs s.sort s.round s.signer first) (ap (other_than eq vs s.sort s.round s.signer))
+            votes_with v first (other_than eq vs s.kind s.round s.signer first) (ap (other_than eq vs s.kind s.round s.signer))
             ∙ ap (λ (x : Slot D G). in_slot vs ++ cond (changes eq x.earliest x.other v.subject) (v ∷ []) [])
             (sym (own_slot eq l vs v s e))
         | false ↦ λ e. sym (append-nil (in_slot vs))
       ]) refl ∙
-      ap (λ ws. in_slot vs ++ ws) (sym (filter_if (is_at s.sort s.round s.signer) (is_news eq vs v) v))
+      ap (λ ws. in_slot vs ++ ws) (sym (filter_if (is_at s.kind s.round s.signer) (is_news eq vs v) v))
 
   -- the votes in the slot after more votes are those before and the news at this spot
   in_slot_after : (before vs : List (SignedVote D G)) →
-      in_slot (before ++ vs) ≡ in_slot before ++ filter (is_at s.sort s.round s.signer) (news_after eq before vs)
+      in_slot (before ++ vs) ≡ in_slot before ++ filter (is_at s.kind s.round s.signer) (news_after eq before vs)
   in_slot_after before [] = ap in_slot (append-nil before) ∙ sym (append-nil (in_slot before))
   in_slot_after before (v ∷ vs) =
-      let at = is_at s.sort s.round s.signer in
+      let at = is_at s.kind s.round s.signer in
       ap in_slot (sym (append_assoc before (v ∷ []) vs)) ∙ in_slot_after (before ++ v ∷ []) vs ∙
       ap (λ ws. ws ++ filter at (news_after eq (before ++ v ∷ []) vs)) (in_slot_push before v) ∙
       append_assoc (in_slot before) (filter at (if_news eq before v)) (filter at (news_after eq (before ++ v ∷ []) vs)) ∙
       ap (λ ws. in_slot before ++ ws) (sym (filter-append at (if_news eq before v) (news_after eq (before ++ v ∷ []) vs)))
 
--- the recorded votes of a sort, round and signer are the votes in their slot
+-- the recorded votes of a kind, round and signer are the votes in their slot
 pub recorded_are_slots : {D G : Type 0} (eq : D → D → Bool) → IsEquivalence eq → (vs : List (SignedVote D G)) →
     RecordedAreSlots eq vs
-recorded_are_slots eq l vs sort round signer =
-    sym (in_slot_after eq l (record { sort = sort; round = round; signer = signer }) [] vs)
+recorded_are_slots eq l vs kind round signer =
+    sym (in_slot_after eq l (record { kind = kind; round = round; signer = signer }) [] vs)
 
 module _ {D G : Type 0} (eq : D → D → Bool) (l : IsEquivalence eq) (vs : List (SignedVote D G)) (round : Round) where
   -- nullifies of one round do not exclude each other: there is no other one
-  no_other_nullify : (signer : ℕ) (o : Option (SignedVote D G)) → find (is_at Nullifying round signer) vs ≡ o →
-      other_than eq vs Nullifying round signer o ≡ None
+  no_other_nullify : (signer : ℕ) (o : Option (SignedVote D G)) → find (is_at kinds.Nullify round signer) vs ≡ o →
+      other_than eq vs kinds.Nullify round signer o ≡ None
   no_other_nullify signer None is = refl
   no_other_nullify signer (Some v) is =
-      none_found (λ w. is_at Nullifying round signer w && excludes eq v.subject w.subject) vs (λ w w_in passes.
-      let p = and_parts (is_at Nullifying round signer w) (excludes eq v.subject w.subject) passes in
-      let at : Spot = record { sort = Nullifying; round = round; signer = signer } in
-      agree v.subject w.subject (λ i. (is_at-true at v (found _ vs v is).1 i).sort) (λ i. (is_at-true at w p.0 i).sort) p.1)
+      none_found (λ w. is_at kinds.Nullify round signer w && excludes eq v.subject w.subject) vs (λ w w_in passes.
+      let p = and_parts (is_at kinds.Nullify round signer w) (excludes eq v.subject w.subject) passes in
+      let at : Spot = record { kind = kinds.Nullify; round = round; signer = signer } in
+      agree v.subject w.subject (λ i. (is_at-true at v (found _ vs v is).1 i).kind) (λ i. (is_at-true at w p.0 i).kind) p.1)
     where
-      agree : (x y : SubjectValue D) → sort_of x ≡ Nullifying → sort_of y ≡ Nullifying → excludes eq x y ≡ true → ⊥
+      agree : (x y : SubjectValue D) → kind_of x ≡ kinds.Nullify → kind_of y ≡ kinds.Nullify → excludes eq x y ≡ true → ⊥
       agree (Nullifies p) (Nullifies q) s t h = false≢true h
       agree _ _ s t h = absurd cc
 
-  -- the votes of a signer in a round, sort by sort
-  by_sorts : (signer : ℕ) (ws : List (SignedVote D G)) →
-      length (filter (is_of round signer) ws) ≡ length (filter (is_at Notarizing round signer) ws)
-      + (length (filter (is_at Nullifying round signer) ws) + length (filter (is_at Finalizing round signer) ws))
-  by_sorts signer [] = omega arith
-  by_sorts signer (w ∷ ws) =
-      of_one (sort_of w.subject) (is_of round signer w) w (filter (is_of round signer) ws)
-      (filter (is_at Notarizing round signer) ws) (filter (is_at Nullifying round signer) ws)
-      (filter (is_at Finalizing round signer) ws) (by_sorts signer ws)
+  -- the votes of a signer in a round, kind by kind
+  by_kinds : (signer : ℕ) (ws : List (SignedVote D G)) →
+      length (filter (is_of round signer) ws) ≡ length (filter (is_at kinds.Notarize round signer) ws)
+      + (length (filter (is_at kinds.Nullify round signer) ws) + length (filter (is_at kinds.Finalize round signer) ws))
+  by_kinds signer [] = omega arith
+  by_kinds signer (w ∷ ws) =
+      of_one (kind_of w.subject) (is_of round signer w) w (filter (is_of round signer) ws)
+      (filter (is_at kinds.Notarize round signer) ws) (filter (is_at kinds.Nullify round signer) ws)
+      (filter (is_at kinds.Finalize round signer) ws) (by_kinds signer ws)
     where
-      of_one : (s : Sort) (b : Bool) (x : SignedVote D G) (all ns us fs : List (SignedVote D G)) →
+      of_one : (s : VoteKind) (b : Bool) (x : SignedVote D G) (all ns us fs : List (SignedVote D G)) →
           length all ≡ length ns + (length us + length fs) →
-          length (cond b (x ∷ all) all) ≡ length (cond (same_sort s Notarizing && b) (x ∷ ns) ns)
-          + (length (cond (same_sort s Nullifying && b) (x ∷ us) us) + length (cond (same_sort s Finalizing && b) (x ∷ fs) fs))
-      of_one Notarizing true x all ns us fs h = omega (arith, h)
-      of_one Notarizing false x all ns us fs h = h
+          length (cond b (x ∷ all) all) ≡ length (cond (same_kind s kinds.Notarize && b) (x ∷ ns) ns)
+          + (length (cond (same_kind s kinds.Nullify && b) (x ∷ us) us)
+          + length (cond (same_kind s kinds.Finalize && b) (x ∷ fs) fs))
+      of_one kinds.Notarize true x all ns us fs h = omega (arith, h)
+      of_one kinds.Notarize false x all ns us fs h = h
       of_one _ true x all ns us fs h = omega (arith, h)
       of_one _ false x all ns us fs h = h
 
@@ -275,35 +277,36 @@ module _ {D G : Type 0} (eq : D → D → Bool) (l : IsEquivalence eq) (vs : Lis
   few_are_recorded signer =
       let at_most : (o : Option (SignedVote D G)) → length (option_to_list o) ≤ 1 =
       elim [ None ↦ omega arith | Some x ↦ omega arith ] in
-      let in_slot = λ (sort : Sort). slot_of eq vs sort round signer in
-      let has = λ (sort : Sort). ap length (recorded_are_slots eq l vs sort round signer)
-      ∙ length-append (option_to_list (in_slot sort).earliest) (option_to_list (in_slot sort).other) in
-      let one = ap (λ o. length (option_to_list o)) (no_other_nullify signer (find (is_at Nullifying round signer) vs) refl) in
+      let in_slot = λ (kind : VoteKind). slot_of eq vs kind round signer in
+      let has = λ (kind : VoteKind). ap length (recorded_are_slots eq l vs kind round signer)
+      ∙ length-append (option_to_list (in_slot kind).earliest) (option_to_list (in_slot kind).other) in
+      let one = ap (λ o. length (option_to_list o))
+      (no_other_nullify signer (find (is_at kinds.Nullify round signer) vs) refl) in
       omega (
         arith,
-        by_sorts signer (recorded_of eq vs),
-        has Notarizing,
-        has Nullifying,
-        has Finalizing,
-        at_most (in_slot Notarizing).earliest,
-        at_most (in_slot Notarizing).other,
-        at_most (in_slot Nullifying).earliest,
+        by_kinds signer (recorded_of eq vs),
+        has kinds.Notarize,
+        has kinds.Nullify,
+        has kinds.Finalize,
+        at_most (in_slot kinds.Notarize).earliest,
+        at_most (in_slot kinds.Notarize).other,
+        at_most (in_slot kinds.Nullify).earliest,
         one,
-        at_most (in_slot Finalizing).earliest,
-        at_most (in_slot Finalizing).other,
+        at_most (in_slot kinds.Finalize).earliest,
+        at_most (in_slot kinds.Finalize).other,
       )
 
   -- where the slots of the round are empty none of its votes is recorded
-  pub none_of_round : ((signer : ℕ) (sort : Sort) → no_slot ≡ slot_of eq vs sort round signer) → (v : SignedVote D G) →
+  pub none_of_round : ((signer : ℕ) (kind : VoteKind) → no_slot ≡ slot_of eq vs kind round signer) → (v : SignedVote D G) →
       Contains (recorded_of eq vs) v → round_of v.subject ≡ round → ⊥
   none_of_round empty v v_in is =
-      let at = is_at-from (record { sort = sort_of v.subject; round = round; signer = v.signer }) v
-      (λ i. record { sort = sort_of v.subject; round = is i; signer = v.signer }) in
-      Contains-none v (subst (λ ws. Contains ws v) (recorded_are_slots eq l vs (sort_of v.subject) round v.signer
-      ∙ ap votes_in_slot (sym (empty v.signer (sort_of v.subject))))
-      (Contains-filter (is_at (sort_of v.subject) round v.signer) (recorded_of eq vs) v v_in at))
+      let at = is_at-from (record { kind = kind_of v.subject; round = round; signer = v.signer }) v
+      (λ i. record { kind = kind_of v.subject; round = is i; signer = v.signer }) in
+      Contains-none v (subst (λ ws. Contains ws v) (recorded_are_slots eq l vs (kind_of v.subject) round v.signer
+      ∙ ap votes_in_slot (sym (empty v.signer (kind_of v.subject))))
+      (Contains-filter (is_at (kind_of v.subject) round v.signer) (recorded_of eq vs) v v_in at))
 
-  pub none_in_round : ((signer : ℕ) (sort : Sort) → no_slot ≡ slot_of eq vs sort round signer) → recorded_in eq vs round ≡ 0
+  pub none_in_round : ((signer : ℕ) (kind : VoteKind) → no_slot ≡ slot_of eq vs kind round signer) → recorded_in eq vs round ≡ 0
   none_in_round empty =
       ap length (filter_none (of_round round) (recorded_of eq vs)
       (λ v v_in. false_from_ne_true _ (λ e. none_of_round empty v v_in (same_round-true (round_of v.subject) round e))))
@@ -319,45 +322,45 @@ module _ {D G : Type 0} (eq : D → D → Bool) (l : IsEquivalence eq) (vs : Lis
 -- what is held of a round is determined by the slots, and by how many votes are recorded
 pub same_held : {S D P G : Type 0} (eq : D → D → Bool) (n : ℕ) (vs ws : List (SignedVote D G)) (round : Round)
     (recorded : RoundVotes S D P G) →
-    ((sort : Sort) (signer : ℕ) → slot_of eq ws sort round signer ≡ slot_of eq vs sort round signer) →
+    ((kind : VoteKind) (signer : ℕ) → slot_of eq ws kind round signer ≡ slot_of eq vs kind round signer) →
     recorded_in eq ws round ≡ recorded_in eq vs round → HoldsRound eq n vs round recorded → HoldsRound eq n ws round recorded
 same_held eq n vs ws round recorded same many holds = record {
   sized = holds.sized;
-  held = λ signer sort. holds.held signer sort ∙ sym (same sort signer);
+  held = λ signer kind. holds.held signer kind ∙ sym (same kind signer);
   counted = holds.counted ∙ sym many;
 }
 
 module _ {S D P G : Type 0} (eq : D → D → Bool) (l : IsEquivalence eq) (n : ℕ) (vs : List (SignedVote D G)) (v : SignedVote D G)
     (before : RoundVotes S D P G) (holds : HoldsRound eq n vs (round_of v.subject) before) where
   -- whether a vote is news is determined by its slot
-  news_held : changes eq (slots before v.signer (sort_of v.subject)).earliest (slots before v.signer (sort_of v.subject)).other
+  news_held : changes eq (slots before v.signer (kind_of v.subject)).earliest (slots before v.signer (kind_of v.subject)).other
       v.subject ≡ is_news eq vs v
-  news_held = ap (λ (slot : Slot D G). changes eq slot.earliest slot.other v.subject) (holds.held v.signer (sort_of v.subject))
+  news_held = ap (λ (slot : Slot D G). changes eq slot.earliest slot.other v.subject) (holds.held v.signer (kind_of v.subject))
 
   -- a vote that is no news changes nothing
-  pub held_no_news : changes eq (slots before v.signer (sort_of v.subject)).earliest (slots before v.signer
-      (sort_of v.subject)).other v.subject ≡ false → HoldsRound eq n (vs ++ v ∷ []) (round_of v.subject) before
+  pub held_no_news : changes eq (slots before v.signer (kind_of v.subject)).earliest (slots before v.signer
+      (kind_of v.subject)).other v.subject ≡ false → HoldsRound eq n (vs ++ v ∷ []) (round_of v.subject) before
   held_no_news old =
       let no = sym news_held ∙ old in
       let many = ap (λ b. length (cond b (v ∷ []) [])) (and_right (of_round (round_of v.subject) v) (is_news eq vs v) no) in
       same_held eq n vs (vs ++ v ∷ []) (round_of v.subject) before
-      (λ sort signer. no_news eq l vs v no (record { sort = sort; round = round_of v.subject; signer = signer }))
+      (λ kind signer. no_news eq l vs v no (record { kind = kind; round = round_of v.subject; signer = signer }))
       (omega (arith, many, recorded_in_push eq vs v (round_of v.subject))) holds
 
   -- a vote that is news is taken
-  pub held_after : (after : RoundVotes S D P G) → v.signer < n → changes eq (slots before v.signer (sort_of v.subject)).earliest
-      (slots before v.signer (sort_of v.subject)).other v.subject ≡ true → TakesVote eq v before after →
+  pub held_after : (after : RoundVotes S D P G) → v.signer < n → changes eq (slots before v.signer (kind_of v.subject)).earliest
+      (slots before v.signer (kind_of v.subject)).other v.subject ≡ true → TakesVote eq v before after →
       HoldsRound eq n (vs ++ v ∷ []) (round_of v.subject) after
   held_after after lt news takes =
       let here : of_round (round_of v.subject) v ≡ true = same_round-from (round_of v.subject) (round_of v.subject) refl in
-      let at_round : (sort : Sort) (signer : ℕ) → is_for v signer sort ≡ is_at sort (round_of v.subject) signer v =
-      λ sort signer. ap (λ b. same_sort (sort_of v.subject) sort && (b && eqb v.signer signer)) (sym here) in
+      let at_round : (kind : VoteKind) (signer : ℕ) → is_for v signer kind ≡ is_at kind (round_of v.subject) signer v =
+      λ kind signer. ap (λ b. same_kind (kind_of v.subject) kind && (b && eqb v.signer signer)) (sym here) in
       record {
         sized = takes.sized n holds.sized;
-        held = λ signer sort.
-            takes.taken n holds.sized lt news signer sort
-            ∙ (λ i. cond (at_round sort signer i) (slot_with eq v (holds.held signer sort i)) (holds.held signer sort i))
-            ∙ sym (slot_after_vote eq l vs v sort (round_of v.subject) signer);
+        held = λ signer kind.
+            takes.taken n holds.sized lt news signer kind
+            ∙ (λ i. cond (at_round kind signer i) (slot_with eq v (holds.held signer kind i)) (holds.held signer kind i))
+            ∙ sym (slot_after_vote eq l vs v kind (round_of v.subject) signer);
         counted = takes.more n holds.sized lt news
             ∙ (λ i. holds.counted i + length (cond (sym (and_from _ _ here (sym news_held ∙ news)) i) (v ∷ []) []))
             ∙ sym (recorded_in_push eq vs v (round_of v.subject));

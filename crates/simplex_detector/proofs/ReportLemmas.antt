@@ -1,5 +1,5 @@
 -- The evidence in what is recorded, signer by signer and round by round, is the evidence of the votes.
-use Rattle.simplex_detector.proofs.Prelude.{Activity, All, All-contains, All-from_recursion, All-push, AllByRecursion, Bool, Conflicting_finalize, Conflicting_notarize, Contains, Contains-append_left, Contains-append_right, Contains-dedup_nat, Contains-permutation, Detector, Equivocation, HoldsRound, IsEquivalence, IsEvidence, IsOrdered, IsPermutation, IsSorted, IsStrictlyIncreasing-dedup, EquivocationKind, Less, List, ListsSigners, Accusation, None, Nullify_finalize, Recalls, RecallsAt, RecallsNothing, RecallsRound, Round, RoundState, RoundVotes, Rules, SignedVote, Slot, Some, Sort, [], ap, append-nil, append_assoc, arith, btree_map_get_iff, cond-true, contradicts, dedup, eqb, eqb-true, evidence_from, evidence_of, false≢true, filter_map, filter_map-append, flat_map, flat_map_more, found_at, found_of_kind, get, get_or, if_contradicts, inl, inr, is_some, item_of, kind_rank, length, map, map-append, map-id, accused_by, accused_cmp, nat_cmp, no_slot, option_map, option_to_list, ordering_then, recursion_from_All, refl, round_cmp, signer_cmp, slot_of, slots, sorted_from_strictly_increasing, subst, sym, take, take_more, tied_itself, true, valid_votes, ℕ, ◌++◌, ◌+◌, ◌<◌, ◌∙◌, ◌∷◌, ◌≡◌, ◌⊎◌}
+use Rattle.simplex_detector.proofs.Prelude.{Activity, All, All-contains, All-from_recursion, All-push, AllByRecursion, Bool, Conflicting_finalize, Conflicting_notarize, Contains, Contains-append_left, Contains-append_right, Contains-dedup_nat, Contains-permutation, Detector, Equivocation, HoldsRound, IsEquivalence, IsEvidence, IsOrdered, IsPermutation, IsSorted, IsStrictlyIncreasing-dedup, EquivocationKind, Less, List, ListsSigners, Accusation, None, Nullify_finalize, Recalls, RecallsAt, RecallsNothing, RecallsRound, Round, RoundState, RoundVotes, Rules, SignedVote, Slot, Some, VoteKind, [], ap, append-nil, append_assoc, arith, btree_map_get_iff, cond-true, contradicts, dedup, eqb, eqb-true, evidence_from, evidence_of, false≢true, filter_map, filter_map-append, flat_map, flat_map_more, found_at, found_of_kind, get, get_or, if_contradicts, inl, inr, is_some, item_of, kind_rank, length, map, map-append, map-id, accused_by, accused_cmp, nat_cmp, no_slot, option_map, option_to_list, ordering_then, recursion_from_All, refl, round_cmp, signer_cmp, slot_of, slots, sorted_from_strictly_increasing, subst, sym, take, take_more, tied_itself, true, valid_votes, ℕ, ◌++◌, ◌+◌, ◌<◌, ◌∙◌, ◌∷◌, ◌≡◌, ◌⊎◌}
 use Rattle.std.specs.List.Sorted.{IsStrictlySortedBy}
 use Rattle.simplex_detector.proofs.EvidenceLemmas.{evidence_is, from_listing}
 use Rattle.simplex_detector.proofs.Lists.{found_mapped, Contains-flat_map, Contains-from_flat_map, Contains-from_map, Contains-map, each, filter_map-joined, found, made_complete, made_ordered, made_sound, some_from_is_some, sorted_joined}
@@ -102,8 +102,8 @@ module _ {D G : Type 0} (eq : D → D → Bool) (vs : List (SignedVote D G)) whe
   ]) refl
 
   -- so the evidence is found in the slots of the votes, kind by kind
-  found_at-evidence : (round : Round) (signer : ℕ) (slot : Sort → Slot D G) →
-      ((sort : Sort) → slot sort ≡ slot_of eq vs sort round signer) →
+  found_at-evidence : (round : Round) (signer : ℕ) (slot : VoteKind → Slot D G) →
+      ((kind : VoteKind) → slot kind ≡ slot_of eq vs kind round signer) →
       found_at eq slot ≡ filter_map (evidence_of eq vs) (names_at round signer)
   found_at-evidence round signer slot is =
       (λ i. option_to_list (of_kind Conflicting_notarize i)
@@ -115,7 +115,7 @@ module _ {D G : Type 0} (eq : D → D → Bool) (vs : List (SignedVote D G)) whe
           found_of_kind eq slot kind ≡ evidence_of eq vs (record { round = round; signer = signer; kind = kind })
       of_kind kind =
           let n : Accusation = record { round = round; signer = signer; kind = kind } in
-          ap (if_contradicts eq) ((λ i. evidence_from (λ sort. is sort i) kind) ∙ sym (evidence_of-slots eq vs n))
+          ap (if_contradicts eq) ((λ i. evidence_from (λ cast. is cast i) kind) ∙ sym (evidence_of-slots eq vs n))
           ∙ contradicts-evidence n
 
   module _ {S P : Type 0} (size : ℕ) (round : Round) (recorded : RoundVotes S D P G)
@@ -134,7 +134,7 @@ module _ {D G : Type 0} (eq : D → D → Bool) (vs : List (SignedVote D G)) whe
     listed_in_round signers lists n here h =
         let (x, is) = some_from_is_some (evidence_of eq vs n) h in
         let from_slots =
-        (λ i. evidence_from (λ sort. (holds.held n.signer sort ∙ ap (λ r. slot_of eq vs sort r n.signer) (sym here)) i) n.kind)
+        (λ i. evidence_from (λ kind. (holds.held n.signer kind ∙ ap (λ r. slot_of eq vs kind r n.signer) (sym here)) i) n.kind)
         ∙ sym (evidence_of-slots eq vs n) ∙ is in
         Contains-flat_map (names_at round) signers n.signer n (of_kind n.kind x from_slots)
         (subst (λ r. Contains (names_at r n.signer) n) here (own_name n))
@@ -255,9 +255,9 @@ report_of_walk {S} {D} {C} {P} {G} rules l detector ordered found walked message
     complete n h =
         elim (recalled rules messages detector ordered holds n.round) [
           | inl none ↦
-              absurd (false≢true (ap is_some (sym (elim n.kind as (λ kind. evidence_from (λ sort. no_slot {D = D} {G = G}) kind
+              absurd (false≢true (ap is_some (sym (elim n.kind as (λ kind. evidence_from (λ _. no_slot {D = D} {G = G}) kind
               ≡ None) [ Conflicting_notarize ↦ refl | Conflicting_finalize ↦ refl | Nullify_finalize ↦ refl ])
-              ∙ (λ i. evidence_from (λ sort. none.votes n.signer sort i) n.kind) ∙ sym (evidence_of-slots rules.eq vs n)) ∙ h))
+              ∙ (λ i. evidence_from (λ kind. none.votes n.signer kind i) n.kind) ∙ sym (evidence_of-slots rules.eq vs n)) ∙ h))
           | inr there ↦
               let (step, step_in, is) = Contains-from_map entry_in walked.steps (n.round, there.0)
               (subst (λ es. Contains es (n.round, there.0)) (sym over) there.1) in

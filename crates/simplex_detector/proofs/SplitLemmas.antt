@@ -1,8 +1,9 @@
 -- Which rounds are split, from what is recorded of their certificates, and that the messages determine their splits.
-use Rattle.simplex_detector.proofs.Prelude.{Activity, All, AreLawful, AreSplits, Bool, CertifiedSubjects, Contains, Contains-append_left, Contains-push, Contains-push_cases, Finalizing, HaveCommittees, IsEquivalence, IsStrictlySortedBy, List, None, Notarizing, Nullifying, Option, RecordsFirsts, Round, Rules, Some, Sort, Split, SubjectValue, [], activity_round, and_from, and_left, and_parts, and_right, ap, append-nil, are_split, cases_Bool, subject_and_certificate, certificates_contradict, certified_in, certified_subjects, changes_firsts, cond, cond_some, cons_option, excludes, excludes_first, excludes_some, false, false≢true, faults_of, filter_map, filter_map-append, first_certified, first_with, firsts_of, if◌then◌else◌, inl, inr, is_certified_message, is_none, is_some, is_split, list_any, messages_contradict, accused_count, not, option_or, option_to_list, or_cases, or_left, or_parts, or_right, refl, round_cmp, round_of, same_round, same_sort, sort_of, split_of, subjects_contradict, subst, sym, true, valid_votes, ⊎_elim, ◌&&◌, ◌++◌, ◌+◌, ◌||◌, ◌∙◌, ◌∷◌, ◌≡◌, ◌≤◌, ◌⊎◌}
+use Rattle.simplex_detector.proofs.Prelude.{Activity, All, AreLawful, AreSplits, Bool, CertifiedSubjects, Contains, Contains-append_left, Contains-push, Contains-push_cases, HaveCommittees, IsEquivalence, IsStrictlySortedBy, List, None, Option, RecordsFirsts, Round, Rules, Some, VoteKind, Split, SubjectValue, [], activity_round, and_from, and_left, and_parts, and_right, ap, append-nil, are_split, cases_Bool, subject_and_certificate, certificates_contradict, certified_in, certified_subjects, changes_firsts, cond, cond_some, cons_option, excludes, excludes_first, excludes_some, false, false≢true, faults_of, filter_map, filter_map-append, first_certified, first_with, firsts_of, if◌then◌else◌, inl, inr, is_certified_message, is_none, is_some, is_split, list_any, messages_contradict, accused_count, not, option_or, option_to_list, or_cases, or_left, or_parts, or_right, refl, round_cmp, round_of, same_round, same_kind, kind_of, split_of, subjects_contradict, subst, sym, true, valid_votes, ⊎_elim, ◌&&◌, ◌++◌, ◌+◌, ◌||◌, ◌∙◌, ◌∷◌, ◌≡◌, ◌≤◌, ◌⊎◌}
+use Rattle.simplex_scheme.specs.declared.kind.VoteKind.TheVariants as kinds
 use Rattle.simplex_detector.proofs.AccountLemmas.{accountable_for, certificate_parts, certified_parts, certifies_from, enough_for}
 use Rattle.simplex_detector.proofs.Lists.{Contains-from_filter_map, Contains-from_list_any, IsListing, any_from_Contains, find_from_Contains, find_push, found, made_complete, made_ordered, made_sound, same_bool}
-use Rattle.simplex_detector.proofs.Places.{excludes-flip, excludes_itself, excludes_one, same_round-from, same_round-true, same_sort-refl, same_sort-true}
+use Rattle.simplex_detector.proofs.Places.{excludes-flip, excludes_itself, excludes_one, same_round-from, same_round-true, same_kind-refl, same_kind-true}
 
 -- ---- subjects that split a round
 
@@ -60,37 +61,38 @@ split_more eq xs ys round all h =
       against = o.against;
     })
 
-module _ {D : Type 0} (eq : D → D → Bool) (first : Sort → Option (SubjectValue D)) (y : SubjectValue D) where
-  -- a subject that excludes the first of a sort
-  some_from_first : (sort : Sort) (a : SubjectValue D) → first sort ≡ Some a → excludes eq a y ≡ true →
+module _ {D : Type 0} (eq : D → D → Bool) (first : VoteKind → Option (SubjectValue D)) (y : SubjectValue D) where
+  -- a subject that excludes the first of a kind
+  some_from_first : (kind : VoteKind) (a : SubjectValue D) → first kind ≡ Some a → excludes eq a y ≡ true →
       excludes_some eq first y ≡ true
-  some_from_first Notarizing a is h = or_left _ _ (ap (λ o. excludes_first eq o y) is ∙ h)
-  some_from_first Nullifying a is h = or_right _ _ (or_left _ _ (ap (λ o. excludes_first eq o y) is ∙ h))
-  some_from_first Finalizing a is h = or_right _ _ (or_right _ _ (ap (λ o. excludes_first eq o y) is ∙ h))
+  some_from_first kinds.Notarize a is h = or_left _ _ (ap (λ o. excludes_first eq o y) is ∙ h)
+  some_from_first kinds.Nullify a is h = or_right _ _ (or_left _ _ (ap (λ o. excludes_first eq o y) is ∙ h))
+  some_from_first kinds.Finalize a is h = or_right _ _ (or_right _ _ (ap (λ o. excludes_first eq o y) is ∙ h))
 
-  -- a subject that excludes some first one excludes the first of a sort
+  -- a subject that excludes some first one excludes the first of a kind
   first_from_some : excludes_some eq first y ≡ true →
-      (sort : Sort) × (a : SubjectValue D) × (first sort ≡ Some a) × (excludes eq a y ≡ true)
+      (kind : VoteKind) × (a : SubjectValue D) × (first kind ≡ Some a) × (excludes eq a y ≡ true)
   first_from_some h =
-      let at = λ (sort : Sort).
-      (elim (first sort) as (λ o. first sort ≡ o → excludes_first eq o y ≡ true →
-      (s : Sort) × (a : SubjectValue D) × (first s ≡ Some a) × (excludes eq a y ≡ true))
-      [ None ↦ λ is e. absurd (false≢true e) | Some a ↦ λ is e. (sort, a, is, e) ]) refl in
-      ⊎_elim (at Notarizing) (λ e. ⊎_elim (at Nullifying) (at Finalizing) (or_cases (excludes_first eq (first Nullifying) y)
-      (excludes_first eq (first Finalizing) y) e)) (or_cases (excludes_first eq (first Notarizing) y) _ h)
+      let at = λ (kind : VoteKind).
+      (elim (first kind) as (λ o. first kind ≡ o → excludes_first eq o y ≡ true →
+      (s : VoteKind) × (a : SubjectValue D) × (first s ≡ Some a) × (excludes eq a y ≡ true))
+      [ None ↦ λ is e. absurd (false≢true e) | Some a ↦ λ is e. (kind, a, is, e) ]) refl in
+      ⊎_elim (at kinds.Notarize) (λ e. ⊎_elim (at kinds.Nullify) (at kinds.Finalize)
+      (or_cases (excludes_first eq (first kinds.Nullify) y) (excludes_first eq (first kinds.Finalize) y) e))
+      (or_cases (excludes_first eq (first kinds.Notarize) y) _ h)
 
--- one more subject is the first of its round and sort if there is none yet, and changes no other first
-first_after : {D : Type 0} (xs : List (SubjectValue D)) (y : SubjectValue D) (round : Round) (sort : Sort) →
-    first_certified (xs ++ y ∷ []) round sort ≡ (if same_round (round_of y) round
-    then first_with y sort (first_certified xs round sort) else first_certified xs round sort)
-first_after xs y round sort =
-    find_push (λ x. same_sort (sort_of x) sort && same_round (round_of x) round) xs y ∙
-    elim (same_sort (sort_of y) sort) as (λ s. cond (s && same_round (round_of y) round) (option_or
-    (first_certified xs round sort) (Some y)) (first_certified xs round sort) ≡ cond (same_round (round_of y) round) (cond s
-    (option_or (first_certified xs round sort) (Some y)) (first_certified xs round sort)) (first_certified xs round sort)) [
+-- one more subject is the first of its round and kind if there is none yet, and changes no other first
+first_after : {D : Type 0} (xs : List (SubjectValue D)) (y : SubjectValue D) (round : Round) (kind : VoteKind) →
+    first_certified (xs ++ y ∷ []) round kind ≡ (if same_round (round_of y) round
+    then first_with y kind (first_certified xs round kind) else first_certified xs round kind)
+first_after xs y round kind =
+    find_push (λ x. same_kind (kind_of x) kind && same_round (round_of x) round) xs y ∙
+    elim (same_kind (kind_of y) kind) as (λ s. cond (s && same_round (round_of y) round) (option_or
+    (first_certified xs round kind) (Some y)) (first_certified xs round kind) ≡ cond (same_round (round_of y) round) (cond s
+    (option_or (first_certified xs round kind) (Some y)) (first_certified xs round kind)) (first_certified xs round kind)) [
       | true ↦ refl
-      | false ↦ elim (same_round (round_of y) round) as (λ r. first_certified xs round sort
-          ≡ cond r (first_certified xs round sort) (first_certified xs round sort)) [ true ↦ refl | false ↦ refl ]
+      | false ↦ elim (same_round (round_of y) round) as (λ r. first_certified xs round kind
+          ≡ cond r (first_certified xs round kind) (first_certified xs round kind)) [ true ↦ refl | false ↦ refl ]
     ]
 
 module _ {D : Type 0} (eq : D → D → Bool) (laws : IsEquivalence eq) (xs : List (SubjectValue D)) (y : SubjectValue D)
@@ -99,21 +101,21 @@ module _ {D : Type 0} (eq : D → D → Bool) (laws : IsEquivalence eq) (xs : Li
   abbrev splits_now : Bool
   splits_now = are_split eq xs round || (same_round (round_of y) round && excludes_some eq (first_certified xs round) y)
 
-  -- an earlier subject that y excludes: y excludes the first of its sort too, or the two split the round before
+  -- an earlier subject that y excludes: y excludes the first of its kind too, or the two split the round before
   met : (x : SubjectValue D) → Contains xs x → round_of x ≡ round → round_of y ≡ round → excludes eq x y ≡ true →
       splits_now ≡ true
   met x x_in x_here y_here h =
-      let test = λ (z : _). same_sort (sort_of z) (sort_of x) && same_round (round_of z) round in
+      let test = λ (z : _). same_kind (kind_of z) (kind_of x) && same_round (round_of z) round in
       let (a, is) =
-      find_from_Contains test xs x x_in (and_from _ _ (same_sort-refl (sort_of x)) (same_round-from _ _ x_here)) in
+      find_from_Contains test xs x x_in (and_from _ _ (same_kind-refl (kind_of x)) (same_round-from _ _ x_here)) in
       let (a_in, passes) = found test xs a is in
-      let p = and_parts (same_sort (sort_of a) (sort_of x)) (same_round (round_of a) round) passes in
+      let p = and_parts (same_kind (kind_of a) (kind_of x)) (same_round (round_of a) round) passes in
       ⊎_elim
       (λ e. or_left _ _ (split_by eq xs round
       (record { x = a; y = x; x_in = a_in; y_in = x_in; x_here = same_round-true _ _ p.1; y_here = x_here; against = e })))
       (λ e. or_right (are_split eq xs round) _
-      (and_from _ _ (same_round-from _ _ y_here) (some_from_first eq (first_certified xs round) y (sort_of x) a is e)))
-      (excludes_one eq laws a x y (same_sort-true _ _ p.0) h)
+      (and_from _ _ (same_round-from _ _ y_here) (some_from_first eq (first_certified xs round) y (kind_of x) a is e)))
+      (excludes_one eq laws a x y (same_kind-true _ _ p.0) h)
 
   split_to : are_split eq (xs ++ y ∷ []) round ≡ true → splits_now ≡ true
   split_to h =
@@ -141,14 +143,14 @@ module _ {D : Type 0} (eq : D → D → Bool) (laws : IsEquivalence eq) (xs : Li
   split_from : splits_now ≡ true → are_split eq (xs ++ y ∷ []) round ≡ true
   split_from h = ⊎_elim (split_more eq xs (xs ++ y ∷ []) round (λ x x_in here. Contains-append_left xs (y ∷ []) x x_in)) (λ e.
       let p = and_parts (same_round (round_of y) round) (excludes_some eq (first_certified xs round) y) e in
-      let (sort, a, is, against) = first_from_some eq (first_certified xs round) y p.1 in
+      let (kind, a, is, against) = first_from_some eq (first_certified xs round) y p.1 in
       let (a_in, passes) = found _ xs a is in
       split_by eq (xs ++ y ∷ []) round (record {
         x = a;
         y = y;
         x_in = Contains-append_left xs (y ∷ []) a a_in;
         y_in = Contains-push xs y;
-        x_here = same_round-true _ _ (and_parts (same_sort (sort_of a) sort) (same_round (round_of a) round) passes).1;
+        x_here = same_round-true _ _ (and_parts (same_kind (kind_of a) kind) (same_round (round_of a) round) passes).1;
         y_here = same_round-true _ _ p.0;
         against = against;
       }))
@@ -156,16 +158,16 @@ module _ {D : Type 0} (eq : D → D → Bool) (laws : IsEquivalence eq) (xs : Li
 
   -- what is recorded after one more subject, from what was recorded; b is whether the subject is of the round
   pub records_push : (old new : CertifiedSubjects D) (b : Bool) → same_round (round_of y) round ≡ b → (old.split ≡ false →
-      (sort : Sort) → firsts_of new sort ≡ cond b (first_with y sort (firsts_of old sort)) (firsts_of old sort)) →
+      (kind : VoteKind) → firsts_of new kind ≡ cond b (first_with y kind (firsts_of old kind)) (firsts_of old kind)) →
       new.split ≡ (old.split || (b && excludes_some eq (firsts_of old) y)) → RecordsFirsts eq xs round old →
       RecordsFirsts eq (xs ++ y ∷ []) round new
   records_push old new b is firsts split records = record {
     split = split ∙ by_split (cases_Bool old.split) ∙ sym (same_bool _ _ split_to split_from);
-    firsts = λ whole sort.
+    firsts = λ whole kind.
         let before = (or_parts old.split _ (sym split ∙ whole)).0 in
-        firsts before sort
-        ∙ (λ i. cond (sym is i) (first_with y sort (records.firsts before sort i)) (records.firsts before sort i))
-        ∙ sym (first_after xs y round sort);
+        firsts before kind
+        ∙ (λ i. cond (sym is i) (first_with y kind (records.firsts before kind i)) (records.firsts before kind i))
+        ∙ sym (first_after xs y round kind);
   }
     where
       by_split : (old.split ≡ true) ⊎ (old.split ≡ false) →
@@ -173,13 +175,13 @@ module _ {D : Type 0} (eq : D → D → Bool) (laws : IsEquivalence eq) (xs : Li
       by_split (inl e) =
           ap (λ c. c || (b && excludes_some eq (firsts_of old) y)) e ∙ sym (ap
           (λ c. c || (same_round (round_of y) round && excludes_some eq (first_certified xs round) y)) (sym records.split ∙ e))
-      by_split (inr e) = λ i. records.split i || (sym is i && excludes_some eq (λ sort. records.firsts e sort i) y)
+      by_split (inr e) = λ i. records.split i || (sym is i && excludes_some eq (λ kind. records.firsts e kind i) y)
 
   -- a subject of another round changes nothing
   pub records_elsewhere : (recorded : CertifiedSubjects D) → same_round (round_of y) round ≡ false →
       RecordsFirsts eq xs round recorded → RecordsFirsts eq (xs ++ y ∷ []) round recorded
   records_elsewhere recorded away =
-      records_push recorded recorded false away (λ whole sort. refl)
+      records_push recorded recorded false away (λ whole kind. refl)
       (elim recorded.split as (λ b. b ≡ (b || false)) [ true ↦ refl | false ↦ refl ])
 
   -- a subject that would change nothing leaves the record as it is
@@ -188,23 +190,23 @@ module _ {D : Type 0} (eq : D → D → Bool) (laws : IsEquivalence eq) (xs : Li
       RecordsFirsts eq (xs ++ y ∷ []) round recorded
   records_no_news recorded here same =
       records_push recorded recorded true here
-      (λ whole sort. stays sort (same_sort (sort_of y) sort) refl
-      (or_parts (is_none (firsts_of recorded (sort_of y))) (excludes_some eq (firsts_of recorded) y) (sym (ap
-      (λ b. not b && (is_none (firsts_of recorded (sort_of y)) || excludes_some eq (firsts_of recorded) y)) whole) ∙ same)).0)
-      ((elim recorded.split as (λ b. (not b && (is_none (firsts_of recorded (sort_of y))
+      (λ whole kind. stays kind (same_kind (kind_of y) kind) refl
+      (or_parts (is_none (firsts_of recorded (kind_of y))) (excludes_some eq (firsts_of recorded) y) (sym (ap
+      (λ b. not b && (is_none (firsts_of recorded (kind_of y)) || excludes_some eq (firsts_of recorded) y)) whole) ∙ same)).0)
+      ((elim recorded.split as (λ b. (not b && (is_none (firsts_of recorded (kind_of y))
       || excludes_some eq (firsts_of recorded) y)) ≡ false → b ≡ (b || excludes_some eq (firsts_of recorded) y)) [
         | true ↦ λ h. refl
-        | false ↦ λ h. sym (or_parts (is_none (firsts_of recorded (sort_of y))) (excludes_some eq (firsts_of recorded) y) h).1
+        | false ↦ λ h. sym (or_parts (is_none (firsts_of recorded (kind_of y))) (excludes_some eq (firsts_of recorded) y) h).1
       ]) same)
     where
       -- a recorded first subject stays
-      stays : (sort : Sort) (b : Bool) → same_sort (sort_of y) sort ≡ b → is_none (firsts_of recorded (sort_of y)) ≡ false →
-          firsts_of recorded sort ≡ cond b (option_or (firsts_of recorded sort) (Some y)) (firsts_of recorded sort)
-      stays sort true is h = (elim (firsts_of recorded sort) as (λ o. is_none o ≡ false → o ≡ option_or o (Some y)) [
+      stays : (kind : VoteKind) (b : Bool) → same_kind (kind_of y) kind ≡ b → is_none (firsts_of recorded (kind_of y)) ≡ false →
+          firsts_of recorded kind ≡ cond b (option_or (firsts_of recorded kind) (Some y)) (firsts_of recorded kind)
+      stays kind true is h = (elim (firsts_of recorded kind) as (λ o. is_none o ≡ false → o ≡ option_or o (Some y)) [
         | None ↦ λ e. absurd (false≢true (sym e))
         | Some a ↦ λ e. refl
-      ]) (subst (λ s. is_none (firsts_of recorded s) ≡ false) (same_sort-true (sort_of y) sort is) h)
-      stays sort false is h = refl
+      ]) (subst (λ s. is_none (firsts_of recorded s) ≡ false) (same_kind-true (kind_of y) kind is) h)
+      stays kind false is h = refl
 
 -- ---- from messages to what they certify
 

@@ -3,9 +3,10 @@ use Rattle.std.specs.Prelude.{◌≡◌, ℕ, ◌-◌, ◌^◌, List, [], ◌++�
 use Rattle.std.specs.BTreeMap.{get}
 use Rattle.std.specs.Option.{option_to_list}
 use Rattle.simplex_base.specs.Positions.{Round}
+use Rattle.simplex_scheme.specs.declared.kind.VoteKind.{VoteKind}
 use Rattle.simplex_scheme.specs.Subject.{SubjectValue}
 use Rattle.simplex_scheme.specs.declared.scheme.Attestation.{Attestation}
-use Rattle.simplex_votes.specs.Votes.{SignedVote, Sort}
+use Rattle.simplex_votes.specs.Votes.{SignedVote}
 use Rattle.simplex_evidence.specs.Contents.{ContentsValue, contents_round, contents_votes, contents_certificate}
 use Rattle.simplex_evidence.specs.Contradiction.{Equivocation}
 use Rattle.simplex_evidence.specs.declared.types.activity.Activity.{Activity}
@@ -30,7 +31,7 @@ module _ {S D C P G : Type 0} (rules : Rules S D C P G) (messages : List (Activi
 
   -- nothing is to be recorded of a round
   pub record RecallsNothing (round : Round) : Type 0 where
-    pub votes : (signer : ℕ) (sort : Sort) → no_slot ≡ slot_of rules.eq (valid_votes rules messages) sort round signer
+    pub votes : (signer : ℕ) (kind : VoteKind) → no_slot ≡ slot_of rules.eq (valid_votes rules messages) kind round signer
     pub subjects : RecordsFirsts rules.eq (certified_subjects rules messages) round nothing_certified
 
   -- the state of a round, if it has one

@@ -3,7 +3,7 @@ use Rattle.std.specs.Prelude.{◌≡◌, Bool, List, map, Option, Some, None, Al
 use Rattle.std.specs.List.{find}
 use Rattle.std.specs.List.Sorted.{IsStrictlySortedBy}
 use Rattle.simplex_votes.specs.Votes.{SignedVote, is_at}
-use Rattle.simplex_evidence.specs.Contradiction.{EquivocationKind, Equivocation, contradicts, first_sort}
+use Rattle.simplex_evidence.specs.Contradiction.{EquivocationKind, Equivocation, contradicts, first_kind}
 use Rattle.simplex_detector.specs.Accusation.{Accusation, is_accused, accused_by, accused_cmp}
 
 -- the evidence of a vote and another, if there is one
@@ -18,9 +18,9 @@ abbrev pub with_first : {D G : Type 0} → (D → D → Bool) → List (SignedVo
 with_first eq vs kind None = None
 with_first eq vs kind (Some v) = with_second kind v (find (contradicts eq kind v) vs)
 
--- the evidence of an accusation: the signer's earliest vote of the kind's first sort, and the earliest that contradicts it
+-- the evidence of an accusation: the signer's earliest vote of the first of its two kinds, and the earliest that contradicts it
 abbrev pub evidence_of : {D G : Type 0} → (D → D → Bool) → List (SignedVote D G) → Accusation → Option (Equivocation D G)
-evidence_of eq vs n = with_first eq vs n.kind (find (is_at (first_sort n.kind) n.round n.signer) vs)
+evidence_of eq vs n = with_first eq vs n.kind (find (is_at (first_kind n.kind) n.round n.signer) vs)
 
 -- es is the evidence of the votes: in order, each the evidence of its accusation, and nobody accused left out
 pub record IsEvidence {D G : Type 0} (eq : D → D → Bool) (vs : List (SignedVote D G))

@@ -1,11 +1,13 @@
--- Which certified subjects are recorded: the first certified subject of each round and sort, and which rounds
+-- Which certified subjects are recorded: the first certified subject of each round and kind, and which rounds
 -- are split.
 use Rattle.std.specs.Prelude.{◌≡◌, Bool, false, not, ◌&&◌, ◌||◌, List, Option, Some, None, option_map, if◌then◌else◌}
 use Rattle.std.specs.List.{find, filter_map, list_any}
 use Rattle.std.specs.Option.{is_none, option_or}
 use Rattle.simplex_base.specs.Positions.{Round, same_round}
+use Rattle.simplex_scheme.specs.declared.kind.VoteKind.{VoteKind}
+use Rattle.simplex_scheme.specs.declared.kind.VoteKind.TheVariants as kinds
+use Rattle.simplex_scheme.specs.Kind.{kind_of, same_kind}
 use Rattle.simplex_scheme.specs.Subject.{SubjectValue, Notarizes, Nullifies, Finalizes, round_of}
-use Rattle.simplex_votes.specs.Votes.{Sort, Notarizing, Nullifying, Finalizing, sort_of, same_sort}
 use Rattle.simplex_evidence.specs.declared.types.activity.Activity.{Activity}
 use Rattle.simplex_evidence.specs.Contradiction.{excludes}
 use Rattle.simplex_detector.specs.Certificates.{subjects_contradict}
@@ -22,42 +24,43 @@ abbrev pub are_split : {D : Type 0} → (D → D → Bool) → List (SubjectValu
 are_split eq subjects round =
     list_any (λ x. same_round (round_of x) round && list_any (subjects_contradict eq x) subjects) subjects
 
--- the first of the subjects of this round and sort
-abbrev pub first_certified : {D : Type 0} → List (SubjectValue D) → Round → Sort → Option (SubjectValue D)
-first_certified subjects round sort = find (λ x. same_sort (sort_of x) sort && same_round (round_of x) round) subjects
+-- the first of the subjects of this round and kind
+abbrev pub first_certified : {D : Type 0} → List (SubjectValue D) → Round → VoteKind → Option (SubjectValue D)
+first_certified subjects round kind = find (λ x. same_kind (kind_of x) kind && same_round (round_of x) round) subjects
 
 -- whether a subject excludes an earlier one, if there is one
 abbrev pub excludes_first : {D : Type 0} → (D → D → Bool) → Option (SubjectValue D) → SubjectValue D → Bool
 excludes_first eq None y = false
 excludes_first eq (Some x) y = excludes eq x y
 
--- whether a subject excludes the first of some sort
-abbrev pub excludes_some : {D : Type 0} → (D → D → Bool) → (Sort → Option (SubjectValue D)) → SubjectValue D → Bool
+-- whether a subject excludes the first of some kind
+abbrev pub excludes_some : {D : Type 0} → (D → D → Bool) → (VoteKind → Option (SubjectValue D)) → SubjectValue D → Bool
 excludes_some eq first y =
-    excludes_first eq (first Notarizing) y || (excludes_first eq (first Nullifying) y || excludes_first eq (first Finalizing) y)
+    excludes_first eq (first kinds.Notarize) y
+    || (excludes_first eq (first kinds.Nullify) y || excludes_first eq (first kinds.Finalize) y)
 
 -- nothing is certified
 abbrev pub nothing_certified : {D : Type 0} → CertifiedSubjects D
 nothing_certified = record { notarized = None; nullified = None; finalized = None; split = false }
 
--- the recorded first certified subject of each sort
-abbrev pub firsts_of : {D : Type 0} → CertifiedSubjects D → Sort → Option (SubjectValue D)
-firsts_of recorded Notarizing = option_map Notarizes recorded.notarized
-firsts_of recorded Nullifying = option_map Nullifies recorded.nullified
-firsts_of recorded Finalizing = option_map Finalizes recorded.finalized
+-- the recorded first certified subject of each kind
+abbrev pub firsts_of : {D : Type 0} → CertifiedSubjects D → VoteKind → Option (SubjectValue D)
+firsts_of recorded kinds.Notarize = option_map Notarizes recorded.notarized
+firsts_of recorded kinds.Nullify = option_map Nullifies recorded.nullified
+firsts_of recorded kinds.Finalize = option_map Finalizes recorded.finalized
 
 -- the record of a round is determined by the subjects certified so far: whether they split it, and until they do, the first
--- of each sort
+-- of each kind
 pub record RecordsFirsts {D : Type 0} (eq : D → D → Bool) (subjects : List (SubjectValue D)) (round : Round)
     (recorded : CertifiedSubjects D) : Type 0 where
   pub split : recorded.split ≡ are_split eq subjects round
-  pub firsts : recorded.split ≡ false → (sort : Sort) → firsts_of recorded sort ≡ first_certified subjects round sort
+  pub firsts : recorded.split ≡ false → (kind : VoteKind) → firsts_of recorded kind ≡ first_certified subjects round kind
 
--- the first of a sort, after one more subject
-abbrev pub first_with : {D : Type 0} → SubjectValue D → Sort → Option (SubjectValue D) → Option (SubjectValue D)
-first_with y sort first = if same_sort (sort_of y) sort then option_or first (Some y) else first
+-- the first of a kind, after one more subject
+abbrev pub first_with : {D : Type 0} → SubjectValue D → VoteKind → Option (SubjectValue D) → Option (SubjectValue D)
+first_with y kind first = if same_kind (kind_of y) kind then option_or first (Some y) else first
 
 -- whether one more certified subject changes what is recorded of its round: the round is not split, and the subject is the
--- first of its sort or splits it
-abbrev pub changes_firsts : {D : Type 0} → (D → D → Bool) → (Sort → Option (SubjectValue D)) → Bool → SubjectValue D → Bool
-changes_firsts eq first split y = not split && (is_none (first (sort_of y)) || excludes_some eq first y)
+-- first of its kind or splits it
+abbrev pub changes_firsts : {D : Type 0} → (D → D → Bool) → (VoteKind → Option (SubjectValue D)) → Bool → SubjectValue D → Bool
+changes_firsts eq first split y = not split && (is_none (first (kind_of y)) || excludes_some eq first y)

@@ -4,7 +4,10 @@ use Rattle.std.specs.Option.{is_some, option_to_list}
 use Rattle.std.specs.List.Sorted.{IsStrictlySortedBy}
 use Rattle.std.specs.Ordering.{nat_cmp}
 use Rattle.simplex_base.specs.Positions.{Round}
-use Rattle.simplex_votes.specs.Votes.{SignedVote, Sort, Notarizing, Nullifying, Finalizing, sort_of, same_sort, notarize_vote, nullify_vote, finalize_vote}
+use Rattle.simplex_scheme.specs.declared.kind.VoteKind.{VoteKind}
+use Rattle.simplex_scheme.specs.declared.kind.VoteKind.TheVariants as kinds
+use Rattle.simplex_scheme.specs.Kind.{kind_of, same_kind}
+use Rattle.simplex_votes.specs.Votes.{SignedVote, notarize_vote, nullify_vote, finalize_vote}
 use Rattle.simplex_evidence.specs.Contradiction.{EquivocationKind, Conflicting_notarize, Conflicting_finalize, Nullify_finalize, Equivocation, contradicts}
 use Rattle.simplex_evidence.specs.VoteMap.{item_of}
 use Rattle.simplex_detector.specs.VotePairs.{pairs_count}
@@ -24,13 +27,13 @@ slot_in signer_of vote_of pairs signer = record {
 }
 
 -- the slots of a signer
-abbrev pub slots : {S D P G : Type 0} → RoundVotes S D P G → ℕ → Sort → Slot D G
-slots recorded signer Notarizing = slot_in (λ v. v.attestation.signer) notarize_vote recorded.notarizes signer
-slots recorded signer Nullifying = record {
+abbrev pub slots : {S D P G : Type 0} → RoundVotes S D P G → ℕ → VoteKind → Slot D G
+slots recorded signer kinds.Notarize = slot_in (λ v. v.attestation.signer) notarize_vote recorded.notarizes signer
+slots recorded signer kinds.Nullify = record {
   earliest = option_map nullify_vote (item_of (λ v. v.attestation.signer) recorded.nullifies.items signer);
   other = None;
 }
-slots recorded signer Finalizing = slot_in (λ v. v.attestation.signer) finalize_vote recorded.finalizes signer
+slots recorded signer kinds.Finalize = slot_in (λ v. v.attestation.signer) finalize_vote recorded.finalizes signer
 
 -- how many votes there are
 abbrev pub round_count : {S D P G : Type 0} → RoundVotes S D P G → ℕ
@@ -44,27 +47,27 @@ pub record IsSized {S D P G : Type 0} (n : ℕ) (recorded : RoundVotes S D P G) 
   pub finalizes : recorded.finalizes.firsts.participants ≡ n
   pub other_finalizes : recorded.finalizes.others.participants ≡ n
 
--- whether a vote is of a sort and a signer
-abbrev pub is_for : {D G : Type 0} → SignedVote D G → ℕ → Sort → Bool
-is_for v signer sort = same_sort (sort_of v.subject) sort && (v.signer == signer)
+-- whether a vote is of a kind and a signer
+abbrev pub is_for : {D G : Type 0} → SignedVote D G → ℕ → VoteKind → Bool
+is_for v signer kind = same_kind (kind_of v.subject) kind && (v.signer == signer)
 
 -- a participant's vote that is news changes its slot, and there is one vote more
 pub record TakesVote {S D P G : Type 0} (eq : D → D → Bool) (v : SignedVote D G)
     (before after : RoundVotes S D P G) : Type 0 where
   pub sized : (n : ℕ) → IsSized n before → IsSized n after
   pub taken : (n : ℕ) → IsSized n before → v.signer < n → IsTrue (changes eq
-      (slots before v.signer (sort_of v.subject)).earliest (slots before v.signer (sort_of v.subject)).other v.subject) →
-      (signer : ℕ) (sort : Sort) → slots after signer sort
-      ≡ (if is_for v signer sort then slot_with eq v (slots before signer sort) else slots before signer sort)
-  pub more : (n : ℕ) → IsSized n before → v.signer < n → IsTrue (changes eq (slots before v.signer (sort_of v.subject)).earliest
-      (slots before v.signer (sort_of v.subject)).other v.subject) →
+      (slots before v.signer (kind_of v.subject)).earliest (slots before v.signer (kind_of v.subject)).other v.subject) →
+      (signer : ℕ) (kind : VoteKind) → slots after signer kind
+      ≡ (if is_for v signer kind then slot_with eq v (slots before signer kind) else slots before signer kind)
+  pub more : (n : ℕ) → IsSized n before → v.signer < n → IsTrue (changes eq (slots before v.signer (kind_of v.subject)).earliest
+      (slots before v.signer (kind_of v.subject)).other v.subject) →
       round_count after ≡ round_count before + 1
 
 -- of a round whose committee has n participants exactly the votes are recorded that `vs` has in the slots of that round
 pub record HoldsRound {S D P G : Type 0} (eq : D → D → Bool) (n : ℕ) (vs : List (SignedVote D G)) (round : Round)
     (recorded : RoundVotes S D P G) : Type 0 where
   pub sized : IsSized n recorded
-  pub held : (signer : ℕ) (sort : Sort) → slots recorded signer sort ≡ slot_of eq vs sort round signer
+  pub held : (signer : ℕ) (kind : VoteKind) → slots recorded signer kind ≡ slot_of eq vs kind round signer
   pub counted : round_count recorded ≡ recorded_in eq vs round
 
 -- ---- the evidence in what is recorded
@@ -75,11 +78,12 @@ if_contradicts eq None = None
 if_contradicts eq (Some e) = if contradicts eq e.kind e.first e.second then Some e else None
 
 -- the evidence of one kind in the slots of a signer
-abbrev pub found_of_kind : {D G : Type 0} → (D → D → Bool) → (Sort → Slot D G) → EquivocationKind → Option (Equivocation D G)
+abbrev pub found_of_kind : {D G : Type 0} → (D → D → Bool) → (VoteKind → Slot D G) → EquivocationKind →
+    Option (Equivocation D G)
 found_of_kind eq slot kind = if_contradicts eq (evidence_from slot kind)
 
 -- the evidence in the slots of a signer, by kind
-abbrev pub found_at : {D G : Type 0} → (D → D → Bool) → (Sort → Slot D G) → List (Equivocation D G)
+abbrev pub found_at : {D G : Type 0} → (D → D → Bool) → (VoteKind → Slot D G) → List (Equivocation D G)
 found_at eq slot =
     option_to_list (found_of_kind eq slot Conflicting_notarize) ++
     (option_to_list (found_of_kind eq slot Conflicting_finalize) ++

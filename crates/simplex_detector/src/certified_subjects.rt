@@ -2,8 +2,9 @@
 
 ghost use Rattle.std.specs.Prelude.{◌≡◌, ◌↔◌, ◌&&◌, ◌||◌, ◌++◌, List, [], ◌∷◌, IsTrue, option_map, if◌then◌else◌};
 ghost use Rattle.std.specs.Option.{is_some};
+ghost use Rattle.simplex_scheme.specs.declared.kind.VoteKind.{VoteKind};
+ghost use Rattle.simplex_scheme.specs.Kind.{kind_of};
 ghost use Rattle.simplex_scheme.specs.Subject.{SubjectValue, Notarizes, subject_value, round_of};
-ghost use Rattle.simplex_votes.specs.Votes.{Sort, sort_of};
 ghost use Rattle.simplex_detector.specs.Judging.{certified_under};
 ghost use Rattle.simplex_detector.specs.FirstCertified.{nothing_certified, RecordsFirsts, firsts_of, first_with, changes_firsts, excludes_first, excludes_some};
 
@@ -11,7 +12,7 @@ use crate::judge::{Judge, Signatures};
 use simplex_base::positions::Round;
 use simplex_scheme::scheme::{CertificateVerifier, Digest, Proposal, Subject};
 
-/// The first certified subject of each sort in a round, until two contradict, and whether two do.
+/// The first certified subject of each kind in a round, until two contradict, and whether two do.
 #[derive(Drop)]
 pub struct CertifiedSubjects<D> {
     notarized: Option<Proposal<D>>,
@@ -42,7 +43,7 @@ impl<D: Digest> CertifiedSubjects<D> {
     }
 
     /// Takes in a certificate of a subject of the round. It is verified only where that can change what is recorded: the round
-    /// is not known to be split, and the subject is the first of its sort or contradicts a recorded one. If it was found to
+    /// is not known to be split, and the subject is the first of its kind or contradicts a recorded one. If it was found to
     /// certify the subject, the signatures that it lists are verified by that.
     pub fn observe<S: CertificateVerifier<D>>(
         &mut self,
@@ -82,9 +83,9 @@ impl<D: Digest> CertifiedSubjects<D> {
         !self.split && (!self.has_first(subject) || self.excludes(subject))
     }
 
-    /// Whether a subject of the same sort is recorded.
+    /// Whether a subject of the same kind is recorded.
     fn has_first(&self, subject: &Subject<'_, D>) -> bool
-        ensures { result ≡ is_some (firsts_of self.now (sort_of (subject_value subject.now))) }
+        ensures { result ≡ is_some (firsts_of self.now (kind_of (subject_value subject.now))) }
     {
         match subject {
             Subject::Notarize { .. } => self.notarized.is_some(),
@@ -106,11 +107,11 @@ impl<D: Digest> CertifiedSubjects<D> {
         }
     }
 
-    /// Records a certified subject of the round if it is the first of its sort, and whether the round is split now.
+    /// Records a certified subject of the round if it is the first of its kind, and whether the round is split now.
     fn set_first(&mut self, subject: &Subject<'_, D>)
-        ensures firsts { (sort : Sort) →
-            firsts_of self.new sort ≡
-            first_with (subject_value subject.now) sort (firsts_of self.old sort) }
+        ensures firsts { (kind : VoteKind) →
+            firsts_of self.new kind ≡
+            first_with (subject_value subject.now) kind (firsts_of self.old kind) }
         ensures split { self.new.split ≡
             (self.old.split || excludes_some D.eq (firsts_of self.old)
             (subject_value subject.now)) }

@@ -112,7 +112,7 @@ impl<S: Listing<D>, D: Digest> Detector<S, D> {
         Ok(splits)
     }
 
-    /// How many valid votes of the messages so far are recorded: for each signer and round the earliest of each sort, and of
+    /// How many valid votes of the messages so far are recorded: for each signer and round the earliest of each kind, and of
     /// notarizes and finalizes also the earliest with another proposal. The number stops at 2^64 - 1.
     pub fn votes(&self) -> usize
         ensures { CountsVotes ⟦<S as Judges<D>>⟧.rules_under self.now result }

@@ -94,7 +94,7 @@ pub fn splits_are_determined<S: CertificateScheme, D: Digest>()
         AreLawful rules → AreSplits rules messages splits → SplitsHaveAccused splits }
 {}
 
-/// The recorded votes are, for each round, signer and sort, the earliest and, nullifies aside, the earliest with another
+/// The recorded votes are, for each round, signer and kind, the earliest and, nullifies aside, the earliest with another
 /// proposal: at most five of a signer in a round.
 pub fn few_votes_are_recorded<S: CertificateScheme, D: Digest>()
     ensures slots { (vs : List (SignedVote D S.Signature)) → RecordedAreSlots D.eq vs }

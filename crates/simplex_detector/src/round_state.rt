@@ -1,8 +1,9 @@
 //! The state of one round: its votes and its certified subjects.
 
 ghost use Rattle.std.specs.Prelude.{◌≡◌, ◌↔◌, [], ◌∷◌, None, Some, ℕ, map, OnOk, IsTrue};
+ghost use Rattle.simplex_scheme.specs.declared.kind.VoteKind.{VoteKind};
 ghost use Rattle.simplex_scheme.specs.Subject.{subject_value, round_of};
-ghost use Rattle.simplex_votes.specs.Votes.{Sort, vote_on};
+ghost use Rattle.simplex_votes.specs.Votes.{vote_on};
 ghost use Rattle.simplex_evidence.specs.Contents.{AreInConflict, contents_value, signed_value};
 ghost use Rattle.simplex_detector.specs.Rounds.{round_count, IsSized, slots, no_slot};
 ghost use Rattle.simplex_detector.specs.FirstCertified.{nothing_certified};
@@ -32,7 +33,7 @@ impl<S: SchemeTypes, D: Digest> RoundState<S, D> {
     /// The empty state of a round whose committee has this many participants.
     pub fn new(alloc: Global, participants: usize) -> Self
         ensures sized { IsSized participants result.votes }
-        ensures empty { (signer : ℕ) (sort : Sort) → slots result.votes signer sort ≡ no_slot }
+        ensures empty { (signer : ℕ) (kind : VoteKind) → slots result.votes signer kind ≡ no_slot }
         ensures none { round_count result.votes ≡ 0 }
         ensures certified { result.certified ≡ nothing_certified }
     {
@@ -44,8 +45,8 @@ impl<S: SchemeTypes, D: Digest> RoundState<S, D> {
 
     /// Whether nothing is recorded.
     pub fn is_empty(&self) -> bool
-        ensures votes { IsTrue result → (signer : ℕ) (sort : Sort) →
-            slots self.now.votes signer sort ≡ no_slot }
+        ensures votes { IsTrue result → (signer : ℕ) (kind : VoteKind) →
+            slots self.now.votes signer kind ≡ no_slot }
         ensures certified { IsTrue result → self.now.certified ≡ nothing_certified }
         ensures exactly { IsTrue result ↔ (round_count self.now.votes ≡ 0) ×
             (self.now.certified ≡ nothing_certified) }

@@ -3,8 +3,10 @@
 ghost use Rattle.std.specs.Prelude.{◌≡◌, ◌↔◌, ◌-◌, ◌^◌, min, List, [], ◌∷◌, ◌++◌, ℕ, true, count_by, map, filter, length, option_map, All, IfOk, OnOk, IsTrue};
 ghost use Rattle.std.specs.List.{flat_map, range_with_len};
 ghost use Rattle.std.specs.Option.{option_to_list};
+ghost use Rattle.simplex_scheme.specs.declared.kind.VoteKind.{VoteKind};
+ghost use Rattle.simplex_scheme.specs.Kind.{kind_of};
 ghost use Rattle.simplex_scheme.specs.Subject.{subject_value, round_of};
-ghost use Rattle.simplex_votes.specs.Votes.{SignedVote, Sort, sort_of, vote_on};
+ghost use Rattle.simplex_votes.specs.Votes.{SignedVote, vote_on};
 ghost use Rattle.simplex_evidence.specs.Contradiction.{Conflicting_notarize, Conflicting_finalize, Nullify_finalize};
 ghost use Rattle.simplex_detector.specs.Judging.{valid_under};
 ghost use Rattle.simplex_detector.specs.Recorded.{changes};
@@ -34,7 +36,7 @@ impl<S: SchemeTypes, D: Digest> RoundVotes<S, D> {
     /// The empty state of a round whose committee has this many participants.
     pub fn new(alloc: Global, participants: usize) -> Self
         ensures sized { IsSized participants result }
-        ensures empty { (signer : ℕ) (sort : Sort) → slots result signer sort ≡ no_slot }
+        ensures empty { (signer : ℕ) (kind : VoteKind) → slots result signer kind ≡ no_slot }
         ensures none { round_count result ≡ 0 }
     {
         RoundVotes {
@@ -46,8 +48,8 @@ impl<S: SchemeTypes, D: Digest> RoundVotes<S, D> {
 
     /// Whether nothing is recorded.
     pub fn is_empty(&self) -> bool
-        ensures slots { IsTrue result → (signer : ℕ) (sort : Sort) →
-            slots self.now signer sort ≡ no_slot }
+        ensures slots { IsTrue result → (signer : ℕ) (kind : VoteKind) →
+            slots self.now signer kind ≡ no_slot }
         ensures count { IsTrue result ↔ (round_count self.now ≡ 0) }
     {
         self.notarizes.is_empty() && self.nullifies.is_empty() && self.finalizes.is_empty()
@@ -61,11 +63,11 @@ impl<S: SchemeTypes, D: Digest> RoundVotes<S, D> {
         self.notarizes.votes().saturating_add(others)
     }
 
-    /// Whether a vote is news: it is the signer's first of its sort, or the first with another proposal.
+    /// Whether a vote is news: it is the signer's first of its kind, or the first with another proposal.
     fn is_news(&self, subject: &Subject<'_, D>, signer: Participant) -> bool
         ensures { result ≡ changes D.eq
-            (slots self.now signer (sort_of (subject_value subject.now))).earliest
-            (slots self.now signer (sort_of (subject_value subject.now))).other
+            (slots self.now signer (kind_of (subject_value subject.now))).earliest
+            (slots self.now signer (kind_of (subject_value subject.now))).other
             (subject_value subject.now) }
     {
         match subject {
