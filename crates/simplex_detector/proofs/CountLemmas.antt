@@ -149,7 +149,7 @@ accused_by_slots eq l size vs round recorded holds signer = λ i.
         ≡ is_accused eq vs (record { round = round; signer = signer; kind = kind })
     of_kind kind =
         let n : Accusation = record { round = round; signer = signer; kind = kind } in
-        ap is_some ((λ i. evidence_from (λ sort. holds.held signer sort i) kind) ∙ sym (evidence_of-slots eq vs n))
+        ap is_some ((λ i. evidence_from (λ one. holds.held signer one i) kind) ∙ sym (evidence_of-slots eq vs n))
         ∙ evidence_exists eq vs l n
 
 -- ---- the split of a round

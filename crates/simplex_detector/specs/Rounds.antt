@@ -90,7 +90,7 @@ found_at eq slot =
     option_to_list (found_of_kind eq slot Nullify_finalize))
 
 -- whether the slots of a signer accuse it, for any kind of contradiction
-abbrev pub accuses : {D G : Type 0} → (Sort → Slot D G) → Bool
+abbrev pub accuses : {D G : Type 0} → (VoteKind → Slot D G) → Bool
 accuses slot =
     is_some (evidence_from slot Conflicting_notarize) ||
     (is_some (evidence_from slot Conflicting_finalize) || is_some (evidence_from slot Nullify_finalize))
