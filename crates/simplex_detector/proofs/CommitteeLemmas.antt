@@ -179,6 +179,7 @@ certified_by_scheme certified (Suspects suspects) s x certificate h =
 abbrev pub known_if : Bool → Signatures
 known_if verified = if verified then signatures.Verified else signatures.Unverified
 
-pub when_known : (verified : Bool) (given : Signatures) → given ≡ known_if verified → given ≡ signatures.Verified → verified ≡ true
+pub when_known : (verified : Bool) (given : Signatures) → given ≡ known_if verified → given ≡ signatures.Verified →
+    verified ≡ true
 when_known true given is known = refl
 when_known false given is known = absurd cc

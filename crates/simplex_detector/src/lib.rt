@@ -2,9 +2,9 @@
 //! others of their signer and the certified subjects, and it reports the evidence and the splits.
 //!
 //! Crates above rest on [`detector::Detector`], which records messages and reports; on [`committees::Committees`], which
-//! says who judges an epoch; on [`judging::Judging`], which says how strictly, and [`judge::Judge`]; on the reported [`evidence::Evidence`] and
-//! [`split::Split`]; and on [`laws`], which hold of all messages. [`rules::Judges`] gives contracts the rules by which
-//! messages are judged.
+//! says who judges an epoch; on [`judging::Judging`], which says how strictly, and on [`judge::Judge`], which does; on the
+//! reported [`evidence::Evidence`] and [`split::Split`]; and on [`laws`], which hold of all messages. [`rules::Judges`]
+//! gives contracts the rules by which messages are judged.
 #![tactic(auto)]
 
 mod boxed_map;

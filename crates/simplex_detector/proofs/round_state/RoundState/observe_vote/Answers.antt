@@ -6,5 +6,6 @@ pub returns : goal.returns
 returns g c =
     on_ok_weaker c.observe.result (takes_vote g.D.PartialEq.eq g.S.CertificateScheme.keys
     (valid_under g.S.CertificateScheme.keys g.S.Scheme.good c.args.judge.now.judging.now)
-    (certified_under g.S.CertificateVerifier.certified c.args.judge.now.judging.now) g.S.Listing.listed c.args.judge.now.committee.now
-    (subject_value c.args.vote.now.subject) c.args.vote.now.attestation.now c.args.self.now _ refl) c.observe.ensures
+    (certified_under g.S.CertificateVerifier.certified c.args.judge.now.judging.now) g.S.Listing.listed
+    c.args.judge.now.committee.now (subject_value c.args.vote.now.subject) c.args.vote.now.attestation.now c.args.self.now
+    _ refl) c.observe.ensures
