@@ -8,6 +8,7 @@ pub mod VarintLaws
 pub mod Sizes
 pub mod SizeLaws
 pub mod LeastSize
+pub mod LeastSizeLaws
 pub mod Positions
 pub mod PositionLaws
 pub mod Terms

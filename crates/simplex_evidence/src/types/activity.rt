@@ -1,7 +1,8 @@
 //! The union of all messages.
 
-ghost use Rattle.std.specs.Prelude.{◌≡◌, ◌+◌, ◌*◌, ◌^◌, IfOk, IfErr, IsTrue};
+ghost use Rattle.std.specs.Prelude.{◌≡◌, ◌+◌, ◌*◌, ◌^◌, ◌∷◌, IfOk, IfErr, IsTrue};
 ghost use Rattle.simplex_base.specs.Format.{format_of, format_under};
+ghost use Rattle.simplex_base.specs.LeastSize.{NoneShorter};
 
 use crate::types::conflicting_finalize::ConflictingFinalize;
 use crate::types::conflicting_notarize::ConflictingNotarize;
@@ -221,8 +222,33 @@ impl<S: CertificateScheme, D: Digest> Read for Activity<S, D> {
         read_tagged(alloc, input, bound)
     }
 
+    fn least_size(alloc: Global, bytes: &[u8], bound: &u32) -> usize {
+        match bytes {
+            [] => 0,
+            [tag, body @ ..] => size_behind::<S, D>(alloc, *tag, body, bound).saturating_add(1),
+        }
+    }
+
     ghost lawful = { λ bound.
         activity_lawful D.eq _ _ _ D.lawful (S.Certificate.lawful bound) S.Signature.lawful };
+}
+
+/// A lower bound of the sizes of the bodies that begin with these bytes, after this tag.
+fn size_behind<S: CertificateScheme, D: Digest>(
+    alloc: Global,
+    tag: u8,
+    body: &[u8],
+    bound: &u32,
+) -> usize
+    ensures { NoneShorter (⟦<Activity<S, D> as Read>⟧.fits bound.now)
+        ⟦<Activity<S, D> as Read>⟧.encoding (tag ∷ body.now) (result + 1) }
+{
+    match tag {
+        1 | 2 => Notarization::<S, D>::least_size(alloc, body, bound),
+        4 => Nullification::<S>::least_size(alloc, body, bound),
+        6 => Finalization::<S, D>::least_size(alloc, body, bound),
+        _ => body.len(),
+    }
 }
 
 impl<S: CertificateScheme, D: Digest> Tagged for Activity<S, D> {
