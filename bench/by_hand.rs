@@ -170,17 +170,17 @@ impl<'a> Reader<'a> {
         Some((self.number(32)? as u32, self.take(self.signature_bytes)?))
     }
 
-    /// What is signed: a round, and for any sort but a nullify a proposal.
-    fn subject(&mut self, sort: Sort) -> Option<Subject<'a>> {
+    /// What is signed: a round, and for any kind but a nullify a proposal.
+    fn subject(&mut self, kind: VoteKind) -> Option<Subject<'a>> {
         let start = self.rest;
         let round = (self.number(64)?, self.number(64)?);
         let mut proposal = NONE;
-        if sort != Sort::Nullify {
+        if kind != VoteKind::Nullify {
             let parent = self.number(64)?;
             proposal = Proposal { parent, payload: self.take(32)?.try_into().unwrap() };
         }
         let message = &start[..start.len() - self.rest.len()];
-        Some(Subject { sort, round, proposal, message })
+        Some(Subject { kind, round, proposal, message })
     }
 
     fn certificate(&mut self) -> Option<Vec<Attestation<'a>>> {
@@ -205,18 +205,19 @@ impl<'a> Reader<'a> {
         let tag = self.take(1)?[0];
         Some(match tag {
             0 | 3 | 5 => {
-                let subject = self.subject([Sort::Notarize, Sort::Nullify, Sort::Finalize][tag as usize / 2])?;
+                let subject = self.subject([VoteKind::Notarize, VoteKind::Nullify, VoteKind::Finalize][tag as usize / 2])?;
                 Message::Vote(subject, self.attestation()?)
             }
             1 | 2 | 4 | 6 => {
-                let subject = self.subject([Sort::Notarize, Sort::Notarize, Sort::Nullify, Sort::Finalize][tag as usize / 2])?;
+                let kinds = [VoteKind::Notarize, VoteKind::Notarize, VoteKind::Nullify, VoteKind::Finalize];
+                let subject = self.subject(kinds[tag as usize / 2])?;
                 Message::Certificate(subject, self.certificate()?)
             }
             7 | 8 | 9 => {
                 let (one, other) = match tag {
-                    7 => (Sort::Notarize, Sort::Notarize),
-                    8 => (Sort::Finalize, Sort::Finalize),
-                    _ => (Sort::Nullify, Sort::Finalize),
+                    7 => (VoteKind::Notarize, VoteKind::Notarize),
+                    8 => (VoteKind::Finalize, VoteKind::Finalize),
+                    _ => (VoteKind::Nullify, VoteKind::Finalize),
                 };
                 let first = (self.subject(one)?, self.attestation()?);
                 let second = (self.subject(other)?, self.attestation()?);
@@ -249,7 +250,7 @@ pub type Attestation<'a> = (u32, &'a [u8]);
 pub type Round = (u64, u64);
 
 #[derive(Clone, Copy, PartialEq)]
-pub enum Sort {
+pub enum VoteKind {
     Notarize,
     Nullify,
     Finalize,
@@ -266,7 +267,7 @@ const NONE: Proposal = Proposal { parent: 0, payload: [0; 32] };
 
 #[derive(Clone, Copy)]
 pub struct Subject<'a> {
-    pub sort: Sort,
+    pub kind: VoteKind,
     pub round: Round,
     pub proposal: Proposal,
     pub message: &'a [u8],
@@ -277,7 +278,7 @@ struct Kept {
     other: Option<Proposal>,
 }
 
-/// The earliest votes of one sort by signer, and the earliest with another proposal.
+/// The earliest votes of one kind by signer, and the earliest with another proposal.
 #[derive(Default)]
 struct Votes(BTreeMap<u32, Kept>);
 
@@ -301,7 +302,7 @@ impl Votes {
     }
 }
 
-/// What is kept of a round, each by sort: votes, and the first proposal that is certified.
+/// What is kept of a round, each by kind: votes, and the first proposal that is certified.
 #[derive(Default)]
 struct Tally {
     votes: [Votes; 3],
@@ -311,17 +312,17 @@ struct Tally {
 
 impl Tally {
     fn is_news(&self, subject: &Subject) -> bool {
-        !self.is_split && self.certified[subject.sort as usize] != Some(subject.proposal)
+        !self.is_split && self.certified[subject.kind as usize] != Some(subject.proposal)
     }
 
     fn certify(&mut self, subject: &Subject) {
         let [_, nullified, finalized] = &self.certified;
-        self.is_split |= match subject.sort {
-            Sort::Notarize => false,
-            Sort::Nullify => finalized.is_some(),
-            Sort::Finalize => nullified.is_some(),
+        self.is_split |= match subject.kind {
+            VoteKind::Notarize => false,
+            VoteKind::Nullify => finalized.is_some(),
+            VoteKind::Finalize => nullified.is_some(),
         };
-        let first = self.certified[subject.sort as usize].get_or_insert(subject.proposal);
+        let first = self.certified[subject.kind as usize].get_or_insert(subject.proposal);
         self.is_split |= *first != subject.proposal;
     }
 }
@@ -343,7 +344,7 @@ pub trait Scheme {
     }
 }
 
-/// A committee under the plain scheme: the namespaces of the sorts, each with its length before it, and the keys.
+/// A committee under the plain scheme: the namespaces of the kinds, each with its length before it, and the keys.
 pub struct Plain {
     names: [Vec<u8>; 3],
     keys: Vec<[u8; 32]>,
@@ -362,7 +363,7 @@ impl Scheme for Plain {
         let Some(key) = self.keys.get(signer as usize) else {
             return false;
         };
-        let name = &self.names[subject.sort as usize];
+        let name = &self.names[subject.kind as usize];
         hashed.clear();
         hashed.extend_from_slice(name);
         hashed.extend_from_slice(key);
@@ -415,7 +416,7 @@ impl<S: Scheme> Auditor<S> {
         let Some(committee) = self.committees.get(subject.round.0) else {
             return;
         };
-        let votes = &mut self.rounds.entry(subject.round).or_default().votes[subject.sort as usize];
+        let votes = &mut self.rounds.entry(subject.round).or_default().votes[subject.kind as usize];
         let signer = attestation.0;
         if votes.is_news(signer, subject.proposal) && committee.is_good(&mut self.hashed, subject, attestation) {
             votes.keep(signer, subject.proposal);
@@ -430,11 +431,11 @@ impl<S: Scheme> Auditor<S> {
         if tally.is_news(subject) && committee.is_certified(&mut self.hashed, subject, listed) {
             tally.certify(subject);
             for (signer, _) in listed {
-                tally.votes[subject.sort as usize].keep(*signer, subject.proposal);
+                tally.votes[subject.kind as usize].keep(*signer, subject.proposal);
             }
             return;
         }
-        let votes = &mut tally.votes[subject.sort as usize];
+        let votes = &mut tally.votes[subject.kind as usize];
         for attestation in listed {
             if votes.is_news(attestation.0, subject.proposal) && committee.is_good(&mut self.hashed, subject, *attestation) {
                 votes.keep(attestation.0, subject.proposal);

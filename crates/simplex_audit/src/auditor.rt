@@ -24,7 +24,7 @@ use simplex_scheme::scheme::{Digest, Listing, SchemeTypes};
 use std::alloc::{AllocError, Global};
 
 /// Audits a stream that comes in pieces. It holds the bytes after the last whole message, at most five votes of each signer in
-/// a round, those that evidence can consist of, and for each round the first certified subject of each sort until two
+/// a round, those that evidence can consist of, and for each round the first certified subject of each kind until two
 /// contradict. It does not hold the stream.
 #[derive(Drop)]
 pub struct Auditor<'a, S: SchemeTypes, D: Digest> {
@@ -285,7 +285,7 @@ impl<'a, S: Listing<D>, D: Digest> Auditor<'a, S, D> {
         self.taken.rest.as_slice()
     }
 
-    /// How many valid votes of the stream's messages are recorded: for each signer and round the earliest of each sort, and of
+    /// How many valid votes of the stream's messages are recorded: for each signer and round the earliest of each kind, and of
     /// notarizes and finalizes also the earliest with another proposal, so at most five. The number stops at 2^64 - 1, which it
     /// can reach only where certificates list more attestations than they have bytes.
     pub fn votes(&self) -> usize
@@ -304,7 +304,7 @@ impl<'a, S: Listing<D>, D: Digest> Auditor<'a, S, D> {
             AreMessages (⟦<S as Audited<D>>⟧.basis committees).format stream messages rest →
             result ≡ votes_recorded D.eq
             (valid_votes (⟦<S as Audited<D>>⟧.basis committees).rules messages) }
-        // The recorded votes are the earliest of each sort and the earliest with another proposal,
+        // The recorded votes are the earliest of each kind and the earliest with another proposal,
         ensures slots { (committees : Schedule S)
             (messages : List (Activity S D S.Certificate S.PublicKey S.Signature)) →
             RecordedAreSlots D.eq (valid_votes (⟦<S as Audited<D>>⟧.basis committees).rules
