@@ -289,7 +289,8 @@ pub reads_number : (k top : ℕ) → top ≤ 128 → 2 ≤ top → (r : Result �
     Gives false r old new (number_at (suc k) top old) → ReadsNumber (top * 128 ^ suc k) r old new
 reads_number k top t t' (Ok n) old new fit g = let b = (right_of k top old (Ok (n, new)) t t' fit g).1 in record {
   taken = b;
-  again = λ m rest c. let e : ◌≡◌ {A = Reading ℕ} (Ok (n, new)) (Ok (m, rest)) = sym g ∙ begun k top old m rest t c in same_read e;
+  again = λ m rest c.
+      let e : ◌≡◌ {A = Reading ℕ} (Ok (n, new)) (Ok (m, rest)) = sym g ∙ begun k top old m rest t c in same_read e;
   refused = tt;
   ends = λ e. absurd cc;
   cut_off = λ c. let e = sym g ∙ number_ended old k top t c in absurd cc;
