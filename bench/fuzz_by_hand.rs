@@ -6,8 +6,8 @@
 mod by_hand;
 
 use super::calls::{Committees, Report};
-use super::exports::{Record, Summary, Suspect};
-use by_hand::{Attestation, Auditor, Message, Plain, Reader, Round, Scheme, Sort, Subject};
+use super::exports::{Record, Summary, AttestationPlace};
+use by_hand::{Attestation, Auditor, Message, Plain, Reader, Round, Scheme, Subject, VoteKind};
 use std::collections::{BTreeMap, HashMap, HashSet};
 
 pub use by_hand::{push_number, sha256};
@@ -95,13 +95,13 @@ impl<'a> Vote<'a> {
 
     /// What two equal votes have in common.
     fn value(&self) -> (u8, &'a [u8], Attestation<'a>) {
-        (self.subject.sort as u8, self.subject.message, self.attestation)
+        (self.subject.kind as u8, self.subject.message, self.attestation)
     }
 
     fn contradicts(&self, other: &Vote) -> bool {
-        match (self.subject.sort, other.subject.sort) {
-            (Sort::Nullify, Sort::Finalize) | (Sort::Finalize, Sort::Nullify) => true,
-            (Sort::Notarize, Sort::Notarize) | (Sort::Finalize, Sort::Finalize) => {
+        match (self.subject.kind, other.subject.kind) {
+            (VoteKind::Nullify, VoteKind::Finalize) | (VoteKind::Finalize, VoteKind::Nullify) => true,
+            (VoteKind::Notarize, VoteKind::Notarize) | (VoteKind::Finalize, VoteKind::Finalize) => {
                 self.subject.message != other.subject.message
             }
             _ => false,
@@ -133,16 +133,16 @@ fn by_signer<'a>(votes: impl Iterator<Item = Vote<'a>>) -> BTreeMap<(Round, u32)
     lists
 }
 
-/// The evidence of one signer in a round: its kind, and both votes, the earliest among those that contradict.
+/// The evidence of one signer in a round: its number, and both votes, the earliest among those that contradict.
 fn evidence_of<'a>(votes: &[Vote<'a>]) -> Vec<(u32, [Vote<'a>; 2])> {
-    let first = |sort: Sort| votes.iter().find(|vote| vote.subject.sort == sort);
-    let twice = |sort: Sort| {
-        let earliest = first(sort)?;
-        votes.iter().find(|vote| vote.subject.sort == sort && vote.contradicts(earliest)).map(|other| [*earliest, *other])
+    let first = |kind: VoteKind| votes.iter().find(|vote| vote.subject.kind == kind);
+    let twice = |kind: VoteKind| {
+        let earliest = first(kind)?;
+        votes.iter().find(|vote| vote.subject.kind == kind && vote.contradicts(earliest)).map(|other| [*earliest, *other])
     };
-    let both = || Some([*first(Sort::Nullify)?, *first(Sort::Finalize)?]);
-    let kinds = [twice(Sort::Notarize), twice(Sort::Finalize), both()];
-    kinds.into_iter().zip(0..).filter_map(|(votes, kind)| Some((kind, votes?))).collect()
+    let both = || Some([*first(VoteKind::Nullify)?, *first(VoteKind::Finalize)?]);
+    let found = [twice(VoteKind::Notarize), twice(VoteKind::Finalize), both()];
+    found.into_iter().zip(0..).filter_map(|(votes, kind)| Some((kind, votes?))).collect()
 }
 
 /// The evidence of some votes, in the order of a report.
@@ -182,7 +182,7 @@ fn offset(stream: &[u8], part: &[u8]) -> usize {
 
 /// The attestations of a stream that have to be verified: those of suspects in their rounds, and of certificates of these
 /// rounds.
-pub fn suspects(of: &Committees, stream: &[u8]) -> Vec<Suspect> {
+pub fn suspects(of: &Committees, stream: &[u8]) -> Vec<AttestationPlace> {
     let Committees::Vouched { signature, .. } = of else {
         return Vec::new();
     };
@@ -194,14 +194,14 @@ pub fn suspects(of: &Committees, stream: &[u8]) -> Vec<Suspect> {
         by_signer(votes.iter().copied()).values().filter(is_suspect).map(|votes| votes[0].key()).collect();
     let rounds: HashSet<_> = suspects.iter().map(|(round, _)| *round).collect();
     votes.retain(|vote| suspects.contains(&vote.key()) || vote.is_listed && rounds.contains(&vote.subject.round));
-    let suspect = |vote: &Vote| Suspect {
+    let suspect = |vote: &Vote| AttestationPlace {
         epoch: vote.subject.round.0,
         view: vote.subject.round.1,
         verdict_place: offset(stream, vote.attestation.1) + signature,
         subject_place: offset(stream, vote.subject.message),
         subject_length: vote.subject.message.len(),
         signer: vote.attestation.0,
-        kind: vote.subject.sort as u32,
+        kind: vote.subject.kind as u32,
     };
     votes.iter().map(suspect).collect()
 }

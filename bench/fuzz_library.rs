@@ -9,7 +9,7 @@ type Read<A, B, T> =
     unsafe extern "C" fn(*const A, usize, *const B, usize, *const u8, usize, *mut T, usize, *mut Summary) -> u32;
 /// A list of suspects, whose number is written last.
 type List =
-    unsafe extern "C" fn(*const u64, usize, *const u32, usize, *const u8, usize, *mut Suspect, usize, *mut usize) -> u32;
+    unsafe extern "C" fn(*const u64, usize, *const u32, usize, *const u8, usize, *mut AttestationPlace, usize, *mut usize) -> u32;
 /// What is stored and a batch, a buffer, and the number of its bytes that is written.
 type Store<A, B> = unsafe extern "C" fn(
     *const A, usize, *const B, usize, *const u8, usize, *const u8, usize, *mut u8, usize, *mut usize,
@@ -85,13 +85,13 @@ pub fn records(committees: &Committees, stream: &[u8]) -> (Vec<Record>, Summary)
 }
 
 /// The plain scheme has no such call.
-pub fn suspects(committees: &Committees, stream: &[u8]) -> Vec<Suspect> {
+pub fn suspects(committees: &Committees, stream: &[u8]) -> Vec<AttestationPlace> {
     let Committees::Vouched { signature, epochs, sizes } = committees else {
         return Vec::new();
     };
     let calls: [List; 3] = [simplex_suspects_vouched_48, simplex_suspects_vouched_64, simplex_suspects_vouched_96];
     let call = of_size(*signature, calls);
-    let (status, suspects) = written(20, |buffer: &mut [Suspect]| {
+    let (status, suspects) = written(20, |buffer: &mut [AttestationPlace]| {
         let (epochs, epochs_length, sizes, sizes_length) = (epochs.as_ptr(), epochs.len(), sizes.as_ptr(), sizes.len());
         let (stream, length, to, room, mut needed) = (stream.as_ptr(), stream.len(), buffer.as_mut_ptr(), buffer.len(), 0);
         let status = unsafe { call(epochs, epochs_length, sizes, sizes_length, stream, length, to, room, &mut needed) };

@@ -20,8 +20,8 @@
  *   does no input or output.
  * Sizes: a number in `sizes` decides how much is allocated, so bound it if it comes from a network.
  *   A committee takes 4 bytes for each of its participants, in each call; the greatest size, 2^32 -
- *   1, takes 16 gigabytes. A round of an audit takes 8 bytes more for each of them when its first
- *   vote of a sort is recorded, at most 40 for the five sorts (docs/MEMORY.md).
+ *   1, takes 16 gigabytes. A round of an audit takes 8 bytes more for each of them with the first
+ *   vote in each of its five vote maps, so at most 40 (docs/MEMORY.md).
  *   simplex_leader_shuffled takes up to 100 bytes for each participant while it sorts them.
  *   simplex_leader and the calls of views and quorums take no memory.
  */
@@ -170,8 +170,8 @@ struct simplex_suspect {
  * namespace, the namespace, and the bytes of the subject.
  *
  * The caller writes 01 to each `verdict_place` where it verified the signature, else 00, and
- * audits. The report depends on no verdict of another attestation (tested over streams, not proved:
- * docs/BINDINGS.md, "What is proved").
+ * audits. The report depends on no verdict of another attestation (docs/BINDINGS.md, "What is
+ * proved").
  *
  * The first `*needed` records are written; those behind them are as before. The status is
  * SIMPLEX_WHOLE, SIMPLEX_ARGUMENTS, SIMPLEX_MEMORY or SIMPLEX_SHORT; where `records` is too short

@@ -39,7 +39,7 @@ class _Summary(ctypes.Structure):
     _fields_ = [(name, ctypes.c_size_t) for name in ("read", "evidence", "splits", "faulted", "fault_place", "length")]
 
 
-class _Suspect(ctypes.Structure):
+class _AttestationPlace(ctypes.Structure):
     _fields_ = [("epoch", ctypes.c_uint64), ("view", ctypes.c_uint64), ("verdict_place", ctypes.c_size_t),
                 ("subject_place", ctypes.c_size_t), ("subject_length", ctypes.c_size_t), ("signer", ctypes.c_uint32),
                 ("kind", ctypes.c_uint32)]
@@ -71,7 +71,7 @@ def _declare():
     for bytes_of in (48, 64, 96):
         calls[f"audit_vouched_{bytes_of}"] = [*numbers, *data, *buffer, out(_Summary)]
         calls[f"records_vouched_{bytes_of}"] = [*numbers, *data, out(_Record), size, out(_Summary)]
-        calls[f"suspects_vouched_{bytes_of}"] = [*numbers, *data, out(_Suspect), size, out(size)]
+        calls[f"suspects_vouched_{bytes_of}"] = [*numbers, *data, out(_AttestationPlace), size, out(size)]
         calls[f"store_vouched_{bytes_of}"] = [*numbers, *data, *data, *buffer, out(size)]
     for name, types in calls.items():
         call = getattr(_library, f"simplex_{name}")
@@ -225,7 +225,7 @@ class Committees:
 
     def _suspects(self, stream):
         """The attestations of a stream that have to be verified."""
-        return self._fill("suspects", [stream], _Suspect, self._most_votes, ctypes.c_size_t(), lambda it: it.value)
+        return self._fill("suspects", [stream], _AttestationPlace, self._most_votes, ctypes.c_size_t(), lambda it: it.value)
 
 
 Evidence = collections.namedtuple("Evidence", "epoch view signer kind line")

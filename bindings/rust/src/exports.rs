@@ -15,7 +15,7 @@ pub(crate) struct Summary {
 /// `struct simplex_suspect`.
 #[repr(C)]
 #[derive(Clone, Copy, Debug, Default, PartialEq)]
-pub(crate) struct Suspect {
+pub(crate) struct AttestationPlace {
     pub epoch: u64,
     pub view: u64,
     pub verdict_place: usize,
@@ -74,15 +74,15 @@ extern "C" {
     ) -> u32;
     pub(crate) fn simplex_suspects_vouched_48(
         epochs: *const u64, epochs_len: usize, sizes: *const u32, sizes_len: usize, stream: *const u8, stream_len: usize,
-        records: *mut Suspect, records_len: usize, needed: *mut usize,
+        records: *mut AttestationPlace, records_len: usize, needed: *mut usize,
     ) -> u32;
     pub(crate) fn simplex_suspects_vouched_64(
         epochs: *const u64, epochs_len: usize, sizes: *const u32, sizes_len: usize, stream: *const u8, stream_len: usize,
-        records: *mut Suspect, records_len: usize, needed: *mut usize,
+        records: *mut AttestationPlace, records_len: usize, needed: *mut usize,
     ) -> u32;
     pub(crate) fn simplex_suspects_vouched_96(
         epochs: *const u64, epochs_len: usize, sizes: *const u32, sizes_len: usize, stream: *const u8, stream_len: usize,
-        records: *mut Suspect, records_len: usize, needed: *mut usize,
+        records: *mut AttestationPlace, records_len: usize, needed: *mut usize,
     ) -> u32;
     pub(crate) fn simplex_records_vouched_48(
         epochs: *const u64, epochs_len: usize, sizes: *const u32, sizes_len: usize, stream: *const u8, stream_len: usize,

@@ -173,7 +173,7 @@ const RECORDS: ByScheme<Record, Summary> = ByScheme {
     plain: simplex_records_plain,
 };
 
-const SUSPECTS: BySize<Suspect, usize> =
+const SUSPECTS: BySize<AttestationPlace, usize> =
     BySize { bytes48: simplex_suspects_vouched_48, bytes64: simplex_suspects_vouched_64, bytes96: simplex_suspects_vouched_96 };
 
 /// The text of a stream's report, and its numbers.
@@ -234,7 +234,7 @@ pub(crate) fn store(committees: &Committees, stored: &[u8], batch: &[u8]) -> Res
 }
 
 /// The attestations of a stream that have to be verified; under the plain scheme, which verifies its signatures itself, none.
-pub(crate) fn suspects(committees: &Committees, stream: &[u8]) -> Result<Vec<Suspect>, Error> {
+pub(crate) fn suspects(committees: &Committees, stream: &[u8]) -> Result<Vec<AttestationPlace>, Error> {
     let Members::Vouched { size, epochs, sizes } = &committees.members else {
         return Ok(Vec::new());
     };

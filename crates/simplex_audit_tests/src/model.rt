@@ -6,53 +6,54 @@ use crate::outcome::Outcome;
 use simplex_audit::audit::Fault;
 use simplex_base::codec::{Error, Read};
 use simplex_base::positions::{Epoch, Round, View};
+use simplex_scheme::scheme::VoteKind;
 use std::alloc::{AllocError, Global};
 
-/// The sorts of votes.
-#[derive(Clone, Copy, PartialEq, Eq)]
-enum Sort {
-    Notarize,
-    Nullify,
-    Finalize,
-}
-
-/// The kinds of contradictions: the sorts of the first and the second vote, and the word for it.
-const KINDS: [(Sort, Sort, &str); 3] = [
-    (Sort::Notarize, Sort::Notarize, "conflicting-notarize"),
-    (Sort::Finalize, Sort::Finalize, "conflicting-finalize"),
-    (Sort::Nullify, Sort::Finalize, "nullify-finalize"),
+/// The kinds of the first and the second vote of evidence, and the word for it.
+const EVIDENCE: [(VoteKind, VoteKind, &str); 3] = [
+    (
+        VoteKind::Notarize,
+        VoteKind::Notarize,
+        "conflicting-notarize",
+    ),
+    (
+        VoteKind::Finalize,
+        VoteKind::Finalize,
+        "conflicting-finalize",
+    ),
+    (VoteKind::Nullify, VoteKind::Finalize, "nullify-finalize"),
 ];
 
 /// What a vote or a certificate is for. A nullify has parent and payload 0.
 #[derive(Clone, Copy, PartialEq, Eq)]
 struct Matter {
-    sort: Sort,
+    kind: VoteKind,
     round: Round,
     parent: u64,
     payload: u8,
 }
 
 impl Matter {
-    /// What a vote or a certificate of this sort is for, from its first bytes.
-    fn read(sort: Sort, bytes: &mut &[u8]) -> Matter {
+    /// What a vote or a certificate of this kind is for, from its first bytes.
+    fn read(kind: VoteKind, bytes: &mut &[u8]) -> Matter {
         let (epoch, view) = (u64::from(byte(bytes)), u64::from(byte(bytes)));
         let round = Round::new(Epoch::new(epoch), View::new(view));
-        let (parent, payload) = match sort {
-            Sort::Nullify => (0, 0),
+        let (parent, payload) = match kind {
+            VoteKind::Nullify => (0, 0),
             _ => (u64::from(byte(bytes)), byte(bytes)),
         };
         Matter {
-            sort,
+            kind,
             round,
             parent,
             payload,
         }
     }
 
-    /// Whether two votes contradict, the first being of a kind's first sort, and the second of its second.
+    /// Whether two votes contradict, the first being of the first kind in some evidence, and the second of the second.
     fn contradicts(&self, other: &Matter) -> bool {
-        KINDS.iter().any(|kind| self.sort == kind.0
-            && other.sort == kind.1
+        EVIDENCE.iter().any(|kinds| self.kind == kinds.0
+            && other.kind == kinds.1
             && self.round == other.round
             && *self != *other)
     }
@@ -65,12 +66,12 @@ struct Vote {
     signer: u32,
 }
 
-/// Whom two votes accuse, with the place of the kind in their order, and the line.
+/// Whom two votes accuse, with the place of the evidence in the order of [`EVIDENCE`], and the line.
 #[derive(Drop)]
 struct Finding {
     round: Round,
     signer: u32,
-    kind: usize,
+    order: usize,
     line: String,
 }
 
@@ -98,7 +99,7 @@ pub(crate) fn audit_by_definition<T: Read + Drop>(
     };
     let (read, fault) = read_messages::<T>(alloc, sizes, bound, stream, &mut lists)?;
     let mut findings = findings_of(alloc, lists.votes.as_slice())?;
-    findings.sort_by_key(|finding| (finding.round, finding.signer, finding.kind))?;
+    findings.sort_by_key(|finding| (finding.round, finding.signer, finding.order))?;
     let mut text = String::new(alloc);
     for finding in &findings {
         text.push_str(finding.line.as_str())?;
@@ -152,17 +153,17 @@ fn byte(bytes: &mut &[u8]) -> u8 {
 /// Appends what is valid of the message that begins the bytes.
 fn list_message(sizes: Sizes<'_>, bytes: &mut &[u8], lists: &mut Lists) -> Result<(), AllocError> {
     match byte(bytes) {
-        0 => list_vote(sizes, Sort::Notarize, bytes, lists),
-        1 | 2 => list_certificate(sizes, Sort::Notarize, bytes, lists),
-        3 => list_vote(sizes, Sort::Nullify, bytes, lists),
-        4 => list_certificate(sizes, Sort::Nullify, bytes, lists),
-        5 => list_vote(sizes, Sort::Finalize, bytes, lists),
-        6 => list_certificate(sizes, Sort::Finalize, bytes, lists),
+        0 => list_vote(sizes, VoteKind::Notarize, bytes, lists),
+        1 | 2 => list_certificate(sizes, VoteKind::Notarize, bytes, lists),
+        3 => list_vote(sizes, VoteKind::Nullify, bytes, lists),
+        4 => list_certificate(sizes, VoteKind::Nullify, bytes, lists),
+        5 => list_vote(sizes, VoteKind::Finalize, bytes, lists),
+        6 => list_certificate(sizes, VoteKind::Finalize, bytes, lists),
         tag => {
             let (first, second) = match tag {
-                7 => (Sort::Notarize, Sort::Notarize),
-                8 => (Sort::Finalize, Sort::Finalize),
-                _ => (Sort::Nullify, Sort::Finalize),
+                7 => (VoteKind::Notarize, VoteKind::Notarize),
+                8 => (VoteKind::Finalize, VoteKind::Finalize),
+                _ => (VoteKind::Nullify, VoteKind::Finalize),
             };
             list_vote(sizes, first, bytes, lists)?;
             list_vote(sizes, second, bytes, lists)
@@ -201,11 +202,11 @@ fn list_attestation(
 /// Takes a vote, and appends it if it is valid.
 fn list_vote(
     sizes: Sizes<'_>,
-    sort: Sort,
+    kind: VoteKind,
     bytes: &mut &[u8],
     lists: &mut Lists,
 ) -> Result<(), AllocError> {
-    let matter = Matter::read(sort, bytes);
+    let matter = Matter::read(kind, bytes);
     let _ = list_attestation(sizes, matter, bytes, lists)?;
     Ok(())
 }
@@ -213,11 +214,11 @@ fn list_vote(
 /// Takes a certificate, and appends its valid votes, and what it is for if a quorum is listed and all are valid.
 fn list_certificate(
     sizes: Sizes<'_>,
-    sort: Sort,
+    kind: VoteKind,
     bytes: &mut &[u8],
     lists: &mut Lists,
 ) -> Result<(), AllocError> {
-    let matter = Matter::read(sort, bytes);
+    let matter = Matter::read(kind, bytes);
     let (size, listed) = (size_at(sizes, matter.round), byte(bytes));
     let mut are_good = true;
     for _ in 0..listed {
@@ -230,25 +231,25 @@ fn list_certificate(
     Ok(())
 }
 
-/// For each signer, round and kind the earliest vote of the kind's first sort, and the earliest that contradicts it.
+/// For each evidence there may be, signer and round the earliest vote of its first kind, and the earliest that contradicts it.
 fn findings_of(alloc: Global, votes: &[Vote]) -> Result<Vec<Finding>, AllocError> {
     let mut findings = Vec::new(alloc);
-    for (kind, (first_sort, second_sort, word)) in KINDS.into_iter().enumerate() {
+    for (order, (first_kind, second_kind, word)) in EVIDENCE.into_iter().enumerate() {
         for (place, first) in votes.iter().enumerate() {
-            let is_earlier = |vote: &Vote| vote.matter.sort == first_sort
+            let is_earlier = |vote: &Vote| vote.matter.kind == first_kind
                 && vote.matter.round == first.matter.round
                 && vote.signer == first.signer;
-            if first.matter.sort != first_sort || votes.iter().take(place).any(is_earlier) {
+            if first.matter.kind != first_kind || votes.iter().take(place).any(is_earlier) {
                 continue;
             }
-            let is_second = |vote: &&Vote| vote.matter.sort == second_sort
+            let is_second = |vote: &&Vote| vote.matter.kind == second_kind
                 && vote.signer == first.signer
                 && first.matter.contradicts(&vote.matter);
             if let Some(second) = votes.iter().find(is_second) {
                 findings.push(Finding {
                     round: first.matter.round,
                     signer: first.signer,
-                    kind,
+                    order,
                     line: line_of(alloc, word, first, second)?,
                 })?;
             }
@@ -262,7 +263,7 @@ fn line_of(alloc: Global, word: &str, first: &Vote, second: &Vote) -> Result<Str
     let round = first.matter.round;
     let (epoch, view, signer) = (round.epoch().get(), round.view().get(), first.signer);
     let second = words_of(alloc, second)?;
-    if first.matter.sort == Sort::Nullify {
+    if first.matter.kind == VoteKind::Nullify {
         return format!(in alloc; "{epoch} {view} {signer} {word} {second}\n");
     }
     let first = words_of(alloc, first)?;

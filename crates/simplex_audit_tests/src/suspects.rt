@@ -7,7 +7,7 @@ use crate::outcome::{Outcome, outcome_of};
 use simplex_audit::audit::Committees;
 use simplex_base::codec::fixed_bytes::Role;
 use simplex_base::positions::Epoch;
-use simplex_places::places::Suspect;
+use simplex_places::places::AttestationPlace;
 use simplex_places::suspects::suspects;
 use simplex_schemes::marked::MarkedDigest;
 use simplex_schemes::vouched::Vouched;
@@ -43,7 +43,7 @@ fn found(
     alloc: Global,
     committees: &Committees<Committee>,
     stream: &[u8],
-) -> Result<Vec<Suspect>, AllocError> {
+) -> Result<Vec<AttestationPlace>, AllocError> {
     suspects::<Committee, MarkedDigest>(alloc, committees, stream)
 }
 

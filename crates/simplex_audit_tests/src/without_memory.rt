@@ -5,10 +5,10 @@
 use crate::outcome::marked;
 use simplex_audit::audit::{Auditor, Committees, CommitteesError, audit};
 use simplex_base::positions::{Epoch, Participant, Round, View};
-use simplex_places::places::{FINALIZE, Suspect};
+use simplex_places::places::AttestationPlace;
 use simplex_places::records::{NULLIFY_FINALIZE, Record};
-use simplex_scheme::scheme::{CertificateScheme, Digest, Listing};
 use simplex_schemes::marked::{Marked, MarkedDigest};
+use simplex_scheme::scheme::{CertificateScheme, Digest, Listing, VoteKind};
 use std::alloc::Global;
 use std::process::Abort;
 use std::test::Fail;
@@ -120,14 +120,14 @@ fn is_cloned<T: Copy + PartialEq>(value: &T) -> bool {
 #[test]
 fn without_memory_clones(rt: HostRuntime) {
     memory_ends(rt.alloc());
-    let suspect = Suspect {
+    let suspect = AttestationPlace {
         epoch: 1,
         view: 2,
         verdict_place: 3,
         subject_place: 4,
         subject_length: 5,
         signer: 6,
-        kind: FINALIZE,
+        kind: VoteKind::Finalize as u32,
     };
     let record = Record {
         epoch: 1,

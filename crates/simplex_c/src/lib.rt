@@ -23,7 +23,7 @@ ghost use Rattle.simplex_lead.specs.Windows.{FitsWindow, IsAdmitted, IsOutbound}
 ghost use Rattle.simplex_schemes.specs.Plain.{PlainScheme};
 ghost use Rattle.simplex_detector.specs.Committees.{Schedule};
 ghost use Rattle.simplex_schemes.specs.Vouched.{VouchedScheme};
-ghost use Rattle.simplex_ffi.specs.Answer.{AreRecorded, AreStored, AreSuspectsGiven, IsAudited};
+ghost use Rattle.simplex_ffi.specs.Answer.{AreRecorded, AreStored, AreAttestationsGiven, IsAudited};
 ghost use Rattle.simplex_ffi.specs.Keys.{AreKeys, AreOfKeys, IsLengthOfKeys};
 ghost use Rattle.simplex_ffi.specs.Leaders.{LeadsRound};
 ghost use Rattle.simplex_ffi.specs.Sizes.{AreSizes, AreCommitteeSizes};
@@ -37,7 +37,7 @@ use simplex_ffi::suspects::suspects_vouched;
 use simplex_ffi::vouched::{Role48, Role64, Role96, answer_vouched, store_vouched};
 use simplex_ffi::{leaders, numbers};
 use simplex_places::located::Located;
-use simplex_places::places::Suspect;
+use simplex_places::places::AttestationPlace;
 use simplex_places::records::Record;
 use simplex_scheme::scheme::{Hasher, Sha256, Sha256Digest};
 use simplex_schemes::plain::Plain;
@@ -139,12 +139,12 @@ pub extern "C" fn simplex_suspects_vouched_48(
     epochs: &[u64],
     sizes: &[u32],
     stream: &[u8],
-    records: &mut [Suspect],
+    records: &mut [AttestationPlace],
     needed: &mut usize,
 ) -> u32
     ensures given { result ≢ 2 → result ≢ 3 → (committees : Schedule VouchedScheme) ×
         AreSizes epochs.now sizes.now committees ×
-        AreSuspectsGiven (⟦<Vouched<Role48, 49> as Audited<Sha256Digest>>⟧.basis committees)
+        AreAttestationsGiven (⟦<Vouched<Role48, 49> as Audited<Sha256Digest>>⟧.basis committees)
         ⟦<Vouched<Role48, 49> as Located<Sha256Digest>>⟧.places
         stream.now records.old records.new needed.new result }
     ensures refused { result ≡ 2 → (committees : Schedule VouchedScheme) →
@@ -243,12 +243,12 @@ pub extern "C" fn simplex_suspects_vouched_64(
     epochs: &[u64],
     sizes: &[u32],
     stream: &[u8],
-    records: &mut [Suspect],
+    records: &mut [AttestationPlace],
     needed: &mut usize,
 ) -> u32
     ensures given { result ≢ 2 → result ≢ 3 → (committees : Schedule VouchedScheme) ×
         AreSizes epochs.now sizes.now committees ×
-        AreSuspectsGiven (⟦<Vouched<Role64, 65> as Audited<Sha256Digest>>⟧.basis committees)
+        AreAttestationsGiven (⟦<Vouched<Role64, 65> as Audited<Sha256Digest>>⟧.basis committees)
         ⟦<Vouched<Role64, 65> as Located<Sha256Digest>>⟧.places
         stream.now records.old records.new needed.new result }
     ensures refused { result ≡ 2 → (committees : Schedule VouchedScheme) →
@@ -347,12 +347,12 @@ pub extern "C" fn simplex_suspects_vouched_96(
     epochs: &[u64],
     sizes: &[u32],
     stream: &[u8],
-    records: &mut [Suspect],
+    records: &mut [AttestationPlace],
     needed: &mut usize,
 ) -> u32
     ensures given { result ≢ 2 → result ≢ 3 → (committees : Schedule VouchedScheme) ×
         AreSizes epochs.now sizes.now committees ×
-        AreSuspectsGiven (⟦<Vouched<Role96, 97> as Audited<Sha256Digest>>⟧.basis committees)
+        AreAttestationsGiven (⟦<Vouched<Role96, 97> as Audited<Sha256Digest>>⟧.basis committees)
         ⟦<Vouched<Role96, 97> as Located<Sha256Digest>>⟧.places
         stream.now records.old records.new needed.new result }
     ensures refused { result ≡ 2 → (committees : Schedule VouchedScheme) →

@@ -9,9 +9,9 @@ use Rattle.simplex_stream.specs.declared.fault.Fault.{Fault}
 use Rattle.simplex_audit.specs.declared.audit.Report.{Report}
 use Rattle.simplex_votes.specs.Votes.{SignedVote}
 use Rattle.simplex_places.specs.Records.{AreRecords}
-use Rattle.simplex_places.specs.Suspects.{AreSuspects}
+use Rattle.simplex_places.specs.Suspects.{HaveToBeVerified}
 use Rattle.simplex_places.specs.declared.places.Placed.{Placed}
-use Rattle.simplex_places.specs.declared.places.Suspect.{Suspect}
+use Rattle.simplex_places.specs.declared.places.AttestationPlace.{AttestationPlace}
 use Rattle.simplex_places.specs.declared.records.Record.{Record}
 use Rattle.simplex_ffi.specs.declared.answer.ReportSummary.{ReportSummary}
 
@@ -62,12 +62,12 @@ pub record AreStored {S D C P G : Type 0} (basis : Basis S D C P G) (stream befo
   pub bytes_are : IsPut bytes before after status 0
 
 -- The attestations of the stream that have to be verified stand at the start of the buffer, with 0; or the buffer is too short
--- and as
--- before, with 4. The number needed is that of the attestations.
-pub record AreSuspectsGiven {S D C P G : Type 0} (basis : Basis S D C P G) (places_in : ℕ → Activity S D C P G → List Placed)
-    (stream : List ℕ) (before after : List Suspect) (needed status : ℕ) : Type 0 where
-  pub found : List Suspect
-  pub suspects_are : AreSuspects basis places_in stream found
+-- and as before, with 4. The number needed is that of the attestations.
+pub record AreAttestationsGiven {S D C P G : Type 0} (basis : Basis S D C P G)
+    (places_in : ℕ → Activity S D C P G → List Placed) (stream : List ℕ) (before after : List AttestationPlace)
+    (needed status : ℕ) : Type 0 where
+  pub found : List AttestationPlace
+  pub attestations_are : HaveToBeVerified basis places_in stream found
   pub needed_is : needed ≡ length found
   pub records_are : IsPut found before after status 0
 

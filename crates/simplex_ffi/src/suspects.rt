@@ -3,7 +3,7 @@
 ghost use Rattle.std.specs.Prelude.{◌≡◌, ◌≢◌, ◌⊎◌};
 ghost use Rattle.simplex_detector.specs.Committees.{Schedule};
 ghost use Rattle.simplex_schemes.specs.Vouched.{VouchedScheme};
-ghost use Rattle.simplex_ffi.specs.Answer.{AreSuspectsGiven};
+ghost use Rattle.simplex_ffi.specs.Answer.{AreAttestationsGiven};
 ghost use Rattle.simplex_ffi.specs.Sizes.{AreSizes, AreCommitteeSizes};
 
 use crate::answer::{ARGUMENTS, MEMORY, SHORT, WHOLE, put};
@@ -12,7 +12,7 @@ use simplex_audit::audit::Committees;
 use simplex_audit::basis::Audited;
 use simplex_base::codec::fixed_bytes::Role;
 use simplex_places::located::{Counted, Located};
-use simplex_places::places::Suspect;
+use simplex_places::places::AttestationPlace;
 use simplex_places::suspects::suspects;
 use simplex_scheme::scheme::{Digest, Sha256Digest};
 use simplex_schemes::vouched::Vouched;
@@ -25,10 +25,10 @@ fn give<S: Counted<D>, D: Digest>(
     alloc: Global,
     committees: &Committees<S>,
     stream: &[u8],
-    records: &mut [Suspect],
+    records: &mut [AttestationPlace],
     needed: &mut usize,
 ) -> u32
-    ensures given { result ≢ 3 → AreSuspectsGiven (⟦<S as Audited<D>>⟧.basis committees.now)
+    ensures given { result ≢ 3 → AreAttestationsGiven (⟦<S as Audited<D>>⟧.basis committees.now)
         ⟦<S as Located<D>>⟧.places stream.now records.old records.new needed.new result }
     ensures memory { result ≡ 3 → (records.new ≡ records.old) × (needed.new ≡ needed.old) }
     ensures status { result ≢ 2 }
@@ -49,12 +49,12 @@ pub fn suspects_vouched<R: Role<N>, const N: usize>(
     epochs: &[u64],
     sizes: &[u32],
     stream: &[u8],
-    records: &mut [Suspect],
+    records: &mut [AttestationPlace],
     needed: &mut usize,
 ) -> u32
     ensures given { result ≢ 2 → result ≢ 3 → (committees : Schedule VouchedScheme) ×
         AreSizes epochs.now sizes.now committees ×
-        AreSuspectsGiven (⟦<Vouched<R, N> as Audited<Sha256Digest>>⟧.basis committees)
+        AreAttestationsGiven (⟦<Vouched<R, N> as Audited<Sha256Digest>>⟧.basis committees)
         ⟦<Vouched<R, N> as Located<Sha256Digest>>⟧.places
         stream.now records.old records.new needed.new result }
     ensures refused { result ≡ 2 → (committees : Schedule VouchedScheme) →

@@ -20,7 +20,7 @@ use Rattle.simplex_places.specs.Bytes.{IsVoteAt}
 use Rattle.simplex_places.specs.Places.{behind, certificate_places, message_places, pair_places, placed_at, places_along, places_from, signed_at, vote_places}
 use Rattle.simplex_places.specs.Suspects.{is_sought, sought_of}
 use Rattle.simplex_places.specs.declared.places.Placed.{Placed}
-use Rattle.simplex_places.specs.declared.places.Suspect.{Suspect}
+use Rattle.simplex_places.specs.declared.places.AttestationPlace.{AttestationPlace}
 
 -- `Cast` holds of the votes of the messages. Certificates are encoded as the attestations that they list.
 module _ {S D C P G : Type 0} (eq : D → D → Bool) (payload : Format D) (certificate : C → List ℕ) (signature : Format G)
@@ -32,11 +32,11 @@ module _ {S D C P G : Type 0} (eq : D → D → Bool) (payload : Format D) (cert
   bytes_of a = (attestation_format signature).encoding a
 
   -- `s` is such a vote, as it stands in the stream
-  abbrev pub IsCast : Suspect → Type 0
+  abbrev pub IsCast : AttestationPlace → Type 0
   IsCast s = (v : SignedVote D G) × Cast v × IsVoteAt payload signature stream v s
 
   abbrev pub IsPlaced : Placed → Type 0
-  IsPlaced p = IsCast p.suspect
+  IsPlaced p = IsCast p.attestation
 
   -- one attestation, behind its subject and some bytes
   one_stands : (front between tail : List ℕ) (place next : ℕ) (x : SubjectValue D) (is_listed : Bool) (a : Attestation S P G) →
@@ -141,6 +141,15 @@ module _ {S D C P G : Type 0} (eq : D → D → Bool) (payload : Format D) (cert
       (vote_stands (front ++ first) tail (place + length first) y b next
       (here ∙ sym (append_assoc front first (second ++ tail))) others)
 
+  -- the vote that a message is, behind its tag
+  own_stands : (front tail : List ℕ) (place : ℕ) (x : SubjectValue D) (a : Attestation S P G) → place + 1 ≡ length front →
+      stream ≡ front ++ ((message_of payload x ++ bytes_of a) ++ tail) →
+      ((v : SignedVote D G) → Contains (vote_on x a ∷ []) v → Cast v) →
+      All IsPlaced (vote_places payload signature (place + 1) x a)
+  own_stands front tail place x a at whole cast =
+      vote_stands front tail (place + 1) x a at whole
+      (cast (vote_on x a) (Contains-get_or (vote_on x a ∷ []) 0 (vote_on x a) (omega arith)))
+
   -- the two votes of an evidence, behind its tag
   both_stand : (front tail : List ℕ) (place : ℕ) (x : SubjectValue D) (a : Attestation S P G) (y : SubjectValue D)
       (b : Attestation S P G) → place + 1 ≡ length front →
@@ -179,23 +188,17 @@ module _ {S D C P G : Type 0} (eq : D → D → Bool) (payload : Format D) (cert
       ((v : SignedVote D G) → Contains (votes_in listed m) v → Cast v) →
       All IsPlaced (message_places payload signature listed place m)
   body_stands front tail place (activity.Notarize v) at whole cast =
-      let x : SubjectValue D = Notarizes v.proposal in
-      vote_stands front tail (place + 1) x v.attestation at whole (cast (vote_on x v.attestation)
-      (Contains-get_or (vote_on x v.attestation ∷ []) 0 (vote_on x v.attestation) (omega arith)))
+      own_stands front tail place (Notarizes v.proposal) v.attestation at whole cast
   body_stands front tail place (activity.Notarization n) at whole cast =
       certificate_stands front tail (place + 1) (Notarizes n.proposal) n.certificate at whole cast
   body_stands front tail place (activity.Certification n) at whole cast =
       certificate_stands front tail (place + 1) (Notarizes n.proposal) n.certificate at whole cast
   body_stands front tail place (activity.Nullify v) at whole cast =
-      let x : SubjectValue D = Nullifies v.round in
-      vote_stands front tail (place + 1) x v.attestation at whole (cast (vote_on x v.attestation)
-      (Contains-get_or (vote_on x v.attestation ∷ []) 0 (vote_on x v.attestation) (omega arith)))
+      own_stands front tail place (Nullifies v.round) v.attestation at whole cast
   body_stands front tail place (activity.Nullification n) at whole cast =
       certificate_stands front tail (place + 1) (Nullifies n.round) n.certificate at whole cast
   body_stands front tail place (activity.Finalize v) at whole cast =
-      let x : SubjectValue D = Finalizes v.proposal in
-      vote_stands front tail (place + 1) x v.attestation at whole (cast (vote_on x v.attestation)
-      (Contains-get_or (vote_on x v.attestation ∷ []) 0 (vote_on x v.attestation) (omega arith)))
+      own_stands front tail place (Finalizes v.proposal) v.attestation at whole cast
   body_stands front tail place (activity.Finalization n) at whole cast =
       certificate_stands front tail (place + 1) (Finalizes n.proposal) n.certificate at whole cast
   body_stands front tail place (activity.ConflictingNotarize c) at whole cast =
@@ -239,5 +242,5 @@ module _ {S D C P G : Type 0} (eq : D → D → Bool) (payload : Format D) (cert
       All IsCast (sought_of suspected size (places_along (message_places payload signature listed) bytes_in 0 ms))
   sought_stand suspected size ms tail whole cast =
       let places = places_along (message_places payload signature listed) bytes_in 0 ms in
-      All-map IsCast (λ (p : Placed). p.suspect) (filter (is_sought suspected size) places)
+      All-map IsCast (λ (p : Placed). p.attestation) (filter (is_sought suspected size) places)
       (All-filter (is_sought suspected size) IsPlaced places (along_stands [] tail 0 ms refl whole cast))

@@ -8,7 +8,7 @@ use Rattle.simplex_votes.specs.Votes.{SignedVote}
 use Rattle.simplex_evidence.specs.Contradiction.{Equivocation}
 use Rattle.simplex_detector.specs.Evidence.{IsEquivocation}
 use Rattle.simplex_places.specs.FirstPlaces.{AreSought, IsSought, NotesAlong, first_place, has_key, or_found}
-use Rattle.simplex_places.specs.Records.{IsFirstPlace, IsOfEvidence, IsRecord, found_place, record_by}
+use Rattle.simplex_places.specs.Records.{IsFirstPlace, IsOfEvidence, IsRecord, found_place, offset_of, record_by}
 use Rattle.simplex_places.proofs.PlaceLemmas.{first_stands, any_kept}
 
 -- a record by what was found is of its evidence
@@ -34,7 +34,8 @@ module _ {M D G K : Type 0} (cmp : K → K → Ordering) (eq : K → K → Bool)
     (found : NotesAlong cmp eq key_of votes encoding 0 before after messages) where
   -- a vote that was sought
   vote_stands : (v : SignedVote D G) → IsSought cmp before (key_of v) → Contains (filter keep (flat_map votes messages)) v →
-      IsFirstPlace (λ m. list_any (same v) (votes m)) encoding messages (found_place (get cmp after (key_of v)))
+      IsFirstPlace (λ m. list_any (same v) (votes m)) encoding messages
+      (offset_of (found_place (get cmp after (key_of v))))
   vote_stands v sought cast =
       let test : M → Bool = λ m. has_key eq key_of (key_of v) (votes m) in
       let (p, at, is) = first_stands test encoding 0 messages
@@ -43,9 +44,10 @@ module _ {M D G K : Type 0} (cmp : K → K → Ordering) (eq : K → K → Bool)
       found (key_of v)
       ∙ (ap (λ (known : Option (Option ℕ)). or_found known (first_place test encoding 0 messages)) sought
       ∙ ap (or_found (Some None)) is) in
-      subst (λ (passes : M → Bool). IsFirstPlace passes encoding messages (found_place (get cmp after (key_of v))))
+      subst (λ (passes : M → Bool). IsFirstPlace passes encoding messages (offset_of (found_place (get cmp after (key_of v)))))
       (λ i m. list_any (λ w. alike v w i) (votes m))
-      (subst (IsFirstPlace test encoding messages) (sym (ap found_place got ∙ zero-add p)) at)
+      (subst (IsFirstPlace test encoding messages)
+      (sym (ap (λ (known : Option (Option ℕ)). offset_of (found_place known)) got ∙ zero-add p)) at)
 
   -- an evidence whose votes were sought
   record_stands : (payload_eq : D → D → Bool) (e : Equivocation D G) →

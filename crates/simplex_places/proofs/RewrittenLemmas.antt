@@ -25,10 +25,10 @@ use Rattle.simplex_audit.specs.Report.{IsReport, evidence_in}
 use Rattle.simplex_audit.specs.declared.audit.Report.{Report}
 use Rattle.simplex_stream.specs.StreamLaws.{messages_once}
 use Rattle.simplex_places.specs.Places.{places_along}
-use Rattle.simplex_places.specs.Suspects.{AreSuspects, is_sought, round_at, sought_of, suspected_in}
+use Rattle.simplex_places.specs.Suspects.{HaveToBeVerified, is_sought, round_at, sought_of, suspected_in}
 use Rattle.simplex_places.specs.Verdicts.{DetermineTheReport, DiffersInVerdicts, HaveSameVerdicts}
 use Rattle.simplex_places.specs.declared.places.Placed.{Placed}
-use Rattle.simplex_places.specs.declared.places.Suspect.{Suspect}
+use Rattle.simplex_places.specs.declared.places.AttestationPlace.{AttestationPlace}
 use Rattle.simplex_places.proofs.SuspectLemmas.{AreAlike, one_alike, sought_alike}
 use Rattle.simplex_places.proofs.VerdictLemmas.{AreChanged, as_set, before_tail, first_or_later, format, messages_changed, places_in, same_size}
 
@@ -36,7 +36,7 @@ use Rattle.simplex_places.proofs.VerdictLemmas.{AreChanged, as_set, before_tail,
 
 -- where the verdict of an attestation stands
 abbrev pub verdict_of : Placed → ℕ
-verdict_of q = q.suspect.verdict_place
+verdict_of q = q.attestation.verdict_place
 
 -- `Holds` of a stream stays when a verdict of it becomes that of the other stream; those of attestations that pass `must` are
 -- the other stream's already
@@ -133,10 +133,10 @@ module _ (S D P : Type 0) (n : ℕ) (some : 1 ≤ n) (eq : D → D → Bool) (pa
       IsLeft = is_sought (suspected_in rules ks) size q ≡ false
 
       -- its signer is not suspect
-      not_suspect : IsLeft → is_suspect rules ks (round_at q.suspect) q.suspect.signer ≡ false
+      not_suspect : IsLeft → is_suspect rules ks (round_at q.attestation) q.attestation.signer ≡ false
       not_suspect left =
-          let round = round_at q.suspect in
-          let signer = q.suspect.signer in
+          let round = round_at q.attestation in
+          let signer = q.attestation.signer in
           (elim (is_suspect rules ks round signer) as (λ t. is_suspect rules ks round signer ≡ t → t ≡ false) [
             | true ↦ λ e.
                 let (suspect, member) = decide.members ks round signer e in
@@ -153,10 +153,10 @@ module _ (S D P : Type 0) (n : ℕ) (some : 1 ≤ n) (eq : D → D → Bool) (pa
 
       -- a certificate of a suspect round that lists it does not certify
       not_certified : IsLeft → (c : List Vote) → is_suspect_round rules ks (round_of o.subject) ≡ true → q.is_listed ≡ true →
-          Contains (map (λ a. a.signer) c) q.suspect.signer → certified o.subject c ≡ false
+          Contains (map (λ a. a.signer) c) q.attestation.signer → certified o.subject c ≡ false
       not_certified left c suspect is_listed signed =
-          let round = round_at q.suspect in
-          let signer = q.suspect.signer in
+          let round = round_at q.attestation in
+          let signer = q.attestation.signer in
           let here : is_suspect_round rules ks round ≡ true = ap (is_suspect_round rules ks) (sym o.round) ∙ suspect in
           (elim (certified o.subject c) as (λ t. certified o.subject c ≡ t → t ≡ false) [
             | true ↦ λ e.
@@ -179,7 +179,7 @@ module _ (S D P : Type 0) (n : ℕ) (some : 1 ≤ n) (eq : D → D → Bool) (pa
       agree left = record {
         claims = o.claims;
         votes = o.votes (λ v. is_suspect rules ks (round_of v.subject) v.signer)
-            (λ g. ap (λ (r : Round). is_suspect rules ks r q.suspect.signer) o.round ∙ not_suspect left);
+            (λ g. ap (λ (r : Round). is_suspect rules ks r q.attestation.signer) o.round ∙ not_suspect left);
         certificates = o.certified (λ x. is_suspect_round rules ks (round_of x)) rules
             (λ suspect is_listed c signed. not_certified left c suspect is_listed signed);
       }
@@ -284,10 +284,10 @@ module _ (S D P : Type 0) (n : ℕ) (some : 1 ≤ n) (eq : D → D → Bool) (pa
                 )
           ]) refl
 
-      module _ (found : List Suspect) (found_are : found ≡ sought_of (suspected_in rules ms) size (places_of ms)) where
-        pub same_suspects : (other : List ℕ) → DiffersInVerdicts (places_of ms) stream other →
-            AreSuspects basis (places_in S D P n some 0 zero_byte eq payload bound reading) other found
-        same_suspects other differs =
+      module _ (found : List AttestationPlace) (found_are : found ≡ sought_of (suspected_in rules ms) size (places_of ms)) where
+        pub same_list : (other : List ℕ) → DiffersInVerdicts (places_of ms) stream other →
+            HaveToBeVerified basis (places_in S D P n some 0 zero_byte eq payload bound reading) other found
+        same_list other differs =
             let k = rewritten other differs in
             record {
               messages = k.messages;
@@ -310,14 +310,15 @@ module _ (S D P : Type 0) (n : ℕ) (some : 1 ≤ n) (eq : D → D → Bool) (pa
               | inr c ↦ inr c
             ])
             (λ q q_in passes. sym
-            (All-contains (λ (s : Suspect). get_or one s.verdict_place 0 ≡ get_or other s.verdict_place 0) found q.suspect same
-            (subst (λ (l : List Suspect). Contains l q.suspect) (sym found_are)
-            (Contains-map (λ (p : Placed). p.suspect) (filter must all) q (Contains-filter must all q q_in passes)))))
+            (All-contains (λ (s : AttestationPlace). get_or one s.verdict_place 0 ≡ get_or other s.verdict_place 0) found
+            q.attestation same
+            (subst (λ (l : List AttestationPlace). Contains l q.attestation) (sym found_are)
+            (Contains-map (λ (p : Placed). p.attestation) (filter must all) q (Contains-filter must all q q_in passes)))))
             (rewritten one first, is)).1
 
     -- the verdicts of the attestations that have to be verified determine the report
-    pub determined : (stream : List ℕ) (found : List Suspect) →
-        AreSuspects basis (places_in S D P n some 0 zero_byte eq payload bound reading) stream found →
+    pub determined : (stream : List ℕ) (found : List AttestationPlace) →
+        HaveToBeVerified basis (places_in S D P n some 0 zero_byte eq payload bound reading) stream found →
         DetermineTheReport basis (places_in S D P n some 0 zero_byte eq payload bound reading) stream found
     determined stream found sought =
         let found_in : (ms : Messages) (rest : List ℕ) → AreMessages messages_format stream ms rest →
@@ -326,6 +327,6 @@ module _ (S D P : Type 0) (n : ℕ) (some : 1 ≤ n) (eq : D → D → Bool) (pa
         subst (λ (ks : Messages). found ≡ sought_of (suspected_in rules ks) size (places_of ks)) (messages_once messages_format
         law stream sought.rest rest sought.messages ms sought.are_messages are).0 sought.found_are in
         record {
-          same_suspects = λ ms rest are. same_suspects stream rest ms are found (found_in ms rest are);
+          same_list = λ ms rest are. same_list stream rest ms are found (found_in ms rest are);
           same_report = λ ms rest are. same_report stream rest ms are found (found_in ms rest are);
         }

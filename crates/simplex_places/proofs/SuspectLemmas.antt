@@ -7,7 +7,7 @@ use Rattle.simplex_base.specs.Positions.{Round}
 use Rattle.simplex_detector.specs.Suspects.{Suspected}
 use Rattle.simplex_places.specs.Suspects.{is_sought, round_at, sought_of}
 use Rattle.simplex_places.specs.declared.places.Placed.{Placed}
-use Rattle.simplex_places.specs.declared.places.Suspect.{Suspect}
+use Rattle.simplex_places.specs.declared.places.AttestationPlace.{AttestationPlace}
 
 -- two truth values that imply each other are equal
 same_bool : (a b : Bool) → (a ≡ true → b ≡ true) → (b ≡ true → a ≡ true) → a ≡ b
@@ -35,35 +35,36 @@ pub record AreAlike (s t : Suspected) : Type 0 where
 -- one attestation is sought for the same suspects
 pub one_alike : (s t : Suspected) (size : ℕ → ℕ) → AreAlike s t → (p : Placed) → is_sought s size p ≡ is_sought t size p
 one_alike s t size same p =
-    let round = round_at p.suspect in
-    ap (λ (b : Bool). if p.is_listed then b && nat_lt p.suspect.signer (size p.suspect.epoch)
-    else s.signers round p.suspect.signer) (same.rounds round)
-    ∙ ap (λ (b : Bool). if p.is_listed then t.rounds round && nat_lt p.suspect.signer (size p.suspect.epoch) else b)
-    (same.signers round p.suspect.signer)
+    let round = round_at p.attestation in
+    ap (λ (b : Bool). if p.is_listed then b && nat_lt p.attestation.signer (size p.attestation.epoch)
+    else s.signers round p.attestation.signer) (same.rounds round)
+    ∙ ap (λ (b : Bool). if p.is_listed then t.rounds round && nat_lt p.attestation.signer (size p.attestation.epoch) else b)
+    (same.signers round p.attestation.signer)
 
 -- so the same attestations of a list are sought
 pub sought_alike : (s t : Suspected) (size : ℕ → ℕ) → AreAlike s t → (places : List Placed) →
     sought_of s size places ≡ sought_of t size places
 sought_alike s t size same places =
-    ap (map (λ (p : Placed). p.suspect)) (filter_alike (is_sought s size) (is_sought t size) (one_alike s t size same) places)
+    ap (map (λ (p : Placed). p.attestation))
+    (filter_alike (is_sought s size) (is_sought t size) (one_alike s t size same) places)
 
 -- an attestation that is sought was found
-pub one_found : (s : Suspected) (size : ℕ → ℕ) (xs : List Placed) (i : ℕ) (d : Placed) (found found' : List Suspect) →
-    i < length xs → is_sought s size (get_or xs i d) ≡ true → found' ≡ found ++ (get_or xs i d).suspect ∷ [] →
+pub one_found : (s : Suspected) (size : ℕ → ℕ) (xs : List Placed) (i : ℕ) (d : Placed) (found found' : List AttestationPlace) →
+    i < length xs → is_sought s size (get_or xs i d) ≡ true → found' ≡ found ++ (get_or xs i d).attestation ∷ [] →
     found ≡ sought_of s size (take i xs) → found' ≡ sought_of s size (take (i + 1) xs)
 one_found s size xs i d found found' lt passes grown so =
     let p = is_sought s size in
-    let place : Placed → Suspect = λ q. q.suspect in
-    grown ∙ (ap (λ (l : List Suspect). l ++ (get_or xs i d).suspect ∷ []) so
+    let place : Placed → AttestationPlace = λ q. q.attestation in
+    grown ∙ (ap (λ (l : List AttestationPlace). l ++ (get_or xs i d).attestation ∷ []) so
     ∙ (sym (map-append place (filter p (take i xs)) (get_or xs i d ∷ []))
     ∙ ap (map place)
     (ap (λ (b : Bool). filter p (take i xs) ++ cond b (get_or xs i d ∷ []) []) (sym passes) ∙ sym (filter_more p xs i d lt))))
 
 -- another was left out
-pub one_left : (s : Suspected) (size : ℕ → ℕ) (xs : List Placed) (i : ℕ) (d : Placed) (found : List Suspect) → i < length xs →
-    is_sought s size (get_or xs i d) ≡ false →
+pub one_left : (s : Suspected) (size : ℕ → ℕ) (xs : List Placed) (i : ℕ) (d : Placed) (found : List AttestationPlace) →
+    i < length xs → is_sought s size (get_or xs i d) ≡ false →
     found ≡ sought_of s size (take i xs) → found ≡ sought_of s size (take (i + 1) xs)
 one_left s size xs i d found lt fails so =
     let p = is_sought s size in
-    so ∙ ap (map (λ (q : Placed). q.suspect)) (sym (append-nil (filter p (take i xs)))
+    so ∙ ap (map (λ (q : Placed). q.attestation)) (sym (append-nil (filter p (take i xs)))
     ∙ (ap (λ (b : Bool). filter p (take i xs) ++ cond b (get_or xs i d ∷ []) []) (sym fails) ∙ sym (filter_more p xs i d lt)))

@@ -187,17 +187,17 @@ module _ (S D P : Type 0) (n : ℕ) (some : 1 ≤ n) (b : ℕ) (byte : b < 256) 
   -- `ys` are the attestations `xs` of what was signed, from a place on, with the verdict of `q` overwritten
   pub record AreOverwritten (signed : Signed) (place : ℕ) (q : Placed) (xs ys : List Voted) : Type 0 where
     pub is_listed : q.is_listed ≡ signed.is_listed
-    pub round : signed.round ≡ round_at q.suspect
-    pub bytes : IsOverwritten b place q.suspect.verdict_place (flat_map bytes_of xs) (flat_map bytes_of ys)
+    pub round : signed.round ≡ round_at q.attestation
+    pub bytes : IsOverwritten b place q.attestation.verdict_place (flat_map bytes_of xs) (flat_map bytes_of ys)
     pub each : All IsVoted ys
     pub size : length ys ≡ length xs
     pub signers : (k : ℕ) (d : Voted) → (get_or ys k d).signer ≡ (get_or xs k d).signer
-    pub signed_then : Contains (map (λ a. a.signer) xs) q.suspect.signer
-    pub signed_now : Contains (map (λ a. a.signer) ys) q.suspect.signer
+    pub signed_then : Contains (map (λ a. a.signer) xs) q.attestation.signer
+    pub signed_now : Contains (map (λ a. a.signer) ys) q.attestation.signer
     pub places : (s : Signed) (p : ℕ) → places_from signature s p ys ≡ places_from signature s p xs
     pub claims : (x : SubjectValue D) → map claim_of (map (vote_on x) ys) ≡ map claim_of (map (vote_on x) xs)
     pub votes : (x : SubjectValue D) (test : SignedVote D (List ℕ) → Bool) →
-        ((g : List ℕ) → test (record { subject = x; signer = q.suspect.signer; signature = g }) ≡ false) →
+        ((g : List ℕ) → test (record { subject = x; signer = q.attestation.signer; signature = g }) ≡ false) →
         filter test (map (vote_on x) ys) ≡ filter test (map (vote_on x) xs)
 
   here : (signed : Signed) (place : ℕ) (a : Voted) (xs : List Voted) → All IsVoted (a ∷ xs) →
@@ -228,14 +228,14 @@ module _ (S D P : Type 0) (n : ℕ) (some : 1 ≤ n) (b : ℕ) (byte : b < 256) 
       record {
         is_listed = o.is_listed;
         round = o.round;
-        bytes = behind_front b place q.suspect.verdict_place (behind signature place a) (bytes_of a) (flat_map bytes_of xs)
+        bytes = behind_front b place q.attestation.verdict_place (behind signature place a) (bytes_of a) (flat_map bytes_of xs)
             (flat_map bytes_of ys) refl o.bytes;
         each = All-cons IsVoted a ys fit o.each;
         size = omega (arith, size);
         signers = λ k d. elim k as (λ e. (get_or (a ∷ ys) e d).signer ≡ (get_or (a ∷ xs) e d).signer)
             [ zero ↦ refl | suc j ↦ o.signers j d ];
-        signed_then = Contains-append_right (a.signer ∷ []) (map (λ c. c.signer) xs) q.suspect.signer o.signed_then;
-        signed_now = Contains-append_right (a.signer ∷ []) (map (λ c. c.signer) ys) q.suspect.signer o.signed_now;
+        signed_then = Contains-append_right (a.signer ∷ []) (map (λ c. c.signer) xs) q.attestation.signer o.signed_then;
+        signed_now = Contains-append_right (a.signer ∷ []) (map (λ c. c.signer) ys) q.attestation.signer o.signed_now;
         places = λ s p.
             ap (λ (l : List Placed). placed_at s a.signer (behind signature p a - 1) ∷ l) (o.places s (behind signature p a));
         claims = λ x. ap (λ (l : List (SignedVote D Unit)). claim_of (vote_on x a) ∷ l) (o.claims x);
@@ -284,7 +284,7 @@ module _ (S D P : Type 0) (n : ℕ) (some : 1 ≤ n) (b : ℕ) (byte : b < 256) 
     -- the subject does not pass, or no certificate of it certifies that lists this signer
     abbrev pub NoneCertifies : SubjectValue D → Placed → (SubjectValue D → Bool) → Rules S D (List Voted) P (List ℕ) → Type 0
     NoneCertifies x q p rules =
-        p x ≡ true → q.is_listed ≡ true → (c : List Voted) → Contains (map (λ a. a.signer) c) q.suspect.signer →
+        p x ≡ true → q.is_listed ≡ true → (c : List Voted) → Contains (map (λ a. a.signer) c) q.attestation.signer →
         rules.certified x c ≡ false
 
     -- A message becomes another when the verdict of `q` is overwritten: their encodings, from a place on, the places of their
@@ -292,12 +292,12 @@ module _ (S D P : Type 0) (n : ℕ) (some : 1 ≤ n) (b : ℕ) (byte : b < 256) 
     pub record BecomesAnother (place : ℕ) (q : Placed) (Value : Type 0) (was are : List ℕ) (placed places : ℕ → List Placed)
         (vs ws : List (SignedVote D (List ℕ))) (c d : Option (SubjectValue D × List Voted)) : Type 0 where
       pub subject : SubjectValue D
-      pub round : round_of subject ≡ round_at q.suspect
+      pub round : round_of subject ≡ round_at q.attestation
       pub value : Value
-      pub bytes : IsOverwritten b place q.suspect.verdict_place was are
+      pub bytes : IsOverwritten b place q.attestation.verdict_place was are
       pub same_places : (p : ℕ) → places p ≡ placed p
       pub claims : map claim_of ws ≡ map claim_of vs
-      pub votes : (test : SignedVote D (List ℕ) → Bool) → NonePasses subject q.suspect.signer test →
+      pub votes : (test : SignedVote D (List ℕ) → Bool) → NonePasses subject q.attestation.signer test →
           filter test ws ≡ filter test vs
       pub certified : (p : SubjectValue D → Bool) (rules : Rules S D (List Voted) P (List ℕ)) →
           NoneCertifies subject q p rules →
@@ -484,17 +484,18 @@ module _ (S D P : Type 0) (n : ℕ) (some : 1 ≤ n) (b : ℕ) (byte : b < 256) 
       abbrev Listed : List Voted → Type 0
       Listed ys = AreOverwritten (signed_at payload (place + 1) x true) start q xs ys
 
-      listed_overwritten : (ys : List Voted) → Listed ys → IsOverwritten b (place + 1) q.suspect.verdict_place
+      listed_overwritten : (ys : List Voted) → Listed ys → IsOverwritten b (place + 1) q.attestation.verdict_place
           (message_of payload x ++ listed_encoding signature xs) (message_of payload x ++ listed_encoding signature ys)
       listed_overwritten ys o =
           let subject = message_of payload x in
           let number = number_32.encoding (length xs) in
           let next = place + 1 + length subject in
           let behind_number =
-          behind_front b next q.suspect.verdict_place start number (flat_map bytes_of xs) (flat_map bytes_of ys) refl o.bytes in
-          behind_front b (place + 1) q.suspect.verdict_place next subject (listed_encoding signature xs)
+          behind_front b next q.attestation.verdict_place start number (flat_map bytes_of xs) (flat_map bytes_of ys) refl
+          o.bytes in
+          behind_front b (place + 1) q.attestation.verdict_place next subject (listed_encoding signature xs)
           (listed_encoding signature ys) refl
-          (subst (λ (k : ℕ). IsOverwritten b next q.suspect.verdict_place (listed_encoding signature xs)
+          (subst (λ (k : ℕ). IsOverwritten b next q.attestation.verdict_place (listed_encoding signature xs)
           (number_32.encoding k ++ flat_map bytes_of ys)) (sym o.size) behind_number)
 
       listed_placed : (ys : List Voted) → Listed ys → (p : ℕ) →
@@ -521,7 +522,7 @@ module _ (S D P : Type 0) (n : ℕ) (some : 1 ≤ n) (b : ℕ) (byte : b < 256) 
         subject = x;
         round = o.round;
         value = value;
-        bytes = tagged tag place q.suspect.verdict_place (message_of payload x ++ listed_encoding signature xs)
+        bytes = tagged tag place q.attestation.verdict_place (message_of payload x ++ listed_encoding signature xs)
             (message_of payload x ++ listed_encoding signature ys) (listed_overwritten ys o);
         same_places = λ p. listed_placed ys o (p + 1);
         claims = o.claims x;
@@ -607,13 +608,13 @@ module _ (S D P : Type 0) (n : ℕ) (some : 1 ≤ n) (b : ℕ) (byte : b < 256) 
     -- `ks` are the messages `ms`, from a place on, with the verdict of `q` overwritten
     pub record AreChanged (place : ℕ) (q : Placed) (ms ks : List Message) : Type 0 where
       pub subject : SubjectValue D
-      pub round : round_of subject ≡ round_at q.suspect
+      pub round : round_of subject ≡ round_at q.attestation
       pub each : All format.is_value ks
       pub count : length ks ≡ length ms
-      pub bytes : IsOverwritten b place q.suspect.verdict_place (encoded ms) (encoded ks)
+      pub bytes : IsOverwritten b place q.attestation.verdict_place (encoded ms) (encoded ks)
       pub same_places : (p : ℕ) → places_along places_in format.encoding p ks ≡ places_along places_in format.encoding p ms
       pub claims : map claim_of (votes_of ks) ≡ map claim_of (votes_of ms)
-      pub votes : (test : SignedVote D (List ℕ) → Bool) → NonePasses subject q.suspect.signer test →
+      pub votes : (test : SignedVote D (List ℕ) → Bool) → NonePasses subject q.attestation.signer test →
           filter test (votes_of ks) ≡ filter test (votes_of ms)
       pub certified : (p : SubjectValue D → Bool) (rules : Rules S D (List Voted) P (List ℕ)) →
           NoneCertifies subject q p rules → filter p (certified_subjects rules ks) ≡ filter p (certified_subjects rules ms)
@@ -622,14 +623,14 @@ module _ (S D P : Type 0) (n : ℕ) (some : 1 ≤ n) (b : ℕ) (byte : b < 256) 
     first_changed : (place : ℕ) (q : Placed) (m k : Message) (ms : List Message) → All format.is_value ms →
         IsChanged place q m k → AreChanged place q (m ∷ ms) (k ∷ ms)
     first_changed place q m k ms fits o =
-        let size = same_size b place q.suspect.verdict_place (format.encoding m) (format.encoding k) o.bytes in
+        let size = same_size b place q.attestation.verdict_place (format.encoding m) (format.encoding k) o.bytes in
         let others = votes_of ms in
         record {
           subject = o.subject;
           round = o.round;
           each = All-cons format.is_value k ms o.value fits;
           count = refl;
-          bytes = before_tail b place q.suspect.verdict_place (encoded ms) (format.encoding m) (format.encoding k) o.bytes;
+          bytes = before_tail b place q.attestation.verdict_place (encoded ms) (format.encoding m) (format.encoding k) o.bytes;
           same_places = λ p.
               ap (λ (l : List Placed). l ++ places_along places_in format.encoding (p + length (format.encoding k)) ms)
               (o.same_places p)
@@ -657,7 +658,7 @@ module _ (S D P : Type 0) (n : ℕ) (some : 1 ≤ n) (b : ℕ) (byte : b < 256) 
           round = o.round;
           each = All-cons format.is_value m ks fits o.each;
           count = omega (arith, count);
-          bytes = behind_front b place q.suspect.verdict_place (place + length (format.encoding m)) (format.encoding m)
+          bytes = behind_front b place q.attestation.verdict_place (place + length (format.encoding m)) (format.encoding m)
               (encoded ms) (encoded ks) refl o.bytes;
           same_places = λ p. ap (λ (l : List Placed). places_in p m ++ l) (o.same_places (p + length (format.encoding m)));
           claims = map-append claim_of (votes_in listed m) (votes_of ks)

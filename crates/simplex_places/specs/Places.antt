@@ -3,7 +3,10 @@ use Rattle.std.specs.Prelude.{ℕ, Bool, true, false, ◌+◌, ◌-◌, List, []
 use Rattle.simplex_base.specs.Format.{Format}
 use Rattle.simplex_base.specs.Varint.{number_32}
 use Rattle.simplex_scheme.specs.Attestation.{attestation_format}
-use Rattle.simplex_scheme.specs.Subject.{SubjectValue, Notarizes, Nullifies, Finalizes, round_of, message_of}
+use Rattle.simplex_scheme.specs.Kind.{kind_of}
+use Rattle.simplex_scheme.specs.Subject.{SubjectValue, round_of, message_of}
+use Rattle.simplex_scheme.specs.declared.kind.VoteKind.{VoteKind}
+use Rattle.simplex_scheme.specs.declared.kind.VoteKind.TheVariants as kinds
 use Rattle.simplex_scheme.specs.declared.scheme.Attestation.{Attestation}
 use Rattle.simplex_votes.specs.Votes.{SignedVote}
 use Rattle.simplex_evidence.specs.declared.types.activity.Activity.{Activity}
@@ -12,11 +15,11 @@ use Rattle.simplex_evidence.specs.Contents.{ContentsValue, OneVote, OneCertifica
 use Rattle.simplex_places.specs.declared.places.Placed.{Placed}
 use Rattle.simplex_places.specs.declared.places.Signed.{Signed}
 
--- the number of the kind of a vote: 0 for a notarize, 1 for a nullify, 2 for a finalize
-abbrev pub kind_of : {D : Type 0} → SubjectValue D → ℕ
-kind_of (Notarizes p) = 0
-kind_of (Nullifies r) = 1
-kind_of (Finalizes p) = 2
+-- the number of a kind of votes
+abbrev pub kind_number : VoteKind → ℕ
+kind_number kinds.Notarize = 0
+kind_number kinds.Nullify = 1
+kind_number kinds.Finalize = 2
 
 -- what was signed, whose bytes begin at a place, and whether a certificate lists its attestations
 abbrev pub signed_at : {D : Type 0} → Format D → ℕ → SubjectValue D → Bool → Signed
@@ -26,14 +29,14 @@ signed_at payload place x is_listed =
 -- the attestation by a signer of what was signed, with its verdict at a place
 abbrev pub placed_at : Signed → ℕ → ℕ → Placed
 placed_at signed signer verdict = record {
-  suspect = record {
+  attestation = record {
     epoch = signed.round.epoch;
     view = signed.round.view;
     verdict_place = verdict;
     subject_place = signed.place;
     subject_length = signed.size;
     signer = signer;
-    kind = signed.kind;
+    kind = kind_number signed.kind;
   };
   is_listed = signed.is_listed;
 }

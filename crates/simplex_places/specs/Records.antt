@@ -1,5 +1,5 @@
 -- The evidence of a report as records, with the places of its votes in the stream.
-use Rattle.std.specs.Prelude.{◌≡◌, ℕ, Bool, false, List, ◌∷◌, ◌++◌, length, All, Option, Some, IsTrue}
+use Rattle.std.specs.Prelude.{◌≡◌, ℕ, ◌-◌, ◌^◌, Bool, false, List, ◌∷◌, ◌++◌, length, All, Option, Some, None, IsTrue}
 use Rattle.std.specs.BTreeMap.{BTreeMap, get}
 use Rattle.std.specs.List.{AllZip, flat_map}
 use Rattle.std.specs.declared.cmp.Ordering.{Ordering}
@@ -44,10 +44,15 @@ abbrev pub AreRecords : {S D C P G : Type 0} → Basis S D C P G → (SignedVote
 AreRecords basis carries stream report records =
     OfMessages basis stream (λ messages. AllZip (IsRecord carries basis.format.encoding messages) (evidence_in report) records)
 
--- the place found for a key, or 0 if none was
-abbrev pub found_place : Option (Option ℕ) → ℕ
-found_place (Some (Some place)) = place
-found_place _ = 0
+-- the place found for a key, if one was
+abbrev pub found_place : Option (Option ℕ) → Option ℕ
+found_place (Some place) = place
+found_place None = None
+
+-- a place as an offset, 2^64 - 1 if there is none
+abbrev pub offset_of : Option ℕ → ℕ
+offset_of (Some place) = place
+offset_of None = 2 ^ 64 - 1
 
 -- the record of an evidence, from the places found for its votes
 abbrev pub record_by : {D G K : Type 0} → (K → K → Ordering) → (SignedVote D G → K) → BTreeMap K (Option ℕ) →
@@ -55,8 +60,8 @@ abbrev pub record_by : {D G K : Type 0} → (K → K → Ordering) → (SignedVo
 record_by cmp key_of places e = record {
   epoch = (round_of e.first.subject).epoch;
   view = (round_of e.first.subject).view;
-  first_place = found_place (get cmp places (key_of e.first));
-  second_place = found_place (get cmp places (key_of e.second));
+  first_place = offset_of (found_place (get cmp places (key_of e.first)));
+  second_place = offset_of (found_place (get cmp places (key_of e.second)));
   signer = e.first.signer;
   kind = kind_rank e.kind;
 }

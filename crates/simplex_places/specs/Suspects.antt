@@ -13,7 +13,7 @@ use Rattle.simplex_audit.specs.Basis.{Basis}
 use Rattle.simplex_stream.specs.Messages.{AreMessages}
 use Rattle.simplex_places.specs.Places.{places_along}
 use Rattle.simplex_places.specs.declared.places.Placed.{Placed}
-use Rattle.simplex_places.specs.declared.places.Suspect.{Suspect}
+use Rattle.simplex_places.specs.declared.places.AttestationPlace.{AttestationPlace}
 
 -- the suspects of messages
 abbrev pub suspected_in : {S D C P G : Type 0} → Rules S D C P G → List (Activity S D C P G) → Suspected
@@ -27,24 +27,24 @@ suspected_by suspects = record {
 }
 
 -- the round of an attestation
-abbrev pub round_at : Suspect → Round
+abbrev pub round_at : AttestationPlace → Round
 round_at p = record { epoch = p.epoch; view = p.view }
 
 -- Whether an attestation has to be verified: one that a certificate lists if its round is suspect and its signer is in the
 -- committee of the round's epoch, any other if its signer is suspect in its round.
 abbrev pub is_sought : Suspected → (ℕ → ℕ) → Placed → Bool
 is_sought suspected size p =
-    if p.is_listed then suspected.rounds (round_at p.suspect) && nat_lt p.suspect.signer (size p.suspect.epoch)
-    else suspected.signers (round_at p.suspect) p.suspect.signer
+    if p.is_listed then suspected.rounds (round_at p.attestation) && nat_lt p.attestation.signer (size p.attestation.epoch)
+    else suspected.signers (round_at p.attestation) p.attestation.signer
 
 -- those of these attestations that have to be verified
-abbrev pub sought_of : Suspected → (ℕ → ℕ) → List Placed → List Suspect
-sought_of suspected size places = map (λ p. p.suspect) (filter (is_sought suspected size) places)
+abbrev pub sought_of : Suspected → (ℕ → ℕ) → List Placed → List AttestationPlace
+sought_of suspected size places = map (λ p. p.attestation) (filter (is_sought suspected size) places)
 
 -- `found` are the attestations of the stream's messages that have to be verified, in the order of the stream. `places_in`
 -- gives all attestations of a message that begins at a place.
-pub record AreSuspects {S D C P G : Type 0} (basis : Basis S D C P G) (places_in : ℕ → Activity S D C P G → List Placed)
-    (stream : List ℕ) (found : List Suspect) : Type 0 where
+pub record HaveToBeVerified {S D C P G : Type 0} (basis : Basis S D C P G) (places_in : ℕ → Activity S D C P G → List Placed)
+    (stream : List ℕ) (found : List AttestationPlace) : Type 0 where
   pub messages : List (Activity S D C P G)
   pub rest : List ℕ
   pub are_messages : AreMessages basis.format stream messages rest

@@ -1,17 +1,17 @@
 -- Votes by their values: subject, signer and signature.
-use Rattle.std.specs.Prelude.{Bool, false, ◌==◌, ◌&&◌, List}
+use Rattle.std.specs.Prelude.{Bool, false, ◌==◌, ◌&&◌, List, Option, Some, None}
 use Rattle.std.specs.List.{list_any}
 use Rattle.simplex_base.specs.Positions.{same_round}
-use Rattle.simplex_scheme.specs.Subject.{SubjectValue, Notarizes, Nullifies, Finalizes}
+use Rattle.simplex_scheme.specs.Kind.{kind_of}
+use Rattle.simplex_scheme.specs.Subject.{SubjectValue, Notarizes, Nullifies, Finalizes, round_of}
+use Rattle.simplex_scheme.specs.declared.proposal.Proposal.{Proposal}
 use Rattle.simplex_scheme.specs.declared.scheme.Attestation.{Attestation}
 use Rattle.simplex_votes.specs.Votes.{SignedVote, same_proposal}
 use Rattle.simplex_evidence.specs.Activity.{votes_in}
 use Rattle.simplex_evidence.specs.declared.types.activity.Activity.{Activity}
-use Rattle.simplex_places.specs.declared.votes.Said.{Said}
-use Rattle.simplex_places.specs.declared.votes.Said.TheVariants as said
 use Rattle.simplex_places.specs.declared.votes.VoteKey.{VoteKey}
 
--- whether two subjects are the same: of one sort, with the same proposal or round. `payload_eq` compares payloads
+-- whether two subjects are the same: of one kind, with the same proposal or round. `payload_eq` compares payloads
 abbrev pub same_subject : {D : Type 0} → (D → D → Bool) → SubjectValue D → SubjectValue D → Bool
 same_subject payload_eq (Notarizes p) (Notarizes q) = same_proposal payload_eq p q
 same_subject payload_eq (Nullifies r) (Nullifies s) = same_round r s
@@ -28,12 +28,18 @@ abbrev pub carries : {S D C P G : Type 0} → (D → D → Bool) → (G → G �
     Activity S D C P G → Bool
 carries payload_eq signature_eq listed v m = list_any (same_signed_vote payload_eq signature_eq v) (votes_in listed m)
 
--- the subject of a vote, as a part of its key
-abbrev pub said_value : {D : Type 0} → SubjectValue D → Said D
-said_value (Notarizes p) = said.Notarizes p
-said_value (Nullifies r) = said.Nullifies r
-said_value (Finalizes p) = said.Finalizes p
+-- the proposal of a subject; a nullify has none
+abbrev pub proposal_of : {D : Type 0} → SubjectValue D → Option (Proposal D)
+proposal_of (Notarizes p) = Some p
+proposal_of (Nullifies r) = None
+proposal_of (Finalizes p) = Some p
 
 -- a vote as a key
 abbrev pub vote_key : {D G : Type 0} → SignedVote D G → VoteKey D G
-vote_key v = record { said = said_value v.subject; signer = v.signer; signature = v.signature }
+vote_key v = record {
+  kind = kind_of v.subject;
+  round = round_of v.subject;
+  proposal = proposal_of v.subject;
+  signer = v.signer;
+  signature = v.signature;
+}

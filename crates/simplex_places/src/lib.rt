@@ -1,9 +1,9 @@
 //! Which attestations of a stream a caller has to verify before a deferred audit, and where each stands in the stream; and
 //! where the votes of a report's evidence stand.
 //!
-//! [`suspects::suspects`] gives the attestations, each as a [`places::Suspect`], and [`records::records`] the evidence, each as
-//! a [`records::Record`]. A place is a 0-based offset in the stream. [`located`] has the schemes for which places are known:
-//! those whose certificates are encoded as the attestations that they list.
+//! [`suspects::suspects`] gives the attestations, each as a [`places::AttestationPlace`], and [`records::records`] the
+//! evidence, each as a [`records::Record`]. A place is a 0-based offset in the stream. [`located`] has the schemes for which
+//! places are known: those whose certificates are encoded as the attestations that they list.
 //!
 //! The static library rests on all four. The private modules read a stream without verifying anything, and find the first
 //! places of sought votes.

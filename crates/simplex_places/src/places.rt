@@ -4,7 +4,7 @@ ghost use Rattle.std.specs.Prelude.{◌≡◌, ◌+◌, ◌-◌, ◌<◌, ◌^�
 ghost use Rattle.std.specs.List.{flat_map};
 ghost use Rattle.simplex_base.specs.Format.{format_of};
 ghost use Rattle.simplex_scheme.specs.Subject.{message_of, subject_value};
-ghost use Rattle.simplex_places.specs.Places.{behind, certificate_places, kind_of, message_places, placed_at, places_from, signed_at, vote_places};
+ghost use Rattle.simplex_places.specs.Places.{behind, certificate_places, kind_number, message_places, placed_at, places_from, signed_at, vote_places};
 
 use crate::located::Counted;
 use simplex_base::codec::varint::size_u32;
@@ -12,23 +12,13 @@ use simplex_base::codec::{EncodeSize, Encoding, Fixed, Read};
 use simplex_base::positions::{Round, Roundable};
 use simplex_base::values::{EqByParts, ExactClone, InfallibleClone};
 use simplex_evidence::types::{Activity, Contents};
-use simplex_scheme::scheme::{Attestation, Digest, SchemeTypes, Subject};
+use simplex_scheme::scheme::{Attestation, Digest, SchemeTypes, Subject, VoteKind};
 use std::alloc::AllocError;
 
-/// The number of a notarize in a record.
-pub const NOTARIZE: u32 = 0;
-
-/// The number of a nullify in a record.
-pub const NULLIFY: u32 = 1;
-
-/// The number of a finalize in a record.
-pub const FINALIZE: u32 = 2;
-
-/// An attestation that has to be verified, and where it stands in the stream. Elsewhere a suspect is a signer: this is a vote of
-/// such a signer, or an attestation of a certificate of a suspect round.
+/// An attestation of a stream, and where it stands there.
 #[repr(C)]
 #[derive(Clone, Copy, Debug, PartialEq, Eq)]
-pub struct Suspect {
+pub struct AttestationPlace {
     /// The epoch of its round.
     pub epoch: u64,
     /// The view of its round.
@@ -41,19 +31,19 @@ pub struct Suspect {
     pub subject_length: usize,
     /// The number of its signer.
     pub signer: u32,
-    /// The kind of the vote: [`NOTARIZE`], [`NULLIFY`] or [`FINALIZE`].
+    /// The number of the vote's kind: 0 for a notarize, 1 for a nullify, 2 for a finalize.
     pub kind: u32,
 }
 
-impl ExactClone for Suspect {
+impl ExactClone for AttestationPlace {
     ghost exact = { λ x y same. same };
 }
 
-impl InfallibleClone for Suspect {
+impl InfallibleClone for AttestationPlace {
     ghost infallible = { λ _. tt };
 }
 
-impl EqByParts for Suspect {
+impl EqByParts for AttestationPlace {
     ghost same = { λ x y. nat_eq x.epoch y.epoch && (nat_eq x.view y.view &&
         (nat_eq x.verdict_place y.verdict_place && (nat_eq x.subject_place y.subject_place &&
         (nat_eq x.subject_length y.subject_length && (nat_eq x.signer y.signer &&
@@ -66,7 +56,7 @@ impl EqByParts for Suspect {
 #[derive(Clone, Copy, Debug, PartialEq, Eq)]
 pub(crate) struct Placed {
     /// Where it stands, whether it has to be verified or not.
-    pub suspect: Suspect,
+    pub attestation: AttestationPlace,
     /// Whether a certificate lists it. If not, it is a standalone vote or one in evidence.
     pub is_listed: bool,
 }
@@ -80,7 +70,7 @@ impl InfallibleClone for Placed {
 }
 
 impl EqByParts for Placed {
-    ghost same = { λ x y. ⟦<Suspect as PartialEq>⟧.eq x.suspect y.suspect &&
+    ghost same = { λ x y. ⟦<AttestationPlace as PartialEq>⟧.eq x.attestation y.attestation &&
         ⟦<bool as PartialEq>⟧.eq x.is_listed y.is_listed };
 
     ghost equal = { λ x y. refl };
@@ -90,10 +80,21 @@ impl EqByParts for Placed {
 #[derive(Clone, Copy)]
 struct Signed {
     round: Round,
-    kind: u32,
+    kind: VoteKind,
     place: usize,
     size: usize,
     is_listed: bool,
+}
+
+/// The number of a kind of votes.
+fn number_of(kind: VoteKind) -> u32
+    ensures { result ≡ kind_number kind }
+{
+    match kind {
+        VoteKind::Notarize => 0,
+        VoteKind::Nullify => 1,
+        VoteKind::Finalize => 2,
+    }
 }
 
 /// Appends an attestation that begins at `place`, and returns the place behind it.
@@ -110,17 +111,17 @@ fn push_attestation<S: SchemeTypes>(
         placed_at signed.now attestation.now.signer (end - 1) ∷ [])) }
 {
     let end = place + attestation.encode_size();
-    let suspect = Suspect {
+    let attestation = AttestationPlace {
         epoch: signed.round.epoch().get(),
         view: signed.round.view().get(),
         verdict_place: end - 1,
         subject_place: signed.place,
         subject_length: signed.size,
         signer: attestation.signer.get(),
-        kind: signed.kind,
+        kind: number_of(signed.kind),
     };
     places.push(Placed {
-        suspect,
+        attestation,
         is_listed: signed.is_listed,
     })?;
     Ok(end)
@@ -145,17 +146,6 @@ fn push_attestations<S: SchemeTypes>(
     Ok(())
 }
 
-/// The number of the kind of the votes on a subject.
-fn kind_of<D: Digest>(subject: &Subject<'_, D>) -> u32
-    ensures { result ≡ kind_of (subject_value subject.now) }
-{
-    match subject {
-        Subject::Notarize { .. } => NOTARIZE,
-        Subject::Nullify { .. } => NULLIFY,
-        Subject::Finalize { .. } => FINALIZE,
-    }
-}
-
 /// How many bytes a subject has.
 fn size_of<D: Digest>(subject: &Subject<'_, D>) -> usize
     ensures { result ≡ length (message_of (format_of ⟦<D as Read>⟧) (subject_value subject.now)) }
@@ -174,7 +164,7 @@ fn signed_at<D: Digest>(place: usize, subject: &Subject<'_, D>, is_listed: bool)
 {
     Signed {
         round: subject.round(),
-        kind: kind_of(subject),
+        kind: subject.kind(),
         place,
         size: size_of(subject),
         is_listed,

@@ -7,7 +7,7 @@ ghost use Rattle.simplex_audit.specs.Guarantees.{IsAudit};
 ghost use Rattle.simplex_audit.specs.Report.{evidence_in};
 ghost use Rattle.simplex_detector.specs.Accusation.{kind_rank};
 ghost use Rattle.simplex_detector.specs.Values.{evidence_value};
-ghost use Rattle.simplex_places.specs.Records.{AreRecords, IsOfEvidence, found_place, record_by};
+ghost use Rattle.simplex_places.specs.Records.{AreRecords, IsOfEvidence, found_place, offset_of, record_by};
 
 use crate::first_places::{find, sought};
 use crate::located::Located;
@@ -29,6 +29,9 @@ pub const CONFLICTING_FINALIZE: u32 = 1;
 
 /// The number of a nullify and a finalize that contradict.
 pub const NULLIFY_FINALIZE: u32 = 2;
+
+/// In place of an offset in a [`Record`]: no message of the stream carries the vote. No stream is so long.
+pub const NOWHERE: usize = usize::MAX;
 
 /// An evidence of a report, and where its votes stand in the stream. The place of a vote is that of the first message that
 /// carries it: the vote on its own, a certificate that lists it, or evidence with it.
@@ -76,13 +79,23 @@ fn kind<S: SchemeTypes, D: Digest>(evidence: &Evidence<S, D>) -> u32
     }
 }
 
-/// The place found for a key, or 0 if none was.
-fn place<K: Ord>(places: &BTreeMap<K, Option<usize>>, key: &K) -> usize
+/// The place found for a key, if one was.
+fn place<K: Ord>(places: &BTreeMap<K, Option<usize>>, key: &K) -> Option<usize>
     ensures { result ≡ found_place (get K.cmp places.now key.now) }
 {
     match places.get(key) {
-        Some(Some(place)) => *place,
-        _ => 0,
+        Some(place) => *place,
+        None => None,
+    }
+}
+
+/// A place as an offset, [`NOWHERE`] if there is none.
+fn offset(place: Option<usize>) -> usize
+    ensures { result ≡ offset_of place }
+{
+    match place {
+        Some(place) => place,
+        None => NOWHERE,
     }
 }
 
@@ -97,8 +110,8 @@ fn record_of<K: Key<D, S::Signature>, S: SchemeTypes, D: Digest>(
     Record {
         epoch: round.epoch().get(),
         view: round.view().get(),
-        first_place: place(places, &first(evidence)),
-        second_place: place(places, &second(evidence)),
+        first_place: offset(place(places, &first(evidence))),
+        second_place: offset(place(places, &second(evidence))),
         signer: evidence.signer().get(),
         kind: kind(evidence),
     }
@@ -141,11 +154,11 @@ fn records_by<K: Key<D, S::Signature>, S: Listing<D>, D: Digest>(
     Ok(found)
 }
 
-/// The evidence of the report of a stream as records, in the order of the report, each with the places of its two votes in the
-/// stream. The report has to be that of this stream under these committees; of another one the places mean nothing. Where there
-/// is evidence the stream is read a second time, and nothing is verified: each vote is looked up among those of the evidence.
-/// Memory is bounded by the report and the longest certificate of the stream. `AllocError` is returned only after an allocation
-/// failed.
+/// The evidence of the report of a stream as records, in the order of the report, each with the places of its two votes in
+/// the stream. The report has to be that of this stream under these committees; a vote of another one may stand
+/// [`NOWHERE`]. Where there is evidence the stream is read a second time, and nothing is verified: each vote is looked up
+/// among those of the evidence. Memory is bounded by the report and the longest certificate of the stream. `AllocError` is
+/// returned only after an allocation failed.
 pub fn records<S: Listing<D>, D: Digest>(
     alloc: Global,
     committees: &Committees<S>,

@@ -11,13 +11,13 @@ ghost use Rattle.simplex_detector.specs.Rules.{AreLawful};
 ghost use Rattle.simplex_detector.specs.Suspects.{is_suspect, is_suspect_round};
 ghost use Rattle.simplex_detector.specs.declared.judging.Judging.TheVariants.{Claimed};
 ghost use Rattle.simplex_places.specs.Bytes.{AreVotesAt};
-ghost use Rattle.simplex_places.specs.Suspects.{AreSuspects, is_sought, sought_of, suspected_by};
+ghost use Rattle.simplex_places.specs.Suspects.{HaveToBeVerified, is_sought, sought_of, suspected_by};
 ghost use Rattle.simplex_places.specs.Verdicts.{DetermineTheReport};
-ghost use Rattle.simplex_places.specs.declared.places.Suspect as suspect;
+ghost use Rattle.simplex_places.specs.declared.places.AttestationPlace as place;
 ghost use Rattle.simplex_base.specs.Format.{format_of};
 
 use crate::located::{Counted, Located};
-use crate::places::{Placed, Suspect};
+use crate::places::{AttestationPlace, Placed};
 use crate::reading::{read_claims, reading_bound};
 use simplex_audit::basis::Audited;
 use simplex_base::codec::Read;
@@ -76,7 +76,7 @@ fn is_sought<S: CertificateScheme>(
     ensures { result ≡ is_sought (suspected_by suspects.now)
         (λ epoch. size_by S.keys (committee_of committees.now epoch)) placed.now }
 {
-    let place = &placed.suspect;
+    let place = &placed.attestation;
     let round = Round::new(Epoch::new(place.epoch), View::new(place.view));
     if placed.is_listed {
         suspects.rounds.contains(&round) && is_member(committees, place.epoch, place.signer)
@@ -92,14 +92,14 @@ fn sought<S: CertificateScheme>(
     committees: &Committees<S>,
     suspects: &SuspectSigners,
     places: &[Placed],
-) -> Result<Vec<Suspect>, AllocError>
+) -> Result<Vec<AttestationPlace>, AllocError>
     ensures { IfOk result (λ found. found.items ≡ sought_of (suspected_by suspects.now)
         (λ epoch. size_by S.keys (committee_of committees.now epoch)) places.now) }
 {
     let mut found = Vec::new(alloc);
     'places: for place in places {
         if is_sought(committees, suspects, place) {
-            found.push(place.suspect)?;
+            found.push(place.attestation)?;
         }
     }
     Ok(found)
@@ -108,8 +108,8 @@ fn sought<S: CertificateScheme>(
 /// Each attestation that has to be verified is a vote of the stream's messages, as it stands in the stream: the bytes of its
 /// subject are the proposal or the round that is signed, and the signature ends with the verdict.
 pub fn suspects_are_votes<S: Counted<D>, D: Digest>()
-    ensures { (committees : Schedule S) (stream : List ℕ) (found : List suspect.Suspect) →
-        AreSuspects (⟦<S as Audited<D>>⟧.basis committees) ⟦<S as Located<D>>⟧.places stream
+    ensures { (committees : Schedule S) (stream : List ℕ) (found : List place.AttestationPlace) →
+        HaveToBeVerified (⟦<S as Audited<D>>⟧.basis committees) ⟦<S as Located<D>>⟧.places stream
         found →
         AreVotesAt (⟦<S as Audited<D>>⟧.basis committees) (format_of ⟦<D as Read>⟧)
         (format_of ⟦<S::Signature as Read>⟧) stream found }
@@ -120,8 +120,8 @@ pub fn suspects_are_votes<S: Counted<D>, D: Digest>()
 pub fn suspects_are_enough<D: Digest, R: Role<N>, const N: usize>(
     committees: &Committees<Vouched<R, N>>,
 )
-    ensures { (stream : List ℕ) (found : List suspect.Suspect) →
-        AreSuspects (⟦<Vouched<R, N> as Audited<D>>⟧.basis committees.now)
+    ensures { (stream : List ℕ) (found : List place.AttestationPlace) →
+        HaveToBeVerified (⟦<Vouched<R, N> as Audited<D>>⟧.basis committees.now)
         ⟦<Vouched<R, N> as Located<D>>⟧.places stream found →
         DetermineTheReport (⟦<Vouched<R, N> as Audited<D>>⟧.basis committees.now)
         ⟦<Vouched<R, N> as Located<D>>⟧.places stream found }
@@ -144,8 +144,9 @@ pub fn suspects<S: Counted<D>, D: Digest>(
     alloc: Global,
     committees: &Committees<S>,
     stream: &[u8],
-) -> Result<Vec<Suspect>, AllocError>
-    ensures listed { IfOk result (λ found. AreSuspects (⟦<S as Audited<D>>⟧.basis committees.now)
+) -> Result<Vec<AttestationPlace>, AllocError>
+    ensures listed { IfOk result (λ found.
+        HaveToBeVerified (⟦<S as Audited<D>>⟧.basis committees.now)
         ⟦<S as Located<D>>⟧.places stream.now found.items) }
     ensures votes { IfOk result (λ found. AreVotesAt (⟦<S as Audited<D>>⟧.basis committees.now)
         (format_of ⟦<D as Read>⟧) (format_of ⟦<S::Signature as Read>⟧) stream.now found.items) }

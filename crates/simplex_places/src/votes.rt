@@ -1,32 +1,25 @@
 //! Votes as keys, by which they are looked up.
 
 ghost use Rattle.std.specs.Prelude.{◌≡◌, refl};
-ghost use Rattle.simplex_scheme.specs.Subject.{Notarizes, Nullifies, Finalizes, subject_value};
+ghost use Rattle.simplex_scheme.specs.Subject.{subject_value};
 ghost use Rattle.simplex_votes.specs.Votes.{SignedVote, notarize_vote, nullify_vote, finalize_vote, vote_on};
 ghost use Rattle.simplex_detector.specs.Values.{evidence_value};
-ghost use Rattle.simplex_places.specs.Votes.{said_value, same_signed_vote, vote_key};
+ghost use Rattle.simplex_places.specs.Votes.{proposal_of, same_signed_vote, vote_key};
 ghost use Rattle.simplex_places.specs.KeyLaws.{keys_alike};
 
-use simplex_base::positions::{Participant, Round};
+use simplex_base::positions::{Participant, Round, Roundable};
 use simplex_detector::evidence::Evidence;
-use simplex_scheme::scheme::{Attestation, Digest, Proposal, SchemeTypes, Signature, Subject};
+use simplex_scheme::scheme::{
+    Attestation, Digest, Proposal, SchemeTypes, Signature, Subject, VoteKind,
+};
 use simplex_votes::types::{Finalize, Notarize, Nullify};
-
-/// The subject of a vote, as a part of its key.
-#[derive(PartialEq, Eq, PartialOrd, Ord, Drop)]
-pub enum Said<D> {
-    /// To notarize a proposal.
-    Notarizes(Proposal<D>),
-    /// To nullify a round.
-    Nullifies(Round),
-    /// To finalize a proposal.
-    Finalizes(Proposal<D>),
-}
 
 /// A vote by its value: its subject, its signer and its signature. Keys are ordered only so that they can be looked up.
 #[derive(PartialEq, Eq, PartialOrd, Ord, Drop)]
 pub struct VoteKey<D, G> {
-    said: Said<D>,
+    kind: VoteKind,
+    round: Round,
+    proposal: Option<Proposal<D>>,
     signer: Participant,
     signature: G,
 }
@@ -52,31 +45,34 @@ pub trait Key<D: Digest, G: Signature>: Ord + Drop {
 }
 
 impl<D: Digest, G: Signature> Key<D, G> for VoteKey<D, G> {
+    ghost use Rattle.simplex_scheme.specs.declared.kind.VoteKind.TheVariants.{Notarize, Nullify, Finalize};
+
     ghost key_of = { vote_key };
 
     fn of(subject: &Subject<'_, D>, signer: Participant, signature: G) -> Self {
         VoteKey {
-            said: said_in(subject),
+            kind: subject.kind(),
+            round: subject.round(),
+            proposal: proposal_of(subject),
             signer,
             signature,
         }
     }
 
-    ghost alike = { keys_alike ⟦<Said<D> as PartialEq>⟧.eq D.eq G.eq (elim [
-      | Notarizes _ ↦ elim [ Notarizes _ ↦ refl | Nullifies _ ↦ refl | Finalizes _ ↦ refl ]
-      | Nullifies _ ↦ elim [ Notarizes _ ↦ refl | Nullifies _ ↦ refl | Finalizes _ ↦ refl ]
-      | Finalizes _ ↦ elim [ Notarizes _ ↦ refl | Nullifies _ ↦ refl | Finalizes _ ↦ refl ]
+    ghost alike = { keys_alike ⟦<VoteKind as PartialEq>⟧.eq D.eq G.eq (elim [
+      | Notarize ↦ elim [ Notarize ↦ refl | Nullify ↦ refl | Finalize ↦ refl ]
+      | Nullify ↦ elim [ Notarize ↦ refl | Nullify ↦ refl | Finalize ↦ refl ]
+      | Finalize ↦ elim [ Notarize ↦ refl | Nullify ↦ refl | Finalize ↦ refl ]
     ]) };
 }
 
-/// A subject, as a part of a key.
-fn said_in<D: Digest>(subject: &Subject<'_, D>) -> Said<D>
-    ensures { result ≡ said_value (subject_value subject.now) }
+/// The proposal of a subject; a nullify has none.
+fn proposal_of<D: Digest>(subject: &Subject<'_, D>) -> Option<Proposal<D>>
+    ensures { result ≡ proposal_of (subject_value subject.now) }
 {
     match subject {
-        Subject::Notarize { proposal } => Said::Notarizes(**proposal),
-        Subject::Nullify { round } => Said::Nullifies(*round),
-        Subject::Finalize { proposal } => Said::Finalizes(**proposal),
+        Subject::Notarize { proposal } | Subject::Finalize { proposal } => Some(**proposal),
+        Subject::Nullify { .. } => None,
     }
 }
 
