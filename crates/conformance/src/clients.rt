@@ -3,9 +3,9 @@
 use crate::audits::lines;
 use conformance_messages::refusals::name;
 use conformance_messages::vectors::{Unanswered, bytes};
+use examples::light_client::{Followed, LightClient};
 use simplex_audit::audit::Committees;
-use simplex_clients::ledger::Ledger;
-use simplex_clients::light_client::{Followed, LightClient};
+use simplex_audit::ledger::Ledger;
 use simplex_scheme::scheme::{Digest, Listing};
 use std::alloc::{AllocError, Global};
 

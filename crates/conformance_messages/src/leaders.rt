@@ -3,9 +3,9 @@
 ghost use Rattle.std.specs.Prelude.{◌≡◌, IfOk};
 
 use crate::vectors::{Unanswered, bytes};
+use examples::voter;
 use simplex_base::positions::{Round, TermLength, ViewDelta};
 use simplex_lead::elector::{Config, Elector, RoundRobin, can_be_stable};
-use simplex_node::voter;
 use simplex_scheme::scheme::{CertificateScheme, Sha256};
 use simplex_schemes::marked::Marked;
 use std::alloc::Global;

@@ -4,12 +4,12 @@ use crate::refusals::name;
 use crate::vectors::{Unanswered, bytes};
 use crate::votes::{encoded, values};
 use crate::windows::PAST;
+use examples::batcher::Batcher;
+use examples::resolver::resolve;
+use examples::voter::{casts, is_heard, takes};
 use simplex_base::codec::decode;
 use simplex_base::positions::View;
 use simplex_lead::Viewport;
-use simplex_node::batcher::Batcher;
-use simplex_node::resolver::resolve;
-use simplex_node::voter::{casts, is_heard, takes};
 use simplex_scheme::scheme::{
     CertificateScheme, CertificateSubject, Digest, Proposal, Scheme, Subject,
 };

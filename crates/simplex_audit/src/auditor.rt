@@ -323,7 +323,7 @@ impl<'a, S: Listing<D>, D: Digest> Auditor<'a, S, D> {
 }
 
 /// A `usize` is below 2^64.
-fn counts_are_few(count: usize)
+pub(crate) fn counts_are_few(count: usize)
     ensures { count < 2 ^ 64 }
 {}
 

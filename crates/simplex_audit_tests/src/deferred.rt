@@ -2,7 +2,7 @@
 
 use crate::outcome::{deferred_outcome_of, marked, outcome_of};
 use simplex_audit::audit::Committees;
-use simplex_clients::ledger::{Ledger, store_batch};
+use simplex_audit::ledger::{Ledger, store_batch};
 use simplex_scheme::scheme::{Digest, Listing};
 use simplex_schemes::marked::MarkedDigest;
 use std::alloc::Global;

@@ -1,13 +1,13 @@
 //! What a ledger stores, put into a buffer.
 
 ghost use Rattle.std.specs.Prelude.{◌≡◌, ◌≢◌, ◌+◌, ◌<◌, ◌++◌, IfOk};
-ghost use Rattle.simplex_clients.specs.Holding.{IsStored};
+ghost use Rattle.simplex_audit.specs.Holding.{IsStored};
 ghost use Rattle.simplex_ffi.specs.Answer.{AreStored};
 
 use crate::answer::{MEMORY, SHORT, WHOLE, put};
 use simplex_audit::audit::Committees;
 use simplex_audit::basis::Audited;
-use simplex_clients::ledger::Ledger;
+use simplex_audit::ledger::Ledger;
 use simplex_scheme::scheme::{Digest, Listing};
 use std::alloc::{AllocError, Global};
 

@@ -1,6 +1,6 @@
 //! Whom a stream accuses, as the README shows it.
 
-use example::accused;
+use examples::accused::accused;
 use simplex_base::codec::Fixed;
 use simplex_base::positions::{Epoch, Participant, Round, View};
 use simplex_schemes::plain::PlainKey;

@@ -2,6 +2,6 @@ pub mod Listed
 pub mod ListedLaws
 pub mod CommitteeLaws
 pub mod Plain
+pub mod PlainCommittee
 pub mod Marked
-pub mod Judged
 pub mod Vouched

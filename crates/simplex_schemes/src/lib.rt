@@ -2,14 +2,13 @@
 //!
 //! [`listed`] has these certificates, and [`certificates`] how they are verified and assembled. The schemes are
 //! [`plain`], which signs by a hash and has no secrets, [`vouched`], whose signatures the caller has verified by another
-//! library, [`marked`] for tests, and [`judged`], an example of a scheme of your own.
+//! library, and [`marked`] for tests.
 //!
 //! Crates above rest on [`certificates::AttestationVerifier`] and the calls beside it, by which a further scheme only
 //! has to say when one signature is valid.
 #![tactic(auto)]
 
 pub mod certificates;
-pub mod judged;
 pub mod listed;
 pub mod marked;
 pub mod plain;

@@ -2,7 +2,7 @@
 //! Anyone can make the signature of any participant, so that test vectors can be made and verified, and it binds
 //! nobody.
 
-ghost use Rattle.std.specs.Prelude.{◌≡◌, ◌≢◌, ◌↔◌, ◌+◌, ◌*◌, ℕ, List, Option, Some, None, Ok, IsOk, IsTrue, IfOk, MatchOption, All, length, nat_eq, slice_get, option_copied, option_map, option_and_then, ◌++◌, ◌<◌, ◌≤◌, ◌^◌, true};
+ghost use Rattle.std.specs.Prelude.{◌≡◌, ◌≢◌, ◌↔◌, ◌+◌, ◌*◌, ℕ, List, Option, Some, None, Ok, IsOk, IsTrue, IfOk, IfErr, IfSome, MatchOption, All, length, nat_eq, slice_get, option_copied, option_map, option_and_then, ◌++◌, ◌<◌, ◌≤◌, ◌^◌, true};
 ghost use Rattle.std.proofs.Common.{lit<, lit≤};
 ghost use Rattle.simplex_base.specs.Format.{format_of};
 ghost use Rattle.simplex_base.specs.Varint.{number_64};
@@ -12,6 +12,7 @@ ghost use Rattle.simplex_scheme.specs.Committee.{IsInOrder, IsQuorum, is_quorum,
 ghost use Rattle.simplex_schemes.specs.CommitteeLaws.{quorum_meaning, listed_size};
 ghost use Rattle.std.specs.List.{IsDistinct};
 ghost use Rattle.simplex_schemes.specs.Plain.{hashed, plain_good, good_members};
+ghost use Rattle.simplex_schemes.specs.PlainCommittee.{AreCommitteeKeys, IsPlainCommittee};
 ghost use Rattle.simplex_scheme.specs.Proposal.{proposal_format};
 ghost use Rattle.simplex_base.specs.Positions.{round_format};
 ghost use Rattle.sha2.specs.Sha256.{sha256};
@@ -77,7 +78,39 @@ impl Model for Plain {
         ForSome plain.me (λ me. me < length plain.participants) };
 }
 
+/// The greatest number of keys of a committee.
+const MOST_KEYS: usize = 4_294_967_295;
+
+/// Whether a committee may have this many keys: at least one, and fewer than 2^32.
+pub fn is_committee_size(count: usize) -> bool
+    ensures { IsTrue result ↔ (1 ≤ count) × (count < 2 ^ 32) }
+{
+    1 <= count && count <= MOST_KEYS
+}
+
 impl Plain {
+    /// The scheme of the committee of these keys, in any order, for a verifier. A participant's number is the place of its key
+    /// in ascending order. `None` where they are not the keys of a committee: none at all, more than 2^32 - 1, or one of them
+    /// twice. `AllocError` only where an allocation failed, and only for keys of a committee.
+    pub fn of_keys(
+        alloc: Global,
+        namespace: &[u8],
+        keys: Vec<PlainKey>,
+    ) -> Result<Option<Plain>, AllocError>
+        ensures committee { IfOk result (λ found.
+            IfSome found (IsPlainCommittee namespace.now keys.items)) }
+        ensures none { result ≡ Ok None ↔ ¬ AreCommitteeKeys keys.items }
+        ensures memory { IfErr result (λ _. AreCommitteeKeys keys.items) }
+    {
+        if !is_committee_size(keys.len()) {
+            return Ok(None);
+        }
+        match Set::try_from_vec(keys) {
+            Ok(participants) => Ok(Some(Plain::verifier(alloc, namespace, participants)?)),
+            Err(_) => Ok(None),
+        }
+    }
+
     /// The scheme of this committee, for a verifier. `namespace` is the base of the namespaces of all kinds of votes.
     /// `AllocError` only where an allocation failed.
     pub fn verifier(

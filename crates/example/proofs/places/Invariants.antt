@@ -1,8 +1,0 @@
-use Rattle.std.proofs.Common.{◌≡◌, take}
-use Rattle.std.specs.Prelude.{map}
-use Rattle.example.specs.Accused.{round_and_signer}
-use Rattle.example.proofs.places.Given as goal
-
--- the rounds and the signers so far
-abbrev pub invariant-loop-one : goal.invariant-loop-one
-invariant-loop-one l = l.places.items ≡ map round_and_signer (take l.one-index l.evidence)

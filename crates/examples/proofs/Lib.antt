@@ -1,0 +1,3 @@
+pub mod ResolverLemmas
+pub mod BatchLemmas
+pub mod ForkLemmas

@@ -1,0 +1,4 @@
+pub mod Accused
+pub mod Batch
+pub mod Following
+pub mod Judged

@@ -1,0 +1,4 @@
+use Rattle.simplex_audit.proofs.ledger.Ledger.feed.Goals as goal
+
+pub returns-clause-fed : goal.returns-clause-fed
+returns-clause-fed g c committees stream fed = c.in_ok-feed.ensures.stands committees stream fed

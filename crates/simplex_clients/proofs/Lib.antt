@@ -1,2 +1,0 @@
-pub mod ForkLemmas
-pub mod StoreLemmas
