@@ -1,21 +1,15 @@
 -- What a report states of the messages of its stream.
-use Rattle.std.proofs.Common.{ℕ, List, ◌++◌, map, subst, sym, Result, Ok, Err, IfOk}
+use Rattle.std.proofs.Common.{ℕ, List, ◌++◌, subst, sym, Result, Ok, Err, IfOk}
 use Rattle.std.specs.Prelude.{All, IsTrue}
 use Rattle.simplex_base.specs.Format.{Format, IsLawful}
-use Rattle.simplex_votes.specs.Votes.{SignedVote}
-use Rattle.simplex_evidence.specs.Contradiction.{Equivocation}
 use Rattle.simplex_evidence.specs.declared.types.activity.Activity.{Activity}
-use Rattle.simplex_detector.specs.Evidence.{IsEvidence, IsEquivocation}
-use Rattle.simplex_detector.specs.Laws.{EvidenceIsUnique, AccusesExactly, ReorderingAccusesSame, AccusedStay, IsEvidenceAgain}
+use Rattle.simplex_detector.specs.Evidence.{IsEvidence}
 use Rattle.simplex_detector.specs.Accusation.{Accusation, is_accused}
 use Rattle.simplex_detector.specs.Rules.{Rules, AreLawful, valid_votes}
 use Rattle.simplex_detector.specs.Splits.{AreSplits}
-use Rattle.simplex_detector.specs.SplitLaws.{EnoughAreAccused, SignersAreAccountable, SplitsAreUnique, SplitsHaveAccused}
-use Rattle.simplex_detector.specs.Values.{evidence_value}
-use Rattle.simplex_detector.specs.declared.evidence.Evidence as recorded
-use Rattle.simplex_detector.specs.declared.split.Split.{Split}
 use Rattle.simplex_audit.specs.Basis.{Basis}
 use Rattle.simplex_audit.specs.Guarantees.{IsAudit}
+use Rattle.simplex_audit.specs.MessageLaws.{MessageLaws}
 use Rattle.simplex_stream.specs.Messages.{AreMessages}
 use Rattle.simplex_audit.specs.Report.{IsReport, as_messages, evidence_in}
 use Rattle.simplex_audit.specs.declared.audit.Report.{Report}
@@ -53,36 +47,17 @@ report_splits basis law stream report is messages rest are =
 
 -- an accused signer stays accused in the stream with anything appended
 pub accused_stay : {S D C P G : Type 0} (format : Format (Activity S D C P G)) (rules : Rules S D C P G) → IsLawful format →
-    (stream more rest left : List ℕ) (messages later : List (Activity S D C P G)) → AccusedStay rules messages →
+    MessageLaws rules → (stream more rest left : List ℕ) (messages later : List (Activity S D C P G)) →
     AreMessages format stream messages rest → AreMessages format (stream ++ more) later left →
     (n : Accusation) → IsTrue (is_accused rules.eq (valid_votes rules messages) n) →
     IsTrue (is_accused rules.eq (valid_votes rules later) n)
-accused_stay format rules law stream more rest left messages later stay are are' n h =
+accused_stay format rules law laws stream more rest left messages later are are' n h =
     let c = messages_continue format law stream more rest left messages later are are' in
-    subst (λ ms. IsTrue (is_accused rules.eq (valid_votes rules ms) n)) (sym c.same) (stay c.further n h)
-
--- the laws of any messages under these rules
-pub record Laws {S D C P G : Type 0} (rules : Rules S D C P G) : Type 0 where
-  pub any_order : (messages : List (Activity S D C P G)) → ReorderingAccusesSame rules messages
-  pub later : (messages : List (Activity S D C P G)) → AccusedStay rules messages
-  pub names : (vs : List (SignedVote D G)) (es : List (Equivocation D G)) → IsEvidence rules.eq vs es →
-      AccusesExactly rules.eq vs es
-  pub sound : (vs : List (SignedVote D G)) (es : List (Equivocation D G)) → IsEvidence rules.eq vs es →
-      All (IsEquivocation rules.eq vs) es
-  pub only : (vs : List (SignedVote D G)) (es : List (Equivocation D G)) → IsEvidence rules.eq vs es →
-      EvidenceIsUnique rules.eq vs es
-  pub again : (messages : List (Activity S D C P G)) (es : List (recorded.Evidence S D P G)) → AreLawful rules →
-      IsEvidence rules.eq (valid_votes rules messages) (map evidence_value es) → IsEvidenceAgain rules es
-  pub enough : (messages : List (Activity S D C P G)) → AreLawful rules → EnoughAreAccused rules messages
-  pub signers : (messages : List (Activity S D C P G)) → AreLawful rules → SignersAreAccountable rules messages
-  pub only_splits : (messages : List (Activity S D C P G)) (splits : List Split) → AreSplits rules messages splits →
-      SplitsAreUnique rules messages splits
-  pub split_accused : (messages : List (Activity S D C P G)) (splits : List Split) → AreLawful rules →
-      AreSplits rules messages splits → SplitsHaveAccused splits
+    subst (λ ms. IsTrue (is_accused rules.eq (valid_votes rules ms) n)) (sym c.same) (laws.later messages c.further n h)
 
 -- the report of a stream, whose evidence can be encoded, is that of an audit
 pub audited : {S D C P G : Type 0} (basis : Basis S D C P G) → IsLawful basis.format → IsNeverEmpty basis.format →
-    AreLawful basis.rules → Laws basis.rules →
+    AreLawful basis.rules → MessageLaws basis.rules →
     (stream : List ℕ) (report : Report S D P G) → IsReport basis stream report →
     All basis.format.is_value (as_messages report) → IsAudit basis stream report
 audited basis law some lawful laws stream report is each =
@@ -99,7 +74,7 @@ audited basis law some lawful laws stream report is each =
           laws.only (valid_votes basis.rules messages) (evidence_in report) (of_evidence messages rest are);
       any_order = laws.any_order;
       stays = λ more n messages rest are later left are'.
-          accused_stay basis.format basis.rules law stream more rest left messages later (laws.later messages) are are' n;
+          accused_stay basis.format basis.rules law laws stream more rest left messages later are are' n;
       enough = λ messages rest are. laws.enough messages lawful;
       splits = record {
         are_splits = of_splits;

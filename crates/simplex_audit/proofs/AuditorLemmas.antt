@@ -20,7 +20,8 @@ use Rattle.simplex_audit.specs.Report.{IsReport, as_messages}
 use Rattle.simplex_audit.specs.declared.audit.Report.{Report}
 use Rattle.simplex_audit.specs.declared.auditor.Auditor.{Auditor}
 use Rattle.simplex_audit.specs.declared.reading.Recorder.{Recorder}
-use Rattle.simplex_audit.proofs.AccusedLemmas.{Laws, audited}
+use Rattle.simplex_audit.proofs.AccusedLemmas.{audited}
+use Rattle.simplex_audit.specs.MessageLaws.{MessageLaws}
 use Rattle.simplex_stream.specs.StreamLaws.{IsNeverEmpty, nothing_stuck, progress_of_pieces}
 
 -- what a recorder recorded, its detector recalls
@@ -192,7 +193,7 @@ stands_reported {S} basis auditor place report at is committees stream h =
 pub stands_audited : {S D C P G : Type 0} (basis : Schedule S → Basis S D C P G) (auditor : Auditor S D P G)
     (report : Report S D P G) →
     ((committees : Schedule S) → IsNeverEmpty (basis committees).format) →
-    ((committees : Schedule S) → Laws (basis committees).rules) →
+    ((committees : Schedule S) → MessageLaws (basis committees).rules) →
     ((committees : Schedule S) (stream : List ℕ) → Stands basis committees auditor stream →
     IsReport (basis committees) stream report) →
     All (basis auditor.committees.now).format.is_value (as_messages report) →

@@ -1,11 +1,10 @@
 -- The basis of an audit.
-use Rattle.std.specs.Prelude.{ℕ, Bool, List}
+use Rattle.std.specs.Prelude.{ℕ}
 use Rattle.simplex_base.specs.Format.{Format, Readable, format_under}
-use Rattle.simplex_scheme.specs.Subject.{SubjectValue}
-use Rattle.simplex_scheme.specs.declared.scheme.Attestation.{Attestation}
 use Rattle.simplex_evidence.specs.declared.types.activity.Activity.{Activity}
 use Rattle.simplex_detector.specs.Committees.{Schedule, bound_of, rules_of}
 use Rattle.simplex_detector.specs.Rules.{Rules}
+use Rattle.simplex_detector.specs.Scheme.{Scheme}
 
 -- How messages are read, and the rules by which they are judged. S, P and G are the types of the scheme, its keys and its
 -- signatures, C that of its certificates, and D that of payloads.
@@ -18,11 +17,9 @@ pub record Basis (S D C P G : Type 0) : Type 1 where
   pub rules : Rules S D C P G
 
 -- the basis of an audit under committees
-abbrev pub basis_of : {S D C P G : Type 0} → Readable ℕ (Activity S D C P G) → (D → D → Bool) → (S → List P) →
-    (S → SubjectValue D → ℕ → G → Bool) → (S → SubjectValue D → C → Bool) → (C → List (Attestation S P G)) → Schedule S →
-    Basis S D C P G
-basis_of message eq keys good certified listed committees = record {
-  bound = bound_of keys committees;
-  format = format_under message (bound_of keys committees);
-  rules = rules_of eq keys good certified listed committees;
+abbrev pub basis_of : {S D C P G : Type 0} → Readable ℕ (Activity S D C P G) → Scheme S D C P G → Schedule S → Basis S D C P G
+basis_of message scheme committees = record {
+  bound = bound_of scheme.keys committees;
+  format = format_under message (bound_of scheme.keys committees);
+  rules = rules_of scheme committees;
 }

@@ -2,10 +2,10 @@
 use Rattle.std.specs.Prelude.{ℕ, Bool, List}
 use Rattle.simplex_base.specs.Format.{Readable, format_under}
 use Rattle.simplex_scheme.specs.Subject.{SubjectValue}
-use Rattle.simplex_scheme.specs.declared.scheme.Attestation.{Attestation}
 use Rattle.simplex_evidence.specs.declared.types.activity.Activity.{Activity}
 use Rattle.simplex_detector.specs.Committees.{Schedule, bound_of}
 use Rattle.simplex_detector.specs.Judging.{rules_under}
+use Rattle.simplex_detector.specs.Scheme.{Scheme}
 use Rattle.simplex_detector.specs.Suspects.{judged_by, JudgeAlike}
 use Rattle.simplex_detector.specs.declared.judging.Judging.{Judging}
 use Rattle.simplex_audit.specs.Basis.{Basis}
@@ -14,13 +14,12 @@ use Rattle.simplex_audit.specs.Report.{IsReport}
 use Rattle.simplex_audit.specs.declared.audit.Report.{Report}
 
 -- messages are read as in `basis_of`, and votes and certificates are judged as strictly as a `Judging` says
-abbrev pub basis_under : {S D C P G : Type 0} → Readable ℕ (Activity S D C P G) → (D → D → Bool) → (S → List P) →
-    (S → SubjectValue D → ℕ → G → Bool) → (S → SubjectValue D → C → Bool) → (C → List (Attestation S P G)) → Judging →
-    Schedule S → Basis S D C P G
-basis_under message eq keys good certified listed judging committees = record {
-  bound = bound_of keys committees;
-  format = format_under message (bound_of keys committees);
-  rules = rules_under eq keys good certified listed judging committees;
+abbrev pub basis_under : {S D C P G : Type 0} → Readable ℕ (Activity S D C P G) → Scheme S D C P G → Judging → Schedule S →
+    Basis S D C P G
+basis_under message scheme judging committees = record {
+  bound = bound_of scheme.keys committees;
+  format = format_under message (bound_of scheme.keys committees);
+  rules = rules_under scheme judging committees;
 }
 
 -- The report depends on no vote of a signer who is not suspect in its round, and on no certificate of a round in which nobody

@@ -9,6 +9,7 @@ ghost use Rattle.simplex_detector.specs.Rules.{AreLawful};
 
 pub use crate::auditor::Auditor;
 use crate::basis::Audited;
+use crate::laws::message_laws;
 use crate::reading::{read_messages, reading_bound};
 use crate::reporting::make_report;
 pub use crate::run::{RunError, Summary, run};
@@ -17,10 +18,7 @@ pub use simplex_detector::committees::{Committees, CommitteesError};
 use simplex_detector::detector::Detector;
 pub use simplex_detector::evidence::Evidence;
 use simplex_detector::judging::{Judging, suspects_of};
-use simplex_detector::laws::{
-    accused_stay, certificates_are_accountable, evidence_is_determined, splits_are_determined,
-    suspects_determine_reports, suspects_suffice,
-};
+use simplex_detector::laws::{suspects_determine_reports, suspects_suffice};
 pub use simplex_detector::split::Split;
 use simplex_scheme::scheme::{Digest, Listing, SchemeTypes};
 pub use simplex_stream::fault::Fault;
@@ -86,11 +84,7 @@ pub fn audit<S: Listing<D>, D: Digest>(
     // Evidence of any messages accuses exactly those whom they accuse, and is the only one.
     ensures determined { EvidenceIsDetermined (⟦<S as Audited<D>>⟧.basis committees.now) }
 {
-    // Laws of any messages.
-    accused_stay::<S, D>();
-    evidence_is_determined::<S, D>();
-    certificates_are_accountable::<S, D>();
-    splits_are_determined::<S, D>();
+    message_laws::<S, D>();
     audit_stream(alloc, committees, Judging::Verified, stream)
 }
 
@@ -129,11 +123,7 @@ pub fn audit_deferred<S: Listing<D>, D: Digest>(
     // Evidence of any messages accuses exactly those whom they accuse, and is the only one.
     ensures determined { EvidenceIsDetermined (⟦<S as Audited<D>>⟧.basis committees.now) }
 {
-    // Laws of any messages.
-    accused_stay::<S, D>();
-    evidence_is_determined::<S, D>();
-    certificates_are_accountable::<S, D>();
-    splits_are_determined::<S, D>();
+    message_laws::<S, D>();
     suspects_suffice::<S, D>();
     audit_suspects(alloc, committees, stream)
 }

@@ -10,16 +10,14 @@ ghost use Rattle.simplex_detector.specs.Rules.{valid_votes};
 
 use crate::audit::Report;
 use crate::basis::Audited;
+use crate::laws::message_laws;
 use crate::reading::{read_messages, reading_bound};
 use crate::reporting::make_report;
 use simplex_base::codec::Error;
 use simplex_detector::committees::Committees;
 use simplex_detector::detector::Detector;
 use simplex_detector::judging::Judging;
-use simplex_detector::laws::{
-    accused_stay, certificates_are_accountable, evidence_is_determined, few_votes_are_recorded,
-    recorded_votes_have_room, splits_are_determined,
-};
+use simplex_detector::laws::{few_votes_are_recorded, recorded_votes_have_room};
 use simplex_scheme::scheme::{Digest, Listing, SchemeTypes};
 use std::alloc::{AllocError, Global};
 
@@ -248,10 +246,7 @@ impl<'a, S: Listing<D>, D: Digest> Auditor<'a, S, D> {
         ensures determined { (committees : Schedule S) →
             EvidenceIsDetermined (⟦<S as Audited<D>>⟧.basis committees) }
     {
-        accused_stay::<S, D>();
-        evidence_is_determined::<S, D>();
-        certificates_are_accountable::<S, D>();
-        splits_are_determined::<S, D>();
+        message_laws::<S, D>();
         let alloc = *self.taken.rest.allocator();
         let rest = self.taken.rest.as_slice();
         let place = self.taken.fed - rest.len();

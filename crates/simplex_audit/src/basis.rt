@@ -6,6 +6,7 @@ ghost use Rattle.simplex_detector.specs.Committees.{Schedule};
 ghost use Rattle.simplex_detector.specs.declared.judging.Judging.{Judging};
 
 use simplex_base::codec::Read;
+use simplex_detector::rules::Decides;
 use simplex_evidence::types::Activity;
 use simplex_scheme::scheme::{Digest, Listing};
 
@@ -21,8 +22,7 @@ pub trait Audited<D: Digest>: Listing<D> {
 }
 
 impl<S: Listing<D>, D: Digest> Audited<D> for S {
-    ghost basis = { basis_of ⟦<Activity<S, D> as Read>⟧ D.eq S.keys S.good S.certified S.listed };
+    ghost basis = { basis_of ⟦<Activity<S, D> as Read>⟧ ⟦<S as Decides<D>>⟧.scheme };
 
-    ghost basis_under = { basis_under ⟦<Activity<S, D> as Read>⟧ D.eq S.keys S.good
-        S.certified S.listed };
+    ghost basis_under = { basis_under ⟦<Activity<S, D> as Read>⟧ ⟦<S as Decides<D>>⟧.scheme };
 }

@@ -1,5 +1,5 @@
 -- Committees that are listed by epoch, and the rules that they give.
-use Rattle.simplex_detector.proofs.Prelude.{All, All-cons, All-contains, All-nil, AreLawful, AreRising, Attestation, Bool, Claimed, Err, Every, HaveCommittees, IfErr, IfOk, IsBinarySearchResult, IsEquivalence, IsNonDecreasingBy, IsQuorum, IsSchedule, IsSearchInRange, Judging, List, Listed, None, Ok, Option, Result, Schedule, Some, SubjectValue, Suspects, Verified, [], and_parts, ap, arith, bound_of, cases_lt, certified_by, certified_under, committee_of, contains, drop, drop_more, eqb, eqb-true, false, false≢true, find, get_or, get_or_default, greatest, if◌then◌else◌, inl, inr, is_le, keys, length, ltb-true, max, nat_cmp, nat_tests, option_map, ord_max, ordering_index, parted, ranked, refl, round_cmp, round_of, rules_of, same_Some, signer_cmp, size_by, subst, suc, sym, true, valid_by, valid_under, zero, ℕ, ◌+◌, ◌-◌, ◌<◌, ◌∙◌, ◌∷◌, ◌≡◌, ◌≤◌}
+use Rattle.simplex_detector.proofs.Prelude.{Scheme, All, All-cons, All-contains, All-nil, AreLawful, AreRising, Bool, Claimed, Err, Every, HaveCommittees, IfErr, IfOk, IsBinarySearchResult, IsEquivalence, IsNonDecreasingBy, IsQuorum, IsSchedule, IsSearchInRange, Judging, List, Listed, None, Ok, Option, Result, Schedule, Some, SubjectValue, Suspects, Verified, [], and_parts, ap, arith, bound_of, cases_lt, certified_by, certified_under, committee_of, contains, drop, drop_more, eqb, eqb-true, false, false≢true, find, get_or, get_or_default, greatest, if◌then◌else◌, inl, inr, is_le, keys, length, ltb-true, max, nat_cmp, nat_tests, option_map, ord_max, ordering_index, parted, ranked, refl, round_cmp, round_of, rules_of, same_Some, signer_cmp, size_by, subst, suc, sym, true, valid_by, valid_under, zero, ℕ, ◌+◌, ◌-◌, ◌<◌, ◌∙◌, ◌∷◌, ◌≡◌, ◌≤◌}
 use Rattle.simplex_detector.proofs.Lists.{found_mapped, none_found}
 use Rattle.simplex_detector.specs.declared.judge.Signatures.{Signatures}
 use Rattle.simplex_detector.specs.declared.judge.Signatures.TheVariants as signatures
@@ -121,30 +121,31 @@ listed_some keys ps one epoch c h =
 
 -- ---- the rules are lawful
 
-module _ {S D C P G : Type 0} (eq : D → D → Bool) (keys : S → List P) (good : S → SubjectValue D → ℕ → G → Bool)
-    (certified : S → SubjectValue D → C → Bool) (listed : C → List (Attestation S P G)) (schedule : Schedule S)
-    (members : (s : S) (x : SubjectValue D) (signer : ℕ) (signature : G) → good s x signer signature ≡ true →
-    signer < length (keys s)) (someone : (epoch : ℕ) (s : S) → committee_of schedule epoch ≡ Some s → 1 ≤ length (keys s)) where
-  pub rules_committees : HaveCommittees (rules_of eq keys good certified listed schedule)
+module _ {S D C P G : Type 0} (scheme : Scheme S D C P G) (schedule : Schedule S)
+    (members : (s : S) (x : SubjectValue D) (signer : ℕ) (signature : G) → scheme.good s x signer signature ≡ true →
+    signer < length (scheme.keys s))
+    (someone : (epoch : ℕ) (s : S) → committee_of schedule epoch ≡ Some s → 1 ≤ length (scheme.keys s)) where
+  pub rules_committees : HaveCommittees (rules_of scheme schedule)
   rules_committees = record {
     members = λ x signer signature.
-        elim (committee_of schedule (round_of x).epoch) as (λ o. valid_by good o x signer signature ≡ true →
-        signer < size_by keys o) [ None ↦ λ h. absurd (false≢true h) | Some s ↦ members s x signer signature ];
+        elim (committee_of schedule (round_of x).epoch) as (λ o. valid_by scheme.good o x signer signature ≡ true →
+        signer < size_by scheme.keys o) [ None ↦ λ h. absurd (false≢true h) | Some s ↦ members s x signer signature ];
     someone = λ x c.
-        (elim (committee_of schedule (round_of x).epoch) as (λ o. ((s : S) → o ≡ Some s → 1 ≤ length (keys s)) →
-        certified_by certified o x c ≡ true → 1 ≤ size_by keys o)
+        (elim (committee_of schedule (round_of x).epoch) as (λ o. ((s : S) → o ≡ Some s → 1 ≤ length (scheme.keys s)) →
+        certified_by scheme.certified o x c ≡ true → 1 ≤ size_by scheme.keys o)
         [ None ↦ λ some h. absurd (false≢true h) | Some s ↦ λ some h. some s refl ]) (someone (round_of x).epoch);
   }
 
-  pub rules_lawful : IsEquivalence eq →
-      ((s : S) (x : SubjectValue D) (c : C) → certified s x c ≡ true → IsQuorum (length (keys s)) (good s x) (listed c)) →
-      AreLawful (rules_of eq keys good certified listed schedule)
+  pub rules_lawful : IsEquivalence scheme.eq →
+      ((s : S) (x : SubjectValue D) (c : C) → scheme.certified s x c ≡ true →
+      IsQuorum (length (scheme.keys s)) (scheme.good s x) (scheme.listed c)) →
+      AreLawful (rules_of scheme schedule)
   rules_lawful payloads quorums = record {
     payloads = payloads;
     members = rules_committees.members;
     someone = rules_committees.someone;
-    quorums = λ x c. elim (committee_of schedule (round_of x).epoch) as (λ o. certified_by certified o x c ≡ true →
-        IsQuorum (size_by keys o) (valid_by good o x) (listed c)) [
+    quorums = λ x c. elim (committee_of schedule (round_of x).epoch) as (λ o. certified_by scheme.certified o x c ≡ true →
+        IsQuorum (size_by scheme.keys o) (valid_by scheme.good o x) (scheme.listed c)) [
           | None ↦ λ h. absurd (false≢true h)
           | Some s ↦ λ h.
               let q = quorums s x c h in record { distinct = q.distinct; enough = q.enough; each_good = q.each_good }

@@ -1,5 +1,5 @@
 -- What is recorded, round by round, after one more message.
-use Rattle.simplex_detector.proofs.Prelude.{Activity, All, All-from_recursion, All-map, AllByRecursion, Attestation, BTreeMap, Bool, Detector, HoldsRound, IsEquivalence, IsSized, IsTrue, EquivocationKind, List, None, Option, Recalls, RecallsAt, RecallsNothing, RecallsRound, RecordsFirsts, Round, RoundState, RoundVotes, Rules, Schedule, SignedVote, Some, VoteKind, SubjectValue, TakesIn, TakesContents, [], activity_round, and_left, and_parts, and_right, ap, append-nil, append_assoc, arith, subject_and_certificate, certified_by, certified_subjects, clash, committee_of, cond, cond-false, contradicts, false, filter, filter-append, get, if_certified, is_at, is_key, is_news, is_of, is_valid, length, map, no_slot, nothing_certified, option_to_list, recorded_in, recursion_from_All, refl, round_cmp, round_count, round_of, rules_of, same_round, same_kind, size_by, slot_of, slots, kind_of, subst, sym, true, valid_by, valid_votes, vote_on, votes_in, ℕ, ◌++◌, ◌∙◌, ◌∷◌, ◌≡◌}
+use Rattle.simplex_detector.proofs.Prelude.{Scheme, Activity, All, All-from_recursion, All-map, AllByRecursion, Attestation, BTreeMap, Bool, Detector, EquivocationKind, HoldsRound, IsEquivalence, IsSized, IsTrue, List, None, Option, Recalls, RecallsAt, RecallsNothing, RecallsRound, RecordsFirsts, Round, RoundState, RoundVotes, Rules, Schedule, SignedVote, Some, SubjectValue, TakesContents, TakesIn, VoteKind, [], activity_round, and_left, and_parts, and_right, ap, append-nil, append_assoc, arith, certified_by, certified_subjects, clash, committee_of, cond, cond-false, contradicts, false, filter, filter-append, get, if_certified, is_at, is_key, is_news, is_of, is_valid, kind_of, length, map, no_slot, nothing_certified, option_to_list, recorded_in, recursion_from_All, refl, round_cmp, round_count, round_of, rules_of, same_kind, same_round, size_by, slot_of, slots, subject_and_certificate, subst, sym, true, valid_by, valid_votes, vote_on, votes_in, ℕ, ◌++◌, ◌∙◌, ◌∷◌, ◌≡◌}
 use Rattle.simplex_detector.proofs.AccountLemmas.{certificate_parts}
 use Rattle.simplex_detector.proofs.EvidenceLemmas.{valid_votes-push}
 use Rattle.simplex_detector.proofs.Places.{is_of-true, key_tells, other_round}
@@ -116,35 +116,36 @@ module _ {S D C P G : Type 0} (rules : Rules S D C P G) (l : IsEquivalence rules
 
 -- ---- votes and certificates of a round are judged by the committee of its epoch
 
-module _ {S D C P G : Type 0} (eq : D → D → Bool) (keys : S → List P) (good : S → SubjectValue D → ℕ → G → Bool)
-    (certified : S → SubjectValue D → C → Bool) (listed : C → List (Attestation S P G)) where
+module _ {S D C P G : Type 0} (scheme : Scheme S D C P G) where
   -- the rules by which messages are judged
   abbrev judges : Schedule S → Rules S D C P G
-  judges = rules_of eq keys good certified listed
+  judges = rules_of scheme
 
   -- what a committee records of the valid ones among votes on a subject
   abbrev pub RecordsValid : S → SubjectValue D → List (Attestation S P G) → RoundVotes S D P G → RoundVotes S D P G → Type 0
   RecordsValid s x given before after =
-      (vs : List (SignedVote D G)) → HoldsRound eq (length (keys s)) vs (round_of x) before →
-      HoldsRound eq (length (keys s)) (vs ++ filter (λ v. good s v.subject v.signer v.signature) (map (vote_on x) given))
-      (round_of x) after
+      (vs : List (SignedVote D G)) → HoldsRound scheme.eq (length (scheme.keys s)) vs (round_of x) before →
+      HoldsRound scheme.eq (length (scheme.keys s))
+      (vs ++ filter (λ v. scheme.good s v.subject v.signer v.signature) (map (vote_on x) given)) (round_of x) after
 
   -- the valid votes are recorded, for any other committees
   cast_by : (s : S) (x : SubjectValue D) (given : List (Attestation S P G)) (before after : RoundVotes S D P G) →
       RecordsValid s x given before after → (schedule : Schedule S) → committee_of schedule (round_of x).epoch ≡ Some s →
-      (vs : List (SignedVote D G)) → HoldsRound eq ((judges schedule).size (round_of x).epoch) vs (round_of x) before →
-      HoldsRound eq ((judges schedule).size (round_of x).epoch)
+      (vs : List (SignedVote D G)) → HoldsRound scheme.eq ((judges schedule).size (round_of x).epoch) vs (round_of x) before →
+      HoldsRound scheme.eq ((judges schedule).size (round_of x).epoch)
       (vs ++ filter (is_valid (judges schedule)) (map (vote_on x) given)) (round_of x) after
   cast_by s x given before after records schedule is vs holds =
-      let size : length (keys s) ≡ (judges schedule).size (round_of x).epoch = ap (size_by keys) (sym is) in
-      subst (λ n. HoldsRound eq n (vs ++ filter (is_valid (judges schedule)) (map (vote_on x) given)) (round_of x) after) size
-      (subst (λ ws. HoldsRound eq (length (keys s)) (vs ++ ws) (round_of x) after) (same given)
-      (records vs (subst (λ n. HoldsRound eq n vs (round_of x) before) (sym size) holds)))
+      let size : length (scheme.keys s) ≡ (judges schedule).size (round_of x).epoch = ap (size_by scheme.keys) (sym is) in
+      subst (λ n. HoldsRound scheme.eq n (vs ++ filter (is_valid (judges schedule)) (map (vote_on x) given)) (round_of x) after)
+      size (subst (λ ws. HoldsRound scheme.eq (length (scheme.keys s)) (vs ++ ws) (round_of x) after) (same given)
+      (records vs (subst (λ n. HoldsRound scheme.eq n vs (round_of x) before) (sym size) holds)))
     where
-      same : (given : List (Attestation S P G)) → filter (λ v. good s v.subject v.signer v.signature) (map (vote_on x) given)
+      same : (given : List (Attestation S P G)) →
+          filter (λ v. scheme.good s v.subject v.signer v.signature) (map (vote_on x) given)
           ≡ filter (is_valid (judges schedule)) (map (vote_on x) given)
       same [] = refl
-      same (a ∷ given) = λ i. cond (valid_by good (sym is i) x a.signer a.signature) (vote_on x a ∷ same given i) (same given i)
+      same (a ∷ given) = λ i.
+          cond (valid_by scheme.good (sym is i) x a.signer a.signature) (vote_on x a ∷ same given i) (same given i)
 
   -- a vote on a subject
   pub takes_vote : (s : S) (x : SubjectValue D) (a : Attestation S P G) (old new : RoundState S D P G) →
@@ -152,45 +153,50 @@ module _ {S D C P G : Type 0} (eq : D → D → Bool) (keys : S → List P) (goo
       TakesIn judges s (round_of x) (vote_on x a ∷ []) None old new
   takes_vote s x a old new same records = record {
     cast = cast_by s x (a ∷ []) old.votes new.votes records;
-    certified = λ schedule is xs holds. subst (λ ys. RecordsFirsts eq ys (round_of x) new.certified) (sym (append-nil xs))
-        (subst (RecordsFirsts eq xs (round_of x)) (sym same) holds);
+    certified = λ schedule is xs holds. subst (λ ys. RecordsFirsts scheme.eq ys (round_of x) new.certified)
+        (sym (append-nil xs)) (subst (RecordsFirsts scheme.eq xs (round_of x)) (sym same) holds);
   }
 
   -- a certificate of a subject, with the votes that it lists
-  pub takes_certificate : (s : S) (x : SubjectValue D) (c : C) (old new : RoundState S D P G) →
-      ((xs : List (SubjectValue D)) → RecordsFirsts eq xs (round_of x) old.certified →
-      RecordsFirsts eq (xs ++ cond (certified s x c) (x ∷ []) []) (round_of x) new.certified) →
-      RecordsValid s x (listed c) old.votes new.votes →
-      TakesIn judges s (round_of x) (map (vote_on x) (listed c)) (Some (x, c)) old new
-  takes_certificate s x c old new subjects votes = record {
-    cast = cast_by s x (listed c) old.votes new.votes votes;
+  pub takes_certificate : (s : S) (x : SubjectValue D) (c : C) (given : List (Attestation S P G)) → given ≡ scheme.listed c →
+      (old new : RoundState S D P G) → ((xs : List (SubjectValue D)) → RecordsFirsts scheme.eq xs (round_of x) old.certified →
+      RecordsFirsts scheme.eq (xs ++ cond (scheme.certified s x c) (x ∷ []) []) (round_of x) new.certified) →
+      RecordsValid s x given old.votes new.votes →
+      TakesIn judges s (round_of x) (map (vote_on x) (scheme.listed c)) (Some (x, c)) old new
+  takes_certificate s x c given is_given old new subjects votes = record {
+    cast = cast_by s x (scheme.listed c) old.votes new.votes
+        (subst (λ listed. RecordsValid s x listed old.votes new.votes) is_given votes);
     certified = λ schedule is xs holds.
-        let alone = elim (certified s x c) as (λ b. cond b (x ∷ []) [] ≡ option_to_list (cond b (Some x) None))
+        let alone = elim (scheme.certified s x c) as (λ b. cond b (x ∷ []) [] ≡ option_to_list (cond b (Some x) None))
         [ true ↦ refl | false ↦ refl ] in
-        subst (λ ys. RecordsFirsts eq (xs ++ ys) (round_of x) new.certified)
-        (alone ∙ ap (λ o. option_to_list (cond (certified_by certified o x c) (Some x) None)) (sym is)) (subjects xs holds);
+        subst (λ ys. RecordsFirsts scheme.eq (xs ++ ys) (round_of x) new.certified)
+        (alone ∙ ap (λ o. option_to_list (cond (certified_by scheme.certified o x c) (Some x) None)) (sym is))
+        (subjects xs holds);
   }
 
   module _ (schedule : Schedule S) (messages : List (Activity S D C P G)) (m : Activity S D C P G) where
     -- what is recorded of the message's round, after it
     pub recalls_taken : (s : S) → committee_of schedule (activity_round m).epoch ≡ Some s → (old new : RoundState S D P G) →
-        TakesContents judges s listed (contents_of m) old new → RecallsRound (judges schedule) messages (activity_round m) old →
+        TakesContents judges s scheme.listed (contents_of m) old new →
+        RecallsRound (judges schedule) messages (activity_round m) old →
         RecallsRound (judges schedule) (messages ++ m ∷ []) (activity_round m) new
     recalls_taken s is old new takes recalls = record {
-      votes = subst (λ vs. HoldsRound eq ((judges schedule).size (activity_round m).epoch) vs (activity_round m) new.votes)
+      votes = subst
+          (λ vs. HoldsRound scheme.eq ((judges schedule).size (activity_round m).epoch) vs (activity_round m) new.votes)
           (sym (valid_votes-push (judges schedule) messages m))
           (takes.cast schedule is (valid_votes (judges schedule) messages) recalls.votes);
       subjects =
-          subst (λ xs. RecordsFirsts eq xs (activity_round m) new.certified) (sym (subjects_push (judges schedule) messages m))
+          subst (λ xs. RecordsFirsts scheme.eq xs (activity_round m) new.certified)
+          (sym (subjects_push (judges schedule) messages m))
           (takes.certified schedule is (certified_subjects (judges schedule) messages) recalls.subjects);
     }
 
     -- what is recorded of the message's round where the detector has no state of it yet
-    pub recalls_first : (s : S) → committee_of schedule (activity_round m).epoch ≡ Some s → IsEquivalence eq →
+    pub recalls_first : (s : S) → committee_of schedule (activity_round m).epoch ≡ Some s → IsEquivalence scheme.eq →
         (rounds : BTreeMap Round (RoundState S D P G)) (fresh new : RoundState S D P G) →
-        None ≡ get round_cmp rounds (activity_round m) → IsSized (length (keys s)) fresh.votes →
+        None ≡ get round_cmp rounds (activity_round m) → IsSized (length (scheme.keys s)) fresh.votes →
         ((signer : ℕ) (kind : VoteKind) → slots fresh.votes signer kind ≡ no_slot) → round_count fresh.votes ≡ 0 →
-        fresh.certified ≡ nothing_certified → TakesContents judges s listed (contents_of m) fresh new →
+        fresh.certified ≡ nothing_certified → TakesContents judges s scheme.listed (contents_of m) fresh new →
         Recalls (judges schedule) messages (let detector : Detector S D P G = record { rounds = rounds } in detector) →
         RecallsRound (judges schedule) (messages ++ m ∷ []) (activity_round m) new
     recalls_first s is l rounds fresh new none sized empty no_votes nothing takes holds =
@@ -198,16 +204,17 @@ module _ {S D C P G : Type 0} (eq : D → D → Bool) (keys : S → List P) (goo
         subst (RecallsAt (judges schedule) messages (activity_round m)) (sym none) (holds (activity_round m)) in
         recalls_taken s is fresh new takes (record {
           votes = record {
-            sized = subst (λ n. IsSized n fresh.votes) (ap (size_by keys) (sym is)) sized;
+            sized = subst (λ n. IsSized n fresh.votes) (ap (size_by scheme.keys) (sym is)) sized;
             held = λ signer kind. empty signer kind ∙ at.votes signer kind;
-            counted = no_votes ∙ sym (none_in_round eq l (valid_votes (judges schedule) messages) (activity_round m) at.votes);
+            counted = no_votes
+                ∙ sym (none_in_round scheme.eq l (valid_votes (judges schedule) messages) (activity_round m) at.votes);
           };
-          subjects = subst (RecordsFirsts eq (certified_subjects (judges schedule) messages) (activity_round m))
+          subjects = subst (RecordsFirsts scheme.eq (certified_subjects (judges schedule) messages) (activity_round m))
               (sym nothing) at.subjects;
         })
 
     -- without a committee nothing more is valid or certified, and nothing more is recorded
-    pub recalls_no_committee : All (IsHere (activity_round m)) (votes_in listed m) →
+    pub recalls_no_committee : All (IsHere (activity_round m)) (votes_in scheme.listed m) →
         None ≡ committee_of schedule (activity_round m).epoch → (q : Round) (o : Option (RoundState S D P G)) →
         RecallsAt (judges schedule) messages q o → RecallsAt (judges schedule) (messages ++ m ∷ []) q o
     recalls_no_committee here none q = by
@@ -216,20 +223,20 @@ module _ {S D C P G : Type 0} (eq : D → D → Bool) (keys : S → List P) (goo
             filter (is_valid (judges schedule)) vs ≡ []
         no_vote [] h = refl
         no_vote (v ∷ vs) h =
-            (λ i. cond (valid_by good ((ap (λ r. committee_of schedule r.epoch) h.0 ∙ sym none) i) v.subject v.signer
+            (λ i. cond (valid_by scheme.good ((ap (λ r. committee_of schedule r.epoch) h.0 ∙ sym none) i) v.subject v.signer
             v.signature) (v ∷ filter (is_valid (judges schedule)) vs) (filter (is_valid (judges schedule)) vs)) ∙ no_vote vs h.1
 
         no_subject : (o : Option (SubjectValue D × C)) → subject_and_certificate m ≡ o → if_certified (judges schedule) o ≡ None
         no_subject None is = refl
         no_subject (Some s) is = λ i.
-            cond (certified_by certified
-            ((ap (λ r. committee_of schedule r.epoch) (sym (certificate_parts listed m s is).0) ∙ sym none) i) s.0 s.1)
+            cond (certified_by scheme.certified
+            ((ap (λ r. committee_of schedule r.epoch) (sym (certificate_parts scheme.listed m s is).0) ∙ sym none) i) s.0 s.1)
             (Some s.0) None
 
         votes : valid_votes (judges schedule) messages ≡ valid_votes (judges schedule) (messages ++ m ∷ [])
         votes =
             sym (valid_votes-push (judges schedule) messages m ∙ ap (λ vs. valid_votes (judges schedule) messages ++ vs)
-            (no_vote (votes_in listed m) (recursion_from_All _ (votes_in listed m) here))
+            (no_vote (votes_in scheme.listed m) (recursion_from_All _ (votes_in scheme.listed m) here))
             ∙ append-nil (valid_votes (judges schedule) messages))
 
         subjects : certified_subjects (judges schedule) messages ≡ certified_subjects (judges schedule) (messages ++ m ∷ [])
@@ -241,12 +248,12 @@ module _ {S D C P G : Type 0} (eq : D → D → Bool) (keys : S → List P) (goo
         by : (o : Option (RoundState S D P G)) → RecallsAt (judges schedule) messages q o →
             RecallsAt (judges schedule) (messages ++ m ∷ []) q o
         by None r = record {
-          votes = subst (λ vs. (signer : ℕ) (kind : VoteKind) → no_slot ≡ slot_of eq vs kind q signer) votes r.votes;
-          subjects = subst (λ xs. RecordsFirsts eq xs q nothing_certified) subjects r.subjects;
+          votes = subst (λ vs. (signer : ℕ) (kind : VoteKind) → no_slot ≡ slot_of scheme.eq vs kind q signer) votes r.votes;
+          subjects = subst (λ xs. RecordsFirsts scheme.eq xs q nothing_certified) subjects r.subjects;
         }
         by (Some round_state) r = record {
-          votes = subst (λ vs. HoldsRound eq ((judges schedule).size q.epoch) vs q round_state.votes) votes r.votes;
-          subjects = subst (λ xs. RecordsFirsts eq xs q round_state.certified) subjects r.subjects;
+          votes = subst (λ vs. HoldsRound scheme.eq ((judges schedule).size q.epoch) vs q round_state.votes) votes r.votes;
+          subjects = subst (λ xs. RecordsFirsts scheme.eq xs q round_state.certified) subjects r.subjects;
         }
 
 -- two votes of one round, one after the other

@@ -39,13 +39,14 @@ pub use Rattle.simplex_detector.specs.Detector.{Recalls, RecallsAt, RecallsNothi
 pub use Rattle.simplex_detector.specs.EncodedEvidence.{IsEncoded}
 pub use Rattle.simplex_detector.specs.Evidence.{IsEquivocation, IsEvidence, evidence_of, with_first, with_second}
 pub use Rattle.simplex_detector.specs.FirstCertified.{RecordsFirsts, are_split, certified_subjects, changes_firsts, excludes_first, excludes_some, first_certified, first_with, firsts_of, nothing_certified}
-pub use Rattle.simplex_detector.specs.Judging.{certified_under, rules_under, valid_under}
+pub use Rattle.simplex_detector.specs.Judging.{certified_under, rules_under, scheme_under, valid_under}
 pub use Rattle.simplex_detector.specs.Laws.{ReorderingAccusesSame}
 pub use Rattle.simplex_detector.specs.Line.{line_of, parted}
 pub use Rattle.simplex_detector.specs.Accusation.{Accusation, is_accused, kind_rank, accused_by, accused_cmp, round_cmp, signer_cmp}
 pub use Rattle.simplex_detector.specs.Recorded.{RecordedAreSlots, Slot, changes, equivocation_of, evidence_from, if_differs, is_news, news_after, other_than, recorded_in, recorded_of, slot_of, slot_with, votes_in_slot, votes_recorded}
 pub use Rattle.simplex_detector.specs.Rounds.{HoldsRound, IsSized, accuses, ListsSigners, TakesVote, found_at, found_of_kind, if_contradicts, is_for, no_slot, round_count, slots}
 pub use Rattle.simplex_detector.specs.Rules.{AreLawful, HaveCommittees, Rules, is_valid, valid_votes}
+pub use Rattle.simplex_detector.specs.Scheme.{Scheme, scheme_of}
 pub use Rattle.simplex_detector.specs.SplitLaws.{EnoughAreAccused, IsAccountable, SignersAreAccountable, shared_signers}
 pub use Rattle.simplex_detector.specs.Splits.{AreSplits, certified_in, if_certified, is_certified_message, is_accused_in, is_split, accused_count, split_of}
 pub use Rattle.simplex_detector.specs.Suspects.{JudgeAlike, Suspected, SuspectsSuffice, claimed, is_suspect, is_suspect_round, judged_by, suspect_of}

@@ -1,5 +1,5 @@
 -- Which signers and rounds are suspect, and that no other signature has a part in the evidence and the splits.
-use Rattle.simplex_detector.proofs.Prelude.{Activity, All-contains, All-nil, AreLawful, AreSplits, Attestation, Bool, Claimed, Conflicting_finalize, Conflicting_notarize, Contains, Equivocation, IsEquivalence, IsEvidence, IsTrue, JudgeAlike, EquivocationKind, List, Accusation, None, Nullify_finalize, Option, Round, Rules, Schedule, SignedVote, Some, Split, SubjectValue, SuspectSigners, Suspected, Suspects, SuspectsSuffice, [], and-false, and_parts, ap, are_split, arith, subject_and_certificate, certified_by, certified_in, certified_subjects, certified_under, claimed, clash, committee_of, cond, cond-false, cons_option, contains, contradicts, distinct_count, evidence_of, false, false_from_ne_true, false≢true, faults_of, filter, find, first_kind, flat_map, if_certified, is_at, is_accused, is_accused_in, is_of, is_some, is_split, is_suspect, is_suspect_round, is_valid, judged_by, le-ltb, lt-ltb, map, accused_by, accused_count, nat_eq, nat_lt, refl, round_cmp, round_of, rules_of, rules_under, signer_cmp, size_by, split_of, subst, suspect_of, sym, true, valid_by, valid_under, valid_votes, votes_in, with_first, with_second, ℕ, ◌&&◌, ◌+◌, ◌||◌, ◌↔◌, ◌∙◌, ◌∷◌, ◌≡◌, ◌≤◌}
+use Rattle.simplex_detector.proofs.Prelude.{Scheme, Accusation, Activity, All-contains, All-nil, AreLawful, AreSplits, Bool, Claimed, Conflicting_finalize, Conflicting_notarize, Contains, Equivocation, EquivocationKind, IsEquivalence, IsEvidence, IsTrue, JudgeAlike, List, None, Nullify_finalize, Option, Round, Rules, Schedule, SignedVote, Some, Split, SubjectValue, SuspectSigners, Suspected, Suspects, SuspectsSuffice, [], accused_by, accused_count, and-false, and_parts, ap, are_split, arith, certified_by, certified_in, certified_subjects, certified_under, claimed, clash, committee_of, cond, cond-false, cons_option, contains, contradicts, distinct_count, evidence_of, false, false_from_ne_true, false≢true, faults_of, filter, find, first_kind, flat_map, if_certified, is_accused, is_accused_in, is_at, is_of, is_some, is_split, is_suspect, is_suspect_round, is_valid, judged_by, le-ltb, lt-ltb, map, nat_eq, nat_lt, refl, round_cmp, round_of, rules_of, rules_under, signer_cmp, size_by, split_of, subject_and_certificate, subst, suspect_of, sym, true, valid_by, valid_under, valid_votes, votes_in, with_first, with_second, ℕ, ◌&&◌, ◌+◌, ◌||◌, ◌↔◌, ◌∙◌, ◌∷◌, ◌≡◌, ◌≤◌}
 use Rattle.simplex_detector.proofs.AccountLemmas.{certified_parts, counted_signer, distinct_count-same, kind_from_accused_in, accused_in}
 use Rattle.simplex_detector.proofs.EvidenceLemmas.{evidence_exists, first_spot, moved_evidence, accused_by_more, accused_from_votes, valid_from, valid_in, votes_from_accused}
 use Rattle.simplex_detector.proofs.Lists.{Contains-filter, Contains-first, Contains-from_filter, Contains-from_filter_map, Contains-from_list_any, Contains-from_map, Contains-map, Contains-none, any_from_Contains, found, same_bool}
@@ -236,22 +236,22 @@ module _ {S D C P G : Type 0} (rules : Rules S D C P G) (l : AreLawful rules) (m
 
 -- ---- committees that judge claims, or suspects alone
 
-module _ {S D C P G : Type 0} (eq : D → D → Bool) (keys : S → List P) (good : S → SubjectValue D → ℕ → G → Bool)
-    (certified : S → SubjectValue D → C → Bool) (listed : C → List (Attestation S P G)) (schedule : Schedule S) where
+module _ {S D C P G : Type 0} (scheme : Scheme S D C P G) (schedule : Schedule S) where
   abbrev rules : Rules S D C P G
-  rules = rules_of eq keys good certified listed schedule
+  rules = rules_of scheme schedule
 
   -- what is judged as `Claimed` is what the votes claim, also without a committee
-  pub claims_are_claimed : rules_under eq keys good certified listed Claimed schedule ≡ claimed rules
+  pub claims_are_claimed : rules_under scheme Claimed schedule ≡ claimed rules
   claims_are_claimed = λ i. record {
-    eq = eq;
+    eq = scheme.eq;
     good = λ x signer signature.
-        (elim (committee_of schedule (round_of x).epoch) as (λ o. valid_by (valid_under keys good Claimed) o x signer signature
-        ≡ nat_lt signer (size_by keys o)) [ None ↦ sym (le-ltb signer 0 (omega arith)) | Some s ↦ refl ]) i;
+        (elim (committee_of schedule (round_of x).epoch) as (λ o.
+        valid_by (valid_under scheme.keys scheme.good Claimed) o x signer signature
+        ≡ nat_lt signer (size_by scheme.keys o)) [ None ↦ sym (le-ltb signer 0 (omega arith)) | Some s ↦ refl ]) i;
     certified = λ x certificate. (elim (committee_of schedule (round_of x).epoch) as (λ o.
-        certified_by (certified_under certified Claimed) o x certificate ≡ false) [ None ↦ refl | Some s ↦ refl ]) i;
-    listed = listed;
-    size = λ epoch. size_by keys (committee_of schedule epoch);
+        certified_by (certified_under scheme.certified Claimed) o x certificate ≡ false) [ None ↦ refl | Some s ↦ refl ]) i;
+    listed = scheme.listed;
+    size = λ epoch. size_by scheme.keys (committee_of schedule epoch);
   }
 
   -- the suspects that a judging has
@@ -263,19 +263,21 @@ module _ {S D C P G : Type 0} (eq : D → D → Bool) (keys : S → List P) (goo
 
   -- what is judged as `Suspects` is judged among these suspects, also without a committee
   pub suspects_are_among : (suspects : SuspectSigners) →
-      rules_under eq keys good certified listed (Suspects suspects) schedule ≡ among rules (suspects_in suspects)
+      rules_under scheme (Suspects suspects) schedule ≡ among rules (suspects_in suspects)
   suspects_are_among suspects = λ i. record {
-    eq = eq;
+    eq = scheme.eq;
     good = λ x signer signature.
-        (elim (committee_of schedule (round_of x).epoch) as (λ o. valid_by (valid_under keys good (Suspects suspects)) o x
-        signer signature ≡ (contains signer_cmp suspects.signers (round_of x, signer) && valid_by good o x signer signature))
+        (elim (committee_of schedule (round_of x).epoch) as (λ o.
+        valid_by (valid_under scheme.keys scheme.good (Suspects suspects)) o x signer signature
+        ≡ (contains signer_cmp suspects.signers (round_of x, signer) && valid_by scheme.good o x signer signature))
         [ None ↦ sym (and-false (contains signer_cmp suspects.signers (round_of x, signer))) | Some s ↦ refl ]) i;
     certified = λ x certificate.
-        (elim (committee_of schedule (round_of x).epoch) as (λ o. certified_by (certified_under certified (Suspects suspects)) o
-        x certificate ≡ (contains round_cmp suspects.rounds (round_of x) && certified_by certified o x certificate))
+        (elim (committee_of schedule (round_of x).epoch) as (λ o.
+        certified_by (certified_under scheme.certified (Suspects suspects)) o x certificate
+        ≡ (contains round_cmp suspects.rounds (round_of x) && certified_by scheme.certified o x certificate))
         [ None ↦ sym (and-false (contains round_cmp suspects.rounds (round_of x))) | Some s ↦ refl ]) i;
-    listed = listed;
-    size = λ epoch. size_by keys (committee_of schedule epoch);
+    listed = scheme.listed;
+    size = λ epoch. size_by scheme.keys (committee_of schedule epoch);
   }
 
 -- ---- the suspects of messages

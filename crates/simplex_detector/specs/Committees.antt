@@ -2,8 +2,8 @@
 use Rattle.std.specs.Prelude.{⊤, ℕ, ◌<◌, ◌==◌, ◌≢◌, Bool, false, List, [], ◌∷◌, length, max, Option, Some, None, option_map, true}
 use Rattle.std.specs.List.{AllPairs, find}
 use Rattle.simplex_scheme.specs.Subject.{SubjectValue, round_of}
-use Rattle.simplex_scheme.specs.declared.scheme.Attestation.{Attestation}
 use Rattle.simplex_detector.specs.Rules.{Rules}
+use Rattle.simplex_detector.specs.Scheme.{Scheme}
 use Rattle.simplex_detector.specs.declared.committees.Entries.{Entries}
 use Rattle.simplex_detector.specs.declared.committees.Entries.TheVariants as entries
 use Rattle.simplex_detector.specs.declared.committees.CommitteesError.{CommitteesError}
@@ -53,14 +53,13 @@ certified_by certified None x certificate = false
 certified_by certified (Some committee) x certificate = certified committee x certificate
 
 -- each vote and each certificate is judged by the committee of its round's epoch
-abbrev pub rules_of : {S D C P G : Type 0} → (D → D → Bool) → (S → List P) → (S → SubjectValue D → ℕ → G → Bool) →
-    (S → SubjectValue D → C → Bool) → (C → List (Attestation S P G)) → Schedule S → Rules S D C P G
-rules_of eq keys good certified listed schedule = record {
-  eq = eq;
-  good = λ x. valid_by good (committee_of schedule (round_of x).epoch) x;
-  certified = λ x. certified_by certified (committee_of schedule (round_of x).epoch) x;
-  listed = listed;
-  size = λ epoch. size_by keys (committee_of schedule epoch);
+abbrev pub rules_of : {S D C P G : Type 0} → Scheme S D C P G → Schedule S → Rules S D C P G
+rules_of scheme schedule = record {
+  eq = scheme.eq;
+  good = λ x. valid_by scheme.good (committee_of schedule (round_of x).epoch) x;
+  certified = λ x. certified_by scheme.certified (committee_of schedule (round_of x).epoch) x;
+  listed = scheme.listed;
+  size = λ epoch. size_by scheme.keys (committee_of schedule epoch);
 }
 
 abbrev pub schedule_of : {S : Type 0} → Entries S → Schedule S

@@ -3,10 +3,10 @@ use Rattle.std.specs.Prelude.{ℕ, Bool, true, false, ◌&&◌, List, length, na
 use Rattle.std.specs.BTreeSet.{contains}
 use Rattle.simplex_base.specs.Positions.{Round}
 use Rattle.simplex_scheme.specs.Subject.{SubjectValue, round_of}
-use Rattle.simplex_scheme.specs.declared.scheme.Attestation.{Attestation}
 use Rattle.simplex_detector.specs.Committees.{Schedule, rules_of}
 use Rattle.simplex_detector.specs.Accusation.{round_cmp, signer_cmp}
 use Rattle.simplex_detector.specs.Rules.{Rules}
+use Rattle.simplex_detector.specs.Scheme.{Scheme}
 use Rattle.simplex_detector.specs.declared.judging.Judging.{Judging}
 use Rattle.simplex_detector.specs.declared.judging.Judging.TheVariants.{Verified, Claimed, Suspects}
 
@@ -37,8 +37,16 @@ certified_under certified Claimed = λ committee x certificate. false
 certified_under certified (Suspects suspects) = λ committee x certificate.
     contains round_cmp suspects.rounds (round_of x) && certified committee x certificate
 
+-- the same scheme, whose committees judge so
+abbrev pub scheme_under : {S D C P G : Type 0} → Scheme S D C P G → Judging → Scheme S D C P G
+scheme_under scheme judging = record {
+  eq = scheme.eq;
+  keys = scheme.keys;
+  good = valid_under scheme.keys scheme.good judging;
+  certified = certified_under scheme.certified judging;
+  listed = scheme.listed;
+}
+
 -- each vote and each certificate is judged so by the committee of its round's epoch
-abbrev pub rules_under : {S D C P G : Type 0} → (D → D → Bool) → (S → List P) → (S → SubjectValue D → ℕ → G → Bool) →
-    (S → SubjectValue D → C → Bool) → (C → List (Attestation S P G)) → Judging → Schedule S → Rules S D C P G
-rules_under eq keys good certified listed judging =
-    rules_of eq keys (valid_under keys good judging) (certified_under certified judging) listed
+abbrev pub rules_under : {S D C P G : Type 0} → Scheme S D C P G → Judging → Schedule S → Rules S D C P G
+rules_under scheme judging = rules_of (scheme_under scheme judging)

@@ -3,9 +3,21 @@
 ghost use Rattle.simplex_detector.specs.Committees.{Schedule, rules_of};
 ghost use Rattle.simplex_detector.specs.Judging.{rules_under};
 ghost use Rattle.simplex_detector.specs.Rules.{Rules};
+ghost use Rattle.simplex_detector.specs.Scheme.{Scheme, scheme_of};
 ghost use Rattle.simplex_detector.specs.declared.judging.Judging.{Judging};
 
 use simplex_scheme::scheme::{Digest, Listing};
+
+/// A scheme whose committees decide what is valid and what certifies. Every scheme that lists attestations is one; there
+/// is nothing to implement or to call.
+pub trait Decides<D: Digest>: Listing<D> {
+    /// How the scheme's committees judge.
+    ghost scheme: { Scheme Self D Self.Certificate Self.PublicKey Self.Signature };
+}
+
+impl<S: Listing<D>, D: Digest> Decides<D> for S {
+    ghost scheme = { scheme_of D.eq S.keys S.good S.certified S.listed };
+}
 
 /// A scheme whose committees judge votes and certificates. Every scheme that lists attestations is one; there is
 /// nothing to implement or to call.
@@ -19,7 +31,7 @@ pub trait Judges<D: Digest>: Listing<D> {
 }
 
 impl<S: Listing<D>, D: Digest> Judges<D> for S {
-    ghost rules = { rules_of D.eq S.keys S.good S.certified S.listed };
+    ghost rules = { rules_of ⟦<S as Decides<D>>⟧.scheme };
 
-    ghost rules_under = { rules_under D.eq S.keys S.good S.certified S.listed };
+    ghost rules_under = { rules_under ⟦<S as Decides<D>>⟧.scheme };
 }

@@ -1,11 +1,12 @@
 -- How messages are shown, and the validity of their signatures and certificates.
-use Rattle.std.specs.Prelude.{ℕ, Bool, List, length, Option, option_map}
+use Rattle.std.specs.Prelude.{ℕ, List, length, Option, option_map}
 use Rattle.simplex_scheme.specs.Committee.{quorum_of}
 use Rattle.simplex_scheme.specs.Subject.{SubjectValue, round_of}
 use Rattle.simplex_scheme.specs.declared.scheme.Attestation.{Attestation}
 use Rattle.simplex_votes.specs.Votes.{SignedVote}
 use Rattle.simplex_detector.specs.Committees.{Schedule, rules_of}
 use Rattle.simplex_detector.specs.Rules.{Rules, is_valid}
+use Rattle.simplex_detector.specs.Scheme.{Scheme}
 use Rattle.simplex_inspect.specs.Validity.{validity_of_signature, validity_of_certificate}
 use Rattle.simplex_inspect.specs.declared.validity.Validity.{Validity}
 
@@ -18,12 +19,11 @@ pub record Shown (S D C P G : Type 0) : Type 0 where
   pub signature_bytes : G → List ℕ
 
 -- how messages are shown under committees, or without any
-abbrev pub shown_of : {S D C P G : Type 0} → (D → List ℕ) → (G → List ℕ) → (D → D → Bool) → (S → List P) →
-    (S → SubjectValue D → ℕ → G → Bool) → (S → SubjectValue D → C → Bool) → (C → List (Attestation S P G)) →
-    Option (Schedule S) → Shown S D C P G
-shown_of payload_bytes signature_bytes eq keys good certified listed committees = record {
-  rules = option_map (rules_of eq keys good certified listed) committees;
-  listed = listed;
+abbrev pub shown_of : {S D C P G : Type 0} → (D → List ℕ) → (G → List ℕ) → Scheme S D C P G → Option (Schedule S) →
+    Shown S D C P G
+shown_of payload_bytes signature_bytes scheme committees = record {
+  rules = option_map (rules_of scheme) committees;
+  listed = scheme.listed;
   payload_bytes = payload_bytes;
   signature_bytes = signature_bytes;
 }

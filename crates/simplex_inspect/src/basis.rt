@@ -7,6 +7,7 @@ ghost use Rattle.simplex_inspect.specs.Inspected.{Lines, lines_of};
 ghost use Rattle.simplex_inspect.specs.Shown.{Shown, shown_of};
 
 use simplex_base::codec::{Fixed, Read};
+use simplex_detector::rules::Decides;
 use simplex_evidence::types::Activity;
 use simplex_scheme::scheme::{Digest, Listing};
 
@@ -23,9 +24,9 @@ pub trait Inspected<D: Digest>: Listing<D> {
 }
 
 impl<S: Listing<D>, D: Digest> Inspected<D> for S {
-    ghost shown = { shown_of D.bytes_of S.Signature.bytes_of D.eq
-        S.keys S.good S.certified S.listed };
+    ghost shown = { shown_of D.bytes_of S.Signature.bytes_of
+        ⟦<S as Decides<D>>⟧.scheme };
 
     ghost lines = { lines_of ⟦<Activity<S, D> as Read>⟧ S.keys
-        (shown_of D.bytes_of S.Signature.bytes_of D.eq S.keys S.good S.certified S.listed) };
+        (shown_of D.bytes_of S.Signature.bytes_of ⟦<S as Decides<D>>⟧.scheme) };
 }

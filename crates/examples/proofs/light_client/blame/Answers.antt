@@ -2,6 +2,7 @@ use Rattle.std.proofs.Common.{List, [], ◌∷◌, refl, ◌∙◌}
 use Rattle.simplex_evidence.specs.declared.types.activity.Activity.{Activity}
 use Rattle.simplex_evidence.specs.declared.types.activity.Activity.TheVariants as activity
 use Rattle.simplex_detector.specs.Committees.{rules_of}
+use Rattle.simplex_detector.specs.Scheme.{scheme_of}
 use Rattle.examples.proofs.ForkLemmas.{blames, evidence_of_same, first_of_two, second_of_two, nothing_first, two_messages}
 use Rattle.examples.proofs.light_client.blame.Goals as goal
 
@@ -12,8 +13,8 @@ returns g c =
     let messages : List
     (Activity g.row.S.Denot g.row.D.Denot g.row.S-Certificate.Denot g.row.S-PublicKey.Denot g.row.S-Signature.Denot) =
     activity.Finalization one ∷ activity.Finalization other ∷ [] in
-    let rules = rules_of g.D.PartialEq.eq g.S.CertificateScheme.keys g.S.Scheme.good g.S.CertificateVerifier.certified
-    g.S.Listing.listed c.args.committees.now in
+    let rules = rules_of (scheme_of g.D.PartialEq.eq g.S.CertificateScheme.keys g.S.Scheme.good
+        g.S.CertificateVerifier.certified g.S.Listing.listed) c.args.committees.now in
     let are = two_messages _ (activity.Finalization one) (activity.Finalization other) c.deref.result.now c.requires.one.value
     c.requires.other.value (λ m more is. nothing_first _ _ is)
     (c.deref.ensures.value ∙ c.in_ok-stream.ensures c.args.committees.now) in

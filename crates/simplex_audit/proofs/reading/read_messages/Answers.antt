@@ -8,6 +8,7 @@ use Rattle.simplex_detector.specs.Judging.{rules_under}
 use Rattle.simplex_detector.specs.Rules.{Rules}
 use Rattle.simplex_detector.specs.declared.judging.Judging.{Judging}
 use Rattle.simplex_detector.specs.Detector.{RecallsMore}
+use Rattle.simplex_detector.specs.Scheme.{scheme_of}
 use Rattle.simplex_audit.proofs.AuditorLemmas.{recorded_recalls}
 use Rattle.simplex_audit.proofs.reading.read_messages.Given as given
 use Rattle.simplex_audit.proofs.reading.read_messages.Goals as goal
@@ -30,8 +31,8 @@ format g bound =
 -- the rules by which messages are judged
 abbrev rules : (g : given.Over) → Schedule g.row.S.Denot → Judging → Rules g.row.S.Denot g.row.D.Denot
     g.row.S-Certificate.Denot g.row.S-PublicKey.Denot g.row.S-Signature.Denot
-rules g schedule judging = rules_under g.D.PartialEq.eq g.S.CertificateScheme.keys g.S.Scheme.good
-    g.S.CertificateVerifier.certified g.S.Listing.listed judging schedule
+rules g schedule judging = rules_under (scheme_of g.D.PartialEq.eq g.S.CertificateScheme.keys g.S.Scheme.good
+    g.S.CertificateVerifier.certified g.S.Listing.listed) judging schedule
 
 pub returns-clause-progress : goal.returns-clause-progress
 returns-clause-progress g c = λ same.

@@ -1,24 +1,28 @@
-use Rattle.simplex_detector.proofs.Prelude.{All-contains, AreSplits, IsEvidence, [], contains, map, round_cmp, round_of, signer_cmp, subst, suspect_of, true, valid_votes, ◌≡◌}
+use Rattle.simplex_detector.proofs.Prelude.{All-contains, AreSplits, IsEvidence, [], contains, map, round_cmp, round_of, signer_cmp, subst, suspect_of, true, valid_votes, ◌≡◌, Scheme, scheme_of}
 use Rattle.simplex_detector.proofs.Lists.{Contains-map}
 use Rattle.simplex_detector.proofs.SuspectLemmas.{claims_are_claimed, claims_are_suspect, nothing_claimed, suspects_are_among, suspects_in, suspects_determine_reports}
+use Rattle.simplex_detector.proofs.laws.suspects_determine_reports.Given as given
 use Rattle.simplex_detector.proofs.laws.suspects_determine_reports.Goals as goal
+
+-- the scheme
+abbrev scheme : (g : given.Over) →
+    Scheme g.row.S.Denot g.row.D.Denot g.row.S-Certificate.Denot g.row.S-PublicKey.Denot g.row.S-Signature.Denot
+scheme g =
+    scheme_of g.D.PartialEq.eq g.S.CertificateScheme.keys g.S.Scheme.good g.S.CertificateVerifier.certified g.S.Listing.listed
 
 pub returns-clause-nobody : goal.returns-clause-nobody
 returns-clause-nobody g c schedule messages splits l is are =
-    let same = claims_are_claimed g.D.PartialEq.eq g.S.CertificateScheme.keys g.S.Scheme.good g.S.CertificateVerifier.certified
-    g.S.Listing.listed schedule in
+    let same = claims_are_claimed (scheme g) schedule in
     nothing_claimed _ l messages splits (subst (λ judged. IsEvidence g.D.PartialEq.eq (valid_votes judged messages) []) same is)
     (subst (λ judged. AreSplits judged messages splits) same are)
 
 pub returns-clause-suspects : goal.returns-clause-suspects
 returns-clause-suspects g c schedule messages claims suspects l is has_rounds has_signers es splits es_are splits_are =
-    let s = suspects_in g.D.PartialEq.eq g.S.CertificateScheme.keys g.S.Scheme.good g.S.CertificateVerifier.certified
-    g.S.Listing.listed schedule suspects in
-    let same = suspects_are_among g.D.PartialEq.eq g.S.CertificateScheme.keys g.S.Scheme.good g.S.CertificateVerifier.certified
-    g.S.Listing.listed schedule suspects in
+    let s = suspects_in (scheme g) schedule suspects in
+    let same = suspects_are_among (scheme g) schedule suspects in
     let suspect = claims_are_suspect _ l messages claims s
-    (subst (λ judged. IsEvidence g.D.PartialEq.eq (valid_votes judged messages) claims) (claims_are_claimed g.D.PartialEq.eq
-    g.S.CertificateScheme.keys g.S.Scheme.good g.S.CertificateVerifier.certified g.S.Listing.listed schedule) is)
+    (subst (λ judged. IsEvidence g.D.PartialEq.eq (valid_votes judged messages) claims)
+    (claims_are_claimed (scheme g) schedule) is)
     (λ e e_in. (
       All-contains (λ suspect. contains signer_cmp suspects.signers suspect ≡ true) (map suspect_of claims) (suspect_of e)
           has_signers (Contains-map suspect_of claims e e_in),

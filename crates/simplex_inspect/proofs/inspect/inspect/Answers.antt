@@ -3,6 +3,7 @@ use Rattle.simplex_base.specs.Format.{fixed}
 use Rattle.simplex_evidence.specs.Activity.{activity_format}
 use Rattle.simplex_evidence.specs.declared.types.activity.Activity.{Activity}
 use Rattle.simplex_detector.specs.Committees.{Schedule}
+use Rattle.simplex_detector.specs.Scheme.{scheme_of}
 use Rattle.simplex_audit.specs.Watched.{inner_of}
 use Rattle.simplex_inspect.specs.Inspected.{Lines, bound_under}
 use Rattle.simplex_inspect.specs.Line.{line_json}
@@ -20,8 +21,9 @@ lines g committees = let bound = bound_under g.S.CertificateScheme.keys committe
     encoding = g.S.Certificate.Encoding.encoding;
     reading = g.S.Certificate.Read.reading bound;
   }) (fixed g.S.Signature.FixedSize.SIZE g.S.Signature.Fixed.bytes_of g.S.Signature.Fixed.of_bytes);
-  line = line_json (shown_of g.D.Fixed.bytes_of g.S.Signature.Fixed.bytes_of g.D.PartialEq.eq g.S.CertificateScheme.keys
-      g.S.Scheme.good g.S.CertificateVerifier.certified g.S.Listing.listed committees);
+  line = line_json (shown_of g.D.Fixed.bytes_of g.S.Signature.Fixed.bytes_of (scheme_of g.D.PartialEq.eq
+      g.S.CertificateScheme.keys g.S.Scheme.good
+      g.S.CertificateVerifier.certified g.S.Listing.listed) committees);
 }
 
 pub returns-clause-whole : goal.returns-clause-whole

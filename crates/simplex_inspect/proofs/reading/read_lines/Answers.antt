@@ -5,6 +5,7 @@ use Rattle.simplex_stream.specs.Progress.{IsProgress}
 use Rattle.simplex_evidence.specs.Activity.{activity_format}
 use Rattle.simplex_evidence.specs.declared.types.activity.Activity.{Activity}
 use Rattle.simplex_detector.specs.Committees.{Schedule}
+use Rattle.simplex_detector.specs.Scheme.{scheme_of}
 use Rattle.simplex_inspect.specs.Inspected.{Lines, bound_under}
 use Rattle.simplex_inspect.specs.Line.{line_json}
 use Rattle.simplex_inspect.specs.Shown.{shown_of}
@@ -33,8 +34,9 @@ format g bound =
 abbrev lines : (g : given.Over) → Option (Schedule g.row.S.Denot) → Lines (Message g)
 lines g committees = record {
   format = format g (bound_under g.S.CertificateScheme.keys committees);
-  line = line_json (shown_of g.D.Fixed.bytes_of g.S.Signature.Fixed.bytes_of g.D.PartialEq.eq
-      g.S.CertificateScheme.keys g.S.Scheme.good g.S.CertificateVerifier.certified g.S.Listing.listed committees);
+  line = line_json (shown_of g.D.Fixed.bytes_of g.S.Signature.Fixed.bytes_of (scheme_of g.D.PartialEq.eq
+      g.S.CertificateScheme.keys g.S.Scheme.good
+      g.S.CertificateVerifier.certified g.S.Listing.listed) committees);
 }
 
 -- what was read, and the lines of it

@@ -6,6 +6,7 @@ use Rattle.simplex_detector.specs.Judging.{rules_under}
 use Rattle.simplex_detector.specs.declared.judging.Judging.TheVariants.{Claimed}
 use Rattle.simplex_detector.specs.Committees.{Schedule, rules_of}
 use Rattle.simplex_detector.specs.Rules.{Rules}
+use Rattle.simplex_detector.specs.Scheme.{scheme_of}
 use Rattle.simplex_audit.specs.Basis.{Basis}
 use Rattle.simplex_places.specs.Places.{message_places}
 use Rattle.simplex_places.specs.Suspects.{AreRead}
@@ -27,8 +28,8 @@ signature g = fixed g.S.Signature.FixedSize.SIZE g.S.Signature.Fixed.bytes_of g.
 -- the rules by which claims are judged
 abbrev claims : (g : given.Over) → Schedule g.row.S.Denot → Rules g.row.S.Denot g.row.D.Denot
     g.row.S-Certificate.Denot g.row.S-PublicKey.Denot g.row.S-Signature.Denot
-claims g = rules_under g.D.PartialEq.eq g.S.CertificateScheme.keys g.S.Scheme.good g.S.CertificateVerifier.certified
-    g.S.Listing.listed Claimed
+claims g = rules_under (scheme_of g.D.PartialEq.eq g.S.CertificateScheme.keys g.S.Scheme.good
+    g.S.CertificateVerifier.certified g.S.Listing.listed) Claimed
 
 -- the basis of an audit under a bound
 abbrev basis : (g : given.Over) → Schedule g.row.S.Denot → ℕ → Basis g.row.S.Denot g.row.D.Denot
@@ -40,8 +41,8 @@ basis g committees bound = record {
     encoding = g.S.Certificate.Encoding.encoding;
     reading = g.S.Certificate.Read.reading bound;
   }) (signature g);
-  rules = rules_of g.D.PartialEq.eq g.S.CertificateScheme.keys g.S.Scheme.good g.S.CertificateVerifier.certified
-      g.S.Listing.listed committees;
+  rules = rules_of (scheme_of g.D.PartialEq.eq g.S.CertificateScheme.keys g.S.Scheme.good
+      g.S.CertificateVerifier.certified g.S.Listing.listed) committees;
 }
 
 pub returns : goal.returns

@@ -7,6 +7,7 @@ use Rattle.simplex_evidence.specs.declared.types.activity.Activity.{Activity}
 use Rattle.simplex_detector.specs.Committees.{rules_of}
 use Rattle.simplex_detector.specs.Rules.{is_valid}
 use Rattle.simplex_detector.specs.Values.{evidence_value}
+use Rattle.simplex_detector.specs.Scheme.{scheme_of}
 use Rattle.simplex_votes.specs.Votes.{SignedVote}
 use Rattle.simplex_stream.specs.Messages.{AreMessages}
 use Rattle.simplex_places.specs.FirstPlaces.{AreSought, NotesAlong}
@@ -46,8 +47,8 @@ returns-clause-records g c audit messages rest are =
     let payload_eq = g.D.PartialEq.eq in
     let signature_eq = g.S.Signature.PartialEq.eq in
     let listed = g.S.Listing.listed in
-    let rules = rules_of payload_eq g.S.CertificateScheme.keys g.S.Scheme.good g.S.CertificateVerifier.certified listed
-    c.args.committees.now in
+    let rules = rules_of (scheme_of payload_eq g.S.CertificateScheme.keys g.S.Scheme.good
+        g.S.CertificateVerifier.certified listed) c.args.committees.now in
     let alike : (v w : SignedVote g.row.D.Denot g.row.S-Signature.Denot) →
     eq (key_of v) (key_of w) ≡ same_signed_vote payload_eq signature_eq v w =
     g.met.K.Key.alike in

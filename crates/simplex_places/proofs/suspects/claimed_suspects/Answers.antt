@@ -10,6 +10,7 @@ use Rattle.simplex_detector.specs.Rules.{valid_votes}
 use Rattle.simplex_detector.specs.Suspects.{is_suspect, is_suspect_round, suspect_of}
 use Rattle.simplex_detector.specs.Values.{evidence_value}
 use Rattle.simplex_detector.specs.declared.judging.Judging.TheVariants.{Claimed}
+use Rattle.simplex_detector.specs.Scheme.{scheme_of}
 use Rattle.simplex_detector.proofs.SuspectLemmas.{claims_are_claimed}
 use Rattle.simplex_places.proofs.SuspectLemmas.{holds_alike}
 use Rattle.simplex_places.proofs.suspects.claimed_suspects.Goals as goal
@@ -17,13 +18,13 @@ use Rattle.simplex_places.proofs.suspects.claimed_suspects.Goals as goal
 pub returns-clause-signers : goal.returns-clause-signers
 returns-clause-signers g c = λ committees messages lawful recalls round signer.
     let eq = g.D.PartialEq.eq in
-    let rules =
-    rules_of eq g.S.CertificateScheme.keys g.S.Scheme.good g.S.CertificateVerifier.certified g.S.Listing.listed committees in
+    let scheme = scheme_of g.D.PartialEq.eq g.S.CertificateScheme.keys g.S.Scheme.good
+        g.S.CertificateVerifier.certified g.S.Listing.listed in
+    let rules = rules_of scheme committees in
     let items = c.in_ok-evidence.evidence.items in
     let claims = map evidence_value items in
     let suspects = c.in_ok-suspects.suspects in
-    let is = subst (λ judged. IsEvidence eq (valid_votes judged messages) claims) (claims_are_claimed eq
-    g.S.CertificateScheme.keys g.S.Scheme.good g.S.CertificateVerifier.certified g.S.Listing.listed committees)
+    let is = subst (λ judged. IsEvidence eq (valid_votes judged messages) claims) (claims_are_claimed scheme committees)
     (c.in_ok-evidence.ensures.evidence Claimed committees messages recalls) in
     let law = c.suspects_suffice.ensures.signers rules messages claims lawful is round signer in
     let same : map (λ e. suspect_of (evidence_value e)) c.deref.result.now ≡ map suspect_of claims =
@@ -35,13 +36,13 @@ returns-clause-signers g c = λ committees messages lawful recalls round signer.
 pub returns-clause-rounds : goal.returns-clause-rounds
 returns-clause-rounds g c = λ committees messages lawful recalls round.
     let eq = g.D.PartialEq.eq in
-    let rules =
-    rules_of eq g.S.CertificateScheme.keys g.S.Scheme.good g.S.CertificateVerifier.certified g.S.Listing.listed committees in
+    let scheme = scheme_of g.D.PartialEq.eq g.S.CertificateScheme.keys g.S.Scheme.good
+        g.S.CertificateVerifier.certified g.S.Listing.listed in
+    let rules = rules_of scheme committees in
     let items = c.in_ok-evidence.evidence.items in
     let claims = map evidence_value items in
     let suspects = c.in_ok-suspects.suspects in
-    let is = subst (λ judged. IsEvidence eq (valid_votes judged messages) claims) (claims_are_claimed eq
-    g.S.CertificateScheme.keys g.S.Scheme.good g.S.CertificateVerifier.certified g.S.Listing.listed committees)
+    let is = subst (λ judged. IsEvidence eq (valid_votes judged messages) claims) (claims_are_claimed scheme committees)
     (c.in_ok-evidence.ensures.evidence Claimed committees messages recalls) in
     let law = c.suspects_suffice.ensures.rounds rules messages claims lawful is round in
     let same : map (λ e. round_of (evidence_value e).first.subject) c.deref.result.now

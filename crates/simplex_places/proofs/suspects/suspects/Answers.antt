@@ -2,6 +2,7 @@ use Rattle.std.proofs.Common.{ℕ, ap, ◌∙◌}
 use Rattle.simplex_base.specs.Format.{fixed}
 use Rattle.simplex_evidence.specs.Activity.{activity_encoding}
 use Rattle.simplex_detector.specs.Committees.{committee_of, rules_of, size_by}
+use Rattle.simplex_detector.specs.Scheme.{scheme_of}
 use Rattle.simplex_places.specs.Places.{message_places, places_along}
 use Rattle.simplex_places.specs.Suspects.{sought_of, suspected_by, suspected_in}
 use Rattle.simplex_places.proofs.SuspectLemmas.{sought_alike}
@@ -12,8 +13,8 @@ returns-clause-listed g c =
     let committees = c.args.committees.now in
     let payload = fixed g.D.FixedSize.SIZE g.D.Fixed.bytes_of g.D.Fixed.of_bytes in
     let signature = fixed g.S.Signature.FixedSize.SIZE g.S.Signature.Fixed.bytes_of g.S.Signature.Fixed.of_bytes in
-    let rules = rules_of g.D.PartialEq.eq g.S.CertificateScheme.keys g.S.Scheme.good g.S.CertificateVerifier.certified
-    g.S.Listing.listed committees in
+    let rules = rules_of (scheme_of g.D.PartialEq.eq g.S.CertificateScheme.keys g.S.Scheme.good
+        g.S.CertificateVerifier.certified g.S.Listing.listed) committees in
     let size : ℕ → ℕ = λ epoch. size_by g.S.CertificateScheme.keys (committee_of committees epoch) in
     let read = c.in_ok-claims.ensures c.reading_bound-bound.ensures.value in
     let places = places_along (message_places payload signature g.S.Listing.listed)

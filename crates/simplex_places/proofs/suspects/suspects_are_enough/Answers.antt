@@ -7,6 +7,7 @@ use Rattle.simplex_schemes.specs.ListedLaws.{listed_lawful}
 use Rattle.simplex_schemes.specs.Vouched.{VouchedScheme, vouched_valid}
 use Rattle.simplex_evidence.specs.ActivityLaws.{activity_lawful}
 use Rattle.simplex_detector.specs.Committees.{bound_of, rules_of}
+use Rattle.simplex_detector.specs.Scheme.{scheme_of}
 use Rattle.simplex_places.proofs.RewrittenLemmas.{determined}
 use Rattle.simplex_places.proofs.suspects.suspects_are_enough.Goals as goal
 
@@ -25,8 +26,9 @@ returns g c stream found are =
       encoding = listed_encoding signature;
       reading = listed_at signature bound;
     }) signature g.met.D.Fixed.lawful (listed_lawful signature bound signatures) signatures in
-    let rules = rules_of {C = List _} eq keys (λ s. vouched_valid s.keys)
-    (λ s x. is_quorum (length s.keys) (vouched_valid s.keys x)) (λ certificate. certificate) committees in
+    let scheme = scheme_of {C = List _} eq keys (λ s. vouched_valid s.keys)
+    (λ s x. is_quorum (length s.keys) (vouched_valid s.keys x)) (λ certificate. certificate) in
+    let rules = rules_of scheme committees in
     let lawful = c.reading_bound.ensures.lawful in
     determined VouchedScheme g.row.D.Denot (List ℕ) g.row.N g.R.Role.sized.0 eq payload bound (listed_at signature bound)
     rules.good rules.certified rules.size lawful law (c.suspects_decide.ensures rules lawful) stream found are

@@ -4,6 +4,7 @@ use Rattle.std.specs.List.{flat_map}
 use Rattle.simplex_base.specs.Format.{fixed}
 use Rattle.simplex_evidence.specs.Activity.{votes_in}
 use Rattle.simplex_detector.specs.Committees.{rules_of}
+use Rattle.simplex_detector.specs.Scheme.{scheme_of}
 use Rattle.simplex_places.specs.Suspects.{suspected_in}
 use Rattle.simplex_places.proofs.ByteLemmas.{IsCast, sought_stand}
 use Rattle.simplex_places.proofs.suspects.suspects_are_votes.Goals as goal
@@ -14,7 +15,8 @@ returns g c committees stream found are =
     let payload = fixed g.D.FixedSize.SIZE g.D.Fixed.bytes_of g.D.Fixed.of_bytes in
     let signature = fixed g.S.Signature.FixedSize.SIZE g.S.Signature.Fixed.bytes_of g.S.Signature.Fixed.of_bytes in
     let listed = g.S.Listing.listed in
-    let rules = rules_of eq g.S.CertificateScheme.keys g.S.Scheme.good g.S.CertificateVerifier.certified listed committees in
+    let rules = rules_of (scheme_of g.D.PartialEq.eq g.S.CertificateScheme.keys g.S.Scheme.good
+        g.S.CertificateVerifier.certified g.S.Listing.listed) committees in
     let cast = Contains (flat_map (votes_in listed) are.messages) in
     record {
       messages = are.messages;

@@ -1,6 +1,7 @@
 use Rattle.std.proofs.Common.{ap, ◌∙◌, subst}
 use Rattle.simplex_base.specs.Format.{fixed}
 use Rattle.simplex_detector.specs.Committees.{rules_of}
+use Rattle.simplex_detector.specs.Scheme.{scheme_of}
 use Rattle.examples.specs.Following.{Follows}
 use Rattle.examples.proofs.ForkLemmas.{taken_now, not_taken_now, value_outside}
 use Rattle.examples.proofs.light_client.LightClient.follow.Goals as goal
@@ -11,8 +12,8 @@ returns-clause-follows g c =
     let inside = c.self.inside in
     let f = c.in_ok-finalization.finalization in
     let followed = c.in_ok-followed.followed in
-    let rules = rules_of g.D.PartialEq.eq g.S.CertificateScheme.keys g.S.Scheme.good g.S.CertificateVerifier.certified
-    g.S.Listing.listed in (
+    let rules = rules_of (scheme_of g.D.PartialEq.eq g.S.CertificateScheme.keys g.S.Scheme.good
+        g.S.CertificateVerifier.certified g.S.Listing.listed) in (
       f,
       c.in_ok-finalization.ensures.encoded,
       value_outside (fixed g.D.FixedSize.SIZE g.D.Fixed.bytes_of g.D.Fixed.of_bytes) g.S.Certificate.Read.fits

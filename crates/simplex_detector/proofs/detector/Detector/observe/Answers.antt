@@ -1,22 +1,22 @@
-use Rattle.simplex_detector.proofs.Prelude.{IsSized, IsSome, Judging, RecallsAt, Round, Rules, Schedule, Some, [], activity_round, ap, certified_under, committee_of, cond, get, is_key, length, on_ok_weaker, refl, round_cmp, rules_under, subst, sym, valid_under, ◌++◌, ◌∙◌, ◌∷◌, ◌≡◌}
+use Rattle.simplex_detector.proofs.Prelude.{IsSized, IsSome, Judging, RecallsAt, Round, Some, [], activity_round, ap, committee_of, cond, get, is_key, length, on_ok_weaker, refl, round_cmp, subst, sym, ◌++◌, ◌∙◌, ◌∷◌, ◌≡◌, Scheme, scheme_of, scheme_under, rules_of}
 use Rattle.simplex_evidence.specs.Activity.{contents_of}
 use Rattle.simplex_evidence.specs.Contents.{contents_round}
 use Rattle.simplex_detector.proofs.DetectorLemmas.{votes_here, recalls_changed, recalls_still_none, recalls_first, recalls_taken, recalls_no_committee}
 use Rattle.simplex_detector.proofs.detector.Detector.observe.Given as given
 use Rattle.simplex_detector.proofs.detector.Detector.observe.Goals as goal
 
-abbrev rules : (g : given.Over) → Judging → Schedule g.row.S.Denot →
-    Rules g.row.S.Denot g.row.D.Denot g.row.S-Certificate.Denot g.row.S-PublicKey.Denot g.row.S-Signature.Denot
-rules g =
-    rules_under g.D.PartialEq.eq g.S.CertificateScheme.keys g.S.Scheme.good g.S.CertificateVerifier.certified g.S.Listing.listed
+abbrev scheme : (g : given.Over) → Judging →
+    Scheme g.row.S.Denot g.row.D.Denot g.row.S-Certificate.Denot g.row.S-PublicKey.Denot g.row.S-Signature.Denot
+scheme g =
+    scheme_under (scheme_of g.D.PartialEq.eq g.S.CertificateScheme.keys g.S.Scheme.good
+    g.S.CertificateVerifier.certified g.S.Listing.listed)
 
 -- the message's epoch has no committee
 pub returns-in_default : goal.returns-in_default
 returns-in_default g c messages holds round =
     let none = c.in_default.ensures ∙ ap (committee_of c.args.committees.now)
     (c.epoch.ensures ∙ ap (λ r. r.epoch) (c.round-round.ensures ∙ ap contents_round c.contents-contents.ensures.value)) in
-    recalls_no_committee g.D.PartialEq.eq g.S.CertificateScheme.keys (valid_under g.S.CertificateScheme.keys g.S.Scheme.good
-    c.args.judging.now) (certified_under g.S.CertificateVerifier.certified c.args.judging.now) g.S.Listing.listed
+    recalls_no_committee (scheme g c.args.judging.now)
     c.args.committees.now messages c.args.message.now
     (votes_here g.D.PartialEq.eq g.S.Listing.listed (contents_of c.args.message.now) c.contents-contents.ensures.conflict) none
     round (get round_cmp c.args.self.now.rounds round) (holds round)
@@ -24,7 +24,7 @@ returns-in_default g c messages holds round =
 -- something was recorded of its round
 pub returns-in-Some-get_mut : goal.returns-in-Some-get_mut
 returns-in-Some-get_mut g c =
-    let all = rules g c.args.judging.now c.args.committees.now in
+    let all = rules_of (scheme g c.args.judging.now) c.args.committees.now in
     let m = c.args.message.now in
     let at = c.round-round.ensures ∙ ap contents_round c.contents-contents.ensures.value in
     let judge = sym (c.in-Some.ensures ∙ ap (committee_of c.args.committees.now) (c.epoch.ensures ∙ ap (λ r. r.epoch) at)) in
@@ -34,8 +34,7 @@ returns-in-Some-get_mut g c =
     on_ok_weaker c.observe.result (λ takes messages holds.
     let before = subst (RecallsAt all messages (activity_round m)) (sym (found ∙ ap (get round_cmp c.args.self.now.rounds) at))
     (holds (activity_round m)) in
-    let own = recalls_taken g.D.PartialEq.eq g.S.CertificateScheme.keys (valid_under g.S.CertificateScheme.keys g.S.Scheme.good
-    c.args.judging.now) (certified_under g.S.CertificateVerifier.certified c.args.judging.now) g.S.Listing.listed
+    let own = recalls_taken (scheme g c.args.judging.now)
     c.args.committees.now messages m c.in-Some.committee.now judge c.in-Some-get_mut.round_state.now after takes before in
     recalls_changed all g.met.D.Eq.laws messages m (votes_here g.D.PartialEq.eq g.S.Listing.listed
     (contents_of c.args.message.now) c.contents-contents.ensures.conflict) c.round-round.result at (Some after)
@@ -45,7 +44,7 @@ returns-in-Some-get_mut g c =
 -- nothing was recorded of its round
 pub returns-in_ok-insert : goal.returns-in_ok-insert
 returns-in_ok-insert g c messages holds =
-    let all = rules g c.args.judging.now c.args.committees.now in
+    let all = rules_of (scheme g c.args.judging.now) c.args.committees.now in
     let m = c.args.message.now in
     let at = c.round-round.ensures ∙ ap contents_round c.contents-contents.ensures.value in
     let judge = sym (c.in-Some.ensures ∙ ap (committee_of c.args.committees.now) (c.epoch.ensures ∙ ap (λ r. r.epoch) at)) in
@@ -54,8 +53,7 @@ returns-in_ok-insert g c messages holds =
     c.new-round_state.ensures.sized in
     let after = c.observe-2.new.self in
     let own =
-    recalls_first g.D.PartialEq.eq g.S.CertificateScheme.keys (valid_under g.S.CertificateScheme.keys g.S.Scheme.good
-    c.args.judging.now) (certified_under g.S.CertificateVerifier.certified c.args.judging.now) g.S.Listing.listed
+    recalls_first (scheme g c.args.judging.now)
     c.args.committees.now messages m c.in-Some.committee.now judge g.met.D.Eq.laws c.args.self.now.rounds
     c.new-round_state.result after (none ∙ ap (get round_cmp c.args.self.now.rounds) at) sized c.new-round_state.ensures.empty
     c.new-round_state.ensures.none c.new-round_state.ensures.certified
@@ -69,7 +67,7 @@ returns-in_ok-insert g c messages holds =
 -- nothing is recorded of its round now either
 pub returns-else-not-is_empty : goal.returns-else-not-is_empty
 returns-else-not-is_empty g c messages holds =
-    let all = rules g c.args.judging.now c.args.committees.now in
+    let all = rules_of (scheme g c.args.judging.now) c.args.committees.now in
     let m = c.args.message.now in
     let at = c.round-round.ensures ∙ ap contents_round c.contents-contents.ensures.value in
     let judge = sym (c.in-Some.ensures ∙ ap (committee_of c.args.committees.now) (c.epoch.ensures ∙ ap (λ r. r.epoch) at)) in
@@ -78,8 +76,7 @@ returns-else-not-is_empty g c messages holds =
     c.new-round_state.ensures.sized in
     let after = c.observe-2.new.self in
     let own =
-    recalls_first g.D.PartialEq.eq g.S.CertificateScheme.keys (valid_under g.S.CertificateScheme.keys g.S.Scheme.good
-    c.args.judging.now) (certified_under g.S.CertificateVerifier.certified c.args.judging.now) g.S.Listing.listed
+    recalls_first (scheme g c.args.judging.now)
     c.args.committees.now messages m c.in-Some.committee.now judge g.met.D.Eq.laws c.args.self.now.rounds
     c.new-round_state.result after (none ∙ ap (get round_cmp c.args.self.now.rounds) at) sized c.new-round_state.ensures.empty
     c.new-round_state.ensures.none c.new-round_state.ensures.certified

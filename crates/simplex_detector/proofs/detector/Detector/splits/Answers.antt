@@ -1,4 +1,4 @@
-use Rattle.simplex_detector.proofs.Prelude.{AllByRecursion, AreSplits, IsOrdered, Judging, RecallsRound, Rules, Schedule, ap, append-nil, filter_map, map, recursion_from_All, round_cmp, rules as std_rules, rules_under, split_of, subst, sym, ◌++◌, ◌∙◌}
+use Rattle.simplex_detector.proofs.Prelude.{AllByRecursion, AreSplits, IsOrdered, Judging, RecallsRound, Rules, Schedule, ap, append-nil, filter_map, map, recursion_from_All, round_cmp, rules as std_rules, rules_under, split_of, subst, sym, ◌++◌, ◌∙◌, scheme_of}
 use Rattle.simplex_detector.proofs.CountLemmas.{splits_of_detector, splits_next}
 use Rattle.simplex_detector.proofs.ReportLemmas.{recalls_listed}
 use Rattle.simplex_detector.proofs.detector.Detector.splits.Given as given
@@ -7,7 +7,8 @@ use Rattle.simplex_detector.proofs.detector.Detector.splits.Goals as goal
 abbrev rules : (g : given.Over) → Judging → Schedule g.row.S.Denot →
     Rules g.row.S.Denot g.row.D.Denot g.row.S-Certificate.Denot g.row.S-PublicKey.Denot g.row.S-Signature.Denot
 rules g =
-    rules_under g.D.PartialEq.eq g.S.CertificateScheme.keys g.S.Scheme.good g.S.CertificateVerifier.certified g.S.Listing.listed
+    rules_under (scheme_of g.D.PartialEq.eq g.S.CertificateScheme.keys g.S.Scheme.good
+    g.S.CertificateVerifier.certified g.S.Listing.listed)
 
 pub rounds-init : goal.rounds-init
 rounds-init g c judging messages l held =

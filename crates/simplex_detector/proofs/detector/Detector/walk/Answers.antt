@@ -1,4 +1,4 @@
-use Rattle.simplex_detector.proofs.Prelude.{IsOrdered, [], ap, arith, evidence_value, map, round_cmp, rules as std_rules, rules_under, subst}
+use Rattle.simplex_detector.proofs.Prelude.{IsOrdered, [], ap, arith, evidence_value, map, round_cmp, rules as std_rules, rules_under, subst, scheme_of}
 use Rattle.simplex_detector.proofs.ReportLemmas.{Walked, walked_next, report_of_walk}
 use Rattle.simplex_detector.proofs.detector.Detector.walk.Goals as goal
 
@@ -20,7 +20,8 @@ rounds-preserved g c =
 pub returns : goal.returns
 returns g c = λ judging schedule messages.
     let ordered : IsOrdered round_cmp c.args.self.now.rounds = search std_rules in
-    report_of_walk (rules_under g.D.PartialEq.eq g.S.CertificateScheme.keys g.S.Scheme.good g.S.CertificateVerifier.certified
-    g.S.Listing.listed judging schedule) g.met.D.Eq.laws c.args.self.now ordered (map evidence_value c.rounds.found.items)
+    report_of_walk (rules_under (scheme_of g.D.PartialEq.eq g.S.CertificateScheme.keys g.S.Scheme.good
+    g.S.CertificateVerifier.certified g.S.Listing.listed) judging schedule) g.met.D.Eq.laws c.args.self.now ordered
+    (map evidence_value c.rounds.found.items)
     (subst (λ rest. Walked g.D.PartialEq.eq c.args.self.now.rounds.entries rest (map evidence_value c.rounds.found.items))
     c.in-None.ensures.steps.0 c.rounds.invariant) messages

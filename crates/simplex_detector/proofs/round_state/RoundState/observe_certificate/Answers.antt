@@ -1,6 +1,6 @@
-use Rattle.simplex_detector.proofs.Prelude.{All, and_parts, certified_under, on_ok_weaker, subject_value, subst, sym, true, valid_under, ◌≡◌}
+use Rattle.simplex_detector.proofs.Prelude.{All, and_parts, on_ok_weaker, subject_value, subst, sym, true, ◌≡◌}
 use Rattle.simplex_detector.proofs.CommitteeLemmas.{certified_by_scheme, when_known}
-use Rattle.simplex_detector.proofs.DetectorLemmas.{takes_certificate, RecordsValid}
+use Rattle.simplex_detector.proofs.DetectorLemmas.{takes_certificate}
 use Rattle.simplex_detector.proofs.round_state.RoundState.observe_certificate.Goals as goal
 
 -- the signatures of the votes that a certificate lists are valid where it certifies
@@ -15,14 +15,6 @@ observe_all-requires g c = λ known.
 
 pub returns : goal.returns
 returns g c =
-    let x = subject_value c.args.subject.now in
-    on_ok_weaker c.observe_all.result
-    (λ votes. takes_certificate g.D.PartialEq.eq g.S.CertificateScheme.keys (valid_under g.S.CertificateScheme.keys
-    g.S.Scheme.good c.args.judge.now.judging.now)
-    (certified_under g.S.CertificateVerifier.certified c.args.judge.now.judging.now) g.S.Listing.listed
-    c.args.judge.now.committee.now x c.args.certificate.now c.args.self.now _ c.observe-signatures.ensures.records
-    (subst (λ given. RecordsValid g.D.PartialEq.eq g.S.CertificateScheme.keys (valid_under g.S.CertificateScheme.keys
-    g.S.Scheme.good c.args.judge.now.judging.now)
-    (certified_under g.S.CertificateVerifier.certified c.args.judge.now.judging.now) g.S.Listing.listed
-    c.args.judge.now.committee.now x given c.args.self.now.votes c.observe_all.new.self)
-    c.attestations-attestations.ensures votes)) c.observe_all.ensures
+    on_ok_weaker c.observe_all.result (takes_certificate _ c.args.judge.now.committee.now (subject_value c.args.subject.now)
+    c.args.certificate.now _ c.attestations-attestations.ensures c.args.self.now _ c.observe-signatures.ensures.records)
+    c.observe_all.ensures

@@ -1,4 +1,4 @@
-use Rattle.simplex_detector.proofs.Prelude.{cond-false, is_split, None, false_from_ne_true, Judging, Rules, Schedule, ap, arith, committee_of, length, rules_under, size_by, sym, ◌+◌, ◌∙◌, ◌≡◌}
+use Rattle.simplex_detector.proofs.Prelude.{cond-false, is_split, None, false_from_ne_true, Judging, Rules, Schedule, ap, arith, committee_of, length, rules_under, size_by, sym, ◌+◌, ◌∙◌, ◌≡◌, scheme_of}
 use Rattle.simplex_detector.proofs.CountLemmas.{split_found}
 use Rattle.simplex_detector.proofs.SplitLemmas.{from_subjects, someone_in_split}
 use Rattle.simplex_detector.proofs.round_state.RoundState.split.Given as given
@@ -7,7 +7,8 @@ use Rattle.simplex_detector.proofs.round_state.RoundState.split.Goals as goal
 abbrev rules : (g : given.Over) → Judging → Schedule g.row.S.Denot →
     Rules g.row.S.Denot g.row.D.Denot g.row.S-Certificate.Denot g.row.S-PublicKey.Denot g.row.S-Signature.Denot
 rules g =
-    rules_under g.D.PartialEq.eq g.S.CertificateScheme.keys g.S.Scheme.good g.S.CertificateVerifier.certified g.S.Listing.listed
+    rules_under (scheme_of g.D.PartialEq.eq g.S.CertificateScheme.keys g.S.Scheme.good
+    g.S.CertificateVerifier.certified g.S.Listing.listed)
 
 -- the round is not split
 pub returns-then-not-is_split : goal.returns-then-not-is_split

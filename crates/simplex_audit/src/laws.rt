@@ -1,0 +1,21 @@
+//! The laws of any messages, of which an audit's own speak of the messages of its stream.
+
+ghost use Rattle.simplex_audit.specs.MessageLaws.{MessageLaws};
+ghost use Rattle.simplex_detector.specs.Committees.{Schedule};
+
+use crate::basis::Audited;
+use simplex_detector::laws::{
+    accused_stay, certificates_are_accountable, evidence_is_determined, splits_are_determined,
+};
+use simplex_scheme::scheme::{Digest, Listing};
+
+/// The laws of `simplex_detector` that each report rests on. A call gives its caller what the clause states.
+pub fn message_laws<S: Listing<D>, D: Digest>()
+    ensures { (committees : Schedule S) →
+        MessageLaws (⟦<S as Audited<D>>⟧.basis committees).rules }
+{
+    accused_stay::<S, D>();
+    evidence_is_determined::<S, D>();
+    certificates_are_accountable::<S, D>();
+    splits_are_determined::<S, D>();
+}
