@@ -13,3 +13,9 @@ pub mod AgainLemmas
 pub mod RoomLemmas
 pub mod SuspectLemmas
 pub mod AgreementLemmas
+pub mod Filters
+pub mod IndependenceLemmas
+pub mod InterchangeLemmas
+pub mod NewsLemmas
+pub mod StayLemmas
+pub mod BoundLemmas

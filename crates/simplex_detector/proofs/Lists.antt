@@ -176,7 +176,8 @@ pub below_all : {K : Type 0} (cmp : K → K → Ordering) (k : K) (ks : List K) 
 below_all cmp k ks s q h = All-contains (λ y. cmp k y ≡ Less) ks q (All-from_recursion _ ks (sorted_head cmp k ks s)) h
 
 -- two sorted lists joined are sorted where the first is below the second
-sorted_append : {K : Type 0} (cmp : K → K → Ordering) (ks qs : List K) → IsStrictlySortedBy cmp ks → IsStrictlySortedBy cmp qs →
+pub sorted_append : {K : Type 0} (cmp : K → K → Ordering) (ks qs : List K) → IsStrictlySortedBy cmp ks →
+    IsStrictlySortedBy cmp qs →
     ((k q : K) → Contains ks k → Contains qs q → cmp k q ≡ Less) → IsStrictlySortedBy cmp (ks ++ qs)
 unfolding IsStrictlySortedBy
 sorted_append cmp [] qs s t below = t

@@ -19,7 +19,7 @@ pub same_round-from : (a b : Round) → a ≡ b → same_round a b ≡ true
 same_round-from a b e = ap (same_round a) (sym e) ∙ same_round_equiv.refl a
 
 -- so is that of proposals where that of payloads is
-same_proposal_equiv : {D : Type 0} {eq : D → D → Bool} → IsEquivalence eq → IsEquivalence (same_proposal eq)
+pub same_proposal_equiv : {D : Type 0} {eq : D → D → Bool} → IsEquivalence eq → IsEquivalence (same_proposal eq)
 same_proposal_equiv {D} l =
     and_equiv (on_equiv (λ (p : Proposal D). p.round) same_round_equiv)
     (and_equiv (on_equiv (λ (p : Proposal D). p.parent) nat_eq_equiv) (on_equiv (λ (p : Proposal D). p.payload) l))

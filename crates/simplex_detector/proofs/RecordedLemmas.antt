@@ -187,7 +187,7 @@ recorded_in_push eq vs v round =
 
 module _ {D G : Type 0} (eq : D → D → Bool) (l : IsEquivalence eq) (s : Spot) where
   -- the votes in the slot of a list
-  abbrev in_slot : List (SignedVote D G) → List (SignedVote D G)
+  abbrev pub in_slot : List (SignedVote D G) → List (SignedVote D G)
   in_slot vs = votes_in_slot (slot_of eq vs s.kind s.round s.signer)
 
   -- a slot with one more vote has that vote too, if it changes the slot
@@ -221,7 +221,7 @@ module _ {D G : Type 0} (eq : D → D → Bool) (l : IsEquivalence eq) (s : Spot
       ap (λ ws. in_slot vs ++ ws) (sym (filter_if (is_at s.kind s.round s.signer) (is_news eq vs v) v))
 
   -- the votes in the slot after more votes are those before and the news at this spot
-  in_slot_after : (before vs : List (SignedVote D G)) →
+  pub in_slot_after : (before vs : List (SignedVote D G)) →
       in_slot (before ++ vs) ≡ in_slot before ++ filter (is_at s.kind s.round s.signer) (news_after eq before vs)
   in_slot_after before [] = ap in_slot (append-nil before) ∙ sym (append-nil (in_slot before))
   in_slot_after before (v ∷ vs) =

@@ -82,7 +82,7 @@ module _ {D : Type 0} (eq : D → D → Bool) (first : VoteKind → Option (Subj
       (or_cases (excludes_first eq (first kinds.Notarize) y) _ h)
 
 -- one more subject is the first of its round and kind if there is none yet, and changes no other first
-first_after : {D : Type 0} (xs : List (SubjectValue D)) (y : SubjectValue D) (round : Round) (kind : VoteKind) →
+pub first_after : {D : Type 0} (xs : List (SubjectValue D)) (y : SubjectValue D) (round : Round) (kind : VoteKind) →
     first_certified (xs ++ y ∷ []) round kind ≡ (if same_round (round_of y) round
     then first_with y kind (first_certified xs round kind) else first_certified xs round kind)
 first_after xs y round kind =
@@ -98,7 +98,7 @@ first_after xs y round kind =
 module _ {D : Type 0} (eq : D → D → Bool) (laws : IsEquivalence eq) (xs : List (SubjectValue D)) (y : SubjectValue D)
     (round : Round) where
   -- whether the round is split by y or before
-  abbrev splits_now : Bool
+  abbrev pub splits_now : Bool
   splits_now = are_split eq xs round || (same_round (round_of y) round && excludes_some eq (first_certified xs round) y)
 
   -- an earlier subject that y excludes: y excludes the first of its kind too, or the two split the round before
@@ -117,7 +117,7 @@ module _ {D : Type 0} (eq : D → D → Bool) (laws : IsEquivalence eq) (xs : Li
       (and_from _ _ (same_round-from _ _ y_here) (some_from_first eq (first_certified xs round) y (kind_of x) a is e)))
       (excludes_one eq laws a x y (same_kind-true _ _ p.0) h)
 
-  split_to : are_split eq (xs ++ y ∷ []) round ≡ true → splits_now ≡ true
+  pub split_to : are_split eq (xs ++ y ∷ []) round ≡ true → splits_now ≡ true
   split_to h =
       let o = opposites eq (xs ++ y ∷ []) round h in
       elim (Contains-push_cases xs y o.x o.x_in) [
@@ -140,7 +140,7 @@ module _ {D : Type 0} (eq : D → D → Bool) (laws : IsEquivalence eq) (xs : Li
         ]
       ]
 
-  split_from : splits_now ≡ true → are_split eq (xs ++ y ∷ []) round ≡ true
+  pub split_from : splits_now ≡ true → are_split eq (xs ++ y ∷ []) round ≡ true
   split_from h = ⊎_elim (split_more eq xs (xs ++ y ∷ []) round (λ x x_in here. Contains-append_left xs (y ∷ []) x x_in)) (λ e.
       let p = and_parts (same_round (round_of y) round) (excludes_some eq (first_certified xs round) y) e in
       let (kind, a, is, against) = first_from_some eq (first_certified xs round) y p.1 in
@@ -364,3 +364,13 @@ pub moved_splits : {S D C P G : Type 0} (rules others : Rules S D C P G) (messag
 moved_splits rules others messages later same ss are =
     splits_from_listing rules messages ss
     (subst (λ f. IsListing (λ s. s.round) round_cmp f ss) (λ i r. same r i) (splits_listing others later ss are))
+
+-- the split of a round follows from the valid votes and the certified subjects
+pub same_split : {S D C P G : Type 0} (rules others : Rules S D C P G) (messages ks : List (Activity S D C P G))
+    (round : Round) →
+    are_split others.eq (certified_subjects others ks) round ≡ are_split rules.eq (certified_subjects rules messages) round →
+    accused_count others.eq (valid_votes others ks) round ≡ accused_count rules.eq (valid_votes rules messages) round →
+    others.size round.epoch ≡ rules.size round.epoch → split_of others ks round ≡ split_of rules messages round
+same_split rules others messages ks round split count size =
+    let whether = from_subjects others ks round ∙ split ∙ sym (from_subjects rules messages round) in
+    λ i. cond (whether i) (Some (record { round = round; named = count i; least = faults_of (size i) + 1 })) None

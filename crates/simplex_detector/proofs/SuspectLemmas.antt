@@ -3,6 +3,7 @@ use Rattle.simplex_detector.proofs.Prelude.{Scheme, Accusation, Activity, All-co
 use Rattle.simplex_detector.proofs.AccountLemmas.{certified_parts, counted_signer, distinct_count-same, kind_from_accused_in, accused_in}
 use Rattle.simplex_detector.proofs.EvidenceLemmas.{evidence_exists, first_spot, moved_evidence, accused_by_more, accused_from_votes, valid_from, valid_in, votes_from_accused}
 use Rattle.simplex_detector.proofs.Lists.{Contains-filter, Contains-first, Contains-from_filter, Contains-from_filter_map, Contains-from_list_any, Contains-from_map, Contains-map, Contains-none, any_from_Contains, found, same_bool}
+use Rattle.simplex_detector.proofs.Filters.{find_filtered}
 use Rattle.simplex_detector.proofs.Places.{is_at-true, is_of-true}
 use Rattle.simplex_detector.proofs.SplitLemmas.{enough_in_split, from_subjects, moved_splits, split_more, split_exists, split_opposites}
 
@@ -32,17 +33,6 @@ pub record DetermineReports {S D C P G : Type 0} (rules : Rules S D C P G) (mess
   pub splits : (splits : List Split) → AreSplits (among rules suspected) messages splits ↔ AreSplits rules messages splits
 
 -- ---- votes of suspects
-
--- filtering by a weaker test first does not change what is found
-find_filtered : {X : Type 0} (p q : X → Bool) → ((x : X) → p x ≡ true → q x ≡ true) → (xs : List X) →
-    find p (filter q xs) ≡ find p xs
-find_filtered p q weaker [] = refl
-find_filtered p q weaker (x ∷ xs) =
-    (elim (q x) as (λ b. q x ≡ b → find p (cond b (x ∷ filter q xs) (filter q xs)) ≡ cond (p x) (Some x) (find p xs)) [
-      | true ↦ λ d i. cond (p x) (Some x) (find_filtered p q weaker xs i)
-      | false ↦ λ d. find_filtered p q weaker xs
-          ∙ sym (cond-false (p x) (Some x) (find p xs) (false_from_ne_true (p x) (λ e. false≢true (sym d ∙ weaker x e))))
-    ]) refl
 
 -- whether a vote is of a suspect in its round
 abbrev pub here : {D G : Type 0} → (Round → ℕ → Bool) → SignedVote D G → Bool
@@ -89,7 +79,7 @@ module _ {D G : Type 0} (eq : D → D → Bool) (l : IsEquivalence eq) (vs : Lis
       ]) refl
 
 -- votes that make the same accusations accuse as many in a round
-same_count : {D G : Type 0} (eq : D → D → Bool) (vs ws : List (SignedVote D G)) →
+pub same_count : {D G : Type 0} (eq : D → D → Bool) (vs ws : List (SignedVote D G)) →
     ((n : Accusation) → is_accused eq ws n ≡ is_accused eq vs n) → (round : Round) →
     accused_count eq ws round ≡ accused_count eq vs round
 same_count eq vs ws names round =

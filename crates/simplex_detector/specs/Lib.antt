@@ -19,3 +19,7 @@ pub mod Judging
 pub mod SplitLaws
 pub mod Suspects
 pub mod Agreement
+pub mod Independence
+pub mod Interchange
+pub mod News
+pub mod Stays

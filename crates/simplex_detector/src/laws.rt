@@ -1,7 +1,8 @@
 //! Laws of any messages and of the reports of them. The functions have no code: a call gives its caller, in another crate,
 //! what the clauses state.
 
-ghost use Rattle.std.specs.Prelude.{◌≡◌, ◌≤◌, ◌↔◌, ℕ, List, Some, All, Contains, length, map, IsTrue};
+ghost use Rattle.std.specs.Cmp.{IsEquivalence};
+ghost use Rattle.std.specs.Prelude.{◌≡◌, ◌≤◌, ◌↔◌, ℕ, Bool, List, Some, All, Contains, length, map, IsTrue};
 ghost use Rattle.std.specs.List.{flat_map};
 ghost use Rattle.simplex_base.specs.Positions.{Round};
 ghost use Rattle.simplex_base.specs.Format.{format_of};
@@ -13,11 +14,15 @@ ghost use Rattle.simplex_evidence.specs.declared.types.activity.Activity.{Activi
 ghost use Rattle.simplex_detector.specs.Committees.{Schedule, committee_of};
 ghost use Rattle.simplex_detector.specs.declared.judging.Judging.{Judging};
 ghost use Rattle.simplex_detector.specs.Evidence.{IsEvidence, IsEquivocation};
+ghost use Rattle.simplex_detector.specs.Independence.{FloorParts, IsOfOneRound, OthersStay, PartsAddUp, RoundsAreIndependent, in_rounds};
+ghost use Rattle.simplex_detector.specs.Interchange.{AreInterchangeable, HaveSameState, SameStateAmong, SameStateJoined};
+ghost use Rattle.simplex_detector.specs.News.{CompactsNext, FewAreNews, IsCompaction, LogsCompact, NewsChangesState, VotesCanStandAlone};
 ghost use Rattle.simplex_detector.specs.Recorded.{RecordedAreSlots, FewAreRecorded, votes_recorded};
 ghost use Rattle.simplex_detector.specs.Laws.{EvidenceIsUnique, AccusesExactly, ReorderingAccusesSame, AccusedStay, IsEvidenceAgain};
 ghost use Rattle.simplex_detector.specs.Rules.{Rules, AreLawful, HaveCommittees, valid_votes};
 ghost use Rattle.simplex_detector.specs.Splits.{AreSplits};
 ghost use Rattle.simplex_detector.specs.Agreement.{SuspectsDecide};
+ghost use Rattle.simplex_detector.specs.Stays.{EvidenceStays};
 ghost use Rattle.simplex_detector.specs.Suspects.{claimed, suspect_of, is_suspect, is_suspect_round, NobodyIsSuspect, SuspectsDetermineReports, SuspectsSuffice};
 ghost use Rattle.simplex_detector.specs.SplitLaws.{EnoughAreAccused, SignersAreAccountable, SplitsAreUnique, SplitsHaveAccused};
 ghost use Rattle.simplex_detector.specs.Values.{evidence_value};
@@ -150,4 +155,74 @@ pub fn suspects_suffice<S: CertificateScheme, D: Digest>()
 pub fn suspects_decide<S: CertificateScheme, D: Digest>()
     ensures { (rules : Rules S D S.Certificate S.PublicKey S.Signature) → AreLawful rules →
         SuspectsDecide rules }
+{}
+
+/// Evidence once reported stays, with the same two votes, however many messages follow: each is reported once and for good.
+pub fn evidence_stays<S: CertificateScheme, D: Digest>()
+    ensures { (rules : Rules S D S.Certificate S.PublicKey S.Signature)
+        (messages more : List (Activity S D S.Certificate S.PublicKey S.Signature)) →
+        EvidenceStays rules messages more }
+{}
+
+/// Rounds are independent: rounds can be given up, or audited apart, and the report of the others stays as it is. The reports
+/// of parts that make up all rounds add up to the whole report, and messages of other rounds do not change the report of a part.
+pub fn rounds_are_independent<S: CertificateScheme, D: Digest>()
+    ensures part { (rules : Rules S D S.Certificate S.PublicKey S.Signature)
+        (messages : List (Activity S D S.Certificate S.PublicKey S.Signature))
+        (part : Round → Bool) → RoundsAreIndependent rules messages part }
+    ensures parts { (rules : Rules S D S.Certificate S.PublicKey S.Signature)
+        (messages : List (Activity S D S.Certificate S.PublicKey S.Signature))
+        (class : Round → ℕ) → PartsAddUp rules messages class }
+    ensures floor { (rules : Rules S D S.Certificate S.PublicKey S.Signature)
+        (messages : List (Activity S D S.Certificate S.PublicKey S.Signature))
+        (floor : Round) → FloorParts rules messages floor }
+    ensures others { (rules : Rules S D S.Certificate S.PublicKey S.Signature) (part : Round → Bool)
+        (messages more : List (Activity S D S.Certificate S.PublicKey S.Signature)) →
+        OthersStay rules part messages more }
+    ensures lawful { (rules : Rules S D S.Certificate S.PublicKey S.Signature) (part : Round → Bool) →
+        AreLawful rules → AreLawful (in_rounds part rules) }
+    ensures committees { (rules : Rules S D S.Certificate S.PublicKey S.Signature)
+        (part : Round → Bool) → HaveCommittees rules → HaveCommittees (in_rounds part rules) }
+{}
+
+/// Messages of which the same is recorded are interchangeable: either can be stored or sent in place of the other, with the
+/// same report whatever stands before and behind. The state of joined messages is determined by the states of both.
+pub fn same_state_suffices<S: CertificateScheme, D: Digest>()
+    ensures among { (rules : Rules S D S.Certificate S.PublicKey S.Signature) →
+        IsEquivalence rules.eq → SameStateAmong rules }
+    ensures joined { (rules : Rules S D S.Certificate S.PublicKey S.Signature) →
+        IsEquivalence rules.eq → SameStateJoined rules }
+    ensures interchangeable { (rules : Rules S D S.Certificate S.PublicKey S.Signature)
+        (messages others : List (Activity S D S.Certificate S.PublicKey S.Signature)) →
+        IsEquivalence rules.eq → HaveSameState rules messages others →
+        AreInterchangeable rules messages others }
+{}
+
+/// Messages that change nothing when they come can go: those that are left, the compaction, can stand for all, and compacting
+/// them again changes nothing. Of a round with n participants at most 5n + 3 are left, however many came, and each of several
+/// logs can be compacted before they are joined.
+pub fn news_suffices<S: CertificateScheme, D: Digest>()
+    ensures changes { (rules : Rules S D S.Certificate S.PublicKey S.Signature) →
+        IsEquivalence rules.eq → NewsChangesState rules }
+    ensures compaction { (rules : Rules S D S.Certificate S.PublicKey S.Signature)
+        (messages : List (Activity S D S.Certificate S.PublicKey S.Signature)) →
+        IsEquivalence rules.eq → IsCompaction rules messages }
+    ensures next { (rules : Rules S D S.Certificate S.PublicKey S.Signature)
+        (messages : List (Activity S D S.Certificate S.PublicKey S.Signature))
+        (message : Activity S D S.Certificate S.PublicKey S.Signature) →
+        CompactsNext rules messages message }
+    ensures few { (rules : Rules S D S.Certificate S.PublicKey S.Signature)
+        (messages : List (Activity S D S.Certificate S.PublicKey S.Signature)) →
+        IsEquivalence rules.eq → HaveCommittees rules →
+        All (IsOfOneRound rules.listed) messages → FewAreNews rules messages }
+    ensures logs { (rules : Rules S D S.Certificate S.PublicKey S.Signature)
+        (logs : List (List (Activity S D S.Certificate S.PublicKey S.Signature))) →
+        IsEquivalence rules.eq → LogsCompact rules logs }
+{}
+
+/// If the subject of a message's certificate is no news, those of its votes that are news can be stored in its place, each as a
+/// message of its own. So a certificate that is kept for a few of its votes takes no more room than these.
+pub fn votes_can_stand_alone<S: CertificateScheme, D: Digest>()
+    ensures { (rules : Rules S D S.Certificate S.PublicKey S.Signature) →
+        IsEquivalence rules.eq → VotesCanStandAlone rules }
 {}

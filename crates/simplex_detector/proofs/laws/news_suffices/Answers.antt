@@ -1,0 +1,18 @@
+use Rattle.simplex_detector.proofs.BoundLemmas.{few_are_news}
+use Rattle.simplex_detector.proofs.NewsLemmas.{compacts_next, is_compaction, logs_are_compact, news_changes_state}
+use Rattle.simplex_detector.proofs.laws.news_suffices.Goals as goal
+
+pub returns-clause-changes : goal.returns-clause-changes
+returns-clause-changes g c rules l = news_changes_state rules l
+
+pub returns-clause-compaction : goal.returns-clause-compaction
+returns-clause-compaction g c rules messages l = is_compaction rules l messages
+
+pub returns-clause-next : goal.returns-clause-next
+returns-clause-next g c rules messages message = compacts_next rules messages message
+
+pub returns-clause-few : goal.returns-clause-few
+returns-clause-few g c rules messages l committees whole = few_are_news rules l committees messages whole
+
+pub returns-clause-logs : goal.returns-clause-logs
+returns-clause-logs g c rules logs l = logs_are_compact rules l logs

@@ -1,0 +1,20 @@
+use Rattle.simplex_detector.proofs.IndependenceLemmas.{committees_in_rounds, floor_parts, independent, lawful_in_rounds, others_stay, parts_add_up}
+use Rattle.simplex_detector.proofs.laws.rounds_are_independent.Goals as goal
+
+pub returns-clause-part : goal.returns-clause-part
+returns-clause-part g c rules messages part = independent rules part messages
+
+pub returns-clause-parts : goal.returns-clause-parts
+returns-clause-parts g c rules messages class = parts_add_up rules messages class
+
+pub returns-clause-floor : goal.returns-clause-floor
+returns-clause-floor g c rules messages floor = floor_parts rules messages floor
+
+pub returns-clause-others : goal.returns-clause-others
+returns-clause-others g c rules part messages more = others_stay rules part messages more
+
+pub returns-clause-lawful : goal.returns-clause-lawful
+returns-clause-lawful g c rules part l = lawful_in_rounds rules part l
+
+pub returns-clause-committees : goal.returns-clause-committees
+returns-clause-committees g c rules part l = committees_in_rounds rules part l
