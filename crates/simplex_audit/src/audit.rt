@@ -13,6 +13,7 @@ use crate::laws::message_laws;
 use crate::reading::{read_messages, reading_bound};
 use crate::reporting::make_report;
 pub use crate::run::{RunError, Summary, run};
+pub use crate::stored::run_deferred;
 pub use crate::watched::Watched;
 pub use simplex_detector::committees::{Committees, CommitteesError};
 use simplex_detector::detector::Detector;

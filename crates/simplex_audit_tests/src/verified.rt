@@ -4,9 +4,10 @@
 //! report, verifies none.
 
 use crate::counted::Counted;
-use simplex_cli::stored::run_deferred;
 use faulty_io::{Source, Target, Trouble};
-use simplex_audit::audit::{Auditor, Committees, Watched, audit, audit_deferred, run};
+use simplex_audit::audit::{
+    Auditor, Committees, Watched, audit, audit_deferred, run, run_deferred,
+};
 use simplex_audit::ledger::store_batch;
 use simplex_base::positions::Epoch;
 use simplex_places::records::records;

@@ -7,7 +7,8 @@ use Rattle.simplex_audit.specs.Run.{AppendsBeginning}
 use Rattle.simplex_stream.specs.declared.fault.Fault.{Fault}
 use Rattle.simplex_audit.specs.declared.run.RunError.{RunError}
 use Rattle.simplex_audit.specs.declared.run.RunError.TheVariants as errors
-use Rattle.simplex_cli.specs.Answer.{IsRead, Ending, Ends, GaveTooMuch, Bases, ReaderUse, WriterUse}
+use Rattle.simplex_audit.specs.Outcome.{ReaderUse, WriterUse}
+use Rattle.simplex_cli.specs.Answer.{IsRead, Ending, Ends, GaveTooMuch, Bases}
 use Rattle.simplex_cli.specs.Arguments.{AreArguments, AreNoArguments}
 use Rattle.simplex_cli.specs.Status.{failure_of}
 use Rattle.simplex_cli.specs.declared.status.Failure.{Failure}

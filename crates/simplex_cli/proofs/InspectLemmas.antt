@@ -6,7 +6,8 @@ use Rattle.simplex_schemes.specs.Plain.{PlainScheme}
 use Rattle.simplex_detector.specs.Committees.{Schedule}
 use Rattle.simplex_audit.specs.declared.run.RunError.{RunError}
 use Rattle.simplex_audit.specs.declared.run.RunError.TheVariants as errors
-use Rattle.simplex_cli.specs.Answer.{Ending, GaveTooMuch, ReaderUse, WriterUse}
+use Rattle.simplex_audit.specs.Outcome.{ReaderUse, WriterUse}
+use Rattle.simplex_cli.specs.Answer.{Ending, GaveTooMuch}
 use Rattle.simplex_cli.specs.Status.{failure_of}
 use Rattle.simplex_cli.specs.declared.status.Failure.{Failure}
 use Rattle.simplex_cli.specs.declared.status.Failure.TheVariants as failures

@@ -1,7 +1,8 @@
 -- How runs of the programs end.
 use Rattle.std.proofs.Common.{◌≡◌, ◌⊎◌, inl, inr, ℕ, List, Err, ap}
 use Rattle.std.specs.Io.KnownBytes.{Keeps}
-use Rattle.simplex_cli.specs.Answer.{Bases, ReaderUse, WriterUse, Ending, status_of}
+use Rattle.simplex_audit.specs.Outcome.{ReaderUse, WriterUse}
+use Rattle.simplex_cli.specs.Answer.{Bases, Ending, status_of}
 use Rattle.simplex_cli.specs.Endings.{AreRefused, EndsAs}
 use Rattle.simplex_cli.specs.Inspecting.{LinesUnder}
 use Rattle.simplex_cli.specs.Status.{number_of}

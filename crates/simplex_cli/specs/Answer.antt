@@ -6,10 +6,9 @@ use Rattle.simplex_scheme.specs.declared.scheme.Attestation.{Attestation}
 use Rattle.simplex_detector.specs.Committees.{Schedule}
 use Rattle.simplex_audit.specs.Run.{IsAccount, AppendsBeginning}
 use Rattle.simplex_audit.specs.Basis.{Basis}
-use Rattle.simplex_audit.specs.Watched.{inner_of, has_failed, is_flushed}
+use Rattle.simplex_audit.specs.Outcome.{ReaderUse, WriterUse}
 use Rattle.simplex_stream.specs.declared.fault.Fault.{Fault}
 use Rattle.simplex_audit.specs.declared.run.Summary.{Summary}
-use Rattle.simplex_audit.specs.declared.watched.Watched.{Watched}
 use Rattle.simplex_cli.specs.Arguments.{AreArguments, AreNoArguments}
 use Rattle.simplex_cli.specs.Status.{status_after}
 use Rattle.simplex_cli.specs.declared.status.Status.{Status}
@@ -24,37 +23,6 @@ PlainCertificate = List (Attestation PlainScheme (List ℕ) (List ℕ))
 -- the basis of an audit under committees: how messages are read, and the rules by which they are judged
 abbrev pub Bases : Type 1
 Bases = Schedule PlainScheme → Basis PlainScheme (List ℕ) PlainCertificate (List ℕ) (List ℕ)
-
--- what became of a reader: its bytes before and after, where they are known, and whether a read failed
-pub record ReaderUse : Type 0 where
-  pub before : Option (List ℕ)
-  pub after : Option (List ℕ)
-  pub failed : Bool
-
--- what became of a watched reader, where `remaining` gives the bytes that it has left
-abbrev pub reader_use : {R : Type 0} → (R → Option (List ℕ)) → Watched R → Watched R → ReaderUse
-reader_use remaining old new = record {
-  before = remaining (inner_of old);
-  after = remaining (inner_of new);
-  failed = has_failed new;
-}
-
--- what became of a writer: its bytes before and after, where they are known, whether a call failed, and whether it was
--- flushed after its last write
-pub record WriterUse : Type 0 where
-  pub before : Option (List ℕ)
-  pub after : Option (List ℕ)
-  pub failed : Bool
-  pub flushed : Bool
-
--- what became of a watched writer, where `contents` gives the bytes that it holds
-abbrev pub writer_use : {W : Type 0} → (W → Option (List ℕ)) → Watched W → Watched W → WriterUse
-writer_use contents old new = record {
-  before = contents (inner_of old);
-  after = contents (inner_of new);
-  failed = has_failed new;
-  flushed = is_flushed new;
-}
 
 -- a text was said: the writer took a prefix of it, perhaps empty, and all of it unless a call failed, now or before
 abbrev pub Says : WriterUse → List ℕ → Type 0

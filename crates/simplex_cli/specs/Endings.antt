@@ -1,6 +1,7 @@
 -- How the runs of each program end.
 use Rattle.std.specs.Prelude.{ℕ, List}
-use Rattle.simplex_cli.specs.Answer.{Bases, ReaderUse, WriterUse, Ending, Ends}
+use Rattle.simplex_audit.specs.Outcome.{ReaderUse, WriterUse}
+use Rattle.simplex_cli.specs.Answer.{Bases, Ending, Ends}
 use Rattle.simplex_cli.specs.Arguments.{AreNoArguments, AreNotGiven}
 use Rattle.simplex_cli.specs.Inspecting.{LinesUnder, InspectEnds}
 use Rattle.simplex_cli.specs.declared.program.Program.{Program}

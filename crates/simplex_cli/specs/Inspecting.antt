@@ -6,7 +6,8 @@ use Rattle.simplex_evidence.specs.declared.types.activity.Activity.{Activity}
 use Rattle.simplex_detector.specs.Committees.{Schedule}
 use Rattle.simplex_stream.specs.declared.fault.Fault.{Fault}
 use Rattle.simplex_inspect.specs.Inspected.{Lines, AppendsText, AppendsPart, IsInput}
-use Rattle.simplex_cli.specs.Answer.{PlainCertificate, ReaderUse, WriterUse, GaveTooMuch, Ending}
+use Rattle.simplex_audit.specs.Outcome.{ReaderUse, WriterUse}
+use Rattle.simplex_cli.specs.Answer.{PlainCertificate, GaveTooMuch, Ending}
 use Rattle.simplex_cli.specs.declared.status.Failure.TheVariants.{Usage, Read, Write, OutOfMemory}
 use Rattle.simplex_cli.specs.Arguments.{AreGiven, AreNotGiven}
 

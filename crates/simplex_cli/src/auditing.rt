@@ -3,13 +3,13 @@
 ghost use Rattle.std.specs.Prelude.{◌≡◌, false, Err, IsTrue, map, string_bytes};
 ghost use Rattle.simplex_audit.specs.Watched.{has_failed};
 ghost use Rattle.simplex_cli.specs.Arguments.{AreNoArguments};
-ghost use Rattle.simplex_cli.specs.Answer.{Ends, reader_use, writer_use};
+ghost use Rattle.simplex_audit.specs.Outcome.{reader_use, writer_use};
+ghost use Rattle.simplex_cli.specs.Answer.{Ends};
 
 use crate::arguments;
 use crate::program::Verification;
 use crate::status::Failure;
-use crate::stored::run_deferred;
-use simplex_audit::audit::{Fault, Watched, run};
+use simplex_audit::audit::{Fault, Watched, run, run_deferred};
 use simplex_audit::basis::Audited;
 use simplex_scheme::scheme::Sha256Digest;
 use simplex_schemes::plain::Plain;

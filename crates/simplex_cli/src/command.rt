@@ -2,7 +2,8 @@
 
 ghost use Rattle.std.specs.Prelude.{◌≡◌, ◌⊎◌, false, Err, IsTrue, map, string_bytes};
 ghost use Rattle.simplex_audit.specs.Watched.{has_failed, is_flushed};
-ghost use Rattle.simplex_cli.specs.Answer.{Ending, Says, reader_use, writer_use, status_of};
+ghost use Rattle.simplex_audit.specs.Outcome.{reader_use, writer_use};
+ghost use Rattle.simplex_cli.specs.Answer.{Ending, Says, status_of};
 ghost use Rattle.simplex_cli.specs.Complaints.{complaint_of, said_of};
 ghost use Rattle.simplex_cli.specs.Endings.{AreRefused, EndsAs};
 

@@ -1,6 +1,6 @@
 //! The programs `audit`, `audit_stored` and `inspect` as functions over arguments and any reader and writers. [`arguments`]
 //! reads their committees: by [`keys`] one for every epoch, or by [`groups`] one for each listed epoch; `inspect` may also have
-//! none. [`auditing`] and [`inspecting`] have what they do, and [`stored`] the run that holds its input and verifies less.
+//! none. [`auditing`] and [`inspecting`] have what they do.
 //! [`status`] has how they end, and [`complaints`] what they say then. [`command`] runs them over arguments and streams, and
 //! [`start`] over what their process is given.
 //!
@@ -17,4 +17,3 @@ pub mod keys;
 pub mod program;
 pub mod start;
 pub mod status;
-pub mod stored;

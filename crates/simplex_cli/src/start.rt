@@ -4,7 +4,8 @@ ghost use Rattle.std.specs.Prelude.{◌≡◌, ◌≢◌, ◌⊎◌, false, IsTr
 ghost use Rattle.std.specs.IoError.{error_kind};
 ghost use Rattle.std.specs.Vec.Iter.{into_iter_items};
 ghost use Rattle.simplex_cli.specs.Arguments.{words_of};
-ghost use Rattle.simplex_cli.specs.Answer.{Ending, Says, reader_use, writer_use, status_of};
+ghost use Rattle.simplex_audit.specs.Outcome.{reader_use, writer_use};
+ghost use Rattle.simplex_cli.specs.Answer.{Ending, Says, status_of};
 ghost use Rattle.simplex_cli.specs.Complaints.{complaint_of, said_of};
 ghost use Rattle.simplex_cli.specs.Endings.{AreRefused, EndsAs};
 ghost use Rattle.simplex_cli.specs.Status.{number_of};

@@ -1,9 +1,8 @@
 -- What is written of a stream: the lines of its messages, and the line of its fault.
-use Rattle.std.specs.Prelude.{⊤, ◌≡◌, ℕ, ◌+◌, ◌-◌, ◌^◌, ◌⊎◌, List, [], ◌∷◌, ◌++◌, length, take, All, Option, Some, None, codes, decimal}
+use Rattle.std.specs.Prelude.{⊤, ◌≡◌, ℕ, ◌+◌, ◌-◌, ◌^◌, ◌⊎◌, List, [], ◌∷◌, ◌++◌, length, take, All, Option, Some, None, codes}
 use Rattle.std.specs.List.{flat_map}
 use Rattle.std.specs.Io.KnownBytes.{Appends}
-use Rattle.hex.specs.Hex.{encode_lower}
-use Rattle.json.specs.Print.{quoted}
+use Rattle.json.specs.Json.{Json, string}
 use Rattle.simplex_base.specs.Format.{Format, Readable, format_under}
 use Rattle.simplex_base.specs.declared.codec.error.Error.{Error}
 use Rattle.simplex_base.specs.declared.codec.error.Error.TheVariants as errors
@@ -15,6 +14,7 @@ use Rattle.simplex_audit.specs.Run.{AppendsBeginning}
 use Rattle.simplex_stream.specs.declared.fault.Fault.{Fault}
 use Rattle.simplex_inspect.specs.Line.{line_json}
 use Rattle.simplex_inspect.specs.Shown.{Shown}
+use Rattle.simplex_inspect.specs.Values.{object_of, number_json, bytes_json, line_of}
 
 -- the bound under which certificates are read: the number of participants of the greatest committee, and without
 -- committees the greatest number that a committee can have
@@ -49,11 +49,18 @@ refusal_name (errors.Invalid subject reason) = codes "Invalid " ++ (subject.now 
 refusal_name errors.ExtraData = codes "ExtraData"
 refusal_name errors.OutOfMemory = codes "OutOfMemory"
 
--- the line of a fault: its offset, the refusal as a JSON string, and up to 16 bytes from there on
+-- a fault: its offset, the refusal, and up to 16 bytes from there on
+abbrev pub fault_json : Fault → List ℕ → Json
+fault_json fault rest = object_of (
+    (codes "offset", number_json fault.place)
+    ∷ (codes "fault", string (refusal_name fault.error))
+    ∷ (codes "next", bytes_json (take 16 rest))
+    ∷ []
+    )
+
+-- its line, with its newline
 abbrev pub fault_line : Fault → List ℕ → List ℕ
-fault_line fault rest =
-    codes "{\"offset\":" ++ (decimal fault.place ++ (codes ",\"fault\":"
-    ++ (quoted (refusal_name fault.error) ++ (codes ",\"next\":\"" ++ (encode_lower (take 16 rest) ++ codes "\"}\n")))))
+fault_line fault rest = line_of (fault_json fault rest)
 
 -- the line of a fault, if there is one
 abbrev pub fault_text : Option Fault → List ℕ → List ℕ

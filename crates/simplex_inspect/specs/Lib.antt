@@ -1,5 +1,7 @@
 pub mod Validity
+pub mod Values
 pub mod Json
+pub mod Tokens
 pub mod Shown
 pub mod Line
 pub mod Inspected

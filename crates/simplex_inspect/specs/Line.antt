@@ -1,5 +1,6 @@
 -- The line of a message.
-use Rattle.std.specs.Prelude.{ℕ, List, ◌++◌, codes, map, option_map}
+use Rattle.std.specs.Prelude.{ℕ, List, [], ◌∷◌, None, codes, map, option_map}
+use Rattle.json.specs.Json.{Json}
 use Rattle.simplex_scheme.specs.Subject.{SubjectValue, Notarizes, Nullifies, Finalizes}
 use Rattle.simplex_scheme.specs.declared.scheme.Attestation.{Attestation}
 use Rattle.simplex_evidence.specs.Activity.{activity_round, contents_of}
@@ -7,39 +8,42 @@ use Rattle.simplex_evidence.specs.Contents.{ContentsValue, OneVote, OneCertifica
 use Rattle.simplex_evidence.specs.declared.types.activity.Activity.{Activity}
 use Rattle.simplex_evidence.specs.declared.types.activity.Activity.TheVariants as activity
 use Rattle.simplex_votes.specs.Votes.{SignedVote, vote_on}
-use Rattle.simplex_inspect.specs.Json.{listed_texts, validity_json, signature_json, proposal_json, nullify_json, head_json}
+use Rattle.simplex_inspect.specs.Json.{signature_json, proposal_members, nullify_members, head_members, listing_json}
 use Rattle.simplex_inspect.specs.Shown.{Shown, signature_validity, certificate_validity}
+use Rattle.simplex_inspect.specs.Values.{line_of}
 
--- the fields of a subject, up to its signatures
-abbrev pub subject_json : {D : Type 0} → (D → List ℕ) → SubjectValue D → List ℕ
-subject_json bytes_of (Notarizes p) = proposal_json (codes "notarize") p.parent (bytes_of p.payload)
-subject_json bytes_of (Nullifies r) = nullify_json
-subject_json bytes_of (Finalizes p) = proposal_json (codes "finalize") p.parent (bytes_of p.payload)
+-- the members of a subject
+abbrev pub subject_members : {D : Type 0} → (D → List ℕ) → SubjectValue D → List (List ℕ × Json)
+subject_members bytes_of (Notarizes p) = proposal_members (codes "notarize") p.parent (bytes_of p.payload)
+subject_members bytes_of (Nullifies r) = nullify_members
+subject_members bytes_of (Finalizes p) = proposal_members (codes "finalize") p.parent (bytes_of p.payload)
 
 -- the signature of a vote, with its validity
-abbrev pub signed_json : {S D C P G : Type 0} → Shown S D C P G → SignedVote D G → List ℕ
+abbrev pub signed_json : {S D C P G : Type 0} → Shown S D C P G → SignedVote D G → Json
 signed_json shown v =
     signature_json v.signer (shown.signature_bytes v.signature) (option_map (λ rules. signature_validity rules v) shown.rules)
 
 -- a vote: its subject, and its signature
-abbrev pub vote_json : {S D C P G : Type 0} → Shown S D C P G → SignedVote D G → List ℕ
-vote_json shown v = subject_json shown.payload_bytes v.subject ++ (signed_json shown v ++ codes "]}")
+abbrev pub vote_json : {S D C P G : Type 0} → Shown S D C P G → SignedVote D G → Json
+vote_json shown v =
+    listing_json (subject_members shown.payload_bytes v.subject) (codes "signatures") (signed_json shown v ∷ []) None
 
 -- an attestation of a subject, as a vote's signature
-abbrev pub attestation_json : {S D C P G : Type 0} → Shown S D C P G → SubjectValue D → Attestation S P G → List ℕ
+abbrev pub attestation_json : {S D C P G : Type 0} → Shown S D C P G → SubjectValue D → Attestation S P G → Json
 attestation_json shown x a = signed_json shown (vote_on x a)
 
 -- a certificate: its subject, the signatures that it lists, and its validity
-abbrev pub certificate_json : {S D C P G : Type 0} → Shown S D C P G → SubjectValue D → C → List ℕ
+abbrev pub certificate_json : {S D C P G : Type 0} → Shown S D C P G → SubjectValue D → C → Json
 certificate_json shown x certificate =
-    subject_json shown.payload_bytes x ++ (listed_texts (map (attestation_json shown x) (shown.listed certificate)) ++
-    (codes "]" ++ (validity_json (option_map (λ rules. certificate_validity rules x certificate) shown.rules) ++ codes "}")))
+    listing_json (subject_members shown.payload_bytes x) (codes "signatures")
+    (map (attestation_json shown x) (shown.listed certificate))
+    (option_map (λ rules. certificate_validity rules x certificate) shown.rules)
 
 -- what a message states: a vote, a certificate, or both votes of evidence
-abbrev pub statements_json : {S D C P G : Type 0} → Shown S D C P G → ContentsValue D C G → List ℕ
-statements_json shown (OneVote v) = vote_json shown v
-statements_json shown (OneCertificate x certificate) = certificate_json shown x certificate
-statements_json shown (TwoVotes v w) = vote_json shown v ++ (codes "," ++ vote_json shown w)
+abbrev pub statements_json : {S D C P G : Type 0} → Shown S D C P G → ContentsValue D C G → List Json
+statements_json shown (OneVote v) = vote_json shown v ∷ []
+statements_json shown (OneCertificate x certificate) = certificate_json shown x certificate ∷ []
+statements_json shown (TwoVotes v w) = vote_json shown v ∷ vote_json shown w ∷ []
 
 -- the word of a kind of message
 abbrev pub message_word : {S D C P G : Type 0} → Activity S D C P G → List ℕ
@@ -54,8 +58,12 @@ message_word (activity.ConflictingNotarize c) = codes "conflicting-notarize"
 message_word (activity.ConflictingFinalize c) = codes "conflicting-finalize"
 message_word (activity.NullifyFinalize c) = codes "nullify-finalize"
 
--- the line of a message with this offset and length in bytes, with its newline
+-- a message with this offset and length in bytes
+abbrev pub message_json : {S D C P G : Type 0} → Shown S D C P G → ℕ → ℕ → Activity S D C P G → Json
+message_json shown offset len m =
+    listing_json (head_members offset len (message_word m) (activity_round m).epoch (activity_round m).view)
+    (codes "statements") (statements_json shown (contents_of m)) None
+
+-- its line, with its newline
 abbrev pub line_json : {S D C P G : Type 0} → Shown S D C P G → ℕ → ℕ → Activity S D C P G → List ℕ
-line_json shown offset len m =
-    head_json offset len (message_word m) (activity_round m).epoch (activity_round m).view
-    ++ (statements_json shown (contents_of m) ++ codes "]}\n")
+line_json shown offset len m = line_of (message_json shown offset len m)

@@ -1,20 +1,25 @@
 //! The line of a message.
 
-ghost use Rattle.std.specs.Prelude.{◌≡◌, ◌++◌, IfOk, string_bytes, map, option_map, codes};
+ghost use Rattle.std.specs.Prelude.{◌≡◌, IfOk, OnOk, string_bytes, map, option_map, codes};
 ghost use Rattle.std.specs.Option.{option_copied};
+ghost use Rattle.json.specs.Tree.{json_tokens};
 ghost use Rattle.simplex_scheme.specs.Committee.{quorum_of};
 ghost use Rattle.simplex_scheme.specs.Subject.{subject_value};
 ghost use Rattle.simplex_detector.specs.Committees.{valid_by, certified_by, size_by};
 ghost use Rattle.simplex_votes.specs.Votes.{vote_on};
 ghost use Rattle.simplex_evidence.specs.Activity.{contents_of};
 ghost use Rattle.simplex_evidence.specs.Contents.{signed_value};
-ghost use Rattle.simplex_inspect.specs.Json.{each_behind, listed_texts};
-ghost use Rattle.simplex_inspect.specs.Line.{subject_json, attestation_json, vote_json, certificate_json, statements_json, message_word};
+ghost use Rattle.simplex_inspect.specs.Line.{subject_members, attestation_json, vote_json, certificate_json, statements_json, message_word, message_json};
 ghost use Rattle.simplex_inspect.specs.Shown.{signature_validity, certificate_validity};
+ghost use Rattle.simplex_inspect.specs.Tokens.{Appended, member_tokens, open_tokens, value_tokens};
+ghost use Rattle.simplex_inspect.specs.Values.{IsJsonLine};
 
 use crate::basis::Inspected;
-use crate::parts::{head_json, proposal_json, signature_json, validity_json};
+use crate::parts::{
+    close_listing, end_line, open_list, open_message, write_proposal, write_signature, write_text,
+};
 use crate::validity::{Validity, validity_of_certificate, validity_of_signature};
+use json::Writer;
 use simplex_base::codec::Fixed;
 use simplex_base::positions::Roundable;
 use simplex_detector::committees::Committees;
@@ -114,139 +119,146 @@ fn certificate_validity<S: Listing<D>, D: Digest>(
     Some(validity_of_certificate(valid, size as usize, quorum_among(size), count))
 }
 
-/// The fields of a subject, up to its signatures.
-fn subject_json<D: Digest>(alloc: Global, subject: &Subject<'_, D>) -> Result<String, AllocError>
-    ensures { IfOk result (λ text.
-        string_bytes text ≡ subject_json D.bytes_of (subject_value subject.now)) }
+/// Writes the members of a subject.
+fn write_subject<D: Digest>(
+    alloc: Global,
+    writer: &mut Writer,
+    subject: &Subject<'_, D>,
+) -> Result<(), AllocError>
+    ensures { OnOk result (Appended
+        (member_tokens (subject_members D.bytes_of (subject_value subject.now)))
+        writer.old writer.new) }
 {
     match subject {
         Subject::Notarize { proposal } => {
             let (parent, payload) = (proposal.parent.get(), proposal.payload.as_bytes());
-            proposal_json(alloc, "notarize", parent, payload)
+            write_proposal(alloc, writer, "notarize", parent, payload)
         }
-        Subject::Nullify { .. } => String::from_str(
-            alloc,
-            "{\"vote\":\"nullify\",\"signatures\":[",
-        ),
+        Subject::Nullify { .. } => write_text(writer, "vote", "nullify"),
         Subject::Finalize { proposal } => {
             let (parent, payload) = (proposal.parent.get(), proposal.payload.as_bytes());
-            proposal_json(alloc, "finalize", parent, payload)
+            write_proposal(alloc, writer, "finalize", parent, payload)
         }
     }
 }
 
-/// An attestation of a subject, with the validity of its signature.
-fn attestation_json<S: Listing<D>, D: Digest>(
+/// Writes an attestation of a subject, with the validity of its signature.
+fn write_attestation<S: Listing<D>, D: Digest>(
     alloc: Global,
+    writer: &mut Writer,
     committees: &Option<Committees<S>>,
     subject: &Subject<'_, D>,
     attestation: &Attestation<S>,
-) -> Result<String, AllocError>
-    ensures { IfOk result (λ text. string_bytes text ≡
-        attestation_json (⟦<S as Inspected<D>>⟧.shown committees.now)
-        (subject_value subject.now) attestation.now) }
+) -> Result<(), AllocError>
+    ensures { OnOk result (Appended
+        (json_tokens (attestation_json (⟦<S as Inspected<D>>⟧.shown committees.now)
+        (subject_value subject.now) attestation.now)) writer.old writer.new) }
 {
     let validity = signature_validity(committees, subject, attestation);
     let signer = attestation.signer.get();
-    signature_json(alloc, signer, attestation.signature.as_bytes(), validity)
+    write_signature(
+        alloc,
+        writer,
+        signer,
+        attestation.signature.as_bytes(),
+        validity,
+    )
 }
 
-/// Attestations of a subject, each behind a comma.
-fn further_json<S: Listing<D>, D: Digest>(
+/// Writes attestations of a subject.
+fn write_attestations<S: Listing<D>, D: Digest>(
     alloc: Global,
+    writer: &mut Writer,
     committees: &Option<Committees<S>>,
     subject: &Subject<'_, D>,
     attestations: &[Attestation<S>],
-) -> Result<String, AllocError>
-    ensures { IfOk result (λ text. string_bytes text ≡
-        each_behind (map (attestation_json (⟦<S as Inspected<D>>⟧.shown committees.now)
-        (subject_value subject.now)) attestations.now)) }
+) -> Result<(), AllocError>
+    ensures { OnOk result (Appended
+        (value_tokens (map (attestation_json (⟦<S as Inspected<D>>⟧.shown committees.now)
+        (subject_value subject.now)) attestations.now)) writer.old writer.new) }
 {
-    let mut text = String::new(alloc);
     for attestation in attestations {
-        let one = attestation_json(alloc, committees, subject, attestation)?;
-        text.push_str(",")?;
-        text.push_str(one.as_str())?;
+        write_attestation(alloc, writer, committees, subject, attestation)?;
     }
-    Ok(text)
+    Ok(())
 }
 
-/// Attestations of a subject, with commas between them.
-fn attestations_json<S: Listing<D>, D: Digest>(
+/// Begins a statement: its members up to its signatures.
+fn open_statement<D: Digest>(
     alloc: Global,
-    committees: &Option<Committees<S>>,
+    writer: &mut Writer,
     subject: &Subject<'_, D>,
-    attestations: &[Attestation<S>],
-) -> Result<String, AllocError>
-    ensures { IfOk result (λ text. string_bytes text ≡
-        listed_texts (map (attestation_json (⟦<S as Inspected<D>>⟧.shown committees.now)
-        (subject_value subject.now)) attestations.now)) }
+) -> Result<(), AllocError>
+    ensures { OnOk result (Appended
+        (open_tokens (subject_members D.bytes_of (subject_value subject.now))
+        (codes "signatures")) writer.old writer.new) }
 {
-    let Some((first, further)) = attestations.split_first() else {
-        return Ok(String::new(alloc));
-    };
-    let first = attestation_json(alloc, committees, subject, first)?;
-    let further = further_json(alloc, committees, subject, further)?;
-    format!(in alloc; "{first}{further}")
+    writer.begin_object()?;
+    write_subject(alloc, writer, subject)?;
+    open_list(writer, "signatures")
 }
 
-/// A vote: its subject, and its signature.
-fn vote_json<S: Listing<D>, D: Digest>(
+/// Writes a vote: its subject, and its signature.
+fn write_vote<S: Listing<D>, D: Digest>(
     alloc: Global,
+    writer: &mut Writer,
     committees: &Option<Committees<S>>,
     vote: &Signed<'_, S, D>,
-) -> Result<String, AllocError>
-    ensures { IfOk result (λ text. string_bytes text ≡
-        vote_json (⟦<S as Inspected<D>>⟧.shown committees.now) (signed_value vote.now)) }
+) -> Result<(), AllocError>
+    ensures { OnOk result (Appended
+        (json_tokens (vote_json (⟦<S as Inspected<D>>⟧.shown committees.now)
+        (signed_value vote.now))) writer.old writer.new) }
 {
-    let says = subject_json(alloc, &vote.subject)?;
-    let signature = attestation_json(alloc, committees, &vote.subject, vote.attestation)?;
-    format!(in alloc; "{says}{signature}]}}")
+    open_statement(alloc, writer, &vote.subject)?;
+    write_attestation(alloc, writer, committees, &vote.subject, vote.attestation)?;
+    close_listing(writer, None)
 }
 
-/// A certificate: its subject, the signatures that it lists, and its validity.
-fn certificate_json<S: Listing<D>, D: Digest>(
+/// Writes a certificate: its subject, the signatures that it lists, and its validity.
+fn write_certificate<S: Listing<D>, D: Digest>(
     alloc: Global,
+    writer: &mut Writer,
     committees: &Option<Committees<S>>,
     subject: &Subject<'_, D>,
     certificate: &S::Certificate,
-) -> Result<String, AllocError>
-    ensures { IfOk result (λ text. string_bytes text ≡
-        certificate_json (⟦<S as Inspected<D>>⟧.shown committees.now)
-        (subject_value subject.now) certificate.now) }
+) -> Result<(), AllocError>
+    ensures { OnOk result (Appended
+        (json_tokens (certificate_json (⟦<S as Inspected<D>>⟧.shown committees.now)
+        (subject_value subject.now) certificate.now)) writer.old writer.new) }
 {
-    let says = subject_json(alloc, subject)?;
-    let attestations = S::attestations(certificate);
-    let signatures = attestations_json(alloc, committees, subject, attestations)?;
-    let validity = validity_json(certificate_validity(committees, subject, certificate));
-    format!(in alloc; "{says}{signatures}]{validity}}}")
+    open_statement(alloc, writer, subject)?;
+    write_attestations(
+        alloc,
+        writer,
+        committees,
+        subject,
+        S::attestations(certificate),
+    )?;
+    close_listing(
+        writer,
+        certificate_validity(committees, subject, certificate),
+    )
 }
 
-/// Two texts with a comma between them.
-fn both(alloc: Global, first: &str, second: &str) -> Result<String, AllocError>
-    ensures { IfOk result (λ text. string_bytes text ≡ first.now ++ (codes "," ++ second.now)) }
-{
-    format!(in alloc; "{first},{second}")
-}
-
-/// What a message states: a vote, a certificate, or both votes of evidence.
-fn statements_json<S: Listing<D>, D: Digest>(
+/// Writes what a message states: a vote, a certificate, or both votes of evidence.
+fn write_statements<S: Listing<D>, D: Digest>(
     alloc: Global,
+    writer: &mut Writer,
     committees: &Option<Committees<S>>,
     message: &Activity<S, D>,
-) -> Result<String, AllocError>
-    ensures { IfOk result (λ text. string_bytes text ≡
-        statements_json (⟦<S as Inspected<D>>⟧.shown committees.now) (contents_of message.now)) }
+) -> Result<(), AllocError>
+    ensures { OnOk result (Appended
+        (value_tokens (statements_json (⟦<S as Inspected<D>>⟧.shown committees.now)
+        (contents_of message.now))) writer.old writer.new) }
 {
     match message.contents() {
-        Contents::Vote(vote) => vote_json(alloc, committees, &vote),
+        Contents::Vote(vote) => write_vote(alloc, writer, committees, &vote),
         Contents::Certificate(subject, certificate) => {
-            certificate_json(alloc, committees, &subject, certificate)
+            write_certificate(alloc, writer, committees, &subject, certificate)
         }
         Contents::Evidence(first, second) => {
-            let first = vote_json(alloc, committees, &first)?;
-            let second = vote_json(alloc, committees, &second)?;
-            both(alloc, first.as_str(), second.as_str())
+            write_vote(alloc, writer, committees, &first)?;
+            write_vote(alloc, writer, committees, &second)
         }
     }
 }
@@ -269,6 +281,26 @@ fn message_word<S: CertificateScheme, D: Digest>(message: &Activity<S, D>) -> &'
     }
 }
 
+/// Writes a message: its offset, its length, its kind, its round, and its statements.
+fn write_message<S: Listing<D>, D: Digest>(
+    alloc: Global,
+    writer: &mut Writer,
+    committees: &Option<Committees<S>>,
+    offset: usize,
+    length: usize,
+    message: &Activity<S, D>,
+) -> Result<(), AllocError>
+    ensures { OnOk result (Appended
+        (json_tokens (message_json (⟦<S as Inspected<D>>⟧.shown committees.now) offset length
+        message.now)) writer.old writer.new) }
+{
+    let round = message.round();
+    let place = (round.epoch().get(), round.view().get());
+    open_message(writer, offset, length, message_word(message), place)?;
+    write_statements(alloc, writer, committees, message)?;
+    close_listing(writer, None)
+}
+
 /// The line of a message, with its newline: its 0-based offset in the stream, its length in bytes, its kind, its round, and
 /// its statements. Without committees it has no validities. `AllocError` where an allocation failed.
 pub fn line<S: Listing<D>, D: Digest>(
@@ -278,12 +310,13 @@ pub fn line<S: Listing<D>, D: Digest>(
     length: usize,
     message: &Activity<S, D>,
 ) -> Result<String, AllocError>
-    ensures { IfOk result (λ text. string_bytes text ≡
+    ensures line { IfOk result (λ text. string_bytes text ≡
         (⟦<S as Inspected<D>>⟧.lines committees.now).line offset length message.now) }
+    // Without its newline it is a JSON document, and this is its value.
+    ensures json { IfOk result (λ text. IsJsonLine (string_bytes text)
+        (message_json (⟦<S as Inspected<D>>⟧.shown committees.now) offset length message.now)) }
 {
-    let round = message.round();
-    let place = (round.epoch().get(), round.view().get());
-    let head = head_json(alloc, offset, length, message_word(message), place)?;
-    let statements = statements_json(alloc, committees, message)?;
-    format!(in alloc; "{head}{statements}]}}\n")
+    let mut writer = Writer::new(Vec::new(alloc));
+    write_message(alloc, &mut writer, committees, offset, length, message)?;
+    end_line(writer)
 }

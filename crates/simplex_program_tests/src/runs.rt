@@ -1,9 +1,8 @@
 //! Runs over readers and writers that do and do not fail, also those of a stored stream.
 
 use crate::committee::marked;
-use simplex_cli::stored::run_deferred;
 use faulty_io::{Source, Target, Trouble};
-use simplex_audit::audit::{Committees, RunError, Watched, run};
+use simplex_audit::audit::{Committees, RunError, Watched, run, run_deferred};
 use simplex_scheme::scheme::{Digest, Listing};
 use simplex_schemes::marked::MarkedDigest;
 use std::alloc::Global;

@@ -1,7 +1,7 @@
 use Rattle.std.proofs.Common.{ap, Err, refl}
 use Rattle.std.proofs.lemmas.Result.{err_from_is_err_and}
 use Rattle.std.proofs.KnownBytes.{Keeps-refl}
-use Rattle.simplex_cli.specs.Answer.{reader_use, writer_use}
+use Rattle.simplex_audit.specs.Outcome.{reader_use, writer_use}
 use Rattle.simplex_cli.proofs.AuditLemmas.{committees-named, ends-without_committees, ends-given_up}
 use Rattle.simplex_cli.proofs.auditing.audit_input.Goals as goal
 

@@ -1,18 +1,18 @@
 //! A run over a stored stream, which it holds whole: only the votes of suspects and the certificates of their rounds are
 //! verified.
 
-ghost use Rattle.std.specs.Prelude.{◌≡◌, ◌≢◌, ◌↔◌, ◌⊎◌, ℕ, List, false, IsTrue, Err, IfOk, IfErr, IfSome, OnOk, string_bytes};
-ghost use Rattle.std.specs.Io.KnownBytes.{Consumes, IsAtEnd, Appends, Keeps};
-ghost use Rattle.simplex_audit.specs.Run.{IsAccount, AppendsBeginning};
+ghost use Rattle.std.specs.Prelude.{◌≡◌, ◌≢◌, ◌↔◌, ◌⊎◌, false, IsTrue, Err, IfOk, IfErr, OnOk};
+ghost use Rattle.std.specs.Io.KnownBytes.{Consumes, IsAtEnd, Keeps};
+ghost use Rattle.simplex_audit.specs.Outcome.{WritesReport, WritesReportOfKnown, BeginsReport, reader_use, writer_use};
 ghost use Rattle.simplex_audit.specs.Watched.{inner_of, has_failed, is_flushed};
 
-use simplex_audit::audit::{Committees, RunError, Summary, Watched, audit_deferred};
-use simplex_audit::basis::Audited;
-use simplex_audit::run::write_text;
-use simplex_audit::text::text;
+use crate::audit::{Committees, audit_deferred};
+use crate::basis::Audited;
+use crate::run::{RunError, Summary, account, write_text};
+use crate::watched::Watched;
 use simplex_base::codec::Fixed;
 use simplex_scheme::scheme::{Digest, Listing};
-use std::alloc::{AllocError, Global};
+use std::alloc::Global;
 use std::io::{Read, Write};
 
 /// All that a reader gives. An interrupted read counts as failed, though what comes after it is read too; so does a read that
@@ -36,28 +36,7 @@ fn read_whole<R: Read>(alloc: Global, reader: &mut Watched<R>) -> Result<Vec<u8>
     }
 }
 
-/// The summary and the text of a stream, by a deferred audit.
-fn account<S: Listing<D>, D: Digest>(
-    alloc: Global,
-    committees: &Committees<S>,
-    stream: &[u8],
-) -> Result<(Summary, String), AllocError>
-    ensures { IfOk result (λ (summary, text).
-        IsAccount (⟦<S as Audited<D>>⟧.basis committees.now) D.bytes_of stream.now summary
-        (string_bytes text)) }
-{
-    let report = audit_deferred::<S, D>(alloc, committees, stream)?;
-    let text = text(alloc, report.evidence.as_slice(), report.splits.as_slice())?;
-    let summary = Summary {
-        read: report.read,
-        evidence: report.evidence.len(),
-        splits: report.splits.len(),
-        fault: report.fault,
-    };
-    Ok((summary, text))
-}
-
-/// What [`run`](simplex_audit::run::run) does, by a deferred audit: audits all that a reader gives, and writes a line for each
+/// What [`run`](crate::run::run) does, by a deferred audit: audits all that a reader gives, and writes a line for each
 /// evidence of the report, and then one for each split. The whole input is held, and of an honest stream nothing is verified.
 /// All memory is allocated before the first write.
 ///
@@ -72,17 +51,15 @@ pub fn run_deferred<S: Listing<D>, D: Digest, R: Read, W: Write>(
 ) -> Result<Summary, RunError>
     requires { has_failed writer.old ≡ false }
     // The whole reader was read, and exactly the text of its report was written.
-    ensures whole { IfOk result (λ summary. (input text : List ℕ)
-        × Consumes (R.remaining (inner_of reader.old)) (R.remaining (inner_of reader.new)) input
-        × IsAtEnd (R.remaining (inner_of reader.new))
-        × IsAccount (⟦<S as Audited<D>>⟧.basis committees.now) D.bytes_of input summary text
-        × Appends (W.contents (inner_of writer.old)) (W.contents (inner_of writer.new)) text) }
+    ensures whole { IfOk result (WritesReport (⟦<S as Audited<D>>⟧.basis committees.now) D.bytes_of
+        (reader_use R.remaining reader.old reader.new)
+        (writer_use W.contents writer.old writer.new)) }
     ensures flushed { OnOk result (IsTrue (is_flushed writer.new)) }
     // If the reader's remaining bytes are known, they are the input.
-    ensures known { IfOk result (λ summary.
-        IfSome (R.remaining (inner_of reader.old)) (λ input. (text : List ℕ)
-        × IsAccount (⟦<S as Audited<D>>⟧.basis committees.now) D.bytes_of input summary text
-        × Appends (W.contents (inner_of writer.old)) (W.contents (inner_of writer.new)) text)) }
+    ensures known { IfOk result (WritesReportOfKnown
+        (⟦<S as Audited<D>>⟧.basis committees.now) D.bytes_of
+        (reader_use R.remaining reader.old reader.new)
+        (writer_use W.contents writer.old writer.new)) }
     // Read and write errors come from the reader and the writer alone.
     ensures read_failed { IsTrue (has_failed reader.new) ↔ (result ≡ Err RunError.Read) }
     ensures write_failed { IsTrue (has_failed writer.new) ↔ (result ≡ Err RunError.Write) }
@@ -90,15 +67,14 @@ pub fn run_deferred<S: Listing<D>, D: Digest, R: Read, W: Write>(
     // After an error nothing was written, except for a prefix of the text where the writer failed.
     ensures nothing { IfErr result (λ e. e ≢ RunError.Write →
         Keeps (W.contents (inner_of writer.old)) (W.contents (inner_of writer.new))) }
-    ensures beginning { result ≡ Err RunError.Write → (input text : List ℕ) × (summary : Summary)
-        × Consumes (R.remaining (inner_of reader.old)) (R.remaining (inner_of reader.new)) input
-        × IsAtEnd (R.remaining (inner_of reader.new))
-        × IsAccount (⟦<S as Audited<D>>⟧.basis committees.now) D.bytes_of input summary text
-        × AppendsBeginning (W.contents (inner_of writer.old)) (W.contents (inner_of writer.new))
-        text }
+    ensures beginning { result ≡ Err RunError.Write →
+        BeginsReport (⟦<S as Audited<D>>⟧.basis committees.now) D.bytes_of
+        (reader_use R.remaining reader.old reader.new)
+        (writer_use W.contents writer.old writer.new) }
 {
     let stream = read_whole(alloc, reader)?;
-    let (summary, text) = account::<S, D>(alloc, committees, stream.as_slice())?;
+    let report = audit_deferred::<S, D>(alloc, committees, stream.as_slice())?;
+    let (summary, text) = account(alloc, &report)?;
     write_text(writer, text.as_bytes())?;
     Ok(summary)
 }
