@@ -3,4 +3,5 @@ pub mod PlainLemmas
 pub mod HashedLemmas
 pub mod MarkedLemmas
 pub mod ListedLemmas
+pub mod SkimLemmas
 pub mod CountLemmas

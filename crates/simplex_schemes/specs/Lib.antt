@@ -1,5 +1,6 @@
 pub mod Listed
 pub mod ListedLaws
+pub mod Skimmed
 pub mod CommitteeLaws
 pub mod Plain
 pub mod PlainCommittee

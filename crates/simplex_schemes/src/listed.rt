@@ -10,8 +10,9 @@ ghost use Rattle.std.proofs.lemmas.Cmp.{lists_equiv};
 ghost use Rattle.simplex_base.specs.Format.{format_of};
 ghost use Rattle.simplex_base.specs.Reading.{Gives};
 ghost use Rattle.simplex_scheme.specs.declared.scheme.Attestation.{Attestation};
-ghost use Rattle.simplex_schemes.specs.Listed.{AreListed, ListedFits, listed_encoding, attestation_at, attestations_at, listed_at};
-ghost use Rattle.simplex_schemes.specs.ListedLaws.{listed_lawful};
+ghost use Rattle.simplex_plain.specs.Listed.{AreListed, ListedFits, listed_encoding, attestation_at, attestations_at, listed_at};
+ghost use Rattle.simplex_plain.specs.ListedLaws.{listed_lawful};
+ghost use Rattle.simplex_plain.specs.Skimmed.{IsRefused};
 
 use simplex_base::codec::counted::{size_counted, write_counted};
 use simplex_base::codec::parts::known_bytes;
@@ -163,6 +164,19 @@ impl<S: SchemeTypes> Read for Listed<S> {
         }
     }
 
+    fn least_size(alloc: Global, bytes: &[u8], bound: &u32) -> usize {
+        let mut rest: &[u8] = known_bytes(bytes);
+        let Ok(count) = read_u32(&mut rest) else {
+            return bytes.len();
+        };
+        let (rest, left) = skim::<S>(alloc, rest, *bound, count);
+        let read = bytes.len() - rest.len();
+        if left > 0 && 5 + S::Signature::SIZE <= rest.len() {
+            return usize::MAX;
+        }
+        read.saturating_add((left as usize).saturating_mul(1 + S::Signature::SIZE))
+    }
+
     ghost lawful = { λ bound.
         listed_lawful (format_of ⟦<S::Signature as Read>⟧) bound S.Signature.lawful };
 }
@@ -180,6 +194,24 @@ fn with_room_for<S: SchemeTypes>(
 {
     let held = bytes.len() / (1 + S::Signature::SIZE);
     Vec::with_capacity(alloc, held.min(count as usize))
+}
+
+/// Reads attestations as far as they go, up to this many. Returns the bytes after them, and how many are missing.
+fn skim<S: SchemeTypes>(alloc: Global, bytes: &[u8], bound: u32, count: u32) -> (&[u8], u32)
+    ensures refused { IsRefused S S.PublicKey (format_of ⟦<S::Signature as Read>⟧) bound count
+        bytes.now result.0.now result.1 }
+    ensures within { length result.0.now ≤ length bytes.now }
+{
+    let mut rest: &[u8] = known_bytes(bytes);
+    let mut least = 0;
+    'attestations: for read in 0..count {
+        let one: Attestation<S> = match read_attestation(alloc, &mut rest, bound, least) {
+            Ok(one) => one,
+            Err(_) => return (rest, count - read),
+        };
+        least = one.signer.get() + 1;
+    }
+    (rest, 0)
 }
 
 /// Reads a number of attestations with ascending signers below the bound.
