@@ -2,10 +2,11 @@
 use Rattle.std.specs.Prelude.{ℕ, Bool, List, Option, IfSome}
 use Rattle.std.specs.Io.KnownBytes.{Consumes, IsAtEnd, Appends}
 use Rattle.simplex_audit.specs.Basis.{Basis}
-use Rattle.simplex_audit.specs.Run.{IsAccount, AppendsBeginning}
-use Rattle.simplex_audit.specs.Watched.{inner_of, has_failed, is_flushed}
+use Rattle.simplex_stream.specs.Text.{AppendsBeginning}
+use Rattle.simplex_audit.specs.Run.{IsAccount}
+use Rattle.simplex_stream.specs.Watched.{inner_of, has_failed, is_flushed}
 use Rattle.simplex_audit.specs.declared.run.Summary.{Summary}
-use Rattle.simplex_audit.specs.declared.watched.Watched.{Watched}
+use Rattle.simplex_stream.specs.declared.watched.Watched.{Watched}
 
 -- what became of a reader: its bytes before and after, where they are known, and whether a read failed
 pub record ReaderUse : Type 0 where

@@ -14,7 +14,6 @@ use crate::reading::{read_messages, reading_bound};
 use crate::reporting::make_report;
 pub use crate::run::{RunError, Summary, run};
 pub use crate::stored::run_deferred;
-pub use crate::watched::Watched;
 pub use simplex_detector::committees::{Committees, CommitteesError};
 use simplex_detector::detector::Detector;
 pub use simplex_detector::evidence::Evidence;
@@ -23,6 +22,7 @@ use simplex_detector::laws::{suspects_determine_reports, suspects_suffice};
 pub use simplex_detector::split::Split;
 use simplex_scheme::scheme::{Digest, Listing, SchemeTypes};
 pub use simplex_stream::fault::Fault;
+pub use simplex_stream::watched::Watched;
 use std::alloc::{AllocError, Global};
 
 /// What an audit found.

@@ -1,8 +1,9 @@
 //! The audit of a stream that comes in pieces.
 
-ghost use Rattle.std.specs.Prelude.{◌≡◌, ◌+◌, ◌<◌, ◌≤◌, ◌^◌, ◌-◌, min, vec_len, ℕ, List, [], ◌++◌, length, drop, IfOk};
+ghost use Rattle.std.specs.Prelude.{◌≡◌, ◌+◌, ◌<◌, ◌≤◌, ◌^◌, ◌-◌, min, ℕ, List, [], ◌++◌, length, IfOk};
 ghost use Rattle.simplex_audit.specs.Guarantees.{EvidenceIsDetermined, HasOneReading, IsAudit};
 ghost use Rattle.simplex_stream.specs.Messages.{AreMessages};
+ghost use Rattle.simplex_stream.specs.Tail.{bytes_held};
 ghost use Rattle.simplex_evidence.specs.declared.types.activity.Activity.{Activity};
 ghost use Rattle.simplex_detector.specs.Committees.{Schedule};
 ghost use Rattle.simplex_detector.specs.Recorded.{RecordedAreSlots, FewAreRecorded, votes_recorded};
@@ -13,12 +14,14 @@ use crate::basis::Audited;
 use crate::laws::message_laws;
 use crate::reading::{read_messages, reading_bound};
 use crate::reporting::make_report;
-use simplex_base::codec::Error;
 use simplex_detector::committees::Committees;
 use simplex_detector::detector::Detector;
 use simplex_detector::judging::Judging;
 use simplex_detector::laws::{few_votes_are_recorded, recorded_votes_have_room};
+use simplex_evidence::types::Activity;
 use simplex_scheme::scheme::{Digest, Listing, SchemeTypes};
+use simplex_stream::messages::stop_of;
+use simplex_stream::tail::Tail;
 use std::alloc::{AllocError, Global};
 
 /// Audits a stream that comes in pieces. It holds the bytes after the last whole message, at most five votes of each signer in
@@ -36,20 +39,16 @@ pub struct Auditor<'a, S: SchemeTypes, D: Digest> {
 #[derive(Drop)]
 struct Taken {
     /// The bytes after its last whole message.
-    rest: Vec<u8>,
-    /// How many such bytes there were after messages were last looked for.
-    tried: usize,
+    tail: Tail,
     /// The number of the stream's bytes.
     fed: usize,
     /// The number of the stream's messages.
     read: usize,
-    /// The error of reading a message at the start of the undecoded tail, if anything is left.
-    stop: Option<Error>,
-    ghost room: { read + vec_len rest ≤ fed },
+    ghost room: { read + length (bytes_held tail) ≤ fed },
 }
 
 impl<'a, S: Listing<D>, D: Digest> Auditor<'a, S, D> {
-    ghost use Rattle.simplex_audit.specs.Auditor.{Stands, Holds, fed_of};
+    ghost use Rattle.simplex_audit.specs.Auditor.{Stands, fed_of};
 
     /// An auditor of these committees that was fed nothing.
     pub fn new(alloc: Global, committees: &'a Committees<S>) -> Self
@@ -61,11 +60,9 @@ impl<'a, S: Listing<D>, D: Digest> Auditor<'a, S, D> {
             bound: reading_bound::<S, D>(committees),
             detector: Detector::new(alloc),
             taken: Taken {
-                rest: Vec::new(alloc),
-                tried: 0,
+                tail: Tail::new(alloc),
                 fed: 0,
                 read: 0,
-                stop: None,
             },
         }
     }
@@ -73,8 +70,10 @@ impl<'a, S: Listing<D>, D: Digest> Auditor<'a, S, D> {
     /// The auditor of the stream with this piece appended. `AllocError` is returned only after an allocation failed, and then
     /// there is no auditor.
     ///
-    /// Each call reads the undecoded tail again from its start, so a message that comes in k pieces is read k times: a long
-    /// certificate byte by byte takes time quadratic in its length. Gather the pieces of long messages first; `run` does.
+    /// A piece that completes no message is appended to the undecoded tail, and no byte of the tail is read again before there
+    /// are as many as `least_size` finds of the message that begins there. So in pieces of any length the bytes of a
+    /// certificate that lists its attestations are read a bounded number of times. Those of another certificate are read again
+    /// with each piece, unless its `Read` has a `least_size` of its own.
     pub fn feed(self, piece: &[u8]) -> Result<Self, AllocError>
         requires { fed_of self + length piece.now < 2 ^ 64 }
         ensures fed { IfOk result (λ next. fed_of next ≡ fed_of self.entry + length piece.now) }
@@ -82,38 +81,22 @@ impl<'a, S: Listing<D>, D: Digest> Auditor<'a, S, D> {
             Stands ⟦<S as Audited<D>>⟧.basis committees self.entry stream →
             Stands ⟦<S as Audited<D>>⟧.basis committees next (stream ++ piece.now)) }
     {
-        if self.taken.rest.is_empty() {
+        if self.taken.tail.bytes().is_empty() {
             return self.read_piece(piece);
         }
-        self.hold(piece)?.read_rest()
-    }
-
-    /// As `feed`, except that it may put off looking for messages until it holds twice as many bytes as when it last looked. So
-    /// the bytes of a long message that comes in short pieces are on average looked at a bounded number of times.
-    pub(crate) fn take(self, piece: &[u8]) -> Result<Self, AllocError>
-        requires { fed_of self + length piece.now < 2 ^ 64 }
-        ensures fed { IfOk result (λ next. fed_of next ≡ fed_of self.entry + length piece.now) }
-        ensures holds { IfOk result (λ next. (committees : Schedule S) (stream : List ℕ) →
-            Holds ⟦<S as Audited<D>>⟧.basis committees self.entry stream →
-            Holds ⟦<S as Audited<D>>⟧.basis committees next (stream ++ piece.now)) }
-    {
-        if self.taken.rest.is_empty() {
-            return self.read_piece(piece);
+        if self.taken.tail.is_due(piece.len()) {
+            return self.read_tail(piece);
         }
-        let next = self.hold(piece)?;
-        if next.taken.rest.len() / 2 < next.taken.tried {
-            return Ok(next);
-        }
-        next.read_rest()
+        self.hold(piece)
     }
 
     /// Reads the messages of the piece in place, and holds a copy of the bytes after the last.
     fn read_piece(self, piece: &[u8]) -> Result<Self, AllocError>
-        requires empty { self.taken.rest.items ≡ [] }
+        requires empty { bytes_held self.taken.tail ≡ [] }
         requires fits { fed_of self + length piece.now < 2 ^ 64 }
         ensures fed { IfOk result (λ next. fed_of next ≡ fed_of self.entry + length piece.now) }
         ensures stands { IfOk result (λ next. (committees : Schedule S) (stream : List ℕ) →
-            Holds ⟦<S as Audited<D>>⟧.basis committees self.entry stream →
+            Stands ⟦<S as Audited<D>>⟧.basis committees self.entry stream →
             Stands ⟦<S as Audited<D>>⟧.basis committees next (stream ++ piece.now)) }
     {
         let Auditor {
@@ -123,74 +106,36 @@ impl<'a, S: Listing<D>, D: Digest> Auditor<'a, S, D> {
             taken,
         } = self;
         let Taken {
-            mut rest,
-            tried: _,
+            mut tail,
             fed,
             read,
-            stop: _,
         } = taken;
-        let alloc = *rest.allocator();
+        let alloc = tail.allocator();
         let judging = Judging::Verified;
         let (detector, progress) = read_messages(
             alloc, committees, judging, bound, piece, detector,
         )?;
-        rest.extend_from_slice(progress.rest)?;
+        tail.push(progress.rest)?;
+        tail.advance::<Activity<S, D>>(0, &bound);
         Ok(Auditor {
             committees,
             bound,
             detector,
             taken: Taken {
-                tried: rest.len(),
-                rest,
+                tail,
                 fed: fed + piece.len(),
                 read: read + progress.read,
-                stop: progress.stop,
             },
         })
     }
 
-    /// Appends the piece to the undecoded tail, and looks for no messages.
-    fn hold(self, piece: &[u8]) -> Result<Self, AllocError>
+    /// Appends the piece to the undecoded tail, reads the messages there, and drops their bytes.
+    fn read_tail(self, piece: &[u8]) -> Result<Self, AllocError>
         requires { fed_of self + length piece.now < 2 ^ 64 }
         ensures fed { IfOk result (λ next. fed_of next ≡ fed_of self.entry + length piece.now) }
-        ensures holds { IfOk result (λ next. (committees : Schedule S) (stream : List ℕ) →
-            Holds ⟦<S as Audited<D>>⟧.basis committees self.entry stream →
-            Holds ⟦<S as Audited<D>>⟧.basis committees next (stream ++ piece.now)) }
-    {
-        let Auditor {
-            committees,
-            bound,
-            detector,
-            taken,
-        } = self;
-        let Taken {
-            mut rest,
-            tried,
-            fed,
-            read,
-            stop,
-        } = taken;
-        rest.extend_from_slice(piece)?;
-        Ok(Auditor {
-            committees,
-            bound,
-            detector,
-            taken: Taken {
-                rest,
-                tried,
-                fed: fed + piece.len(),
-                read,
-                stop,
-            },
-        })
-    }
-
-    /// Reads the messages in the bytes that it holds, and drops the bytes of these messages.
-    pub(crate) fn read_rest(self) -> Result<Self, AllocError>
-        ensures fed { IfOk result (λ next. fed_of next ≡ fed_of self.entry) }
         ensures stands { IfOk result (λ next. (committees : Schedule S) (stream : List ℕ) →
-            Holds ⟦<S as Audited<D>>⟧.basis committees self.entry stream →
-            Stands ⟦<S as Audited<D>>⟧.basis committees next stream) }
+            Stands ⟦<S as Audited<D>>⟧.basis committees self.entry stream →
+            Stands ⟦<S as Audited<D>>⟧.basis committees next (stream ++ piece.now)) }
     {
         let Auditor {
             committees,
@@ -199,34 +144,64 @@ impl<'a, S: Listing<D>, D: Digest> Auditor<'a, S, D> {
             taken,
         } = self;
         let Taken {
-            mut rest,
-            tried: _,
+            mut tail,
             fed,
             read,
-            stop: _,
         } = taken;
-        let alloc = *rest.allocator();
+        let alloc = tail.allocator();
+        tail.push(piece)?;
+        let bytes = tail.bytes();
         let (detector, progress) = read_messages(
             alloc,
             committees,
             Judging::Verified,
             bound,
-            rest.as_slice(),
+            bytes,
             detector,
         )?;
-        let (more, stop) = (progress.read, progress.stop);
-        let count = rest.len() - progress.rest.len();
-        drop_front(&mut rest, count);
+        let (more, count) = (progress.read, bytes.len() - progress.rest.len());
+        tail.advance::<Activity<S, D>>(count, &bound);
         Ok(Auditor {
             committees,
             bound,
             detector,
             taken: Taken {
-                tried: rest.len(),
-                rest,
-                fed,
+                tail,
+                fed: fed + piece.len(),
                 read: read + more,
-                stop,
+            },
+        })
+    }
+
+    /// Appends the piece to the undecoded tail, where it completes no message.
+    fn hold(self, piece: &[u8]) -> Result<Self, AllocError>
+        requires fits { fed_of self + length piece.now < 2 ^ 64 }
+        requires few { length (bytes_held self.taken.tail) + length piece.now < self.taken.tail.due }
+        ensures fed { IfOk result (λ next. fed_of next ≡ fed_of self.entry + length piece.now) }
+        ensures stands { IfOk result (λ next. (committees : Schedule S) (stream : List ℕ) →
+            Stands ⟦<S as Audited<D>>⟧.basis committees self.entry stream →
+            Stands ⟦<S as Audited<D>>⟧.basis committees next (stream ++ piece.now)) }
+    {
+        let Auditor {
+            committees,
+            bound,
+            detector,
+            taken,
+        } = self;
+        let Taken {
+            mut tail,
+            fed,
+            read,
+        } = taken;
+        tail.push(piece)?;
+        Ok(Auditor {
+            committees,
+            bound,
+            detector,
+            taken: Taken {
+                tail,
+                fed: fed + piece.len(),
+                read,
             },
         })
     }
@@ -247,16 +222,17 @@ impl<'a, S: Listing<D>, D: Digest> Auditor<'a, S, D> {
             EvidenceIsDetermined (⟦<S as Audited<D>>⟧.basis committees) }
     {
         message_laws::<S, D>();
-        let alloc = *self.taken.rest.allocator();
-        let rest = self.taken.rest.as_slice();
+        let alloc = self.taken.tail.allocator();
+        let rest = self.taken.tail.bytes();
         let place = self.taken.fed - rest.len();
+        let stop = stop_of::<Activity<S, D>>(alloc, self.bound, rest)?;
         make_report(
             alloc,
             self.committees,
             &self.detector,
             self.taken.read,
             place,
-            self.taken.stop,
+            stop,
         )
     }
 
@@ -277,7 +253,7 @@ impl<'a, S: Listing<D>, D: Digest> Auditor<'a, S, D> {
             AreMessages (⟦<S as Audited<D>>⟧.basis committees).format stream messages rest →
             result.now ≡ rest }
     {
-        self.taken.rest.as_slice()
+        self.taken.tail.bytes()
     }
 
     /// How many valid votes of the stream's messages are recorded: for each signer and round the earliest of each kind, and of
@@ -321,11 +297,3 @@ impl<'a, S: Listing<D>, D: Digest> Auditor<'a, S, D> {
 pub(crate) fn counts_are_few(count: usize)
     ensures { count < 2 ^ 64 }
 {}
-
-/// Drops this many bytes at the start.
-fn drop_front(bytes: &mut Vec<u8>, count: usize)
-    requires { count ≤ vec_len bytes.old }
-    ensures { bytes.new.items ≡ drop count bytes.old.items }
-{
-    bytes.drain(..count);
-}

@@ -49,8 +49,8 @@ impl<'a, S: Listing<D>, D: Digest> Ledger<'a, S, D> {
         Ok(ledger)
     }
 
-    /// The ledger that was fed this piece, too. `AllocError` only where an allocation failed, and then there is no ledger. A
-    /// message that comes in k pieces is read k times, as by [`Auditor::feed`].
+    /// The ledger that was fed this piece, too. `AllocError` only where an allocation failed, and then there is no ledger. The
+    /// bytes of a message that comes in pieces are read again as by [`Auditor::feed`].
     pub fn feed(self, piece: &[u8]) -> Result<Self, AllocError>
         requires { bytes_fed self + length piece.now < 2 ^ 64 }
         ensures bytes { IfOk result (λ next.

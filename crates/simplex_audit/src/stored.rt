@@ -4,14 +4,14 @@
 ghost use Rattle.std.specs.Prelude.{◌≡◌, ◌≢◌, ◌↔◌, ◌⊎◌, false, IsTrue, Err, IfOk, IfErr, OnOk};
 ghost use Rattle.std.specs.Io.KnownBytes.{Consumes, IsAtEnd, Keeps};
 ghost use Rattle.simplex_audit.specs.Outcome.{WritesReport, WritesReportOfKnown, BeginsReport, reader_use, writer_use};
-ghost use Rattle.simplex_audit.specs.Watched.{inner_of, has_failed, is_flushed};
+ghost use Rattle.simplex_stream.specs.Watched.{inner_of, has_failed, is_flushed};
 
 use crate::audit::{Committees, audit_deferred};
 use crate::basis::Audited;
 use crate::run::{RunError, Summary, account, write_text};
-use crate::watched::Watched;
 use simplex_base::codec::Fixed;
 use simplex_scheme::scheme::{Digest, Listing};
+use simplex_stream::watched::Watched;
 use std::alloc::Global;
 use std::io::{Read, Write};
 

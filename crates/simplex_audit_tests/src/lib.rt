@@ -1,6 +1,7 @@
 //! Tests of the audit and of the calls over it: the audit beside an auditor by its definition, which is written plainly, how
 //! many attestations are verified, and how often a scheme is asked about certificates, how many votes are recorded, a large
-//! committee, long payloads, who is suspect, the records of a report, what a ledger stores, and calls that allocate nothing.
+//! committee, a long certificate byte by byte, long payloads, who is suspect, the records of a report, what a ledger stores,
+//! and calls that allocate nothing.
 #![tactic(auto)]
 
 #[cfg(test)]
@@ -15,6 +16,8 @@ mod deferred;
 mod model;
 #[cfg(test)]
 mod outcome;
+#[cfg(test)]
+mod pieces;
 #[cfg(test)]
 mod recorded;
 #[cfg(test)]

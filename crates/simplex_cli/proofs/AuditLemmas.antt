@@ -3,10 +3,10 @@ use Rattle.std.proofs.Common.{◌≡◌, ◌⊎◌, inl, inr, ℕ, List, Option,
 use Rattle.std.specs.Io.KnownBytes.{Keeps}
 use Rattle.simplex_schemes.specs.Plain.{PlainScheme}
 use Rattle.simplex_detector.specs.Committees.{Schedule}
-use Rattle.simplex_audit.specs.Run.{AppendsBeginning}
+use Rattle.simplex_stream.specs.Text.{AppendsBeginning}
 use Rattle.simplex_stream.specs.declared.fault.Fault.{Fault}
-use Rattle.simplex_audit.specs.declared.run.RunError.{RunError}
-use Rattle.simplex_audit.specs.declared.run.RunError.TheVariants as errors
+use Rattle.simplex_stream.specs.declared.run_error.RunError.{RunError}
+use Rattle.simplex_stream.specs.declared.run_error.RunError.TheVariants as errors
 use Rattle.simplex_audit.specs.Outcome.{ReaderUse, WriterUse}
 use Rattle.simplex_cli.specs.Answer.{IsRead, Ending, Ends, GaveTooMuch, Bases}
 use Rattle.simplex_cli.specs.Arguments.{AreArguments, AreNoArguments}

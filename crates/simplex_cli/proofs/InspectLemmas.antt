@@ -4,8 +4,8 @@ use Rattle.std.specs.Prelude.{◌≢◌}
 use Rattle.std.specs.Io.KnownBytes.{Keeps}
 use Rattle.simplex_schemes.specs.Plain.{PlainScheme}
 use Rattle.simplex_detector.specs.Committees.{Schedule}
-use Rattle.simplex_audit.specs.declared.run.RunError.{RunError}
-use Rattle.simplex_audit.specs.declared.run.RunError.TheVariants as errors
+use Rattle.simplex_stream.specs.declared.run_error.RunError.{RunError}
+use Rattle.simplex_stream.specs.declared.run_error.RunError.TheVariants as errors
 use Rattle.simplex_audit.specs.Outcome.{ReaderUse, WriterUse}
 use Rattle.simplex_cli.specs.Answer.{Ending, GaveTooMuch}
 use Rattle.simplex_cli.specs.Status.{failure_of}

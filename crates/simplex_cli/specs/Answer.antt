@@ -4,7 +4,8 @@ use Rattle.std.specs.Io.KnownBytes.{Consumes, IsAtEnd, Appends, Keeps}
 use Rattle.simplex_schemes.specs.Plain.{PlainScheme}
 use Rattle.simplex_scheme.specs.declared.scheme.Attestation.{Attestation}
 use Rattle.simplex_detector.specs.Committees.{Schedule}
-use Rattle.simplex_audit.specs.Run.{IsAccount, AppendsBeginning}
+use Rattle.simplex_stream.specs.Text.{AppendsBeginning}
+use Rattle.simplex_audit.specs.Run.{IsAccount}
 use Rattle.simplex_audit.specs.Basis.{Basis}
 use Rattle.simplex_audit.specs.Outcome.{ReaderUse, WriterUse}
 use Rattle.simplex_stream.specs.declared.fault.Fault.{Fault}

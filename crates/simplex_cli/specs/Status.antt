@@ -1,7 +1,7 @@
 -- How a program ends.
 use Rattle.std.specs.Prelude.{ℕ, Bool, true, false}
-use Rattle.simplex_audit.specs.declared.run.RunError.{RunError}
-use Rattle.simplex_audit.specs.declared.run.RunError.TheVariants as errors
+use Rattle.simplex_stream.specs.declared.run_error.RunError.{RunError}
+use Rattle.simplex_stream.specs.declared.run_error.RunError.TheVariants as errors
 use Rattle.simplex_cli.specs.declared.status.Status.{Status}
 use Rattle.simplex_cli.specs.declared.status.Status.TheVariants as statuses
 use Rattle.simplex_cli.specs.declared.status.Failure.{Failure}

@@ -1,7 +1,7 @@
 //! What `audit` and `audit_stored` do with their arguments and streams.
 
 ghost use Rattle.std.specs.Prelude.{◌≡◌, false, Err, IsTrue, map, string_bytes};
-ghost use Rattle.simplex_audit.specs.Watched.{has_failed};
+ghost use Rattle.simplex_stream.specs.Watched.{has_failed};
 ghost use Rattle.simplex_cli.specs.Arguments.{AreNoArguments};
 ghost use Rattle.simplex_audit.specs.Outcome.{reader_use, writer_use};
 ghost use Rattle.simplex_cli.specs.Answer.{Ends};

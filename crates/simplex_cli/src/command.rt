@@ -1,7 +1,7 @@
 //! A program as a function over its arguments and streams.
 
 ghost use Rattle.std.specs.Prelude.{◌≡◌, ◌⊎◌, false, Err, IsTrue, map, string_bytes};
-ghost use Rattle.simplex_audit.specs.Watched.{has_failed, is_flushed};
+ghost use Rattle.simplex_stream.specs.Watched.{has_failed, is_flushed};
 ghost use Rattle.simplex_audit.specs.Outcome.{reader_use, writer_use};
 ghost use Rattle.simplex_cli.specs.Answer.{Ending, Says, status_of};
 ghost use Rattle.simplex_cli.specs.Complaints.{complaint_of, said_of};

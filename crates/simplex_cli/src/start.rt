@@ -9,7 +9,7 @@ ghost use Rattle.simplex_cli.specs.Answer.{Ending, Says, status_of};
 ghost use Rattle.simplex_cli.specs.Complaints.{complaint_of, said_of};
 ghost use Rattle.simplex_cli.specs.Endings.{AreRefused, EndsAs};
 ghost use Rattle.simplex_cli.specs.Status.{number_of};
-ghost use Rattle.simplex_audit.specs.Watched.{has_failed};
+ghost use Rattle.simplex_stream.specs.Watched.{has_failed};
 
 use crate::command::{command, conclude};
 use crate::program::Program;

@@ -10,7 +10,7 @@ use Rattle.std.proofs.lemmas.List.Elements.{All-nil, All-append}
 use Rattle.simplex_base.specs.declared.codec.error.Error.{Error}
 use Rattle.simplex_stream.specs.StreamLaws.{fault_here}
 use Rattle.simplex_stream.specs.Fault.{fault_of}
-use Rattle.simplex_audit.specs.Run.{AppendsBeginning}
+use Rattle.simplex_stream.specs.Text.{AppendsBeginning}
 use Rattle.simplex_inspect.specs.Inspected.{Lines, lines_from, fault_text, AreShown, IsWritten, IsPartShown, IsInspected}
 use Rattle.simplex_inspect.specs.WritingLaws.{lines_append}
 

@@ -10,7 +10,7 @@ use Rattle.simplex_evidence.specs.declared.types.activity.Activity.{Activity}
 use Rattle.simplex_detector.specs.Committees.{Schedule, bound_of}
 use Rattle.simplex_stream.specs.Messages.{AreMessages, IsStop}
 use Rattle.simplex_stream.specs.Fault.{IsFault}
-use Rattle.simplex_audit.specs.Run.{AppendsBeginning}
+use Rattle.simplex_stream.specs.Text.{AppendsBeginning}
 use Rattle.simplex_stream.specs.declared.fault.Fault.{Fault}
 use Rattle.simplex_inspect.specs.Line.{line_json}
 use Rattle.simplex_inspect.specs.Shown.{Shown}

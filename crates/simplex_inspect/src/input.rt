@@ -1,53 +1,37 @@
 //! Writes the lines of all that a reader gives.
 
-ghost use Rattle.std.specs.Prelude.{◌≡◌, ◌≢◌, ◌⊎◌, ◌↔◌, ◌+◌, ◌<◌, ◌≤◌, ◌^◌, ◌++◌, [], ℕ, List, Option, false, Ok, Err, IsTrue, IfOk, IfErr, OnOk, OnErr, drop, take, length, vec_len};
+ghost use Rattle.std.specs.Prelude.{◌≡◌, ◌≢◌, ◌⊎◌, ◌↔◌, ◌+◌, ◌<◌, ◌≤◌, ◌^◌, ◌++◌, [], ℕ, List, Option, false, Ok, Err, IsTrue, IfOk, IfErr, OnOk, OnErr, take, length};
 ghost use Rattle.std.specs.Io.KnownBytes.{Consumes, IsAtEnd, Keeps};
-ghost use Rattle.simplex_audit.specs.Watched.{inner_of, has_failed, is_flushed};
+ghost use Rattle.simplex_stream.specs.Watched.{inner_of, has_failed, is_flushed};
+ghost use Rattle.simplex_stream.specs.Tail.{bytes_held};
 ghost use Rattle.simplex_inspect.specs.Inspected.{AppendsText, AppendsBegun, AppendsPart, IsInput};
 ghost use Rattle.simplex_inspect.specs.Left.{IsLeft, bytes_seen};
 
 use crate::basis::Inspected;
 use crate::inspect::finish;
 use crate::left::Left;
-use crate::reading::{ReadLines, read_lines};
-use simplex_audit::audit::{Fault, RunError, Watched};
-use simplex_audit::run::write_text;
+use crate::reading::{ReadLines, read_lines, reading_bound};
 use simplex_detector::committees::Committees;
+use simplex_evidence::types::Activity;
 use simplex_scheme::scheme::{Digest, Listing};
+use simplex_stream::fault::Fault;
+use simplex_stream::pieces::make_piece;
+use simplex_stream::run_error::RunError;
+use simplex_stream::tail::Tail;
+use simplex_stream::text::write_text;
+use simplex_stream::watched::Watched;
 use std::alloc::{AllocError, Global};
 use std::io::{Read, Write};
-
-/// The number of bytes that a read asks for.
-const PIECE: usize = 65536;
-
-/// Fewer held bytes than this are looked through after each read.
-const FEW: usize = 4096;
 
 /// What is held before the first byte of a stream.
 fn nothing(alloc: Global) -> Left
     ensures offset { result.offset ≡ 0 }
-    ensures held { result.held.items ≡ [] }
+    ensures held { bytes_held result.tail ≡ [] }
 {
     Left {
         offset: 0,
-        held: Vec::new(alloc),
-        tried: 0,
+        tail: Tail::new(alloc),
     }
-}
-
-/// A piece of this many bytes.
-fn make_piece(alloc: Global, size: usize) -> Result<Vec<u8>, AllocError>
-    ensures { IfOk result (λ piece. vec_len piece ≡ size) }
-{
-    vec![in alloc; 0u8; size]
-}
-
-/// Drops this many bytes at the start.
-fn drop_front(bytes: &mut Vec<u8>, count: usize)
-    requires { count ≤ vec_len bytes.old }
-    ensures { bytes.new.items ≡ drop count bytes.old.items }
-{
-    bytes.drain(..count);
 }
 
 /// Reads once. Returns how many bytes were read, 0 only at the end.
@@ -73,25 +57,18 @@ fn read_some<R: Read>(reader: &mut Watched<R>, piece: &mut [u8]) -> Result<usize
 /// Appends a piece to what is left. `TooLong` where the stream then has more than 2^64 - 1 bytes.
 fn hold(left: Left, piece: &[u8]) -> Result<Left, RunError>
     ensures offset { IfOk result (λ next. next.offset ≡ left.offset) }
-    ensures held { IfOk result (λ next. next.held.items ≡ left.held.items ++ piece.now) }
+    ensures held { IfOk result (λ next.
+        bytes_held next.tail ≡ bytes_held left.tail ++ piece.now) }
     ensures too_long { result ≡ Err RunError.TooLong →
         2 ^ 64 ≤ bytes_seen left + length piece.now }
     ensures error { IfErr result (λ e. (e ≡ RunError.OutOfMemory) ⊎ (e ≡ RunError.TooLong)) }
 {
-    let Left {
-        offset,
-        mut held,
-        tried,
-    } = left;
-    if piece.len() > usize::MAX - (offset + held.len()) {
+    let Left { offset, mut tail } = left;
+    if piece.len() > usize::MAX - (offset + tail.bytes().len()) {
         return Err(RunError::TooLong);
     }
-    held.extend_from_slice(piece)?;
-    Ok(Left {
-        offset,
-        held,
-        tried,
-    })
+    tail.push(piece)?;
+    Ok(Left { offset, tail })
 }
 
 /// Writes the lines of the messages at the start of what is left, flushes, and drops the bytes of these messages.
@@ -117,30 +94,22 @@ fn advance<S: Listing<D>, D: Digest, W: Write>(
     ensures failed { IsTrue (has_failed writer.new) ↔ (result ≡ Err RunError.Write) }
     ensures error { IfErr result (λ e. (e ≡ RunError.Write) ⊎ (e ≡ RunError.OutOfMemory)) }
 {
-    let Left {
-        offset,
-        mut held,
-        tried: _,
-    } = left;
-    let reading = read_lines::<S, D>(alloc, committees, offset, held.as_slice())?;
+    let Left { offset, mut tail } = left;
+    let bytes = tail.bytes();
+    let reading = read_lines::<S, D>(alloc, committees, offset, bytes)?;
     let ReadLines {
         text,
         offset: next,
         rest,
         stop: _,
     } = reading;
-    let count = held.len() - rest.len();
+    let count = bytes.len() - rest.len();
     write_text(writer, text.as_bytes())?;
-    drop_front(&mut held, count);
-    Ok(Left {
-        offset: next,
-        tried: held.len(),
-        held,
-    })
+    tail.advance::<Activity<S, D>>(count, &reading_bound(committees));
+    Ok(Left { offset: next, tail })
 }
 
-/// Appends a piece to what is left. From 4,096 held bytes on it may put off looking for messages until it holds twice as many
-/// bytes as after the last look, so that the bytes of a long message are on average looked at a bounded number of times.
+/// Appends a piece to what is left, and writes the lines of the messages that it completes.
 fn take_piece<S: Listing<D>, D: Digest, W: Write>(
     alloc: Global,
     committees: &Option<Committees<S>>,
@@ -167,7 +136,7 @@ fn take_piece<S: Listing<D>, D: Digest, W: Write>(
     ensures error { result ≢ Err RunError.Read }
 {
     let left = hold(left, piece)?;
-    if left.held.len() >= FEW && left.held.len() / 2 < left.tried {
+    if !left.tail.is_due(0) {
         return Ok(left);
     }
     advance::<S, D, W>(alloc, committees, left, writer)
@@ -177,9 +146,8 @@ fn take_piece<S: Listing<D>, D: Digest, W: Write>(
 /// is one. Returns the fault. The messages and the fault are those of an audit of the stream.
 ///
 /// The input is read in pieces of up to 65,536 bytes. A message's line is written and flushed after the read that completes the
-/// message, and before the next read, except that while 4,096 bytes or more are held it may wait until twice as many bytes are
-/// held as after the last look for messages, or until the input ends. Held are the bytes whose lines are not written yet, after
-/// a fault all that follow.
+/// message, and before the next read. Held are the bytes whose lines are not written yet, after a fault all that follow. They
+/// are read again once there are as many as `least_size` finds of the message that begins there.
 ///
 /// `Read` exactly where a read failed, `Write` exactly where a write or a flush failed; an interrupted call counts as failed.
 /// `OutOfMemory` where an allocation failed, and `TooLong` where the reader gave more than 2^64 - 1 bytes. After each of them
@@ -216,11 +184,11 @@ pub fn inspect_input<S: Listing<D>, D: Digest, R: Read, W: Write>(
         × Consumes (R.remaining (inner_of reader.old)) (R.remaining (inner_of reader.new)) input }
 {
     let mut left = nothing(alloc);
-    let mut piece = make_piece(alloc, PIECE)?;
+    let mut piece = make_piece(alloc)?;
     'reads: loop {
         let count = read_some(reader, piece.as_mut_slice())?;
         if count == 0 {
-            return finish::<S, D, W>(alloc, committees, left.offset, left.held.as_slice(), writer);
+            return finish::<S, D, W>(alloc, committees, left.offset, left.tail.bytes(), writer);
         }
         left = take_piece::<S, D, W>(alloc, committees, left, &piece[..count], writer)?;
     }

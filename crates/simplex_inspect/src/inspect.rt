@@ -2,17 +2,18 @@
 
 ghost use Rattle.std.specs.Prelude.{◌≡◌, ◌⊎◌, ◌↔◌, ◌+◌, ◌<◌, ◌^◌, ℕ, List, Option, false, Err, IsTrue, IfOk, IfErr, OnOk, length, string_bytes};
 ghost use Rattle.std.specs.Io.KnownBytes.{Keeps};
-ghost use Rattle.simplex_audit.specs.Watched.{inner_of, has_failed, is_flushed};
+ghost use Rattle.simplex_stream.specs.Watched.{inner_of, has_failed, is_flushed};
 ghost use Rattle.simplex_inspect.specs.Inspected.{IsWritten, AppendsText, AppendsPart, fault_text};
 
 use crate::basis::Inspected;
 use crate::fault::fault_line;
 use crate::reading::read_lines;
-use simplex_audit::audit::{Fault, RunError, Watched};
-use simplex_audit::run::write_text;
 use simplex_detector::committees::Committees;
 use simplex_scheme::scheme::{Digest, Listing};
-use simplex_stream::fault::fault_at;
+use simplex_stream::fault::{Fault, fault_at};
+use simplex_stream::run_error::RunError;
+use simplex_stream::text::write_text;
+use simplex_stream::watched::Watched;
 use std::alloc::{AllocError, Global};
 use std::io::Write;
 

@@ -1,6 +1,9 @@
 //! What is left of a stream when the lines of its first messages were written.
 
-ghost use Rattle.std.specs.Prelude.{◌+◌, ◌<◌, ◌^◌, vec_len};
+ghost use Rattle.std.specs.Prelude.{◌+◌, ◌<◌, ◌^◌, length};
+ghost use Rattle.simplex_stream.specs.Tail.{bytes_held};
+
+use simplex_stream::tail::Tail;
 
 /// What is left of a stream: the lines of all messages before it were written, and none of its own.
 #[derive(Drop)]
@@ -8,8 +11,6 @@ pub(crate) struct Left {
     /// The 0-based offset in the stream at which it begins.
     pub(crate) offset: usize,
     /// Its bytes.
-    pub(crate) held: Vec<u8>,
-    /// How many bytes were held after messages were last looked for.
-    pub(crate) tried: usize,
-    ghost room: { offset + vec_len held < 2 ^ 64 },
+    pub(crate) tail: Tail,
+    ghost room: { offset + length (bytes_held tail) < 2 ^ 64 },
 }

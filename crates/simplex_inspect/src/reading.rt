@@ -71,7 +71,7 @@ impl<S: Listing<D>, D: Digest> Visitor<Activity<S, D>> for LineWriter {
 
 /// The bound under which certificates are read: the number of participants of the greatest committee, and without
 /// committees the greatest number that a committee can have, 4,294,967,295.
-fn reading_bound<S: CertificateScheme>(committees: &Option<Committees<S>>) -> u32
+pub(crate) fn reading_bound<S: CertificateScheme>(committees: &Option<Committees<S>>) -> u32
     ensures { result ≡ bound_under S.keys committees.now }
 {
     match committees {

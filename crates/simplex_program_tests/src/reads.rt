@@ -1,7 +1,7 @@
 //! When and how often the programs read: a line comes before the next read, and a megabyte takes few reads.
 
 ghost use Rattle.std.specs.Prelude.{◌≡◌, false};
-ghost use Rattle.simplex_audit.specs.Watched.{has_failed};
+ghost use Rattle.simplex_stream.specs.Watched.{has_failed};
 
 use crate::committee::marked;
 use crate::inspected::STREAM;
@@ -41,8 +41,7 @@ fn shows_before_a_read<S: Listing<D>, D: Digest>(
 }
 
 /// Two messages of 69 bytes that come in 60, 60 and 18, one of 4,000 bytes in 100 pieces of 40, and one of 4,095 bytes in 105
-/// pieces of 39. A body that reads again before it writes is refused, as is one that puts off looking for messages while fewer
-/// than 4,096 bytes are held.
+/// pieces of 39. A body that reads again before it writes is refused, as is one that puts off looking for messages.
 #[test]
 fn ample_a_line_comes_before_the_next_read(rt: HostRuntime) -> Result<(), Fail> {
     let alloc = rt.alloc();

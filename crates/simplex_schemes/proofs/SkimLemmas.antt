@@ -18,9 +18,9 @@ use Rattle.simplex_base.specs.declared.codec.error.Error.{Error}
 use Rattle.simplex_base.specs.declared.codec.error.Error.TheVariants as errors
 use Rattle.simplex_scheme.specs.Attestation.{attestation_format, attestation_lawful}
 use Rattle.simplex_scheme.specs.declared.scheme.Attestation.{Attestation}
-use Rattle.simplex_plain.specs.Listed.{SignersAscend, ListedFits, listed_encoding, attestation_at}
-use Rattle.simplex_plain.specs.ListedLaws.{attestation_takes}
-use Rattle.simplex_plain.specs.Skimmed.{IsSkimmed, IsRefused}
+use Rattle.simplex_schemes.specs.Listed.{SignersAscend, ListedFits, listed_encoding, attestation_at}
+use Rattle.simplex_schemes.specs.ListedLaws.{attestation_takes}
+use Rattle.simplex_schemes.specs.Skimmed.{IsSkimmed, IsRefused}
 
 module _ {S P G : Type 0} (signature : Format G) (law : IsLawful signature) where
   -- nothing was read yet

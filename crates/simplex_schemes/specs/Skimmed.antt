@@ -4,7 +4,7 @@ use Rattle.std.specs.List.{flat_map}
 use Rattle.simplex_base.specs.Format.{Format}
 use Rattle.simplex_scheme.specs.Attestation.{attestation_format}
 use Rattle.simplex_scheme.specs.declared.scheme.Attestation.{Attestation}
-use Rattle.simplex_plain.specs.Listed.{attestation_at}
+use Rattle.simplex_schemes.specs.Listed.{attestation_at}
 
 -- the bytes are those of `number` attestations and then the rest, and a signer above theirs is `least` or above it
 pub record IsSkimmed (S P : Type 0) {G : Type 0} (signature : Format G) (bytes rest : List ℕ) (number least : ℕ) : Type 0 where

@@ -10,9 +10,9 @@ ghost use Rattle.std.proofs.lemmas.Cmp.{lists_equiv};
 ghost use Rattle.simplex_base.specs.Format.{format_of};
 ghost use Rattle.simplex_base.specs.Reading.{Gives};
 ghost use Rattle.simplex_scheme.specs.declared.scheme.Attestation.{Attestation};
-ghost use Rattle.simplex_plain.specs.Listed.{AreListed, ListedFits, listed_encoding, attestation_at, attestations_at, listed_at};
-ghost use Rattle.simplex_plain.specs.ListedLaws.{listed_lawful};
-ghost use Rattle.simplex_plain.specs.Skimmed.{IsRefused};
+ghost use Rattle.simplex_schemes.specs.Listed.{AreListed, ListedFits, listed_encoding, attestation_at, attestations_at, listed_at};
+ghost use Rattle.simplex_schemes.specs.ListedLaws.{listed_lawful};
+ghost use Rattle.simplex_schemes.specs.Skimmed.{IsRefused};
 
 use simplex_base::codec::counted::{size_counted, write_counted};
 use simplex_base::codec::parts::known_bytes;

@@ -3,3 +3,9 @@ pub mod Progress
 pub mod Fault
 pub mod StreamLaws
 pub mod PlaceLaws
+pub mod Watched
+pub mod DeviceLaws
+pub mod Tail
+pub mod TailLaws
+pub mod Text
+pub mod RunError

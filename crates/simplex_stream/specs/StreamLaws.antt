@@ -9,7 +9,7 @@ use Rattle.simplex_base.specs.Format.{Format, IsLawful}
 use Rattle.simplex_base.specs.FormatLaws.{one_encoding}
 use Rattle.simplex_base.specs.declared.codec.error.Error.{Error}
 use Rattle.simplex_stream.specs.Messages.{AreMessages, IsStuck, IsStop}
-use Rattle.simplex_stream.specs.Progress.{IsProgress}
+use Rattle.simplex_stream.specs.Progress.{IsProgress, IsDecoded}
 use Rattle.simplex_stream.specs.Fault.{IsFault, fault_of}
 use Rattle.simplex_stream.specs.declared.fault.Fault.{Fault}
 
@@ -110,17 +110,16 @@ messages_of_pieces {M} format stream piece rest left messages further are are' =
       stuck = are'.stuck;
     }
 
--- what was read of a stream, and then of its undecoded tail with a piece appended, was read of the stream with the piece
-pub progress_of_pieces : {M : Type 0} (format : Format M) (Recorded Recorded' Recorded'' : List M → Type 0)
-    (stream piece rest left : List ℕ) (read more : ℕ) (stop stop' : Option Error) →
-    IsProgress format Recorded stream rest read stop → IsProgress format Recorded' (rest ++ piece) left more stop' →
+-- what was decoded of a stream, and then of its undecoded tail with a piece appended, was decoded of the stream with the piece
+pub decoded_of_pieces : {M : Type 0} (format : Format M) (Recorded Recorded' Recorded'' : List M → Type 0)
+    (stream piece rest left : List ℕ) (read more : ℕ) (stop : Option Error) →
+    IsDecoded format Recorded stream rest read → IsProgress format Recorded' (rest ++ piece) left more stop →
     ((ms ks : List M) → Recorded ms → Recorded' ks → Recorded'' (ms ++ ks)) →
-    IsProgress format Recorded'' (stream ++ piece) left (read + more) stop'
-progress_of_pieces format Recorded Recorded' Recorded'' stream piece rest left read more stop stop' p q keep = record {
+    IsDecoded format Recorded'' (stream ++ piece) left (read + more)
+decoded_of_pieces format Recorded Recorded' Recorded'' stream piece rest left read more stop p q keep = record {
   messages = p.messages ++ q.messages;
   are_messages = messages_of_pieces format stream piece rest left p.messages q.messages p.are_messages q.are_messages;
   read_is = let a = p.read_is in let b = q.read_is in omega (arith, length-append p.messages q.messages);
-  stop_is = q.stop_is;
   recorded = keep p.messages q.messages p.recorded q.recorded;
 }
 

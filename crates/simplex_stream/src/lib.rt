@@ -3,8 +3,17 @@
 //! [`messages`] has the loop, [`messages::for_each_message`], which reads messages of any type ([`messages::Message`]) one
 //! after another and shows each to a [`messages::Visitor`]; [`fault`] has where a stream stops being messages.
 //!
-//! Crates above rest on [`messages::for_each_message`] and [`fault::fault_at`]. Their visitors prove what one message does.
+//! What reads streams in [`pieces`] and writes a [`text`] of them rests on readers and writers that remember failures,
+//! [`watched`], and fails with a [`run_error::RunError`].
+//!
+//! Crates above rest on [`messages::for_each_message`], [`fault::fault_at`], [`watched::Watched`], [`pieces::fill`] and
+//! [`text::write_text`]. Their visitors prove what one message does.
 #![tactic(auto)]
 
 pub mod fault;
 pub mod messages;
+pub mod pieces;
+pub mod run_error;
+pub mod tail;
+pub mod text;
+pub mod watched;

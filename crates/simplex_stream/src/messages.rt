@@ -2,9 +2,11 @@
 
 ghost use Rattle.std.specs.Prelude.{◌≡◌, ◌+◌, ◌<◌, ◌≤◌, ℕ, List, [], ◌∷◌, ◌++◌, length, IfOk, OnOk};
 ghost use Rattle.simplex_base.specs.Format.{format_under};
+ghost use Rattle.simplex_stream.specs.Messages.{IsStuck, IsStop};
 ghost use Rattle.simplex_stream.specs.Progress.{IsProgress};
 
 use crate::fault::refusal;
+use simplex_base::codec::parts::known_bytes;
 use simplex_base::codec::{Error, Read};
 use std::alloc::{AllocError, Global};
 
@@ -62,6 +64,26 @@ pub struct Progress<'a> {
     pub rest: &'a [u8],
     /// The error of reading a message there, if anything is left.
     pub stop: Option<Error>,
+}
+
+/// Why no message follows at the start of bytes of which no prefix encodes one: nothing is left, or reading is refused.
+/// `AllocError` only where an allocation failed.
+pub fn stop_of<M: Message + Drop>(
+    alloc: Global,
+    bound: u32,
+    bytes: &[u8],
+) -> Result<Option<Error>, AllocError>
+    ensures { IfOk result (λ stop. IsStuck (format_under ⟦<M as Read>⟧ bound) bytes.now →
+        IsStop (⟦<M as Read>⟧.reading bound) bytes.now stop) }
+{
+    let mut rest: &[u8] = known_bytes(bytes);
+    if rest.is_empty() {
+        return Ok(None);
+    }
+    let Err(error) = M::read_cfg(alloc, &mut rest, &bound) else {
+        return Ok(None);
+    };
+    Ok(Some(refusal(error)?))
 }
 
 /// Reads the messages of some bytes under a bound, as many as there are, and shows each to the visitor. `AllocError` only where

@@ -3,7 +3,7 @@ use Rattle.std.proofs.Math.Seq.{take-add}
 use Rattle.std.proofs.lemmas.List.{take_rest}
 use Rattle.std.specs.Io.KnownBytes.{Appends}
 use Rattle.std.proofs.KnownBytes.{Appends-trans}
-use Rattle.simplex_audit.specs.Watched.{inner_of}
+use Rattle.simplex_stream.specs.Watched.{inner_of}
 use Rattle.simplex_cli.proofs.command.say.Goals as goal
 
 pub parts-preserved-in-Ok : goal.parts-preserved-in-Ok

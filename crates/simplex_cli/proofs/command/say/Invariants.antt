@@ -1,6 +1,6 @@
 use Rattle.std.proofs.Common.{◌+◌, ◌-◌, ◌≤◌, take, length}
 use Rattle.std.specs.Io.KnownBytes.{Appends}
-use Rattle.simplex_audit.specs.Watched.{inner_of}
+use Rattle.simplex_stream.specs.Watched.{inner_of}
 use Rattle.simplex_cli.proofs.command.say.Given as goal
 
 abbrev pub invariant-parts : goal.invariant-parts

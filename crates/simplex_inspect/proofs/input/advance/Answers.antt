@@ -6,8 +6,9 @@ use Rattle.simplex_detector.specs.Committees.{Schedule}
 use Rattle.simplex_detector.specs.Scheme.{scheme_of}
 use Rattle.std.specs.List.{flat_map}
 use Rattle.std.specs.Io.KnownBytes.{Appends}
-use Rattle.simplex_audit.specs.Run.{AppendsBeginning}
-use Rattle.simplex_audit.specs.Watched.{inner_of}
+use Rattle.simplex_stream.specs.Text.{AppendsBeginning}
+use Rattle.simplex_stream.specs.Watched.{inner_of}
+use Rattle.simplex_stream.specs.Tail.{bytes_held}
 use Rattle.simplex_inspect.specs.Inspected.{Lines, AreShown, IsWritten, bound_under}
 use Rattle.simplex_inspect.specs.Line.{line_json}
 use Rattle.simplex_inspect.specs.Shown.{shown_of}
@@ -32,34 +33,35 @@ lines g committees = let bound = bound_under g.S.CertificateScheme.keys committe
 
 pub returns-in_err-reading-clause-begun : goal.returns-in_err-reading-clause-begun
 returns-in_err-reading-clause-begun g c = if_err c.from_residual.result _ (λ input start far.
-    begun_now (lines g c.args.committees.now) input c.args.left.offset c.args.left.held.items start _ far)
+    begun_now (lines g c.args.committees.now) input c.args.left.offset (bytes_held c.args.left.tail) start _ far)
 
 pub returns-in_err-write_text-clause-begun : goal.returns-in_err-write_text-clause-begun
 returns-in_err-write_text-clause-begun g c =
     let r = c.in_ok-reading.reading in
     let shown = subst (λ (bytes : List ℕ). AreShown (lines g c.args.committees.now) bytes r.rest.now c.args.left.offset r.offset
-    r.stop (string_bytes r.text)) c.as_slice.ensures.value c.in_ok-reading.ensures.shown in
+    r.stop (string_bytes r.text)) c.bytes-bytes.ensures c.in_ok-reading.ensures.shown in
     let w0 = g.W.Write.contents (inner_of c.args.writer.now) in
     let w1 = g.W.Write.contents (inner_of c.write_text.new.writer) in
     if_err c.from_residual-in_err-write_text.result _ (λ input start far.
-    begun_more (lines g c.args.committees.now) input c.args.left.offset c.args.left.held.items start w0 far r.rest.now r.offset
-    r.stop (string_bytes r.text) shown w1
+    begun_more (lines g c.args.committees.now) input c.args.left.offset (bytes_held c.args.left.tail) start w0 far r.rest.now
+    r.offset r.stop (string_bytes r.text) shown w1
     (subst (AppendsBeginning w0 w1) c.as_bytes.ensures.value c.in_err-write_text.ensures.beginning))
 
 pub returns-clause-written : goal.returns-clause-written
 returns-clause-written g c = λ input start far.
     let r = c.in_ok-reading.reading in
     let shown = subst (λ (bytes : List ℕ). AreShown (lines g c.args.committees.now) bytes r.rest.now c.args.left.offset r.offset
-    r.stop (string_bytes r.text)) c.as_slice.ensures.value c.in_ok-reading.ensures.shown in
-    let parts : c.args.left.held.items ≡ flat_map (lines g c.args.committees.now).format.encoding shown.messages ++ r.rest.now =
+    r.stop (string_bytes r.text)) c.bytes-bytes.ensures c.in_ok-reading.ensures.shown in
+    let parts : bytes_held c.args.left.tail
+    ≡ flat_map (lines g c.args.committees.now).format.encoding shown.messages ++ r.rest.now =
     shown.are_messages.whole in
     let w0 = g.W.Write.contents (inner_of c.args.writer.now) in
     let w1 = g.W.Write.contents (inner_of c.write_text.new.writer) in
     let size =
     ap length parts ∙ length-append (flat_map (lines g c.args.committees.now).format.encoding shown.messages) r.rest.now in
     subst (λ (left : List ℕ). IsWritten (lines g c.args.committees.now) input r.offset left start w1)
-    (sym (c.drop_front.ensures ∙ front_dropped (flat_map (lines g c.args.committees.now).format.encoding shown.messages)
-    r.rest.now c.args.left.held.items _ parts (omega (arith, size))))
-    (advanced (lines g c.args.committees.now) input c.args.left.offset c.args.left.held.items start w0 far r.rest.now r.offset
-    r.stop (string_bytes r.text) shown w1
+    (sym (c.advance.ensures.held ∙ front_dropped (flat_map (lines g c.args.committees.now).format.encoding shown.messages)
+    r.rest.now (bytes_held c.args.left.tail) _ parts (omega (arith, size))))
+    (advanced (lines g c.args.committees.now) input c.args.left.offset (bytes_held c.args.left.tail) start w0 far r.rest.now
+    r.offset r.stop (string_bytes r.text) shown w1
     (subst (Appends w0 w1) c.as_bytes.ensures.value c.in_ok-write_text.ensures.written))

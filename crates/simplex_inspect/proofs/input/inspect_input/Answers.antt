@@ -1,8 +1,9 @@
 use Rattle.std.proofs.Common.{◌≡◌, ◌++◌, ℕ, List, [], Ok, take, refl, sym, ap, subst, ◌∙◌, arith, rules, length-append}
 use Rattle.std.specs.Io.KnownBytes.{Consumes}
 use Rattle.std.proofs.KnownBytes.{Consumes-nil, Consumes-trans, Consumes-kept}
-use Rattle.simplex_audit.specs.Watched.{inner_of}
-use Rattle.simplex_audit.proofs.DeviceLemmas.{front_of}
+use Rattle.simplex_stream.specs.Watched.{inner_of}
+use Rattle.simplex_stream.specs.DeviceLaws.{front_of}
+use Rattle.simplex_stream.specs.Tail.{bytes_held}
 use Rattle.simplex_inspect.specs.Inspected.{IsWritten}
 use Rattle.simplex_inspect.proofs.InspectedLemmas.{if_err, if_ok_then, if_err_then, begun_now}
 use Rattle.simplex_inspect.proofs.InputLemmas.{nothing_left, input_length, input_ended, input_begun, part_of_begun, consumed_nothing}
@@ -45,7 +46,7 @@ returns-in_err-count-clause-begun g c =
     let (input, consumed, far) = c.reads.invariant.3 in
     let shown = lines g c.args.committees.now in
     if_err c.from_residual-in_err-count.result _ (input_begun shown _ _ input _ _ (Consumes-kept _ _ _ _ consumed
-    c.in_err-count.ensures.kept) (begun_now shown input c.reads.left.offset c.reads.left.held.items _ _ far))
+    c.in_err-count.ensures.kept) (begun_now shown input c.reads.left.offset (bytes_held c.reads.left.tail) _ _ far))
 
 pub returns-in_err-count-clause-taken : goal.returns-in_err-count-clause-taken
 returns-in_err-count-clause-taken g c =
@@ -54,7 +55,7 @@ returns-in_err-count-clause-taken g c =
     if_err c.from_residual-in_err-count.result _ (
       input,
       Consumes-kept _ _ _ _ consumed c.in_err-count.ensures.kept,
-      part_of_begun shown input _ _ (begun_now shown input c.reads.left.offset c.reads.left.held.items _ _ far),
+      part_of_begun shown input _ _ (begun_now shown input c.reads.left.offset (bytes_held c.reads.left.tail) _ _ far),
     )
 
 pub returns-in_err-left-clause-begun : goal.returns-in_err-left-clause-begun
@@ -93,7 +94,7 @@ returns-in_err-left-clause-taken g c =
 pub returns-in_err-left-clause-too_long : goal.returns-in_err-left-clause-too_long
 returns-in_err-left-clause-too_long g c = λ e.
     let (input, consumed, far) = c.reads.invariant.3 in
-    let seen = input_length (lines g c.args.committees.now) input c.reads.left.offset c.reads.left.held.items _ _ far in
+    let seen = input_length (lines g c.args.committees.now) input c.reads.left.offset (bytes_held c.reads.left.tail) _ _ far in
     let many = c.in_err-left.ensures.too_long (search rules) in
     let within = c.in_ok-count.ensures.within in
     let long = c.as_mut_slice.ensures.len in
@@ -128,7 +129,7 @@ returns-then-count-eq0-clause-whole g c =
     let start = g.W.Write.contents (inner_of c.args.writer.now) in
     let now = g.W.Write.contents (inner_of c.reads.writer) in
     let held = subst (λ (held : List ℕ). IsWritten (lines g c.args.committees.now) input c.reads.left.offset held start now)
-    (sym c.as_slice.ensures.value) far in
+    (sym c.bytes.ensures) far in
     let none : c.in_ok-count.count ≡ 0 = search rules in
     let ended = c.in_ok-count.ensures.end (ap Ok none) in
     if_ok_then c.finish.result _ _ (λ fault h. (
@@ -143,7 +144,7 @@ returns-then-count-eq0-clause-begun g c =
     let start = g.W.Write.contents (inner_of c.args.writer.now) in
     let now = g.W.Write.contents (inner_of c.reads.writer) in
     let held = subst (λ (held : List ℕ). IsWritten (lines g c.args.committees.now) input c.reads.left.offset held start now)
-    (sym c.as_slice.ensures.value) far in
+    (sym c.bytes.ensures) far in
     let none : c.in_ok-count.count ≡ 0 = search rules in
     let ended = c.in_ok-count.ensures.end (ap Ok none) in
     if_err_then c.finish.result _ _ (λ e h. (
@@ -158,7 +159,7 @@ returns-then-count-eq0-clause-taken g c =
     let start = g.W.Write.contents (inner_of c.args.writer.now) in
     let now = g.W.Write.contents (inner_of c.reads.writer) in
     let held = subst (λ (held : List ℕ). IsWritten (lines g c.args.committees.now) input c.reads.left.offset held start now)
-    (sym c.as_slice.ensures.value) far in
+    (sym c.bytes.ensures) far in
     let none : c.in_ok-count.count ≡ 0 = search rules in
     if_err_then c.finish.result _ _
     (λ e h. (input, consumed_nothing _ _ _ input _ _ none consumed c.in_ok-count.ensures.bytes, h input start held))

@@ -4,6 +4,7 @@ use Rattle.simplex_evidence.specs.Activity.{activity_format}
 use Rattle.simplex_evidence.specs.declared.types.activity.Activity.{Activity}
 use Rattle.simplex_detector.specs.Committees.{Schedule}
 use Rattle.simplex_detector.specs.Scheme.{scheme_of}
+use Rattle.simplex_stream.specs.Tail.{bytes_held}
 use Rattle.simplex_inspect.specs.Inspected.{Lines, bound_under}
 use Rattle.simplex_inspect.specs.Line.{line_json}
 use Rattle.simplex_inspect.specs.Shown.{shown_of}
@@ -29,18 +30,18 @@ lines g committees = let bound = bound_under g.S.CertificateScheme.keys committe
 pub returns-in_err-left-clause-begun : goal.returns-in_err-left-clause-begun
 returns-in_err-left-clause-begun g c = if_err c.from_residual.result _ (λ input start far.
     begun_of_more (lines g c.args.committees.now) input c.args.piece.now start _
-    (begun_now (lines g c.args.committees.now) input c.args.left.offset c.args.left.held.items start _ far))
+    (begun_now (lines g c.args.committees.now) input c.args.left.offset (bytes_held c.args.left.tail) start _ far))
 
 pub returns-clause-written : goal.returns-clause-written
 returns-clause-written g c =
     if_ok_then c.advance.result _ _ (λ next h input start far. h (input ++ c.args.piece.now) start
-    (held_more (lines g c.args.committees.now) input c.args.left.offset c.in_ok-left.left.offset c.args.left.held.items start _
-    c.args.piece.now c.in_ok-left.left.held.items c.in_ok-left.ensures.offset c.in_ok-left.ensures.held far))
+    (held_more (lines g c.args.committees.now) input c.args.left.offset c.in_ok-left.left.offset (bytes_held c.args.left.tail)
+    start _ c.args.piece.now (bytes_held c.in_ok-left.left.tail) c.in_ok-left.ensures.offset c.in_ok-left.ensures.held far))
     c.advance.ensures.written
 
 pub returns-clause-begun : goal.returns-clause-begun
 returns-clause-begun g c =
     if_err_then c.advance.result _ _ (λ e h input start far. h (input ++ c.args.piece.now) start
-    (held_more (lines g c.args.committees.now) input c.args.left.offset c.in_ok-left.left.offset c.args.left.held.items start _
-    c.args.piece.now c.in_ok-left.left.held.items c.in_ok-left.ensures.offset c.in_ok-left.ensures.held far))
+    (held_more (lines g c.args.committees.now) input c.args.left.offset c.in_ok-left.left.offset (bytes_held c.args.left.tail)
+    start _ c.args.piece.now (bytes_held c.in_ok-left.left.tail) c.in_ok-left.ensures.offset c.in_ok-left.ensures.held far))
     c.advance.ensures.begun

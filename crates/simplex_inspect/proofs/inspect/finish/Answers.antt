@@ -7,8 +7,8 @@ use Rattle.simplex_evidence.specs.declared.types.activity.Activity.{Activity}
 use Rattle.simplex_detector.specs.Committees.{Schedule}
 use Rattle.simplex_detector.specs.Scheme.{scheme_of}
 use Rattle.simplex_stream.specs.Fault.{fault_of}
-use Rattle.simplex_audit.specs.Run.{AppendsBeginning}
-use Rattle.simplex_audit.specs.Watched.{inner_of}
+use Rattle.simplex_stream.specs.Text.{AppendsBeginning}
+use Rattle.simplex_stream.specs.Watched.{inner_of}
 use Rattle.simplex_inspect.specs.Inspected.{Lines, bound_under, fault_text, IsInspected}
 use Rattle.simplex_inspect.specs.Line.{line_json}
 use Rattle.simplex_inspect.specs.Shown.{shown_of}

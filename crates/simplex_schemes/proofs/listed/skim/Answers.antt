@@ -1,8 +1,8 @@
 use Rattle.std.proofs.Common.{sym, subst, arith}
 use Rattle.simplex_base.specs.Reading.{IsBytes}
 use Rattle.simplex_base.specs.FormatLaws.{fixed_lawful}
-use Rattle.simplex_plain.proofs.SkimLemmas.{skimmed_none, skimmed_more, skim_refused}
-use Rattle.simplex_plain.proofs.listed.skim.Goals as goal
+use Rattle.simplex_schemes.proofs.SkimLemmas.{skimmed_none, skimmed_more, skim_refused}
+use Rattle.simplex_schemes.proofs.listed.skim.Goals as goal
 
 pub attestations-init : goal.attestations-init
 attestations-init g c =

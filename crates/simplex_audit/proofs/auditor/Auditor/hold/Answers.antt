@@ -1,7 +1,8 @@
 use Rattle.std.proofs.Common.{refl}
-use Rattle.simplex_audit.proofs.AuditorLemmas.{holds_more}
+use Rattle.simplex_audit.proofs.AuditorLemmas.{stands_still}
 use Rattle.simplex_audit.proofs.auditor.Auditor.hold.Goals as goal
 
-pub returns-clause-holds : goal.returns-clause-holds
-returns-clause-holds g c =
-    holds_more _ c.args.self _ c.args.piece.now refl refl refl refl refl c.in_ok-extend_from_slice.ensures.items
+pub returns-clause-stands : goal.returns-clause-stands
+returns-clause-stands g c =
+    stands_still _ c.args.self _ c.args.piece.now refl refl refl refl refl c.in_ok-push.ensures.held c.in_ok-push.ensures.due
+    c.requires.few

@@ -4,4 +4,4 @@ use Rattle.simplex_audit.proofs.auditor.Auditor.rest.Goals as goal
 
 pub returns : goal.returns
 returns g c = λ committees stream messages rest stands are.
-    c.as_slice.ensures.value ∙ (messages_once _ stands.fed.readable stream _ rest _ messages stands.progress.are_messages are).1
+    c.bytes.ensures ∙ (messages_once _ stands.fed.readable stream _ rest _ messages stands.decoded.are_messages are).1

@@ -7,6 +7,7 @@ use Rattle.simplex_detector.specs.declared.judging.Judging.TheVariants.{Verified
 use Rattle.simplex_audit.specs.Auditor.{Stands}
 use Rattle.simplex_audit.specs.Basis.{Basis}
 use Rattle.simplex_stream.specs.Messages.{AreMessages}
+use Rattle.simplex_stream.specs.Tail.{bytes_held}
 use Rattle.simplex_audit.specs.declared.auditor.Auditor.{Auditor}
 use Rattle.simplex_stream.specs.StreamLaws.{messages_once}
 use Rattle.simplex_audit.proofs.auditor.Auditor.votes.Goals as goal
@@ -18,9 +19,9 @@ stands_recalls : {S D C P G : Type 0} (basis : Schedule S → Basis S D C P G) (
     Recalls (basis committees).rules messages auditor.detector
 stands_recalls basis committees auditor stream rest messages stands are =
     subst (λ ms. Recalls (basis committees).rules ms auditor.detector)
-    (messages_once (basis committees).format stands.fed.readable stream auditor.taken.rest.items rest stands.progress.messages
-    messages stands.progress.are_messages are).0
-    stands.progress.recorded
+    (messages_once (basis committees).format stands.fed.readable stream (bytes_held auditor.taken.tail) rest
+    stands.decoded.messages messages stands.decoded.are_messages are).0
+    stands.decoded.recorded
 
 -- a number that stops at 2^64 - 1 does not stop where it is at most a number of bytes
 not_stopped : (number recorded fed : ℕ) (stream front rest : List ℕ) → stream ≡ front ++ rest → fed ≡ length stream →

@@ -3,8 +3,8 @@ use Rattle.simplex_base.specs.Reading.{IsBytes}
 use Rattle.simplex_base.specs.FormatLaws.{fixed_lawful}
 use Rattle.simplex_base.specs.Varint.{number_32}
 use Rattle.simplex_base.specs.VarintLaws.{number_32_lawful}
-use Rattle.simplex_plain.proofs.SkimLemmas.{skimmed_least}
-use Rattle.simplex_plain.proofs.listed.ListedRead.least_size.Goals as goal
+use Rattle.simplex_schemes.proofs.SkimLemmas.{skimmed_least}
+use Rattle.simplex_schemes.proofs.listed.ListedRead.least_size.Goals as goal
 
 pub returns-then-SIZE-rest : goal.returns-then-SIZE-rest
 returns-then-SIZE-rest g c =
