@@ -16,7 +16,8 @@ use Rattle.simplex_base.specs.Varint.{number_32}
 use Rattle.simplex_base.specs.VarintLaws.{number_32_lawful, groups_len_32, groups_some}
 use Rattle.simplex_base.specs.declared.codec.error.Error.{Error}
 use Rattle.simplex_base.specs.declared.codec.error.Error.TheVariants as errors
-use Rattle.simplex_scheme.specs.Attestation.{attestation_format, attestation_lawful}
+use Rattle.simplex_scheme.specs.Attestation.{attestation_format}
+use Rattle.simplex_scheme.specs.AttestationLaws.{attestation_lawful}
 use Rattle.simplex_scheme.specs.declared.scheme.Attestation.{Attestation}
 use Rattle.simplex_schemes.specs.Listed.{SignersAscend, ListedFits, listed_encoding, attestation_at}
 use Rattle.simplex_schemes.specs.ListedLaws.{attestation_takes}
