@@ -32,7 +32,7 @@ fn stream(alloc: Global) -> Result<Vec<u8>, Fail> {
 }
 
 #[test]
-fn a_certificate_that_comes_byte_by_byte_is_read_as_a_whole(rt: HostRuntime) -> Result<(), Fail> {
+fn ample_a_certificate_byte_by_byte(rt: HostRuntime) -> Result<(), Fail> {
     let alloc = rt.alloc();
     let committees = marked(alloc, ATTESTATIONS)?;
     let bytes = stream(alloc)?;

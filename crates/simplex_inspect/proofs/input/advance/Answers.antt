@@ -59,9 +59,10 @@ returns-clause-written g c = λ input start far.
     let w1 = g.W.Write.contents (inner_of c.write_text.new.writer) in
     let size =
     ap length parts ∙ length-append (flat_map (lines g c.args.committees.now).format.encoding shown.messages) r.rest.now in
+    let whole = ap length c.bytes-bytes.ensures in
     subst (λ (left : List ℕ). IsWritten (lines g c.args.committees.now) input r.offset left start w1)
     (sym (c.advance.ensures.held ∙ front_dropped (flat_map (lines g c.args.committees.now).format.encoding shown.messages)
-    r.rest.now (bytes_held c.args.left.tail) _ parts (omega (arith, size))))
+    r.rest.now (bytes_held c.args.left.tail) _ parts (omega (arith, size, whole))))
     (advanced (lines g c.args.committees.now) input c.args.left.offset (bytes_held c.args.left.tail) start w0 far r.rest.now
     r.offset r.stop (string_bytes r.text) shown w1
     (subst (Appends w0 w1) c.as_bytes.ensures.value c.in_ok-write_text.ensures.written))

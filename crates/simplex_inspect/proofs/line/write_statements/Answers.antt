@@ -2,6 +2,7 @@ use Rattle.std.proofs.Common.{List, ◌++◌, append-nil, sym, ap}
 use Rattle.json.specs.Token.{Token}
 use Rattle.json.specs.Tree.{json_tokens}
 use Rattle.simplex_evidence.specs.Contents.{signed_value}
+use Rattle.simplex_detector.specs.Scheme.{scheme_of}
 use Rattle.simplex_inspect.specs.Line.{vote_json}
 use Rattle.simplex_inspect.specs.Shown.{shown_of}
 use Rattle.simplex_inspect.proofs.TokenLemmas.{alone, then}
@@ -18,8 +19,8 @@ returns-in-Certificate g c =
 pub returns-in_ok-write_vote-in-Evidence : goal.returns-in_ok-write_vote-in-Evidence
 returns-in_ok-write_vote-in-Evidence g c =
     let shown =
-    shown_of g.D.Fixed.bytes_of g.S.Signature.Fixed.bytes_of g.D.PartialEq.eq g.S.CertificateScheme.keys
-    g.S.Scheme.good g.S.CertificateVerifier.certified g.S.Listing.listed c.args.committees.now in
+    shown_of g.D.Fixed.bytes_of g.S.Signature.Fixed.bytes_of (scheme_of g.D.PartialEq.eq g.S.CertificateScheme.keys
+    g.S.Scheme.good g.S.CertificateVerifier.certified g.S.Listing.listed) c.args.committees.now in
     rw (← c.contents.ensures.value) (rw c.in-Evidence.is
     (then c.write_vote-in-Evidence-2.result _ _
     (ap (λ (ts : List Token). json_tokens (vote_json shown (signed_value c.in-Evidence.first)) ++ ts) (sym (append-nil _)))
