@@ -165,7 +165,7 @@ pub fn evidence_stays<S: CertificateScheme, D: Digest>()
 {}
 
 /// Rounds are independent: rounds can be given up, or audited apart, and the report of the others stays as it is. The reports
-/// of parts that make up all rounds add up to the whole report, and messages of other rounds do not change the report of a part.
+/// of parts that make up all rounds add up to the whole report. Messages of other rounds do not change the report of a part.
 pub fn rounds_are_independent<S: CertificateScheme, D: Digest>()
     ensures part { (rules : Rules S D S.Certificate S.PublicKey S.Signature)
         (messages : List (Activity S D S.Certificate S.PublicKey S.Signature))

@@ -26,8 +26,8 @@ validity_flat (Some TooFew) = omega arith
 validity_flat (Some WrongAttestation) = omega arith
 
 -- the members of both
-pub members_within : (ms ns : List (List ℕ × Json)) (n : ℕ) → members_depth (members_of ms) ≤ n → members_depth (members_of ns) ≤ n
-    → members_depth (members_of (ms ++ ns)) ≤ n
+pub members_within : (ms ns : List (List ℕ × Json)) (n : ℕ) → members_depth (members_of ms) ≤ n →
+    members_depth (members_of ns) ≤ n → members_depth (members_of (ms ++ ns)) ≤ n
 members_within [] ns n p q = q
 members_within (m ∷ ms) ns n p q = let rest = members_within ms ns n (omega (arith, p)) q in omega (arith, p, rest)
 

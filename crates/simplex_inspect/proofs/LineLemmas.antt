@@ -29,7 +29,7 @@ module _ {X E : Type 0} (bytes : X → List ℕ) (ts : List Token) (j : Json) (i
   ends_line (Err e) h = tt
 
   -- and JSON
-  pub ends_json : (r : Result X E) → tokens (print ts) ≡ ts → depth j ≤ max_depth → IfOk r (λ x. bytes x ≡ print ts ++ codes "\n")
-      → IfOk r (λ x. IsJsonLine (bytes x) j)
+  pub ends_json : (r : Result X E) → tokens (print ts) ≡ ts → depth j ≤ max_depth →
+      IfOk r (λ x. bytes x ≡ print ts ++ codes "\n") → IfOk r (λ x. IsJsonLine (bytes x) j)
   ends_json (Ok x) reads shallow e = (print ts, e, document_is ts j is reads shallow)
   ends_json (Err e) reads shallow h = tt

@@ -54,7 +54,8 @@ pub members_whole : (ms : List (List ℕ × Json)) → members_tokens (members_o
 members_whole [] = refl
 members_whole (m ∷ ms) =
     ap (λ (ts : List Token). Token.key m.0 ∷ (json_tokens m.1 ++ ts)) (members_whole ms)
-    ∙ ap (λ (ts : List Token). Token.key m.0 ∷ ts) (sym (append_assoc (json_tokens m.1) (member_tokens ms) (Token.end_object ∷ [])))
+    ∙ ap (λ (ts : List Token). Token.key m.0 ∷ ts) (sym (append_assoc (json_tokens m.1)
+    (member_tokens ms) (Token.end_object ∷ [])))
 
 -- the tokens of an array
 items_whole : (js : List Json) → items_tokens (items_of js) ≡ value_tokens js ++ Token.end_array ∷ []
@@ -97,8 +98,8 @@ object_written r ms d p q h =
 
 -- a listing was written
 pub listed : {E : Type 0} (r : Result (Unit {0}) E) (ms : List (List ℕ × Json)) (name : List ℕ) (js : List Json)
-    (validity : Option Validity) {a b c : Written} (d : Written) → Appended (open_tokens ms name) a b → Appended (value_tokens js) b c
-    → OnOk r (Appended (close_tokens validity) c d) → OnOk r (Appended (json_tokens (listing_json ms name js validity)) a d)
+    (validity : Option Validity) {a b c : Written} (d : Written) → Appended (open_tokens ms name) a b →
+    Appended (value_tokens js) b c → OnOk r (Appended (close_tokens validity) c d) → OnOk r (Appended (json_tokens (listing_json ms name js validity)) a d)
 listed r ms name js validity d p q h =
     on_ok r (λ s. same (listing_tokens ms name js validity) (behind p (behind q s))) h
 

@@ -4,9 +4,10 @@
 //! [`scheme`] gives all of it under one path: the traits, from [`scheme::SchemeTypes`] to [`scheme::Scheme`] and
 //! [`scheme::Listing`], and attestations; the keys of a committee ([`scheme::Set`]), the fault bound and the quorum of
 //! the model n = 3f + 1 ([`scheme::max_faults`], [`scheme::quorum`]); what is signed ([`scheme::Proposal`],
-//! [`scheme::Subject`], of a [`scheme::VoteKind`]), the byte strings under which it is signed ([`scheme::Namespace`]), and the trait of hash
-//! functions with SHA-256 ([`scheme::Hasher`]). What is no trait of schemes stands in private modules: `set`, `faults`, `proposal`,
-//! `subject`, `kind`, `namespace` and `hash`; `message` compares bytes with signed messages. [`assembly`] says which attestations can be assembled.
+//! [`scheme::Subject`], of a [`scheme::VoteKind`]), the byte strings under which it is signed ([`scheme::Namespace`]), and
+//! the trait of hash functions with SHA-256 ([`scheme::Hasher`]). What is no trait of schemes stands in private modules:
+//! `set`, `faults`, `proposal`, `subject`, `kind`, `namespace` and `hash`; `message` compares bytes with signed messages.
+//! [`assembly`] says which attestations can be assembled.
 //!
 //! Crates above rest on the laws that each scheme proves: a certificate that a [`scheme::Scheme`] assembles certifies
 //! every subject that its attestations are valid for, and one that a [`scheme::Listing`] certifies lists a quorum of

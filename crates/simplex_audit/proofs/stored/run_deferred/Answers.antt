@@ -25,5 +25,8 @@ returns-clause-whole g c = (
 
 pub returns-clause-known : goal.returns-clause-known
 returns-clause-known g c =
-    Consumes-whole _ _ c.in_ok-stream.stream.items _ c.in_ok-stream.ensures.bytes c.in_ok-stream.ensures.end
-    (string_bytes c.in_ok-summary.text, c.in_ok-summary.ensures _ _ (rw (sym c.as_slice.ensures.value) c.in_ok-report.ensures.audit), search rules)
+    Consumes-whole _ _ c.in_ok-stream.stream.items _ c.in_ok-stream.ensures.bytes c.in_ok-stream.ensures.end (
+      string_bytes c.in_ok-summary.text,
+      c.in_ok-summary.ensures _ _ (rw (sym c.as_slice.ensures.value) c.in_ok-report.ensures.audit),
+      search rules,
+    )

@@ -18,6 +18,7 @@ returns g c =
     (listed c.close_listing.result
     (head_members c.args.offset c.args.length c.message_word.result.now (activity_round m).epoch (activity_round m).view)
     (codes "statements") (statements_json shown (contents_of m)) None _
-    (rw (c.get.ensures, c.get-2.ensures, c.epoch.ensures, c.view.ensures, c.round-round.ensures) at c.in_ok-open_message.ensures)
+    (rw (c.get.ensures, c.get-2.ensures, c.epoch.ensures, c.view.ensures, c.round-round.ensures)
+    at c.in_ok-open_message.ensures)
     c.in_ok-write_statements.ensures
     c.close_listing.ensures)

@@ -13,7 +13,8 @@ returns-in-Vote g c = rw (← c.contents.ensures.value) (rw c.in-Vote.is (alone 
 
 pub returns-in-Certificate : goal.returns-in-Certificate
 returns-in-Certificate g c =
-    rw (← c.contents.ensures.value) (rw c.in-Certificate.is (alone c.write_certificate.result _ _ _ c.write_certificate.ensures))
+    rw (← c.contents.ensures.value) (rw c.in-Certificate.is (alone c.write_certificate.result _ _ _
+    c.write_certificate.ensures))
 
 -- both votes of evidence
 pub returns-in_ok-write_vote-in-Evidence : goal.returns-in_ok-write_vote-in-Evidence
