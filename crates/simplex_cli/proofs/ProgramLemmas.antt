@@ -1,5 +1,5 @@
 -- How runs of the programs end.
-use Rattle.std.proofs.Common.{◌≡◌, ◌⊎◌, inl, inr, ℕ, List, Err, ap}
+use Rattle.std.proofs.Common.{◌≡◌, ◌⊎◌, inl, inr, ℕ, List, Err, ap, subst}
 use Rattle.std.specs.Io.KnownBytes.{Keeps}
 use Rattle.simplex_audit.specs.Outcome.{ReaderUse, WriterUse}
 use Rattle.simplex_cli.specs.Answer.{Bases, Ending, status_of}
@@ -39,3 +39,10 @@ pub refused-number : (status : Status) → (status ≡ statuses.Usage) ⊎ (stat
     → (number_of status ≡ 2) ⊎ (number_of status ≡ 3)
 refused-number status (inl e) = inl (ap number_of e)
 refused-number status (inr e) = inr (ap number_of e)
+
+-- equal words end a run alike
+pub ends_alike : (basis : Bases) (lines : LinesUnder) (program : Program) (words words' : List (List ℕ))
+    (reader : ReaderUse) (writer : WriterUse) (ending : Ending) → words ≡ words' →
+    EndsAs basis lines program words reader writer ending → EndsAs basis lines program words' reader writer ending
+ends_alike basis lines program words words' reader writer ending same h =
+    subst (λ (xs : List (List ℕ)). EndsAs basis lines program xs reader writer ending) same h

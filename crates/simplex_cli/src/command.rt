@@ -92,9 +92,7 @@ pub(crate) fn conclude<E: Write>(
 ///
 /// An audit writes nothing before the whole input is read and all memory is allocated. `inspect`
 /// writes lines while it reads, so after a failure a prefix of the text may have been written. A
-/// message's line is written after the read that completes it, except that while 4,096 bytes or
-/// more are held it may wait until twice as many bytes are held as after the last look for
-/// messages, or until the input ends.
+/// message's line is written after the read that completes it.
 pub fn command<R: Read, W: Write, E: Write>(
     alloc: Global,
     program: Program,

@@ -5,8 +5,20 @@ use Rattle.simplex_cli.specs.Arguments.{words_of}
 use Rattle.simplex_cli.specs.Endings.{AreRefused}
 use Rattle.simplex_cli.specs.Status.{number_of}
 use Rattle.simplex_cli.specs.declared.status.Failure.TheVariants as failures
-use Rattle.simplex_cli.proofs.ProgramLemmas.{refused-number, unstarted}
+use Rattle.simplex_cli.proofs.ProgramLemmas.{ends_alike, refused-number, unstarted}
 use Rattle.simplex_cli.proofs.start.start.Goals as goal
+
+pub returns-in-Ok-without_name-clause-ends : goal.returns-in-Ok-without_name-clause-ends
+returns-in-Ok-without_name-clause-ends g c =
+    let words : map string_bytes c.as_slice.result.now ≡ words_of (into_iter_items c.in-Ok.given) =
+    ap (map string_bytes) c.as_slice.ensures.value ∙ c.in-Ok-without_name.ensures in
+    let (ending, status, said, ends) = c.command.ensures.ends in
+    rw c.in-Ok.is (
+      ending,
+      c.number-in-Ok-without_name.ensures ∙ ap number_of status,
+      said,
+      ends_alike _ _ c.args.program _ _ _ _ ending words ends,
+    )
 
 pub returns-in-Ok-without_name-clause-refused : goal.returns-in-Ok-without_name-clause-refused
 returns-in-Ok-without_name-clause-refused g c =
