@@ -44,7 +44,8 @@ fn ample_a_certificate_byte_by_byte(rt: HostRuntime) -> Result<(), Fail> {
         auditor = auditor.feed(piece)?;
         let fed = auditor.fed();
         if fed % STEP == 0 && fed <= bytes.len() {
-            let (found, whole) = (auditor.report()?, audit(alloc, &committees, &bytes[..fed])?);
+            let found = auditor.report()?;
+            let whole = audit::<Marked, MarkedDigest>(alloc, &committees, &bytes[..fed])?;
             assert!(rt; found.read == whole.read && found.fault == whole.fault);
         }
     }
