@@ -2,13 +2,10 @@
 
 use crate::bisection::four_keys;
 use crate::without_memory::{is_of_four, is_out, proposal};
-use examples::judged::{Judged, JudgedVote, Verdict};
+use examples::judged::{Judged, Verdict};
 use simplex_base::codec::{Fixed, decode_cfg};
 use simplex_base::positions::Participant;
-use simplex_scheme::scheme::{
-    Attestation, Attestation, Digest, Digest, Proposal, Proposal, Scheme, Scheme, Subject, Subject,
-    VoteKind, VoteKind,
-};
+use simplex_scheme::scheme::{Attestation, Digest, Proposal, Scheme, Subject, VoteKind};
 use simplex_schemes::listed::Listed;
 use simplex_schemes::marked::MarkedDigest;
 use simplex_schemes::plain::PlainSignature;
