@@ -14,7 +14,7 @@ returns g c =
     (Activity g.row.S.Denot g.row.D.Denot g.row.S-Certificate.Denot g.row.S-PublicKey.Denot g.row.S-Signature.Denot) =
     activity.Finalization one ∷ activity.Finalization other ∷ [] in
     let rules = rules_of (scheme_of g.D.PartialEq.eq g.S.CertificateScheme.keys g.S.Scheme.good
-        g.S.CertificateVerifier.certified g.S.Listing.listed) c.args.committees.now in
+    g.S.CertificateVerifier.certified g.S.Listing.listed) c.args.committees.now in
     let are = two_messages _ (activity.Finalization one) (activity.Finalization other) c.deref.result.now c.requires.one.value
     c.requires.other.value (λ m more is. nothing_first _ _ is)
     (c.deref.ensures.value ∙ c.in_ok-stream.ensures c.args.committees.now) in

@@ -48,7 +48,7 @@ returns-clause-records g c audit messages rest are =
     let signature_eq = g.S.Signature.PartialEq.eq in
     let listed = g.S.Listing.listed in
     let rules = rules_of (scheme_of payload_eq g.S.CertificateScheme.keys g.S.Scheme.good
-        g.S.CertificateVerifier.certified listed) c.args.committees.now in
+    g.S.CertificateVerifier.certified listed) c.args.committees.now in
     let alike : (v w : SignedVote g.row.D.Denot g.row.S-Signature.Denot) →
     eq (key_of v) (key_of w) ≡ same_signed_vote payload_eq signature_eq v w =
     g.met.K.Key.alike in

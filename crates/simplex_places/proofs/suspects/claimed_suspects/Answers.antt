@@ -19,7 +19,7 @@ pub returns-clause-signers : goal.returns-clause-signers
 returns-clause-signers g c = λ committees messages lawful recalls round signer.
     let eq = g.D.PartialEq.eq in
     let scheme = scheme_of g.D.PartialEq.eq g.S.CertificateScheme.keys g.S.Scheme.good
-        g.S.CertificateVerifier.certified g.S.Listing.listed in
+    g.S.CertificateVerifier.certified g.S.Listing.listed in
     let rules = rules_of scheme committees in
     let items = c.in_ok-evidence.evidence.items in
     let claims = map evidence_value items in
@@ -37,7 +37,7 @@ pub returns-clause-rounds : goal.returns-clause-rounds
 returns-clause-rounds g c = λ committees messages lawful recalls round.
     let eq = g.D.PartialEq.eq in
     let scheme = scheme_of g.D.PartialEq.eq g.S.CertificateScheme.keys g.S.Scheme.good
-        g.S.CertificateVerifier.certified g.S.Listing.listed in
+    g.S.CertificateVerifier.certified g.S.Listing.listed in
     let rules = rules_of scheme committees in
     let items = c.in_ok-evidence.evidence.items in
     let claims = map evidence_value items in

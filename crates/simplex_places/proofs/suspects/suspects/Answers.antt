@@ -14,7 +14,7 @@ returns-clause-listed g c =
     let payload = fixed g.D.FixedSize.SIZE g.D.Fixed.bytes_of g.D.Fixed.of_bytes in
     let signature = fixed g.S.Signature.FixedSize.SIZE g.S.Signature.Fixed.bytes_of g.S.Signature.Fixed.of_bytes in
     let rules = rules_of (scheme_of g.D.PartialEq.eq g.S.CertificateScheme.keys g.S.Scheme.good
-        g.S.CertificateVerifier.certified g.S.Listing.listed) committees in
+    g.S.CertificateVerifier.certified g.S.Listing.listed) committees in
     let size : ℕ → ℕ = λ epoch. size_by g.S.CertificateScheme.keys (committee_of committees epoch) in
     let read = c.in_ok-claims.ensures c.reading_bound-bound.ensures.value in
     let places = places_along (message_places payload signature g.S.Listing.listed)

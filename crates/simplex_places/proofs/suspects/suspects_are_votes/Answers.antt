@@ -16,7 +16,7 @@ returns g c committees stream found are =
     let signature = fixed g.S.Signature.FixedSize.SIZE g.S.Signature.Fixed.bytes_of g.S.Signature.Fixed.of_bytes in
     let listed = g.S.Listing.listed in
     let rules = rules_of (scheme_of g.D.PartialEq.eq g.S.CertificateScheme.keys g.S.Scheme.good
-        g.S.CertificateVerifier.certified g.S.Listing.listed) committees in
+    g.S.CertificateVerifier.certified g.S.Listing.listed) committees in
     let cast = Contains (flat_map (votes_in listed) are.messages) in
     record {
       messages = are.messages;

@@ -13,7 +13,7 @@ returns-clause-follows g c =
     let f = c.in_ok-finalization.finalization in
     let followed = c.in_ok-followed.followed in
     let rules = rules_of (scheme_of g.D.PartialEq.eq g.S.CertificateScheme.keys g.S.Scheme.good
-        g.S.CertificateVerifier.certified g.S.Listing.listed) in (
+    g.S.CertificateVerifier.certified g.S.Listing.listed) in (
       f,
       c.in_ok-finalization.ensures.encoded,
       value_outside (fixed g.D.FixedSize.SIZE g.D.Fixed.bytes_of g.D.Fixed.of_bytes) g.S.Certificate.Read.fits

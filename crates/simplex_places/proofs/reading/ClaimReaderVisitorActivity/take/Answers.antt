@@ -10,7 +10,7 @@ use Rattle.simplex_places.proofs.reading.ClaimReaderVisitorActivity.take.Goals a
 pub returns : goal.returns
 returns g c =
     claims_one (rules_under (scheme_of g.D.PartialEq.eq g.S.CertificateScheme.keys g.S.Scheme.good
-        g.S.CertificateVerifier.certified g.S.Listing.listed) Claimed c.args.committees.now)
+    g.S.CertificateVerifier.certified g.S.Listing.listed) Claimed c.args.committees.now)
     (message_places (fixed g.D.FixedSize.SIZE g.D.Fixed.bytes_of g.D.Fixed.of_bytes)
     (fixed g.S.Signature.FixedSize.SIZE g.S.Signature.Fixed.bytes_of g.S.Signature.Fixed.of_bytes) g.S.Listing.listed)
     _ c.args.message.now c.args.size c.args.self.now _ c.requires.size c.in_ok-observe.ensures
