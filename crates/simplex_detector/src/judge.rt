@@ -28,7 +28,7 @@ pub struct Judge<'a, S> {
 
 impl<S> Judge<'_, S> {
     /// Whether an attestation of a subject is valid. A signature that is known to be valid is not verified again.
-    pub fn accepts<D: Digest>(
+    pub(crate) fn accepts<D: Digest>(
         &self,
         subject: &Subject<'_, D>,
         attestation: &Attestation<S>,

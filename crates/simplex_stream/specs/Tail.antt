@@ -8,6 +8,10 @@ use Rattle.simplex_stream.specs.declared.tail.Tail.{Tail}
 abbrev pub bytes_held : Tail → List ℕ
 bytes_held tail = tail.held.items
 
+-- how many of them there have to be before a message may be read there
+abbrev pub due_of : Tail → ℕ
+due_of tail = tail.due
+
 -- no message begins with its bytes that is shorter than the number of bytes with which it is due
 abbrev pub Awaits : {M : Type 0} → Format M → Tail → Type 0
-Awaits format tail = NoneShorter format.is_value format.encoding (bytes_held tail) tail.due
+Awaits format tail = NoneShorter format.is_value format.encoding (bytes_held tail) (due_of tail)

@@ -2,7 +2,7 @@
 
 ghost use Rattle.std.specs.Prelude.{◌≡◌, ◌↔◌, ◌++◌, ◌+◌, ◌<◌, ◌≤◌, ◌^◌, [], IsTrue, OnOk, length, drop};
 ghost use Rattle.simplex_base.specs.Format.{format_under};
-ghost use Rattle.simplex_stream.specs.Tail.{bytes_held, Awaits};
+ghost use Rattle.simplex_stream.specs.Tail.{bytes_held, due_of, Awaits};
 
 use crate::pieces::drop_front;
 use simplex_base::codec::Read;
@@ -20,7 +20,7 @@ impl Tail {
     /// An empty tail.
     pub fn new(alloc: Global) -> Tail
         ensures empty { bytes_held result ≡ [] }
-        ensures due { result.due ≡ 0 }
+        ensures due { due_of result ≡ 0 }
     {
         Tail {
             held: Vec::new(alloc),
@@ -38,7 +38,7 @@ impl Tail {
     /// Appends a piece. `AllocError` only where an allocation failed.
     pub fn push(&mut self, piece: &[u8]) -> Result<(), AllocError>
         ensures held { OnOk result (bytes_held self.new ≡ bytes_held self.old ++ piece.now) }
-        ensures due { self.new.due ≡ self.old.due }
+        ensures due { due_of self.new ≡ due_of self.old }
     {
         self.held.extend_from_slice(piece)
     }
@@ -46,7 +46,7 @@ impl Tail {
     /// Whether a message may be read at its start once a piece of this many bytes is appended. If not, none can.
     pub fn is_due(&self, more: usize) -> bool
         requires { length (bytes_held self.now) + more < 2 ^ 64 }
-        ensures { IsTrue result ↔ (self.now.due ≤ length (bytes_held self.now) + more) }
+        ensures { IsTrue result ↔ (due_of self.now ≤ length (bytes_held self.now) + more) }
     {
         self.due <= self.held.len() + more
     }
