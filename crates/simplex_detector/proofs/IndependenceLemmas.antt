@@ -1,5 +1,5 @@
 -- Rounds are independent: what a part of the rounds has of the votes, the evidence and the splits.
-use Rattle.simplex_detector.proofs.Prelude.{Activity, All, All-contains, AreLawful, AreSplits, Bool, Conflicting_finalize, Conflicting_notarize, Contains, Contains-permutation, Equivocation, EquivocationKind, HaveCommittees, IsEvidence, IsPermutation, IsPermutation-sym, IsStrictlySortedBy, IsStrictlySortedBy-filter, Less, Greater, Equal, List, Accusation, None, Nullify_finalize, Option, Round, Rules, SignedVote, Some, Split, SubjectValue, [], accused_by, accused_cmp, accused_count, activity_round, and_from, and_parts, ap, append-nil, are_split, arith, certified_in, certified_subjects, clash, cond, cons_option, contradicts, eq-eqb, eqb, evidence_of, false, false≢true, faults_of, filter, filter_map-append, find, first_kind, flat_map, if_certified, is_accused, is_accused_in, is_at, is_le, is_of, is_some, is_split, is_valid, kind_rank, length, map, map-append, nat_cmp, not, not-true, ordering_then, refl, round_cmp, round_of, same_Some, split_of, subject_and_certificate, subst, suc, sym, true, valid_votes, votes_in, with_first, with_second, zero, ℕ, ◌&&◌, ◌++◌, ◌+◌, ◌<◌, ◌||◌, ◌∙◌, ◌∷◌, ◌≡◌}
+use Rattle.simplex_detector.proofs.Prelude.{Activity, All, All-contains, AreLawful, AreSplits, Bool, Conflicting_finalize, Conflicting_notarize, Contains, Contains-permutation, Equivocation, EquivocationKind, HaveCommittees, IsEvidence, IsPermutation, IsPermutation-sym, IsStrictlySortedBy, IsStrictlySortedBy-filter, Less, Greater, Equal, List, Accusation, None, Nullify_finalize, Option, Round, Rules, SignedVote, Some, Split, SubjectValue, [], accused_by, accused_cmp, accused_count, activity_round, and_from, and_parts, ap, append-nil, are_split, arith, certified_in, certified_subjects, clash, cond, cons_option, contradicts, eq-eqb, eqb, evidence_of, false, false≢true, filter, filter_map-append, find, first_kind, flat_map, if_certified, is_accused, is_accused_in, is_at, is_le, is_of, is_some, is_split, is_valid, kind_rank, length, map, map-append, nat_cmp, not, not-true, ordering_then, refl, round_cmp, round_of, same_Some, split_of, subject_and_certificate, subst, suc, sym, true, valid_votes, votes_in, with_first, with_second, zero, ℕ, ◌&&◌, ◌++◌, ◌<◌, ◌||◌, ◌∙◌, ◌∷◌, ◌≡◌}
 use Rattle.std.proofs.lemmas.List.Sorted.{IsPermutation-refl}
 use Rattle.std.specs.Ordering.{ordering_reverse}
 use Rattle.std.specs.Prelude.{slice_get}

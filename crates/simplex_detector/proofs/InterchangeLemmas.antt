@@ -1,5 +1,5 @@
 -- Messages with the same state: what any messages before and behind them make of it, and what they report.
-use Rattle.simplex_detector.proofs.Prelude.{Activity, AreSplits, Bool, Contains, Contains-append_cases, Contains-append_left, Contains-append_right, Equivocation, Finalizes, IsEquivalence, IsEvidence, List, Accusation, None, Notarizes, Nullifies, Option, Round, Rules, SignedVote, Slot, Some, VoteKind, Split, SubjectValue, [], and_from, and_parts, ap, append-nil, are_split, cases_Bool, certified_in, certified_subjects, cond, cond-true, evidence_from, evidence_of, excludes, false, false≢true, faults_of, filter, filter_map-append, find, find-append, first_certified, inl, inr, is_accused, is_at, is_some, is_split, not, option_or, other_than, recorded_of, refl, round_cmp, round_of, same_Some, same_round, same_kind, slot_of, kind_of, split_of, subst, sym, true, valid_votes, votes_in_slot, votes_recorded, ⊎_elim, ◌&&◌, ◌++◌, ◌+◌, ◌∙◌, ◌∷◌, ◌≡◌, ◌⊎◌}
+use Rattle.simplex_detector.proofs.Prelude.{Activity, AreSplits, Bool, Contains, Contains-append_cases, Contains-append_left, Contains-append_right, Equivocation, Finalizes, IsEquivalence, IsEvidence, List, Accusation, None, Notarizes, Nullifies, Option, Round, Rules, SignedVote, Slot, Some, VoteKind, Split, SubjectValue, [], and_from, and_parts, ap, append-nil, are_split, cases_Bool, certified_in, certified_subjects, cond, cond-true, evidence_from, evidence_of, excludes, false, false≢true, filter, filter_map-append, find, find-append, first_certified, inl, inr, is_accused, is_at, is_some, not, option_or, other_than, recorded_of, refl, round_of, same_Some, same_round, same_kind, slot_of, kind_of, split_of, subst, sym, true, valid_votes, votes_in_slot, votes_recorded, ⊎_elim, ◌&&◌, ◌++◌, ◌∙◌, ◌∷◌, ◌≡◌, ◌⊎◌}
 use Rattle.simplex_detector.specs.Interchange.{AreInterchangeable, HaveSameState, SameStateJoined}
 use Rattle.simplex_detector.proofs.EvidenceLemmas.{evidence_exists, moved_evidence, valid_votes-append}
 use Rattle.simplex_detector.proofs.Filters.{same_length}

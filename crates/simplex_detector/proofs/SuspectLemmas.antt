@@ -1,5 +1,5 @@
 -- Which signers and rounds are suspect, and that no other signature has a part in the evidence and the splits.
-use Rattle.simplex_detector.proofs.Prelude.{Scheme, Accusation, Activity, All-contains, All-nil, AreLawful, AreSplits, Bool, Claimed, Conflicting_finalize, Conflicting_notarize, Contains, Equivocation, EquivocationKind, IsEquivalence, IsEvidence, IsTrue, JudgeAlike, List, None, Nullify_finalize, Option, Round, Rules, Schedule, SignedVote, Some, Split, SubjectValue, SuspectSigners, Suspected, Suspects, SuspectsSuffice, [], accused_by, accused_count, and-false, and_parts, ap, are_split, arith, certified_by, certified_in, certified_subjects, certified_under, claimed, clash, committee_of, cond, cond-false, cons_option, contains, contradicts, distinct_count, evidence_of, false, false_from_ne_true, false≢true, faults_of, filter, find, first_kind, flat_map, if_certified, is_accused, is_accused_in, is_at, is_of, is_some, is_split, is_suspect, is_suspect_round, is_valid, judged_by, le-ltb, lt-ltb, map, nat_eq, nat_lt, refl, round_cmp, round_of, rules_of, rules_under, signer_cmp, size_by, split_of, subject_and_certificate, subst, suspect_of, sym, true, valid_by, valid_under, valid_votes, votes_in, with_first, with_second, ℕ, ◌&&◌, ◌+◌, ◌||◌, ◌↔◌, ◌∙◌, ◌∷◌, ◌≡◌, ◌≤◌}
+use Rattle.simplex_detector.proofs.Prelude.{Scheme, Accusation, Activity, All-contains, All-nil, AreLawful, AreSplits, Bool, Claimed, Conflicting_finalize, Conflicting_notarize, Contains, Equivocation, EquivocationKind, IsEquivalence, IsEvidence, IsTrue, JudgeAlike, List, None, Nullify_finalize, Option, Round, Rules, Schedule, SignedVote, Some, Split, SubjectValue, SuspectSigners, Suspected, Suspects, SuspectsSuffice, [], accused_by, accused_count, and-false, and_parts, ap, are_split, arith, certified_by, certified_in, certified_subjects, certified_under, claimed, clash, committee_of, cond, cons_option, contains, contradicts, distinct_count, evidence_of, false, false≢true, faults_of, filter, find, first_kind, flat_map, if_certified, is_accused, is_accused_in, is_at, is_of, is_some, is_split, is_suspect, is_suspect_round, is_valid, judged_by, le-ltb, lt-ltb, map, nat_eq, nat_lt, refl, round_cmp, round_of, rules_of, rules_under, signer_cmp, size_by, split_of, subject_and_certificate, subst, suspect_of, sym, true, valid_by, valid_under, valid_votes, votes_in, with_first, with_second, ℕ, ◌&&◌, ◌+◌, ◌||◌, ◌↔◌, ◌∙◌, ◌∷◌, ◌≡◌, ◌≤◌}
 use Rattle.simplex_detector.proofs.AccountLemmas.{certified_parts, counted_signer, distinct_count-same, kind_from_accused_in, accused_in}
 use Rattle.simplex_detector.proofs.EvidenceLemmas.{evidence_exists, first_spot, moved_evidence, accused_by_more, accused_from_votes, valid_from, valid_in, votes_from_accused}
 use Rattle.simplex_detector.proofs.Lists.{Contains-filter, Contains-first, Contains-from_filter, Contains-from_filter_map, Contains-from_list_any, Contains-from_map, Contains-map, Contains-none, any_from_Contains, found, same_bool}

@@ -1,11 +1,11 @@
 -- What holds of the undecoded tail of a stream while pieces of the next message are appended to it.
-use Rattle.std.proofs.Common.{◌≡◌, ℕ, ◌+◌, ◌<◌, ◌≤◌, List, ◌++◌, length, drop, inl, inr, sym, ap, ◌∙◌, arith, append_assoc, length-append}
+use Rattle.std.proofs.Common.{ℕ, ◌+◌, ◌<◌, ◌≤◌, List, ◌++◌, length, drop, inl, inr, sym, ap, ◌∙◌, arith, append_assoc, length-append}
 use Rattle.std.specs.List.{flat_map}
 use Rattle.std.proofs.lemmas.Bool.{cases_lt}
 use Rattle.simplex_base.specs.Format.{Format}
 use Rattle.simplex_base.specs.LeastSize.{NoneShorter}
 use Rattle.simplex_base.specs.LeastSizeLaws.{front_in}
-use Rattle.simplex_stream.specs.Messages.{AreMessages, IsStuck}
+use Rattle.simplex_stream.specs.Messages.{IsStuck}
 use Rattle.simplex_stream.specs.Progress.{IsDecoded}
 
 module _ {M : Type 0} (format : Format M) where
