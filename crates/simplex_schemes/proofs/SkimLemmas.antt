@@ -1,5 +1,5 @@
 -- How long a certificate is at least of which some attestations are known.
-use Rattle.std.proofs.Common.{◌≡◌, ◌⊎◌, inl, inr, ℕ, suc, ◌+◌, ◌-◌, ◌*◌, ◌<◌, ◌≤◌, ◌^◌, List, [], ◌∷◌, ◌++◌, length, drop, false, Ok, get_or, refl, ap, sym, subst, ◌∙◌, append_assoc, append-nil, arith, length-append}
+use Rattle.std.proofs.Common.{◌≡◌, ◌⊎◌, inl, inr, ℕ, ◌+◌, ◌-◌, ◌*◌, ◌<◌, ◌≤◌, ◌^◌, List, [], ◌∷◌, ◌++◌, length, drop, false, Ok, get_or, refl, ap, sym, subst, ◌∙◌, append_assoc, append-nil, arith, length-append}
 use Rattle.std.specs.Prelude.{All}
 use Rattle.std.specs.List.{flat_map}
 use Rattle.std.proofs.lemmas.Grind.{flat_map-append}
@@ -19,7 +19,7 @@ use Rattle.simplex_base.specs.declared.codec.error.Error.TheVariants as errors
 use Rattle.simplex_scheme.specs.Attestation.{attestation_format}
 use Rattle.simplex_scheme.specs.AttestationLaws.{attestation_lawful}
 use Rattle.simplex_scheme.specs.declared.scheme.Attestation.{Attestation}
-use Rattle.simplex_schemes.specs.Listed.{SignersAscend, ListedFits, listed_encoding, attestation_at}
+use Rattle.simplex_schemes.specs.Listed.{ListedFits, listed_encoding, attestation_at}
 use Rattle.simplex_schemes.specs.ListedLaws.{attestation_takes}
 use Rattle.simplex_schemes.specs.Skimmed.{IsSkimmed, IsRefused}
 
