@@ -10,7 +10,7 @@ use Rattle.simplex_base.specs.Positions.{Round}
 use Rattle.simplex_votes.specs.Encodings.{IsFinalization}
 use Rattle.simplex_votes.specs.Votes.{SignedVote}
 use Rattle.simplex_evidence.specs.Contradiction.{EquivocationKind, Equivocation, Conflicting_notarize, Conflicting_finalize, Nullify_finalize}
-use Rattle.simplex_detector.specs.Committees.{bound_of}
+use Rattle.simplex_scheme.specs.Committees.{bound_of}
 use Rattle.simplex_detector.specs.Evidence.{IsEvidence}
 use Rattle.simplex_detector.specs.Laws.{AccusesExactly}
 use Rattle.simplex_detector.specs.Accusation.{is_accused}

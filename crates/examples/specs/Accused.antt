@@ -4,7 +4,7 @@ use Rattle.simplex_base.specs.Positions.{Round}
 use Rattle.simplex_schemes.specs.Plain.{PlainScheme}
 use Rattle.simplex_schemes.specs.PlainCommittee.{IsPlainCommittee}
 use Rattle.simplex_scheme.specs.Subject.{round_of}
-use Rattle.simplex_detector.specs.Committees.{Schedule, Every}
+use Rattle.simplex_scheme.specs.Committees.{Schedule, Every}
 use Rattle.simplex_detector.specs.Values.{evidence_value}
 use Rattle.simplex_detector.specs.declared.evidence.Evidence.{Evidence}
 use Rattle.simplex_audit.specs.Basis.{Basis}

@@ -10,7 +10,7 @@ use Rattle.simplex_votes.specs.declared.types.finalization.Finalization.{Finaliz
 use Rattle.simplex_evidence.specs.Contradiction.{EquivocationKind, Equivocation}
 use Rattle.simplex_evidence.specs.declared.types.activity.Activity.TheVariants as activity
 use Rattle.simplex_detector.specs.Certificates.{subjects_contradict}
-use Rattle.simplex_detector.specs.Committees.{Schedule, bound_of, certified_by, committee_of}
+use Rattle.simplex_scheme.specs.Committees.{Schedule, bound_of, certified_by, committee_of}
 use Rattle.simplex_detector.specs.Accusation.{accused_by}
 use Rattle.simplex_detector.specs.Evidence.{IsEvidence}
 use Rattle.simplex_detector.specs.Rules.{Rules, valid_votes}

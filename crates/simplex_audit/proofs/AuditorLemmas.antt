@@ -7,7 +7,7 @@ use Rattle.simplex_base.specs.Format.{Format}
 use Rattle.simplex_base.specs.LeastSize.{NoneShorter}
 use Rattle.simplex_base.specs.declared.codec.error.Error.{Error}
 use Rattle.simplex_evidence.specs.declared.types.activity.Activity.{Activity}
-use Rattle.simplex_detector.specs.Committees.{Schedule}
+use Rattle.simplex_scheme.specs.Committees.{Schedule}
 use Rattle.simplex_detector.specs.Rules.{Rules, HaveCommittees}
 use Rattle.simplex_detector.specs.Detector.{Recalls, RecallsMore}
 use Rattle.simplex_detector.specs.declared.detector.Detector.{Detector}

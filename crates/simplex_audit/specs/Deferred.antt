@@ -3,7 +3,7 @@ use Rattle.std.specs.Prelude.{ℕ, Bool, List}
 use Rattle.simplex_base.specs.Format.{Readable, format_under}
 use Rattle.simplex_scheme.specs.Subject.{SubjectValue}
 use Rattle.simplex_evidence.specs.declared.types.activity.Activity.{Activity}
-use Rattle.simplex_detector.specs.Committees.{Schedule, bound_of}
+use Rattle.simplex_scheme.specs.Committees.{Schedule, bound_of}
 use Rattle.simplex_detector.specs.Judging.{rules_under}
 use Rattle.simplex_detector.specs.Scheme.{Scheme}
 use Rattle.simplex_detector.specs.Suspects.{judged_by, JudgeAlike}

@@ -14,7 +14,7 @@ use crate::reading::{read_messages, reading_bound};
 use crate::reporting::make_report;
 pub use crate::run::{RunError, Summary, run};
 pub use crate::stored::run_deferred;
-pub use simplex_detector::committees::{Committees, CommitteesError};
+pub use simplex_scheme::committees::{Committees, CommitteesError};
 use simplex_detector::detector::Detector;
 pub use simplex_detector::evidence::Evidence;
 use simplex_detector::judging::{Judging, suspects_of};

@@ -5,7 +5,7 @@ ghost use Rattle.simplex_audit.specs.Guarantees.{EvidenceIsDetermined, HasOneRea
 ghost use Rattle.simplex_stream.specs.Messages.{AreMessages};
 ghost use Rattle.simplex_stream.specs.Tail.{bytes_held};
 ghost use Rattle.simplex_evidence.specs.declared.types.activity.Activity.{Activity};
-ghost use Rattle.simplex_detector.specs.Committees.{Schedule};
+ghost use Rattle.simplex_scheme.specs.Committees.{Schedule};
 ghost use Rattle.simplex_detector.specs.Recorded.{RecordedAreSlots, FewAreRecorded, votes_recorded};
 ghost use Rattle.simplex_detector.specs.Rules.{valid_votes};
 
@@ -14,7 +14,7 @@ use crate::basis::Audited;
 use crate::laws::message_laws;
 use crate::reading::{read_messages, reading_bound};
 use crate::reporting::make_report;
-use simplex_detector::committees::Committees;
+use simplex_scheme::committees::Committees;
 use simplex_detector::detector::Detector;
 use simplex_detector::judging::Judging;
 use simplex_detector::laws::{few_votes_are_recorded, recorded_votes_have_room};

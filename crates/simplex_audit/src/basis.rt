@@ -2,7 +2,7 @@
 
 ghost use Rattle.simplex_audit.specs.Basis.{Basis, basis_of};
 ghost use Rattle.simplex_audit.specs.Deferred.{basis_under};
-ghost use Rattle.simplex_detector.specs.Committees.{Schedule};
+ghost use Rattle.simplex_scheme.specs.Committees.{Schedule};
 ghost use Rattle.simplex_detector.specs.declared.judging.Judging.{Judging};
 
 use simplex_base::codec::Read;

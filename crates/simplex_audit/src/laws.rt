@@ -1,7 +1,7 @@
 //! The laws of any messages, of which an audit's own speak of the messages of its stream.
 
 ghost use Rattle.simplex_audit.specs.MessageLaws.{MessageLaws};
-ghost use Rattle.simplex_detector.specs.Committees.{Schedule};
+ghost use Rattle.simplex_scheme.specs.Committees.{Schedule};
 
 use crate::basis::Audited;
 use simplex_detector::laws::{

@@ -10,7 +10,7 @@ ghost use Rattle.simplex_detector.specs.Detector.{Recalls};
 use crate::audit::Report;
 use crate::basis::Audited;
 use simplex_base::codec::Error;
-use simplex_detector::committees::Committees;
+use simplex_scheme::committees::Committees;
 use simplex_detector::detector::Detector;
 use simplex_scheme::scheme::{Digest, Listing};
 use simplex_stream::fault::fault_at;

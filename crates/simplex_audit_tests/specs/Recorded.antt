@@ -1,7 +1,7 @@
 -- How many votes are recorded of a stream.
 use Rattle.std.specs.Prelude.{◌≡◌, ℕ, List}
 use Rattle.simplex_evidence.specs.declared.types.activity.Activity.{Activity}
-use Rattle.simplex_detector.specs.Committees.{Schedule}
+use Rattle.simplex_scheme.specs.Committees.{Schedule}
 use Rattle.simplex_detector.specs.Recorded.{votes_recorded}
 use Rattle.simplex_detector.specs.Rules.{valid_votes}
 use Rattle.simplex_audit.specs.Auditor.{Stands}

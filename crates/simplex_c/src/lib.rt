@@ -21,7 +21,7 @@ ghost use Rattle.simplex_base.specs.Terms.{term_start};
 ghost use Rattle.simplex_scheme.specs.Committee.{faults_of, quorum_of};
 ghost use Rattle.simplex_lead.specs.Windows.{FitsWindow, IsAdmitted, IsOutbound};
 ghost use Rattle.simplex_schemes.specs.Plain.{PlainScheme};
-ghost use Rattle.simplex_detector.specs.Committees.{Schedule};
+ghost use Rattle.simplex_scheme.specs.Committees.{Schedule};
 ghost use Rattle.simplex_schemes.specs.Vouched.{VouchedScheme};
 ghost use Rattle.simplex_ffi.specs.Answer.{AreRecorded, AreStored, AreAttestationsGiven, IsAudited};
 ghost use Rattle.simplex_ffi.specs.Keys.{AreKeys, AreOfKeys, IsLengthOfKeys};

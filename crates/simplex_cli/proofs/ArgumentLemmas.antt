@@ -3,9 +3,9 @@ use Rattle.std.proofs.Common.{◌≡◌, ℕ, zero, suc, ◌<◌, ◌≤◌, Lis
 use Rattle.std.specs.Prelude.{◌≢◌, All}
 use Rattle.std.proofs.lemmas.List.Elements.{All-head}
 use Rattle.simplex_schemes.specs.Plain.{PlainScheme}
-use Rattle.simplex_detector.specs.Committees.{Schedule, Every, Listed, AreRising}
-use Rattle.simplex_detector.specs.declared.committees.CommitteesError.{CommitteesError}
-use Rattle.simplex_detector.specs.declared.committees.CommitteesError.TheVariants as errors
+use Rattle.simplex_scheme.specs.Committees.{Schedule, Every, Listed, AreRising}
+use Rattle.simplex_scheme.specs.declared.committees.CommitteesError.{CommitteesError}
+use Rattle.simplex_scheme.specs.declared.committees.CommitteesError.TheVariants as errors
 use Rattle.simplex_cli.specs.Arguments.{AreNoKeys, AreGroups, BeginsGroup, StandsBeforeGroup, NameCommittees, AreNoArguments, keys_named}
 use Rattle.simplex_cli.proofs.GroupLemmas.{keys_begin_no_group}
 

@@ -14,7 +14,7 @@ use Rattle.hex.specs.Hex.{decode_pairs}
 use Rattle.hex.specs.declared.error.FromHexError.{FromHexError}
 use Rattle.hex.specs.declared.error.FromHexError.TheVariants.{OddLength, InvalidStringLength}
 use Rattle.simplex_schemes.specs.Plain.{PlainScheme}
-use Rattle.simplex_detector.specs.Committees.{AreRising}
+use Rattle.simplex_scheme.specs.Committees.{AreRising}
 use Rattle.simplex_cli.specs.Arguments.{IsNamedCommittee, NameKeys, AreGroups, BeginAsGroups, BeginsGroup, StandsBeforeGroup, epoch_text, key_of, key_named, keys_named, with_key}
 
 -- ---- keys and groups

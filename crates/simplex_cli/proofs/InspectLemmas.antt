@@ -3,7 +3,7 @@ use Rattle.std.proofs.Common.{◌≡◌, ◌⊎◌, inl, inr, ℕ, List, [], Opt
 use Rattle.std.specs.Prelude.{◌≢◌}
 use Rattle.std.specs.Io.KnownBytes.{Keeps}
 use Rattle.simplex_schemes.specs.Plain.{PlainScheme}
-use Rattle.simplex_detector.specs.Committees.{Schedule}
+use Rattle.simplex_scheme.specs.Committees.{Schedule}
 use Rattle.simplex_stream.specs.declared.run_error.RunError.{RunError}
 use Rattle.simplex_stream.specs.declared.run_error.RunError.TheVariants as errors
 use Rattle.simplex_audit.specs.Outcome.{ReaderUse, WriterUse}

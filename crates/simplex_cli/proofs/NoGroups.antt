@@ -3,7 +3,7 @@ use Rattle.std.proofs.Common.{◌≡◌, ℕ, List, [], ◌∷◌, ◌++◌, ◌
 use Rattle.std.specs.Prelude.{◌≢◌, All}
 use Rattle.std.proofs.lemmas.List.{map-append}
 use Rattle.simplex_schemes.specs.Plain.{PlainScheme}
-use Rattle.simplex_detector.specs.Committees.{AreRising}
+use Rattle.simplex_scheme.specs.Committees.{AreRising}
 use Rattle.simplex_cli.specs.Arguments.{AreNoKeys, AreGroups, BeginsGroup, StandsBeforeGroup, epoch_text}
 use Rattle.simplex_cli.proofs.GroupLemmas.{first_group, epoch_told, risen}
 

@@ -3,7 +3,7 @@ use Rattle.std.specs.Prelude.{◌≡◌, ◌⊎◌, ◌≤◌, ◌^◌, ℕ, fal
 use Rattle.std.specs.Io.KnownBytes.{Consumes, IsAtEnd, Appends, Keeps}
 use Rattle.simplex_schemes.specs.Plain.{PlainScheme}
 use Rattle.simplex_scheme.specs.declared.scheme.Attestation.{Attestation}
-use Rattle.simplex_detector.specs.Committees.{Schedule}
+use Rattle.simplex_scheme.specs.Committees.{Schedule}
 use Rattle.simplex_stream.specs.Text.{AppendsBeginning}
 use Rattle.simplex_audit.specs.Run.{IsAccount}
 use Rattle.simplex_audit.specs.Basis.{Basis}

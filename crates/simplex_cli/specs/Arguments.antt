@@ -8,7 +8,7 @@ use Rattle.hex.specs.Hex.{decode_sized}
 use Rattle.hex.specs.declared.error.FromHexError.{FromHexError}
 use Rattle.simplex_scheme.specs.Namespace.{names_of}
 use Rattle.simplex_schemes.specs.Plain.{PlainScheme}
-use Rattle.simplex_detector.specs.Committees.{Schedule, Every, Listed, AreRising}
+use Rattle.simplex_scheme.specs.Committees.{Schedule, Every, Listed, AreRising}
 
 -- the words of the arguments of a process: those after the program's name
 abbrev pub words_of : List (String Global) → List (List ℕ)

@@ -3,7 +3,7 @@ use Rattle.std.specs.Prelude.{◌⊎◌, ℕ, IsTrue, List, Option, Ok, Err}
 use Rattle.std.specs.Io.KnownBytes.{IsAtEnd, Keeps}
 use Rattle.simplex_schemes.specs.Plain.{PlainScheme}
 use Rattle.simplex_evidence.specs.declared.types.activity.Activity.{Activity}
-use Rattle.simplex_detector.specs.Committees.{Schedule}
+use Rattle.simplex_scheme.specs.Committees.{Schedule}
 use Rattle.simplex_stream.specs.declared.fault.Fault.{Fault}
 use Rattle.simplex_inspect.specs.Inspected.{Lines, AppendsText, AppendsPart, IsInput}
 use Rattle.simplex_audit.specs.Outcome.{ReaderUse, WriterUse}

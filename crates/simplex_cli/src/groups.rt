@@ -1,7 +1,7 @@
 //! Groups of arguments, each an epoch and the keys of its committee.
 
 ghost use Rattle.std.specs.Prelude.{◌≡◌, ◌≢◌, ◌↔◌, ◌≤◌, ◌<◌, ◌^◌, ◌⊎◌, ℕ, List, Ok, Err, All, IfOk, IfErr, map, length, take, drop, string_bytes, IsTrue};
-ghost use Rattle.simplex_detector.specs.Committees.{AreRising};
+ghost use Rattle.simplex_scheme.specs.Committees.{AreRising};
 ghost use Rattle.simplex_schemes.specs.Plain.{PlainScheme};
 ghost use Rattle.simplex_cli.specs.Arguments.{AreGroups, BeginAsGroups, BeginsGroup, StandsBeforeGroup, epoch_text};
 

@@ -34,7 +34,8 @@ pub use Rattle.simplex_base.specs.Format.{Format, fixed}
 pub use Rattle.simplex_base.specs.Positions.{Round, same_round}
 pub use Rattle.simplex_base.specs.VarintLaws.{groups_some}
 pub use Rattle.simplex_detector.specs.Certificates.{certificates_contradict, messages_contradict, subjects_contradict}
-pub use Rattle.simplex_detector.specs.Committees.{AreRising, Every, IsSchedule, Listed, Schedule, bound_of, certified_by, committee_of, greatest, rules_of, schedule_of, size_by, valid_by}
+pub use Rattle.simplex_scheme.specs.Committees.{AreRising, Every, IsSchedule, Listed, Schedule, bound_of, certified_by, committee_of, greatest, schedule_of, size_by, valid_by}
+pub use Rattle.simplex_detector.specs.Scheme.{rules_of, Scheme, scheme_of}
 pub use Rattle.simplex_detector.specs.Detector.{Recalls, RecallsAt, RecallsNothing, RecallsRound, TakesIn, TakesContents}
 pub use Rattle.simplex_detector.specs.EncodedEvidence.{IsEncoded}
 pub use Rattle.simplex_detector.specs.Evidence.{IsEquivocation, IsEvidence, evidence_of, with_first, with_second}
@@ -46,7 +47,6 @@ pub use Rattle.simplex_detector.specs.Accusation.{Accusation, is_accused, kind_r
 pub use Rattle.simplex_detector.specs.Recorded.{RecordedAreSlots, Slot, changes, equivocation_of, evidence_from, if_differs, is_news, news_after, other_than, recorded_in, recorded_of, slot_of, slot_with, votes_in_slot, votes_recorded}
 pub use Rattle.simplex_detector.specs.Rounds.{HoldsRound, IsSized, accuses, ListsSigners, TakesVote, found_at, found_of_kind, if_contradicts, is_for, no_slot, round_count, slots}
 pub use Rattle.simplex_detector.specs.Rules.{AreLawful, HaveCommittees, Rules, is_valid, valid_votes}
-pub use Rattle.simplex_detector.specs.Scheme.{Scheme, scheme_of}
 pub use Rattle.simplex_detector.specs.SplitLaws.{EnoughAreAccused, IsAccountable, SignersAreAccountable, shared_signers}
 pub use Rattle.simplex_detector.specs.Splits.{AreSplits, certified_in, if_certified, is_certified_message, is_accused_in, is_split, accused_count, split_of}
 pub use Rattle.simplex_detector.specs.Suspects.{JudgeAlike, Suspected, SuspectsSuffice, claimed, is_suspect, is_suspect_round, judged_by, suspect_of}

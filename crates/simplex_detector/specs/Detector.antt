@@ -10,7 +10,7 @@ use Rattle.simplex_votes.specs.Votes.{SignedVote}
 use Rattle.simplex_evidence.specs.Contents.{ContentsValue, contents_round, contents_votes, contents_certificate}
 use Rattle.simplex_evidence.specs.Contradiction.{Equivocation}
 use Rattle.simplex_evidence.specs.declared.types.activity.Activity.{Activity}
-use Rattle.simplex_detector.specs.Committees.{Schedule, committee_of}
+use Rattle.simplex_scheme.specs.Committees.{Schedule, committee_of}
 use Rattle.simplex_detector.specs.Evidence.{IsEvidence}
 use Rattle.simplex_detector.specs.FirstCertified.{certified_subjects, nothing_certified, RecordsFirsts}
 use Rattle.simplex_detector.specs.Recorded.{slot_of, votes_recorded}

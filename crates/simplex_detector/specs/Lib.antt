@@ -1,6 +1,5 @@
 pub mod Rules
 pub mod Scheme
-pub mod Committees
 pub mod Accusation
 pub mod Evidence
 pub mod Recorded

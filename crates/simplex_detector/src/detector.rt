@@ -7,7 +7,7 @@ ghost use Rattle.simplex_detector.specs.Detector.{RecallsNone, RecallsMore, Give
 ghost use Rattle.simplex_detector.specs.EncodedEvidence.{IsEncoded};
 ghost use Rattle.simplex_detector.specs.Values.{evidence_value};
 
-use crate::committees::Committees;
+use simplex_scheme::committees::Committees;
 use crate::evidence::{Evidence, are_encoded};
 use crate::judge::Judge;
 use crate::judging::Judging;

@@ -11,7 +11,7 @@ ghost use Rattle.simplex_votes.specs.Votes.{SignedVote};
 ghost use Rattle.simplex_evidence.specs.Activity.{activity_encoding};
 ghost use Rattle.simplex_evidence.specs.Contradiction as contradiction;
 ghost use Rattle.simplex_evidence.specs.declared.types.activity.Activity.{Activity};
-ghost use Rattle.simplex_detector.specs.Committees.{Schedule, committee_of};
+ghost use Rattle.simplex_scheme.specs.Committees.{Schedule, committee_of};
 ghost use Rattle.simplex_detector.specs.declared.judging.Judging.{Judging};
 ghost use Rattle.simplex_detector.specs.Evidence.{IsEvidence, IsEquivocation};
 ghost use Rattle.simplex_detector.specs.Independence.{FloorParts, IsOfOneRound, OthersStay, PartsAddUp, RoundsAreIndependent, in_rounds};

@@ -1,15 +1,14 @@
 //! The detector of equivocation. From the messages of a stream it records, round by round, the votes that may contradict
 //! others of their signer and the certified subjects, and it reports the evidence and the splits.
 //!
-//! Crates above rest on [`detector::Detector`], which records messages and reports; on [`committees::Committees`], which
-//! says who judges an epoch; on [`judging::Judging`], which says how strictly, and on [`judge::Judge`], which does; on the
-//! reported [`evidence::Evidence`] and [`split::Split`]; and on [`laws`], which hold of all messages. [`rules::Judges`]
-//! gives contracts the rules by which messages are judged.
+//! Crates above rest on [`detector::Detector`], which records messages and reports; on [`judging::Judging`],
+//! which says how strictly votes and certificates are judged, and on [`judge::Judge`], which judges them; on the reported
+//! [`evidence::Evidence`] and [`split::Split`]; and on [`laws`], which hold of all messages. [`rules::Judges`] gives
+//! contracts the rules by which messages are judged.
 #![tactic(auto)]
 
 mod boxed_map;
 mod certified_subjects;
-pub mod committees;
 pub mod detector;
 pub mod evidence;
 pub mod judge;

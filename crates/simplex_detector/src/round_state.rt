@@ -10,7 +10,7 @@ ghost use Rattle.simplex_detector.specs.FirstCertified.{nothing_certified};
 ghost use Rattle.simplex_detector.specs.Detector.{TakesIn, TakesContents, GivesSplit};
 
 use crate::certified_subjects::CertifiedSubjects;
-use crate::committees::Committees;
+use simplex_scheme::committees::Committees;
 use crate::judge::{Judge, Signatures};
 use crate::round_votes::RoundVotes;
 use crate::rules::Judges;

@@ -1,9 +1,9 @@
 //! The rules by which messages are judged, for contracts alone.
 
-ghost use Rattle.simplex_detector.specs.Committees.{Schedule, rules_of};
+ghost use Rattle.simplex_scheme.specs.Committees.{Schedule};
+ghost use Rattle.simplex_detector.specs.Scheme.{rules_of, Scheme, scheme_of};
 ghost use Rattle.simplex_detector.specs.Judging.{rules_under};
 ghost use Rattle.simplex_detector.specs.Rules.{Rules};
-ghost use Rattle.simplex_detector.specs.Scheme.{Scheme, scheme_of};
 ghost use Rattle.simplex_detector.specs.declared.judging.Judging.{Judging};
 
 use simplex_scheme::scheme::{Digest, Listing};

@@ -11,9 +11,9 @@ use Rattle.std.proofs.lemmas.List.Elements.{All-nil, All-cons}
 use Rattle.std.proofs.lemmas.List.{drop_more, drop_all, length-map}
 use Rattle.std.proofs.lemmas.Map.Keys.{below_from_sorted, sorted_from_strictly_increasing}
 use Rattle.simplex_schemes.specs.Vouched.{VouchedScheme}
-use Rattle.simplex_detector.specs.Committees.{Schedule, Every, Listed, AreRising}
-use Rattle.simplex_detector.specs.declared.committees.CommitteesError.{CommitteesError}
-use Rattle.simplex_detector.specs.declared.committees.CommitteesError.TheVariants as errors
+use Rattle.simplex_scheme.specs.Committees.{Schedule, Every, Listed, AreRising}
+use Rattle.simplex_scheme.specs.declared.committees.CommitteesError.{CommitteesError}
+use Rattle.simplex_scheme.specs.declared.committees.CommitteesError.TheVariants as errors
 use Rattle.simplex_ffi.specs.Sizes.{AreSizes, AreCommitteeSizes, of_size, pairs_of}
 
 -- one more epoch

@@ -6,7 +6,7 @@ use Rattle.std.specs.Ordering.{nat_cmp}
 use Rattle.std.specs.Prelude.{◌≡◌, ◌≢◌, ℕ, ◌*◌, ◌/◌, ◌%◌, ◌<◌, ◌≤◌, ◌^◌, List, length, map, take, drop, None, AllPairs, IsPermutation}
 use Rattle.simplex_scheme.specs.Namespace.{names_of}
 use Rattle.simplex_schemes.specs.Plain.{PlainScheme}
-use Rattle.simplex_detector.specs.Committees.{Schedule, Every, Listed}
+use Rattle.simplex_scheme.specs.Committees.{Schedule, Every, Listed}
 
 -- the key at a place: the 32 bytes from 32 times the place on
 abbrev pub key_at : List ℕ → ℕ → List ℕ

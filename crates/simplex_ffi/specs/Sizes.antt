@@ -1,6 +1,6 @@
 -- Committees by their sizes.
 use Rattle.std.specs.Prelude.{◌≡◌, ◌≢◌, ℕ, ◌≤◌, List, [], ◌∷◌, All, length}
-use Rattle.simplex_detector.specs.Committees.{Schedule, Every, Listed, AreRising}
+use Rattle.simplex_scheme.specs.Committees.{Schedule, Every, Listed, AreRising}
 use Rattle.simplex_schemes.specs.Marked.{numbered}
 use Rattle.simplex_schemes.specs.Vouched.{VouchedScheme}
 

@@ -5,7 +5,7 @@ ghost use Rattle.std.specs.List.Sorted.{IsStrictlySortedBy};
 ghost use Rattle.simplex_ffi.specs.Keys.{AreKeys, AreOfKeys, IsLengthOfKeys, key_at, keys_in};
 
 use simplex_base::codec::Fixed;
-use simplex_detector::committees::Committees;
+use simplex_scheme::committees::Committees;
 use simplex_scheme::scheme::Set;
 use simplex_schemes::plain::{Plain, PlainKey};
 use std::alloc::{AllocError, Global};

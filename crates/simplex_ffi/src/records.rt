@@ -3,7 +3,7 @@
 ghost use Rattle.std.specs.Prelude.{◌≡◌, ◌≢◌, ◌⊎◌, IfOk, length, string_bytes};
 ghost use Rattle.simplex_audit.specs.Guarantees.{IsAudit};
 ghost use Rattle.simplex_audit.specs.Run.{report_text};
-ghost use Rattle.simplex_detector.specs.Committees.{Schedule};
+ghost use Rattle.simplex_scheme.specs.Committees.{Schedule};
 ghost use Rattle.simplex_places.specs.Records.{AreRecords};
 ghost use Rattle.simplex_schemes.specs.Plain.{PlainScheme};
 ghost use Rattle.simplex_schemes.specs.Vouched.{VouchedScheme};

@@ -1,12 +1,12 @@
 //! Committees by their sizes.
 
 ghost use Rattle.std.specs.Prelude.{◌≡◌, ◌↔◌, ◌≤◌, All, None, Ok, IsTrue, IfOk, IfErr, IfSome, length};
-ghost use Rattle.simplex_detector.specs.Committees.{Schedule};
+ghost use Rattle.simplex_scheme.specs.Committees.{Schedule};
 ghost use Rattle.simplex_schemes.specs.Vouched.{VouchedScheme};
 ghost use Rattle.simplex_ffi.specs.Sizes.{AreSizes, AreCommitteeSizes, pairs_of};
 
 use simplex_base::positions::Epoch;
-use simplex_detector::committees::Committees;
+use simplex_scheme::committees::Committees;
 use simplex_scheme::scheme::Set;
 use simplex_schemes::vouched::Vouched;
 use std::alloc::{AllocError, Global};

@@ -1,7 +1,7 @@
 //! The attestations that have to be verified before a stream is audited, put into a buffer.
 
 ghost use Rattle.std.specs.Prelude.{◌≡◌, ◌≢◌, ◌⊎◌};
-ghost use Rattle.simplex_detector.specs.Committees.{Schedule};
+ghost use Rattle.simplex_scheme.specs.Committees.{Schedule};
 ghost use Rattle.simplex_schemes.specs.Vouched.{VouchedScheme};
 ghost use Rattle.simplex_ffi.specs.Answer.{AreAttestationsGiven};
 ghost use Rattle.simplex_ffi.specs.Sizes.{AreSizes, AreCommitteeSizes};

@@ -2,7 +2,7 @@
 
 ghost use Rattle.std.specs.Prelude.{◌≡◌, ◌≢◌, ◌⊎◌, ◌++◌};
 ghost use Rattle.std.proofs.Common.{lit<, lit≤};
-ghost use Rattle.simplex_detector.specs.Committees.{Schedule};
+ghost use Rattle.simplex_scheme.specs.Committees.{Schedule};
 ghost use Rattle.simplex_schemes.specs.Vouched.{VouchedScheme};
 ghost use Rattle.simplex_ffi.specs.Answer.{AreStored, IsAudited};
 ghost use Rattle.simplex_ffi.specs.Sizes.{AreSizes, AreCommitteeSizes};

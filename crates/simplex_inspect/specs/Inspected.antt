@@ -7,7 +7,7 @@ use Rattle.simplex_base.specs.Format.{Format, Readable, format_under}
 use Rattle.simplex_base.specs.declared.codec.error.Error.{Error}
 use Rattle.simplex_base.specs.declared.codec.error.Error.TheVariants as errors
 use Rattle.simplex_evidence.specs.declared.types.activity.Activity.{Activity}
-use Rattle.simplex_detector.specs.Committees.{Schedule, bound_of}
+use Rattle.simplex_scheme.specs.Committees.{Schedule, bound_of}
 use Rattle.simplex_stream.specs.Messages.{AreMessages, IsStop}
 use Rattle.simplex_stream.specs.Fault.{IsFault}
 use Rattle.simplex_stream.specs.Text.{AppendsBeginning}

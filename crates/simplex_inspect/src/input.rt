@@ -11,7 +11,7 @@ use crate::basis::Inspected;
 use crate::inspect::finish;
 use crate::left::Left;
 use crate::reading::{ReadLines, read_lines, reading_bound};
-use simplex_detector::committees::Committees;
+use simplex_scheme::committees::Committees;
 use simplex_evidence::types::Activity;
 use simplex_scheme::scheme::{Digest, Listing};
 use simplex_stream::fault::Fault;

@@ -8,7 +8,7 @@ ghost use Rattle.simplex_inspect.specs.Inspected.{IsWritten, AppendsText, Append
 use crate::basis::Inspected;
 use crate::fault::fault_line;
 use crate::reading::read_lines;
-use simplex_detector::committees::Committees;
+use simplex_scheme::committees::Committees;
 use simplex_scheme::scheme::{Digest, Listing};
 use simplex_stream::fault::{Fault, fault_at};
 use simplex_stream::run_error::RunError;

@@ -5,7 +5,7 @@ ghost use Rattle.std.specs.Option.{option_copied};
 ghost use Rattle.json.specs.Tree.{json_tokens};
 ghost use Rattle.simplex_scheme.specs.Committee.{quorum_of};
 ghost use Rattle.simplex_scheme.specs.Subject.{subject_value};
-ghost use Rattle.simplex_detector.specs.Committees.{valid_by, certified_by, size_by};
+ghost use Rattle.simplex_scheme.specs.Committees.{valid_by, certified_by, size_by};
 ghost use Rattle.simplex_votes.specs.Votes.{vote_on};
 ghost use Rattle.simplex_evidence.specs.Activity.{contents_of};
 ghost use Rattle.simplex_evidence.specs.Contents.{signed_value};
@@ -22,7 +22,7 @@ use crate::validity::{Validity, validity_of_certificate, validity_of_signature};
 use json::Writer;
 use simplex_base::codec::Fixed;
 use simplex_base::positions::Roundable;
-use simplex_detector::committees::Committees;
+use simplex_scheme::committees::Committees;
 use simplex_evidence::types::{Activity, Contents, Signed};
 use simplex_scheme::scheme::{
     Attestation, CertificateScheme, Digest, Listing, Scheme, Subject, quorum,

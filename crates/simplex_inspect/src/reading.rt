@@ -6,7 +6,7 @@ ghost use Rattle.simplex_inspect.specs.Inspected.{AreShown, bound_under};
 use crate::basis::Inspected;
 use crate::line::line;
 use simplex_base::codec::{Encoding, Error};
-use simplex_detector::committees::Committees;
+use simplex_scheme::committees::Committees;
 use simplex_evidence::types::Activity;
 use simplex_scheme::scheme::{CertificateScheme, Digest, Listing};
 use simplex_stream::messages::{Visitor, for_each_message};

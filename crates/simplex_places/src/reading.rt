@@ -9,7 +9,7 @@ use crate::located::{Counted, Located};
 use crate::places::{Placed, push_message};
 use simplex_audit::basis::Audited;
 use simplex_base::codec::Encoding;
-use simplex_detector::committees::Committees;
+use simplex_scheme::committees::Committees;
 use simplex_detector::detector::Detector;
 use simplex_detector::judging::Judging;
 use simplex_detector::laws::committees_are_lawful;

@@ -15,7 +15,7 @@ use crate::votes::{Key, VoteKey, first, second};
 use simplex_audit::audit::Report;
 use simplex_audit::basis::Audited;
 use simplex_base::values::{EqByParts, ExactClone, InfallibleClone};
-use simplex_detector::committees::Committees;
+use simplex_scheme::committees::Committees;
 use simplex_detector::evidence::Evidence;
 use simplex_scheme::scheme::{Digest, Listing, SchemeTypes};
 use std::alloc::{AllocError, Global};

@@ -4,7 +4,7 @@ ghost use Rattle.std.specs.Prelude.{◌≡◌, ◌&&◌, ℕ, List, IfOk, nat_lt
 ghost use Rattle.std.specs.BTreeSet.{contains};
 ghost use Rattle.simplex_base.specs.Positions as positions;
 ghost use Rattle.simplex_evidence.specs.declared.types.activity.Activity as activities;
-ghost use Rattle.simplex_detector.specs.Committees.{Schedule, committee_of, size_by};
+ghost use Rattle.simplex_scheme.specs.Committees.{Schedule, committee_of, size_by};
 ghost use Rattle.simplex_detector.specs.Detector.{Recalls};
 ghost use Rattle.simplex_detector.specs.Accusation.{round_cmp, signer_cmp};
 ghost use Rattle.simplex_detector.specs.Rules.{AreLawful};
@@ -23,7 +23,7 @@ use simplex_audit::basis::Audited;
 use simplex_base::codec::Read;
 use simplex_base::codec::fixed_bytes::Role;
 use simplex_base::positions::{Epoch, Participant, Round, View};
-use simplex_detector::committees::Committees;
+use simplex_scheme::committees::Committees;
 use simplex_detector::detector::Detector;
 use simplex_detector::judging::{SuspectSigners, suspects_of};
 use simplex_detector::laws::{suspects_decide, suspects_suffice};

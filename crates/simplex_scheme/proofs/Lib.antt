@@ -4,3 +4,4 @@ pub mod AssemblyLemmas
 pub mod NamespaceLemmas
 pub mod SubjectLemmas
 pub mod MessageLemmas
+pub mod CommitteeLemmas

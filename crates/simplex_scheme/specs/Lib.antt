@@ -4,6 +4,7 @@ pub mod ProposalLaws
 pub mod Subject
 pub mod Kind
 pub mod Committee
+pub mod Committees
 pub mod Hashing
 pub mod Attestation
 pub mod AttestationLaws

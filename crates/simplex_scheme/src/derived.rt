@@ -3,6 +3,7 @@
 ghost use Rattle.std.specs.Prelude.{nat_eq, refl, ◌&&◌};
 ghost use Rattle.std.specs.Ordering.{nat_cmp, ordering_then};
 
+use crate::committees::CommitteesError;
 use crate::scheme::{
     AssemblyError, Attestation, Namespace, Proposal, SchemeTypes, SetError, Subject,
 };
@@ -84,6 +85,26 @@ impl EqByParts for SetError {
     ghost same = { λ _ _. true };
 
     ghost equal = { elim [ Repeated ↦ elim [ Repeated ↦ refl ] ] };
+}
+
+impl ExactClone for CommitteesError {
+    ghost exact = { λ x y same. same };
+}
+
+impl InfallibleClone for CommitteesError {
+    ghost infallible = { λ _. tt };
+}
+
+impl EqByParts for CommitteesError {
+    ghost use Rattle.simplex_scheme.specs.Committees.{same_refusal};
+    ghost use Rattle.simplex_scheme.specs.declared.committees.CommitteesError.TheVariants.{Empty, Unordered};
+
+    ghost same = { same_refusal };
+
+    ghost equal = { elim [
+      | Empty ↦ elim [ Empty ↦ refl | Unordered ↦ refl ]
+      | Unordered ↦ elim [ Empty ↦ refl | Unordered ↦ refl ]
+    ] };
 }
 
 impl<D: Clone> ExactClone for Subject<'_, D> {

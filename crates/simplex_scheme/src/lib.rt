@@ -7,7 +7,7 @@
 //! [`scheme::Subject`], of a [`scheme::VoteKind`]), the byte strings under which it is signed ([`scheme::Namespace`]), and
 //! the trait of hash functions with SHA-256 ([`scheme::Hasher`]). What is no trait of schemes stands in private modules:
 //! `set`, `faults`, `proposal`, `subject`, `kind`, `namespace` and `hash`; `message` compares bytes with signed messages.
-//! [`assembly`] says which attestations can be assembled.
+//! [`assembly`] says which attestations can be assembled, and [`committees`] which committee judges an epoch.
 //!
 //! Crates above rest on the laws that each scheme proves: a certificate that a [`scheme::Scheme`] assembles certifies
 //! every subject that its attestations are valid for, and one that a [`scheme::Listing`] certifies lists a quorum of
@@ -16,6 +16,7 @@
 
 pub mod assembly;
 mod attributable;
+pub mod committees;
 mod derived;
 mod faults;
 mod hash;

@@ -3,7 +3,7 @@ use Rattle.std.specs.Prelude.{map}
 use Rattle.simplex_base.specs.Positions.{Round}
 use Rattle.simplex_schemes.specs.Plain.{PlainScheme}
 use Rattle.simplex_schemes.specs.PlainCommittee.{IsPlainCommittee}
-use Rattle.simplex_detector.specs.Committees.{Schedule, Every}
+use Rattle.simplex_scheme.specs.Committees.{Schedule, Every}
 use Rattle.simplex_audit.specs.Basis.{Basis}
 use Rattle.simplex_audit.specs.Report.{IsReport}
 use Rattle.simplex_audit.specs.declared.audit.Report.{Report}

@@ -1,5 +1,4 @@
-use Rattle.simplex_detector.specs.Committees.{rules_of}
-use Rattle.simplex_detector.specs.Scheme.{scheme_of}
+use Rattle.simplex_detector.specs.Scheme.{rules_of, scheme_of}
 use Rattle.simplex_audit.proofs.laws.message_laws.Goals as goal
 
 pub returns : goal.returns

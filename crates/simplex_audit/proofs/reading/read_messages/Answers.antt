@@ -3,7 +3,7 @@ use Rattle.simplex_base.specs.Format.{Format, fixed}
 use Rattle.simplex_stream.specs.Progress.{IsProgress}
 use Rattle.simplex_evidence.specs.Activity.{activity_format}
 use Rattle.simplex_evidence.specs.declared.types.activity.Activity.{Activity}
-use Rattle.simplex_detector.specs.Committees.{Schedule}
+use Rattle.simplex_scheme.specs.Committees.{Schedule}
 use Rattle.simplex_detector.specs.Judging.{rules_under}
 use Rattle.simplex_detector.specs.Rules.{Rules}
 use Rattle.simplex_detector.specs.declared.judging.Judging.{Judging}

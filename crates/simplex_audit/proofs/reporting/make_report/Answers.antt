@@ -1,5 +1,5 @@
 use Rattle.simplex_base.specs.Format.{fixed}
-use Rattle.simplex_detector.specs.Committees.{bound_of}
+use Rattle.simplex_scheme.specs.Committees.{bound_of}
 use Rattle.simplex_stream.specs.StreamLaws.{fault_is}
 use Rattle.simplex_audit.proofs.ReportLemmas.{are_messages}
 use Rattle.simplex_audit.proofs.reporting.make_report.Goals as goal

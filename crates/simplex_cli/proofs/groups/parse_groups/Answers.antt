@@ -4,7 +4,7 @@ use Rattle.std.proofs.lemmas.Bool.{false≢true}
 use Rattle.std.proofs.lemmas.List.{take-map, drop-map}
 use Rattle.std.proofs.lemmas.Result.{err_from_is_err_and}
 use Rattle.simplex_schemes.specs.Plain.{PlainScheme}
-use Rattle.simplex_detector.specs.Committees.{AreRising}
+use Rattle.simplex_scheme.specs.Committees.{AreRising}
 use Rattle.simplex_cli.specs.Arguments.{AreGroups, AreNoKeys, StandsBeforeGroup}
 use Rattle.simplex_cli.specs.declared.status.Failure.TheVariants as failures
 use Rattle.simplex_cli.proofs.GroupLemmas.{AreRead, begun, next_group, no_texts, read_next, rising_push}

@@ -1,6 +1,6 @@
 use Rattle.std.proofs.Common.{List, ℕ, ◌++◌, map, length, string_bytes}
 use Rattle.simplex_schemes.specs.Plain.{PlainScheme}
-use Rattle.simplex_detector.specs.Committees.{AreRising}
+use Rattle.simplex_scheme.specs.Committees.{AreRising}
 use Rattle.simplex_cli.specs.Arguments.{AreGroups}
 use Rattle.simplex_cli.proofs.GroupLemmas.{AreRead}
 use Rattle.simplex_cli.proofs.NoGroups.{Continues}

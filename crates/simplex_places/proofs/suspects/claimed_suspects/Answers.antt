@@ -3,14 +3,13 @@ use Rattle.std.specs.BTreeSet.{contains}
 use Rattle.std.proofs.lemmas.Simd.{map-map}
 use Rattle.simplex_base.specs.Positions.{Round}
 use Rattle.simplex_scheme.specs.Subject.{round_of}
-use Rattle.simplex_detector.specs.Committees.{rules_of}
+use Rattle.simplex_detector.specs.Scheme.{rules_of, scheme_of}
 use Rattle.simplex_detector.specs.Evidence.{IsEvidence}
 use Rattle.simplex_detector.specs.Accusation.{round_cmp, signer_cmp}
 use Rattle.simplex_detector.specs.Rules.{valid_votes}
 use Rattle.simplex_detector.specs.Suspects.{is_suspect, is_suspect_round, suspect_of}
 use Rattle.simplex_detector.specs.Values.{evidence_value}
 use Rattle.simplex_detector.specs.declared.judging.Judging.TheVariants.{Claimed}
-use Rattle.simplex_detector.specs.Scheme.{scheme_of}
 use Rattle.simplex_detector.proofs.SuspectLemmas.{claims_are_claimed}
 use Rattle.simplex_places.proofs.SuspectLemmas.{holds_alike}
 use Rattle.simplex_places.proofs.suspects.claimed_suspects.Goals as goal

@@ -1,5 +1,5 @@
 use Rattle.std.proofs.Common.{ℕ, false, sym, ap, ◌∙◌}
-use Rattle.simplex_detector.specs.Committees.{committee_of, size_by}
+use Rattle.simplex_scheme.specs.Committees.{committee_of, size_by}
 use Rattle.simplex_places.specs.Suspects.{suspected_by}
 use Rattle.simplex_places.specs.declared.places.Placed.{Placed}
 use Rattle.simplex_places.specs.declared.places.AttestationPlace.{AttestationPlace}

@@ -1,5 +1,5 @@
 use Rattle.std.proofs.Common.{◌≡◌, take}
-use Rattle.simplex_detector.specs.Committees.{committee_of, size_by}
+use Rattle.simplex_scheme.specs.Committees.{committee_of, size_by}
 use Rattle.simplex_places.specs.Suspects.{sought_of, suspected_by}
 use Rattle.simplex_places.proofs.suspects.sought.Given as goal
 

@@ -2,7 +2,7 @@ use Rattle.std.proofs.Common.{◌≡◌, ℕ, length, refl, sym, ap, subst, ◌�
 use Rattle.simplex_base.specs.Format.{Format, fixed}
 use Rattle.simplex_evidence.specs.Activity.{activity_format}
 use Rattle.simplex_evidence.specs.declared.types.activity.Activity.{Activity}
-use Rattle.simplex_detector.specs.Committees.{bound_of}
+use Rattle.simplex_scheme.specs.Committees.{bound_of}
 use Rattle.simplex_stream.specs.Tail.{Awaits}
 use Rattle.simplex_audit.proofs.AuditorLemmas.{stands_after, front_dropped}
 use Rattle.simplex_audit.proofs.auditor.Auditor.read_tail.Given as given

@@ -2,7 +2,7 @@ use Rattle.std.proofs.Common.{◌-◌, ℕ, List, length, ap, subst, arith}
 use Rattle.simplex_base.specs.Format.{Format, fixed}
 use Rattle.simplex_evidence.specs.Activity.{activity_format}
 use Rattle.simplex_evidence.specs.declared.types.activity.Activity.{Activity}
-use Rattle.simplex_detector.specs.Committees.{bound_of}
+use Rattle.simplex_scheme.specs.Committees.{bound_of}
 use Rattle.simplex_detector.specs.declared.judging.Judging.TheVariants.{Verified}
 use Rattle.simplex_stream.specs.Messages.{IsStuck, IsStop}
 use Rattle.simplex_audit.proofs.AuditorLemmas.{stands_reported, stands_audited}

@@ -1,7 +1,7 @@
 use Rattle.std.proofs.Common.{◌≡◌, ℕ, ◌<◌, ◌≤◌, ◌-◌, ◌^◌, List, ◌++◌, length, ap, subst, arith, length-append}
 use Rattle.std.specs.Prelude.{min}
 use Rattle.simplex_evidence.specs.declared.types.activity.Activity.{Activity}
-use Rattle.simplex_detector.specs.Committees.{Schedule}
+use Rattle.simplex_scheme.specs.Committees.{Schedule}
 use Rattle.simplex_detector.specs.Detector.{Recalls}
 use Rattle.simplex_detector.specs.declared.judging.Judging.TheVariants.{Verified}
 use Rattle.simplex_audit.specs.Auditor.{Stands}

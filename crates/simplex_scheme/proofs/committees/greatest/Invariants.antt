@@ -1,5 +1,6 @@
-use Rattle.simplex_detector.proofs.Prelude.{All, drop, greatest, length, max, take, ◌≡◌, ◌≤◌}
-use Rattle.simplex_detector.proofs.committees.greatest.Given as goal
+use Rattle.std.proofs.Common.{All, drop, length, max, take, ◌≡◌, ◌≤◌}
+use Rattle.simplex_scheme.specs.Committees.{greatest}
+use Rattle.simplex_scheme.proofs.committees.greatest.Given as goal
 
 abbrev pub invariant-pairs : goal.invariant-pairs
 invariant-pairs g l = record {

@@ -1,13 +1,11 @@
 -- Which committee judges the messages of an epoch.
 use Rattle.std.specs.Prelude.{⊤, ℕ, ◌<◌, ◌==◌, ◌≢◌, Bool, false, List, [], ◌∷◌, length, max, Option, Some, None, option_map, true}
 use Rattle.std.specs.List.{AllPairs, find}
-use Rattle.simplex_scheme.specs.Subject.{SubjectValue, round_of}
-use Rattle.simplex_detector.specs.Rules.{Rules}
-use Rattle.simplex_detector.specs.Scheme.{Scheme}
-use Rattle.simplex_detector.specs.declared.committees.Entries.{Entries}
-use Rattle.simplex_detector.specs.declared.committees.Entries.TheVariants as entries
-use Rattle.simplex_detector.specs.declared.committees.CommitteesError.{CommitteesError}
-use Rattle.simplex_detector.specs.declared.committees.CommitteesError.TheVariants.{Empty, Unordered}
+use Rattle.simplex_scheme.specs.Subject.{SubjectValue}
+use Rattle.simplex_scheme.specs.declared.committees.Entries.{Entries}
+use Rattle.simplex_scheme.specs.declared.committees.Entries.TheVariants as entries
+use Rattle.simplex_scheme.specs.declared.committees.CommitteesError.{CommitteesError}
+use Rattle.simplex_scheme.specs.declared.committees.CommitteesError.TheVariants.{Empty, Unordered}
 
 -- one committee for every epoch, or one for each listed epoch
 pub data Schedule (S : Type 0) : Type 0 where
@@ -51,16 +49,6 @@ valid_by good (Some committee) x signer signature = good committee x signer sign
 abbrev pub certified_by : {S D C : Type 0} → (S → SubjectValue D → C → Bool) → Option S → SubjectValue D → C → Bool
 certified_by certified None x certificate = false
 certified_by certified (Some committee) x certificate = certified committee x certificate
-
--- each vote and each certificate is judged by the committee of its round's epoch
-abbrev pub rules_of : {S D C P G : Type 0} → Scheme S D C P G → Schedule S → Rules S D C P G
-rules_of scheme schedule = record {
-  eq = scheme.eq;
-  good = λ x. valid_by scheme.good (committee_of schedule (round_of x).epoch) x;
-  certified = λ x. certified_by scheme.certified (committee_of schedule (round_of x).epoch) x;
-  listed = scheme.listed;
-  size = λ epoch. size_by scheme.keys (committee_of schedule epoch);
-}
 
 abbrev pub schedule_of : {S : Type 0} → Entries S → Schedule S
 schedule_of (entries.Every committee) = Every committee

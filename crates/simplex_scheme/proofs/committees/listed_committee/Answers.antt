@@ -1,6 +1,8 @@
-use Rattle.simplex_detector.proofs.Prelude.{◌∙◌, Err, Ok, answers_always, ap, option_map, rules, sym}
-use Rattle.simplex_detector.proofs.CommitteeLemmas.{entry_of, entry_at, searched}
-use Rattle.simplex_detector.proofs.committees.listed_committee.Goals as goal
+use Rattle.std.proofs.Common.{◌∙◌, Err, Ok, ap, rules, sym}
+use Rattle.std.proofs.lemmas.List.Sorted.{answers_always}
+use Rattle.std.specs.Prelude.{option_map}
+use Rattle.simplex_scheme.proofs.CommitteeLemmas.{entry_of, entry_at, searched}
+use Rattle.simplex_scheme.proofs.committees.listed_committee.Goals as goal
 
 pub returns-in-Ok : goal.returns-in-Ok
 returns-in-Ok g c =

@@ -2,11 +2,10 @@
 
 ghost use Rattle.std.specs.Prelude.{◌≡◌, ◌≢◌, ◌<◌, ◌≤◌, ◌↔◌, ℕ, [], Some, Ok, Err, length, IfOk, IsTrue, All, max};
 ghost use Rattle.std.specs.Option.{option_copied};
-ghost use Rattle.simplex_detector.specs.Committees.{Schedule, Every, Listed, committee_of, bound_of, greatest, AreRising};
+ghost use Rattle.simplex_scheme.specs.Committees.{Schedule, Every, Listed, committee_of, bound_of, greatest, AreRising};
 
+use crate::scheme::CertificateScheme;
 use simplex_base::positions::Epoch;
-use simplex_base::values::{EqByParts, ExactClone, InfallibleClone};
-use simplex_scheme::scheme::CertificateScheme;
 use std::marker::Model;
 
 /// Why `Committees::try_from_vec` refuses a list.
@@ -18,27 +17,6 @@ pub enum CommitteesError {
     /// The epochs do not rise strictly.
     #[error("the epochs do not rise strictly")]
     Unordered,
-}
-
-impl ExactClone for CommitteesError {
-    ghost exact = { λ x y same. same };
-}
-
-impl InfallibleClone for CommitteesError {
-    ghost infallible = { λ _. tt };
-}
-
-impl EqByParts for CommitteesError {
-    ghost use Rattle.std.specs.Prelude.{refl};
-    ghost use Rattle.simplex_detector.specs.Committees.{same_refusal};
-    ghost use Rattle.simplex_detector.specs.declared.committees.CommitteesError.TheVariants.{Empty, Unordered};
-
-    ghost same = { same_refusal };
-
-    ghost equal = { elim [
-      | Empty ↦ elim [ Empty ↦ refl | Unordered ↦ refl ]
-      | Unordered ↦ elim [ Empty ↦ refl | Unordered ↦ refl ]
-    ] };
 }
 
 /// One committee for every epoch, or one for each listed epoch.
@@ -56,7 +34,7 @@ pub struct Committees<S> {
 }
 
 impl<S> Model for Committees<S> {
-    ghost use Rattle.simplex_detector.specs.Committees.{Schedule, IsSchedule, schedule_of};
+    ghost use Rattle.simplex_scheme.specs.Committees.{Schedule, IsSchedule, schedule_of};
 
     ghost Value = { Schedule S };
 

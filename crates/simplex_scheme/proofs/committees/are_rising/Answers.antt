@@ -1,6 +1,6 @@
-use Rattle.simplex_detector.proofs.Prelude.{sym, ◌∙◌}
-use Rattle.simplex_detector.proofs.CommitteeLemmas.{not_le, rising_next}
-use Rattle.simplex_detector.proofs.committees.are_rising.Goals as goal
+use Rattle.std.proofs.Common.{sym, ◌∙◌}
+use Rattle.simplex_scheme.proofs.CommitteeLemmas.{not_le, rising_next}
+use Rattle.simplex_scheme.proofs.committees.are_rising.Goals as goal
 
 pub pairs-preserved : goal.pairs-preserved
 pairs-preserved g c =

@@ -1,6 +1,7 @@
-use Rattle.simplex_detector.proofs.Prelude.{All, IsSchedule, Listed, ap, committee_of, greatest, length, schedule_of, subst, sym, ◌∙◌, ◌≤◌}
-use Rattle.simplex_detector.proofs.CommitteeLemmas.{most, reached, listed_some}
-use Rattle.simplex_detector.proofs.committees.Committees.bound.Goals as goal
+use Rattle.std.proofs.Common.{All, ap, length, subst, sym, ◌∙◌, ◌≤◌}
+use Rattle.simplex_scheme.specs.Committees.{IsSchedule, Listed, committee_of, greatest, schedule_of}
+use Rattle.simplex_scheme.proofs.CommitteeLemmas.{most, reached, listed_some}
+use Rattle.simplex_scheme.proofs.committees.Committees.bound.Goals as goal
 
 pub returns-in-Listed-clause-most : goal.returns-in-Listed-clause-most
 returns-in-Listed-clause-most g c epoch committee h =

@@ -1,6 +1,9 @@
-use Rattle.simplex_detector.proofs.Prelude.{greatest, drop_all, arith, All-push, ap, length, sym, take_all, take_more, ◌∙◌, ◌≤◌}
-use Rattle.simplex_detector.proofs.CommitteeLemmas.{greatest_next}
-use Rattle.simplex_detector.proofs.committees.greatest.Goals as goal
+use Rattle.simplex_scheme.specs.Committees.{greatest}
+use Rattle.std.proofs.lemmas.List.{drop_all, take_all, take_more}
+use Rattle.std.proofs.Common.{arith, ap, length, sym, ◌∙◌, ◌≤◌}
+use Rattle.std.proofs.lemmas.List.Elements.{All-push}
+use Rattle.simplex_scheme.proofs.CommitteeLemmas.{greatest_next}
+use Rattle.simplex_scheme.proofs.committees.greatest.Goals as goal
 
 pub pairs-preserved : goal.pairs-preserved
 pairs-preserved g c = record {
