@@ -202,7 +202,7 @@ pub fn read_value<T: ReadExt>(alloc: Global, input: &mut &[u8]) -> Result<T, Err
     ensures refusal { Gives T.takes_memory result input.old.now input.new.now
         (T.reading tt input.old.now) }
 {
-    let _bytes = known_bytes(*input);
+    known_bytes(*input);
     T::read_cfg(alloc, input, &())
 }
 

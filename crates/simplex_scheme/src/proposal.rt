@@ -44,9 +44,9 @@ impl<D: Digest> Proposal<D> {
         ensures same { IsTrue result ↔ (self.now ≡ other.now) }
         ensures equal { result ≡ ⟦<Proposal<D> as PartialEq>⟧.eq self.now other.now }
     {
-        let _ = self.payload.as_bytes();
-        let _ = other.payload.as_bytes();
-        self == other
+        self.round == other.round
+            && self.parent == other.parent
+            && self.payload.as_bytes() == other.payload.as_bytes()
     }
 }
 

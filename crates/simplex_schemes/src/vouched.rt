@@ -92,7 +92,6 @@ impl<R: Role<N>, const N: usize> CertificateScheme for Vouched<R, N> {
     }
 
     fn me(&self) -> Option<Participant> {
-        let _ = &self.committee;
         None
     }
 

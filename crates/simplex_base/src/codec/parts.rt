@@ -149,7 +149,8 @@ impl<T: Fixed> ReadExt for T {
     ghost readable = { λ x value. value };
 }
 
-/// The same bytes, each of which is below 256.
+/// The same bytes, each of which is below 256. Of bytes behind a reference to a slice, and of a slice that changes, the
+/// prover knows that only if a call says so.
 pub fn known_bytes(bytes: &[u8]) -> &[u8]
     ensures same { result.now ≡ bytes.now }
     ensures range { IsBytes bytes.now }

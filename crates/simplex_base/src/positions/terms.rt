@@ -131,9 +131,7 @@ impl View {
             ((pending ≤ self) ⊎ (pending ≡ self + 1) ⊎ (pending ≡ term_end length self + 1)) }
         ensures some { 1 ≤ length }
     {
-        let _views = length.get();
-        pending <= self
-            || pending.get() - 1 == self.get()
-            || pending == self.next_term_start(length)
+        let next = self.next_term_start(length);
+        pending <= self || pending.get() - 1 == self.get() || pending == next
     }
 }
