@@ -1,10 +1,7 @@
--- A scheme by verdicts: the caller found elsewhere which signatures are valid. The proof at the end stands here, since
--- a ghost member of the scheme cites it.
-use Rattle.std.specs.Prelude.{◌≡◌, ℕ, ◌<◌, ◌==◌, ◌&&◌, Bool, true, List, length, nat_lt, Option, None}
+-- A scheme by verdicts: the caller found elsewhere which signatures are valid.
+use Rattle.std.specs.Prelude.{ℕ, ◌==◌, ◌&&◌, Bool, List, length, nat_lt, Option, None}
 use Rattle.std.specs.List.{list_any}
 use Rattle.std.specs.Str.{bytes_eq}
-use Rattle.std.proofs.Common.{arith}
-use Rattle.std.proofs.lemmas.Bool.Decides.{nat_tests}
 use Rattle.simplex_base.specs.Format.{Format}
 use Rattle.simplex_scheme.specs.Kind.{kind_of, same_kind}
 use Rattle.simplex_scheme.specs.Subject.{SubjectValue, message_of}
@@ -29,7 +26,3 @@ is_on payload subject signer signature v =
 abbrev pub judged_good : {D : Type 0} → Format D → JudgedScheme → SubjectValue D → ℕ → List ℕ → Bool
 judged_good payload scheme subject signer signature =
     nat_lt signer (length scheme.keys) && list_any (is_on payload subject signer signature) scheme.verdicts
-
-pub judged_members : {D : Type 0} (payload : Format D) (scheme : JudgedScheme) (subject : SubjectValue D) (signer : ℕ)
-    (signature : List ℕ) → judged_good payload scheme subject signer signature ≡ true → signer < length scheme.keys
-judged_members payload scheme subject signer signature h = grind (arith, nat_tests)

@@ -15,7 +15,8 @@ ghost use Rattle.simplex_base.specs.Format.{format_of};
 ghost use Rattle.simplex_scheme.specs.Subject.{SubjectValue, subject_value};
 ghost use Rattle.simplex_scheme.specs.Committee.{IsInOrder, IsQuorum, is_quorum, quorum_of, signers_of, RefusesFew};
 ghost use Rattle.simplex_schemes.specs.CommitteeLaws.{quorum_meaning, listed_size};
-ghost use Rattle.examples.specs.Judged.{nobody, is_on, judged_good, judged_members};
+ghost use Rattle.examples.specs.Judged.{nobody, is_on, judged_good};
+ghost use Rattle.examples.specs.JudgedLaws.{judged_members};
 
 use simplex_base::codec::Read;
 use simplex_base::codec::fixed_bytes::FixedBytes;

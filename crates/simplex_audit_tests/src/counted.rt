@@ -7,7 +7,8 @@ ghost use Rattle.std.proofs.Common.{lit≤};
 ghost use Rattle.simplex_scheme.specs.Subject.{SubjectValue, subject_value};
 ghost use Rattle.simplex_scheme.specs.Committee.{IsInOrder, is_quorum, quorum_of, signers_of, RefusesFew};
 ghost use Rattle.simplex_schemes.specs.CommitteeLaws.{quorum_meaning, listed_size};
-ghost use Rattle.simplex_schemes.specs.Marked.{marked_good, marked_members};
+ghost use Rattle.simplex_schemes.specs.Marked.{marked_good};
+ghost use Rattle.simplex_schemes.specs.MarkedLaws.{marked_members};
 ghost use Rattle.simplex_audit_tests.specs.Counted.{nobody};
 
 use simplex_base::codec::Fixed;

@@ -1,5 +1,4 @@
 -- Electors: how they use certificates, and when two elect alike.
-use Rattle.std.proofs.Common.{ap}
 use Rattle.std.specs.Prelude.{◌≡◌, ℕ, Bool, true, false, Option, None}
 use Rattle.simplex_base.specs.Positions.{Round}
 use Rattle.simplex_lead.specs.Terms.{Terms}
@@ -27,16 +26,3 @@ pub record ElectAlike {E C : Type 0}
   pub terms : terms_of one ≡ terms_of other
   pub participants : participants_of one ≡ participants_of other
   pub leaders : (round : Round) (certificate : Option C) → leader_of one round certificate ≡ leader_of other round certificate
-
--- ---- a law, which ghost members of impls cite
-
--- an elector elects as itself
-pub one_alike : {E C : Type 0}
-    (mode_of : E → Mode) (terms_of : E → Terms) (participants_of : E → ℕ) (leader_of : E → Round → Option C → ℕ)
-    (one other : E) → one ≡ other → ElectAlike mode_of terms_of participants_of leader_of one other
-one_alike mode_of terms_of participants_of leader_of one other same = record {
-  modes = ap mode_of same;
-  terms = ap terms_of same;
-  participants = ap participants_of same;
-  leaders = λ round certificate. ap (λ elector. leader_of elector round certificate) same;
-}

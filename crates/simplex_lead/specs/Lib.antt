@@ -1,6 +1,7 @@
 pub mod Windows
 pub mod Terms
 pub mod Election
+pub mod ElectionLaws
 pub mod Rotation
 pub mod OrderLaws
 pub mod RotationLaws

@@ -96,7 +96,7 @@ impl<S: CertificateScheme> Config<S> for FirstAlways {
 
 impl<S: CertificateScheme> Elector<S> for First {
     ghost use Rattle.std.proofs.Common.{sym};
-    ghost use Rattle.simplex_lead.specs.Election.{one_alike};
+    ghost use Rattle.simplex_lead.specs.ElectionLaws.{one_alike};
 
     ghost mode_of = { λ _. Dynamic };
 

@@ -3,6 +3,9 @@ pub mod ListedLaws
 pub mod Skimmed
 pub mod CommitteeLaws
 pub mod Plain
+pub mod PlainLaws
 pub mod PlainCommittee
 pub mod Marked
+pub mod MarkedLaws
 pub mod Vouched
+pub mod VouchedLaws

@@ -1,10 +1,8 @@
 -- The marked scheme: a valid signature is one fixed byte, for every signer and message.
-use Rattle.std.specs.Prelude.{◌≡◌, ℕ, ◌<◌, Bool, true, List, [], ◌∷◌, ◌&&◌, Option, map, nat_lt}
+use Rattle.std.specs.Prelude.{ℕ, Bool, List, [], ◌∷◌, ◌&&◌, Option, map, nat_lt}
 use Rattle.std.specs.Int.{w32, to_be_bytes}
 use Rattle.std.specs.List.{range_with_len}
 use Rattle.std.specs.Str.{bytes_eq}
-use Rattle.std.proofs.Common.{arith}
-use Rattle.std.proofs.lemmas.Bool.Decides.{nat_tests}
 use Rattle.simplex_scheme.specs.Subject.{SubjectValue}
 
 -- a committee's keys, and which of it this is
@@ -19,8 +17,3 @@ numbered n = map (to_be_bytes w32) (range_with_len 0 n)
 -- the signer is one of n participants, and the signature is the byte aa
 abbrev pub marked_good : {D : Type 0} → ℕ → SubjectValue D → ℕ → List ℕ → Bool
 marked_good n subject signer signature = nat_lt signer n && bytes_eq signature (170 ∷ [])
-
--- the signer of a valid signature is in the committee
-pub marked_members : {D : Type 0} (n : ℕ) (subject : SubjectValue D) (signer : ℕ) (signature : List ℕ) →
-    marked_good n subject signer signature ≡ true → signer < n
-marked_members n subject signer signature h = grind (arith, nat_tests)

@@ -1,7 +1,6 @@
 -- The plain scheme: a signature is a hash that anyone can compute.
-use Rattle.std.specs.Prelude.{◌≡◌, ℕ, zero, suc, ◌<◌, Bool, true, false, List, [], ◌∷◌, ◌++◌, Option, length, slice_get}
+use Rattle.std.specs.Prelude.{ℕ, Bool, false, List, ◌++◌, Option, length, slice_get}
 use Rattle.std.specs.Option.{option_map_or}
-use Rattle.std.proofs.Common.{arith}
 use Rattle.std.specs.Str.{bytes_eq}
 use Rattle.sha2.specs.Sha256.{sha256}
 use Rattle.simplex_base.specs.Format.{Format}
@@ -28,17 +27,3 @@ abbrev pub plain_good : {D : Type 0} → Format D → PlainScheme → SubjectVal
 plain_good payload scheme subject signer signature =
     option_map_or (λ key. bytes_eq signature (plain_signature payload scheme.names key subject))
     (slice_get scheme.keys signer) false
-
--- the signer of a valid signature is in the committee
-pub good_members : {D : Type 0} (payload : Format D) (scheme : PlainScheme) (subject : SubjectValue D) (signer : ℕ)
-    (signature : List ℕ) →
-    plain_good payload scheme subject signer signature ≡ true → signer < length scheme.keys
-good_members payload scheme subject signer signature h = inside scheme.keys signer h
-  where
-    inside : (keys : List (List ℕ)) (place : ℕ) →
-        option_map_or (λ key. bytes_eq signature (plain_signature payload scheme.names key subject)) (slice_get keys place)
-        false ≡ true →
-        place < length keys
-    inside [] place h = absurd cc
-    inside (key ∷ keys) zero h = omega arith
-    inside (key ∷ keys) (suc place) h = let less = inside keys place h in omega arith

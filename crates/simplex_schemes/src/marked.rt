@@ -8,7 +8,8 @@ ghost use Rattle.simplex_scheme.specs.Subject.{SubjectValue, subject_value};
 ghost use Rattle.simplex_scheme.specs.Committee.{IsInOrder, IsQuorum, is_quorum, quorum_of, signers_of, RefusesFew};
 ghost use Rattle.simplex_schemes.specs.CommitteeLaws.{quorum_meaning, listed_size};
 ghost use Rattle.std.specs.List.{IsDistinct};
-ghost use Rattle.simplex_schemes.specs.Marked.{numbered, marked_good, marked_members};
+ghost use Rattle.simplex_schemes.specs.Marked.{numbered, marked_good};
+ghost use Rattle.simplex_schemes.specs.MarkedLaws.{marked_members};
 
 use crate::certificates::{AttestationVerifier, are_certified, assembled, is_certified};
 use crate::listed::Listed;

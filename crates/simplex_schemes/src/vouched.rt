@@ -12,7 +12,8 @@ ghost use Rattle.simplex_scheme.specs.Subject.{SubjectValue, subject_value};
 ghost use Rattle.simplex_scheme.specs.Committee.{IsInOrder, IsQuorum, is_quorum, quorum_of, signers_of, RefusesFew, AssemblesQuorum};
 ghost use Rattle.simplex_schemes.specs.CommitteeLaws.{quorum_meaning, listed_size};
 ghost use Rattle.simplex_schemes.specs.Marked.{numbered};
-ghost use Rattle.simplex_schemes.specs.Vouched.{nobody, is_vouched, vouched_valid, vouched_members};
+ghost use Rattle.simplex_schemes.specs.Vouched.{nobody, is_vouched, vouched_valid};
+ghost use Rattle.simplex_schemes.specs.VouchedLaws.{vouched_members};
 
 use crate::certificates::{AttestationVerifier, are_certified, assembled, is_certified};
 use crate::listed::Listed;

@@ -192,7 +192,7 @@ fn order_of<H: Hasher>(alloc: Global, seed: Option<&[u8]>, n: u32) -> Result<Ord
 }
 
 impl<S: CertificateScheme, H: Hasher> Config<S> for RoundRobin<H> {
-    ghost use Rattle.simplex_lead.specs.Election.{one_alike};
+    ghost use Rattle.simplex_lead.specs.ElectionLaws.{one_alike};
     ghost use Rattle.simplex_lead.specs.RotationLaws.{one_rotation, same_rotations};
 
     type Elector = RoundRobinElector<S>;
@@ -282,7 +282,7 @@ impl<S> RoundRobinElector<S> {
 
 impl<S: CertificateScheme> Elector<S> for RoundRobinElector<S> {
     ghost use Rattle.std.proofs.Common.{refl, sym};
-    ghost use Rattle.simplex_lead.specs.Election.{one_alike};
+    ghost use Rattle.simplex_lead.specs.ElectionLaws.{one_alike};
     ghost use Rattle.simplex_lead.specs.RotationLaws.{same_leader};
     ghost use Rattle.simplex_lead.specs.declared.elector.mode.Mode.TheVariants.{Scheduled};
 
