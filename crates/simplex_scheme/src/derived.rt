@@ -5,7 +5,7 @@ ghost use Rattle.std.specs.Ordering.{nat_cmp, ordering_then};
 
 use crate::committees::CommitteesError;
 use crate::scheme::{
-    AssemblyError, Attestation, Namespace, Proposal, SchemeTypes, SetError, Subject,
+    AssemblyError, Attestation, Namespace, Proposal, SchemeTypes, SetError, Subject, VoteKind,
 };
 use simplex_base::positions::Round;
 use simplex_base::values::{EqByParts, ExactClone, InfallibleClone, OrdByParts};
@@ -134,4 +134,25 @@ impl<D: Clone> InfallibleClone for Subject<'_, D> {
     ghost use Rattle.simplex_scheme.specs.declared.subject.Subject.TheVariants.{Notarize, Nullify, Finalize};
 
     ghost infallible = { elim [ Notarize p ↦ tt | Nullify r ↦ tt | Finalize p ↦ tt ] };
+}
+
+impl ExactClone for VoteKind {
+    ghost exact = { λ x y same. same };
+}
+
+impl InfallibleClone for VoteKind {
+    ghost infallible = { λ _. tt };
+}
+
+impl EqByParts for VoteKind {
+    ghost use Rattle.simplex_scheme.specs.Kind.{same_kind};
+    ghost use Rattle.simplex_scheme.specs.declared.kind.VoteKind.TheVariants.{Notarize, Nullify, Finalize};
+
+    ghost same = { same_kind };
+
+    ghost equal = { elim [
+      | Notarize ↦ elim [ Notarize ↦ refl | Nullify ↦ refl | Finalize ↦ refl ]
+      | Nullify ↦ elim [ Notarize ↦ refl | Nullify ↦ refl | Finalize ↦ refl ]
+      | Finalize ↦ elim [ Notarize ↦ refl | Nullify ↦ refl | Finalize ↦ refl ]
+    ] };
 }

@@ -1,8 +1,6 @@
 //! The kinds of votes.
 
-ghost use Rattle.std.specs.Prelude.{◌≡◌, refl};
-
-use simplex_base::values::{EqByParts, ExactClone, InfallibleClone};
+ghost use Rattle.std.specs.Prelude.{◌≡◌};
 
 /// The kind of a vote.
 #[derive(Clone, Copy, Debug, PartialEq, Eq, PartialOrd, Ord)]
@@ -13,27 +11,6 @@ pub enum VoteKind {
     Nullify,
     /// That a proposal is final.
     Finalize,
-}
-
-impl ExactClone for VoteKind {
-    ghost exact = { λ x y same. same };
-}
-
-impl InfallibleClone for VoteKind {
-    ghost infallible = { λ _. tt };
-}
-
-impl EqByParts for VoteKind {
-    ghost use Rattle.simplex_scheme.specs.Kind.{same_kind};
-    ghost use Rattle.simplex_scheme.specs.declared.kind.VoteKind.TheVariants.{Notarize, Nullify, Finalize};
-
-    ghost same = { same_kind };
-
-    ghost equal = { elim [
-      | Notarize ↦ elim [ Notarize ↦ refl | Nullify ↦ refl | Finalize ↦ refl ]
-      | Nullify ↦ elim [ Notarize ↦ refl | Nullify ↦ refl | Finalize ↦ refl ]
-      | Finalize ↦ elim [ Notarize ↦ refl | Nullify ↦ refl | Finalize ↦ refl ]
-    ] };
 }
 
 impl VoteKind {

@@ -9,6 +9,7 @@
 #![tactic(auto)]
 
 pub mod certificates;
+mod derived;
 pub mod listed;
 pub mod marked;
 pub mod plain;

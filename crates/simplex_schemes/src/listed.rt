@@ -1,6 +1,6 @@
 //! Certificates that list their attestations.
 
-ghost use Rattle.std.specs.Prelude.{◌≡◌, ◌+◌, ◌/◌, min, ◌<◌, ◌≤◌, ◌^◌, [], List, IfOk, length, true, false, refl};
+ghost use Rattle.std.specs.Prelude.{◌≡◌, ◌+◌, ◌/◌, min, ◌<◌, ◌≤◌, ◌^◌, [], List, IfOk, length, true, false};
 ghost use Rattle.std.specs.Hash as fed;
 ghost use Rattle.std.specs.Vec.{vec_capacity};
 ghost use Rattle.std.specs.Cmp.Lexicographic.{pointwise, lists_per};
@@ -18,7 +18,6 @@ use simplex_base::codec::counted::{size_counted, write_counted};
 use simplex_base::codec::parts::known_bytes;
 use simplex_base::codec::varint::read_u32;
 use simplex_base::codec::{EncodeSize, Encoding, Error, FixedSize, Read, Write};
-use simplex_base::values::{EqByParts, ExactClone};
 use simplex_scheme::scheme::{Attestation, SchemeTypes};
 use std::alloc::{AllocError, Global};
 use std::hash::{Hash, Hasher};
@@ -96,16 +95,6 @@ impl<S: SchemeTypes> Hash for Listed<S> {
     fn hash<H: Hasher>(&self, state: &mut H) {
         self.attestations.hash(state);
     }
-}
-
-impl<S: SchemeTypes> ExactClone for Listed<S> {
-    ghost exact = { λ x y same. same };
-}
-
-impl<S: SchemeTypes> EqByParts for Listed<S> {
-    ghost same = { pointwise ⟦<Attestation<S> as PartialEq>⟧.eq };
-
-    ghost equal = { λ x y. refl };
 }
 
 impl<S: SchemeTypes> Encoding for Listed<S> {

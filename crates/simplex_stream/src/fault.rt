@@ -1,10 +1,9 @@
 //! Where a stream stops being messages, and why.
 
-ghost use Rattle.std.specs.Prelude.{◌≡◌, ◌≢◌, ◌&&◌, IfOk, nat_eq, refl};
+ghost use Rattle.std.specs.Prelude.{◌≡◌, ◌≢◌, IfOk};
 ghost use Rattle.simplex_stream.specs.Fault.{fault_of};
 
 use simplex_base::codec::Error;
-use simplex_base::values::{EqByParts, ExactClone, InfallibleClone};
 use std::alloc::AllocError;
 
 /// Where a stream stops being messages.
@@ -14,20 +13,6 @@ pub struct Fault {
     pub place: usize,
     /// The error of reading a message there; never `OutOfMemory`.
     pub error: Error,
-}
-
-impl ExactClone for Fault {
-    ghost exact = { λ x y same. same };
-}
-
-impl InfallibleClone for Fault {
-    ghost infallible = { λ _. tt };
-}
-
-impl EqByParts for Fault {
-    ghost same = { λ x y. nat_eq x.place y.place && ⟦<Error as PartialEq>⟧.eq x.error y.error };
-
-    ghost equal = { λ x y. refl };
 }
 
 /// The fault at a place, if reading was refused there.

@@ -10,6 +10,7 @@
 //! [`text::write_text`]. Their visitors prove what one message does.
 #![tactic(auto)]
 
+mod derived;
 pub mod fault;
 pub mod messages;
 pub mod pieces;

@@ -1,8 +1,7 @@
 //! Why reading or writing all of a stream failed.
 
-ghost use Rattle.std.specs.Prelude.{◌≡◌, refl};
+ghost use Rattle.std.specs.Prelude.{◌≡◌};
 
-use simplex_base::values::{EqByParts, ExactClone, InfallibleClone};
 use std::alloc::AllocError;
 
 /// Why a run failed. What was written then is said of [`run`]; a call that writes while it reads states it itself.
@@ -20,28 +19,6 @@ pub enum RunError {
     /// The reader gave more than 2^64 - 1 bytes. Nothing was written.
     #[error("more than 2^64 - 1 bytes were read")]
     TooLong,
-}
-
-impl ExactClone for RunError {
-    ghost exact = { λ x y same. same };
-}
-
-impl InfallibleClone for RunError {
-    ghost infallible = { λ _. tt };
-}
-
-impl EqByParts for RunError {
-    ghost use Rattle.simplex_stream.specs.RunError.{same_run_error};
-    ghost use Rattle.simplex_stream.specs.declared.run_error.RunError.TheVariants.{Read, Write, OutOfMemory, TooLong};
-
-    ghost same = { same_run_error };
-
-    ghost equal = { elim [
-      | Read ↦ elim [ Read ↦ refl | _ ↦ refl ]
-      | Write ↦ elim [ Write ↦ refl | _ ↦ refl ]
-      | OutOfMemory ↦ elim [ OutOfMemory ↦ refl | _ ↦ refl ]
-      | TooLong ↦ elim [ TooLong ↦ refl | _ ↦ refl ]
-    ] };
 }
 
 impl From<AllocError> for RunError {
