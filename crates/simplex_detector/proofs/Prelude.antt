@@ -37,7 +37,7 @@ pub use Rattle.simplex_detector.specs.Certificates.{certificates_contradict, mes
 pub use Rattle.simplex_scheme.specs.Committees.{AreRising, Every, IsSchedule, Listed, Schedule, bound_of, certified_by, committee_of, greatest, schedule_of, size_by, valid_by}
 pub use Rattle.simplex_detector.specs.Scheme.{rules_of, Scheme, scheme_of}
 pub use Rattle.simplex_detector.specs.Detector.{Recalls, RecallsAt, RecallsNothing, RecallsRound, TakesIn, TakesContents}
-pub use Rattle.simplex_detector.specs.EncodedEvidence.{IsEncoded}
+pub use Rattle.simplex_detector.specs.EncodedEvidence.{IsEncoded, StayEncoded}
 pub use Rattle.simplex_detector.specs.Evidence.{IsEquivocation, IsEvidence, evidence_of, with_first, with_second}
 pub use Rattle.simplex_detector.specs.FirstCertified.{RecordsFirsts, are_split, certified_subjects, changes_firsts, excludes_first, excludes_some, first_certified, first_with, firsts_of, nothing_certified}
 pub use Rattle.simplex_detector.specs.Judging.{certified_under, rules_under, scheme_under, valid_under}

@@ -1,5 +1,5 @@
 -- The evidence of a report as messages: which can be encoded, and which are equal.
-use Rattle.std.specs.Prelude.{Bool, false, ⊤}
+use Rattle.std.specs.Prelude.{All, Bool, List, false, ⊤}
 use Rattle.simplex_base.specs.Format.{Format}
 use Rattle.simplex_votes.specs.declared.types.notarize.Notarize.{Notarize}
 use Rattle.simplex_votes.specs.declared.types.nullify.Nullify.{Nullify}
@@ -14,6 +14,11 @@ use Rattle.simplex_detector.specs.declared.evidence.Evidence.TheVariants as vari
 -- votes contradict. `eq` compares payloads
 abbrev pub IsEncoded : {S D P G : Type 0} → (D → D → Bool) → Format D → Format G → Evidence S D P G → Type 0
 IsEncoded eq payload signature e = IsActivity {C = ⊤} eq payload (λ _. ⊤) signature (activity_of e)
+
+-- if each of the old evidence can be encoded as a message, each of the new can
+abbrev pub StayEncoded : {S D P G : Type 0} → (D → D → Bool) → Format D → Format G → List (Evidence S D P G) →
+    List (Evidence S D P G) → Type 0
+StayEncoded eq payload signature old new = All (IsEncoded eq payload signature) old → All (IsEncoded eq payload signature) new
 
 -- the same member, equal by its type's equality
 module _ {S D P G : Type 0}

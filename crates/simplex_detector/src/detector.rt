@@ -8,7 +8,7 @@ ghost use Rattle.simplex_detector.specs.EncodedEvidence.{IsEncoded};
 ghost use Rattle.simplex_detector.specs.Values.{evidence_value};
 
 use simplex_scheme::committees::Committees;
-use crate::evidence::{Evidence, are_encoded};
+use crate::evidence::Evidence;
 use crate::judge::Judge;
 use crate::judging::Judging;
 use crate::round_state::RoundState;
@@ -77,16 +77,6 @@ impl<S: Listing<D>, D: Digest> Detector<S, D> {
         ensures encoded { IfOk result (λ found.
             All (IsEncoded D.eq (format_of ⟦<D as Read>⟧) (format_of ⟦<S::Signature as Read>⟧))
             found.items) }
-    {
-        let found = self.walk(alloc)?;
-        are_encoded(&found);
-        Ok(found)
-    }
-
-    /// The evidence in the state of each round.
-    fn walk(&self, alloc: Global) -> Result<Vec<Evidence<S, D>>, AllocError>
-        ensures { IfOk result (λ found. GivesEvidence ⟦<S as Judges<D>>⟧.rules_under
-            self.now (map evidence_value found.items)) }
     {
         let mut found = Vec::new(alloc);
         'rounds: for (_, round_state) in &self.rounds {

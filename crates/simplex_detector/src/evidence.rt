@@ -1,6 +1,6 @@
 //! The evidence of a report, and the line that reports one.
 
-ghost use Rattle.std.specs.Prelude.{◌≡◌, ⊤, ◌∷◌, [], All, IfOk, length, string_bytes, decimal};
+ghost use Rattle.std.specs.Prelude.{◌≡◌, ⊤, ◌∷◌, [], IfOk, length, string_bytes, decimal};
 ghost use Rattle.simplex_base.specs.Format.{format_of};
 ghost use Rattle.simplex_scheme.specs.Subject.{round_of};
 ghost use Rattle.simplex_detector.specs.Line.{line_of, parted, with_proposal};
@@ -99,16 +99,6 @@ impl<S: SchemeTypes, D: Digest> EqByParts for Evidence<S, D> {
       | ConflictingFinalize _ ↦ elim [ ConflictingFinalize _ ↦ refl | _ ↦ refl ]
       | NullifyFinalize _ ↦ elim [ NullifyFinalize _ ↦ refl | _ ↦ refl ]
     ] };
-}
-
-/// Shows that each of these can be encoded as a message, which `encode_size` ensures of one.
-pub(crate) fn are_encoded<S: SchemeTypes, D: Digest>(evidence: &[Evidence<S, D>])
-    ensures { All (IsEncoded D.eq (format_of ⟦<D as Read>⟧) (format_of ⟦<S::Signature as Read>⟧))
-        evidence.now }
-{
-    'items: for item in evidence {
-        item.encode_size();
-    }
 }
 
 /// The epoch and the view of a round, and a signer.

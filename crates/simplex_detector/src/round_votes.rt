@@ -3,11 +3,13 @@
 ghost use Rattle.std.specs.Prelude.{◌≡◌, ◌↔◌, ◌-◌, ◌^◌, min, List, [], ◌∷◌, ◌++◌, ℕ, true, count_by, map, filter, length, option_map, All, IfOk, OnOk, IsTrue};
 ghost use Rattle.std.specs.List.{flat_map, range_with_len};
 ghost use Rattle.std.specs.Option.{option_to_list};
+ghost use Rattle.simplex_base.specs.Format.{format_of};
 ghost use Rattle.simplex_scheme.specs.declared.kind.VoteKind.{VoteKind};
 ghost use Rattle.simplex_scheme.specs.Kind.{kind_of};
 ghost use Rattle.simplex_scheme.specs.Subject.{subject_value, round_of};
 ghost use Rattle.simplex_votes.specs.Votes.{SignedVote, vote_on};
 ghost use Rattle.simplex_evidence.specs.Contradiction.{Conflicting_notarize, Conflicting_finalize, Nullify_finalize};
+ghost use Rattle.simplex_detector.specs.EncodedEvidence.{StayEncoded};
 ghost use Rattle.simplex_detector.specs.Judging.{valid_under};
 ghost use Rattle.simplex_detector.specs.Recorded.{changes};
 ghost use Rattle.simplex_detector.specs.Rounds.{round_count, slots, no_slot, IsSized, TakesVote, HoldsRound, found_of_kind, found_at, accuses, ListsSigners};
@@ -17,6 +19,7 @@ use crate::boxed_map::BoxedMap;
 use crate::evidence::Evidence;
 use crate::judge::{Judge, Signatures};
 use crate::vote_pairs::{VotePairs, add_signers};
+use simplex_base::codec::Read;
 use simplex_base::positions::Participant;
 use simplex_evidence::types::{ConflictingFinalize, ConflictingNotarize, NullifyFinalize};
 use simplex_scheme::scheme::{Attestation, Digest, Scheme, SchemeTypes, Subject};
@@ -202,9 +205,11 @@ impl<S: SchemeTypes, D: Digest> RoundVotes<S, D> {
         alloc: Global,
         found: &mut Vec<Evidence<S, D>>,
     ) -> Result<(), AllocError>
-        ensures { OnOk result ((signers : List ℕ) × ListsSigners self.now signers ×
+        ensures appended { OnOk result ((signers : List ℕ) × ListsSigners self.now signers ×
             (map evidence_value found.new.items ≡ map evidence_value found.old.items ++
             flat_map (λ signer. found_at D.eq (slots self.now signer)) signers)) }
+        ensures encoded { OnOk result (StayEncoded D.eq (format_of ⟦<D as Read>⟧)
+            (format_of ⟦<S::Signature as Read>⟧) found.old.items found.new.items) }
     {
         let signers = self.signers(alloc)?;
         'signers: for signer in &signers {
@@ -232,8 +237,10 @@ impl<S: SchemeTypes, D: Digest> RoundVotes<S, D> {
         signer: Participant,
         found: &mut Vec<Evidence<S, D>>,
     ) -> Result<(), AllocError>
-        ensures { OnOk result (map evidence_value found.new.items ≡
+        ensures appended { OnOk result (map evidence_value found.new.items ≡
             map evidence_value found.old.items ++ found_at D.eq (slots self.now signer)) }
+        ensures encoded { OnOk result (StayEncoded D.eq (format_of ⟦<D as Read>⟧)
+            (format_of ⟦<S::Signature as Read>⟧) found.old.items found.new.items) }
     {
         push_found(found, self.conflicting_notarize(signer))?;
         push_found(found, self.conflicting_finalize(signer))?;
@@ -286,10 +293,14 @@ fn push_found<S: SchemeTypes, D: Digest>(
     found: &mut Vec<Evidence<S, D>>,
     evidence: Option<Evidence<S, D>>,
 ) -> Result<(), AllocError>
-    ensures { OnOk result (map evidence_value found.new.items ≡
+    ensures appended { OnOk result (map evidence_value found.new.items ≡
         map evidence_value found.old.items ++ option_to_list (option_map evidence_value evidence)) }
+    ensures encoded { OnOk result (StayEncoded D.eq (format_of ⟦<D as Read>⟧)
+        (format_of ⟦<S::Signature as Read>⟧) found.old.items found.new.items) }
 {
     if let Some(evidence) = evidence {
+        // Its clause says that the evidence can be encoded.
+        evidence.encode_size();
         found.push(evidence)?;
     }
     Ok(())
