@@ -21,7 +21,7 @@ use crate::judge::{Judge, Signatures};
 use crate::vote_pairs::{VotePairs, add_signers};
 use simplex_base::codec::Read;
 use simplex_base::positions::Participant;
-use simplex_evidence::types::{ConflictingFinalize, ConflictingNotarize, NullifyFinalize};
+use simplex_evidence::types::conflict_of;
 use simplex_scheme::scheme::{Attestation, Digest, Scheme, SchemeTypes, Subject};
 use simplex_votes::types::{Finalize, Notarize, Nullify};
 use std::alloc::{AllocError, Global};
@@ -254,11 +254,7 @@ impl<S: SchemeTypes, D: Digest> RoundVotes<S, D> {
     {
         let first = self.notarizes.first(signer)?;
         let other = self.notarizes.other(signer)?;
-        // Two recorded ones always conflict; the test gives `new` what it requires.
-        if !ConflictingNotarize::conflicts(first, other) {
-            return None;
-        }
-        Some(Evidence::ConflictingNotarize(ConflictingNotarize::new(first.copy(), other.copy())))
+        Some(Evidence::ConflictingNotarize(conflict_of(first.copy(), other.copy())?))
     }
 
     /// The two finalizes of a signer that contradict, if two are recorded.
@@ -268,10 +264,7 @@ impl<S: SchemeTypes, D: Digest> RoundVotes<S, D> {
     {
         let first = self.finalizes.first(signer)?;
         let other = self.finalizes.other(signer)?;
-        if !ConflictingFinalize::conflicts(first, other) {
-            return None;
-        }
-        Some(Evidence::ConflictingFinalize(ConflictingFinalize::new(first.copy(), other.copy())))
+        Some(Evidence::ConflictingFinalize(conflict_of(first.copy(), other.copy())?))
     }
 
     /// The nullify and the finalize of a signer, if both are recorded.
@@ -281,10 +274,7 @@ impl<S: SchemeTypes, D: Digest> RoundVotes<S, D> {
     {
         let nullify = self.nullifies.get(signer)?;
         let finalize = self.finalizes.first(signer)?;
-        if !NullifyFinalize::conflicts(nullify, finalize) {
-            return None;
-        }
-        Some(Evidence::NullifyFinalize(NullifyFinalize::new(nullify.copy(), finalize.copy())))
+        Some(Evidence::NullifyFinalize(conflict_of(nullify.copy(), finalize.copy())?))
     }
 }
 

@@ -14,6 +14,7 @@ pub use attributable_map::{AttributableIter, AttributableMap};
 pub use bisection::{
     verify_certificates, verify_finalizations, verify_notarizations, verify_nullifications,
 };
+pub use conflict::{Conflict, conflict_of};
 pub use conflicting_finalize::ConflictingFinalize;
 pub use conflicting_notarize::ConflictingNotarize;
 pub use contents::{Contents, Signed};

@@ -1,6 +1,6 @@
 //! How evidence of two votes is read: the one vote, the other, and then whether they contradict.
 
-ghost use Rattle.std.specs.Prelude.{◌≡◌, ◌||◌, Bool, false, Err, IsTrue};
+ghost use Rattle.std.specs.Prelude.{◌≡◌, ◌||◌, Bool, false, Err, None, Some, IsTrue, if◌then◌else◌};
 ghost use Rattle.simplex_base.specs.Reading.{Refusal, Fails, Gives};
 ghost use Rattle.simplex_base.specs.Format.{both_at, made_at, tested_at};
 
@@ -38,6 +38,17 @@ pub trait Conflict: Sized {
         ensures { Fails {X = Self} false result (Err refusal) };
 }
 
+/// The evidence of two votes, if they contradict.
+pub fn conflict_of<T: Conflict>(first: T::First, second: T::Second) -> Option<T>
+    ensures { result ≡ (if T.holds (T.made (first, second)) then Some (T.made (first, second))
+        else None) }
+{
+    if !T::are_in_conflict(&first, &second) {
+        return None;
+    }
+    Some(T::of_votes(first, second))
+}
+
 /// Reads two votes, and moves the slice past both if they contradict. After an error the slice is as before.
 pub fn read_conflict<T: Conflict>(alloc: Global, input: &mut &[u8]) -> Result<T, Error>
     ensures { Gives (T.First.takes_memory ||
@@ -50,9 +61,9 @@ pub fn read_conflict<T: Conflict>(alloc: Global, input: &mut &[u8]) -> Result<T,
         Ok(votes) => votes,
         Err(error) => return Err(error),
     };
-    if !T::are_in_conflict(&first, &second) {
+    let Some(conflict) = conflict_of(first, second) else {
         return Err(T::refused());
-    }
+    };
     *input = rest;
-    Ok(T::of_votes(first, second))
+    Ok(conflict)
 }

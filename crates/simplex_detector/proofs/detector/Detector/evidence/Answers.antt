@@ -7,14 +7,14 @@ rounds-init g c =
     let P = IsEncoded g.D.PartialEq.eq (fixed g.D.FixedSize.SIZE g.D.Fixed.bytes_of g.D.Fixed.of_bytes)
     (fixed g.S.Signature.FixedSize.SIZE g.S.Signature.Fixed.bytes_of g.S.Signature.Fixed.of_bytes) in
     record {
-  walked = record {
-    steps = [];
-    over = c.into_iter-round_state-iterator.ensures.into_iter_gives.0;
-    listed = λ k d lt. absurd (omega (arith, lt));
-    is = ap (map evidence_value) c.new-found.ensures.items;
-  };
-  encoded = subst (All P) (sym c.new-found.ensures.items) (All-nil P);
-}
+      walked = record {
+        steps = [];
+        over = c.into_iter-round_state-iterator.ensures.into_iter_gives.0;
+        listed = λ k d lt. absurd (omega (arith, lt));
+        is = ap (map evidence_value) c.new-found.ensures.items;
+      };
+      encoded = subst (All P) (sym c.new-found.ensures.items) (All-nil P);
+    }
 
 pub rounds-preserved : goal.rounds-preserved
 rounds-preserved g c =
