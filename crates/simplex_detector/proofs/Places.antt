@@ -1,6 +1,6 @@
 -- Where votes are: the tests on rounds, signers, kinds and proposals, which subjects exclude each other, and the orders of a
 -- report.
-use Rattle.simplex_detector.proofs.Prelude.{Bool, CmpEqualImpliesEq, Conflicting_finalize, Conflicting_notarize, Equal, Finalizes, IsEquivalence, IsTotalOrder, EquivocationKind, Accusation, Notarizes, Nullifies, Nullify_finalize, Proposal, Round, SignedVote, VoteKind, SubjectValue, and_equiv, and_from, and_parts, ap, cases_Bool, clash, eq-eqb, eqb, eqb-true, exact_pairs, exact_unsigned, excludes, false, false_from_ne_true, false≢true, first_kind, inl, inr, is_at, is_eq, is_key, is_of, kind_rank, accused_cmp, nat_cmp, nat_cmp_total, nat_eq_equiv, not, on_equiv, on_total, refl, round_cmp, round_of, same_proposal, same_round, same_kind, second_kind, signer_cmp, kind_of, subst, sym, then_total, tied_itself, true, ℕ, ⊎_elim, ◌∙◌, ◌≡◌, ◌⊎◌}
+use Rattle.simplex_detector.proofs.Prelude.{SignerInRound, signer_in, Bool, CmpEqualImpliesEq, Conflicting_finalize, Conflicting_notarize, Equal, Finalizes, IsEquivalence, IsTotalOrder, EquivocationKind, Accusation, Notarizes, Nullifies, Nullify_finalize, Proposal, Round, SignedVote, VoteKind, SubjectValue, and_equiv, and_from, and_parts, ap, cases_Bool, clash, eq-eqb, eqb, eqb-true, exact_pairs, exact_unsigned, excludes, false, false_from_ne_true, false≢true, first_kind, inl, inr, is_at, is_eq, is_key, is_of, kind_rank, accused_cmp, nat_cmp, nat_cmp_total, nat_eq_equiv, not, on_equiv, on_total, refl, round_cmp, round_of, same_proposal, same_round, same_kind, second_kind, signer_cmp, kind_of, subst, sym, then_total, tied_itself, true, ℕ, ⊎_elim, ◌∙◌, ◌≡◌, ◌⊎◌}
 use Rattle.simplex_scheme.specs.declared.kind.VoteKind.TheVariants as kinds
 
 -- ---- rounds, proposals and kinds
@@ -148,11 +148,12 @@ round_cmp_total = then_total (on_total (λ (r : Round). r.epoch) nat_cmp_total) 
 
 pub signer_cmp_total : IsTotalOrder signer_cmp
 signer_cmp_total =
-    then_total (on_total (λ (s : Round × ℕ). s.0) round_cmp_total) (on_total (λ (s : Round × ℕ). s.1) nat_cmp_total)
+    then_total (on_total (λ (s : SignerInRound). s.round) round_cmp_total)
+    (on_total (λ (s : SignerInRound). s.signer) nat_cmp_total)
 
 pub accused_cmp_total : IsTotalOrder accused_cmp
 accused_cmp_total =
-    then_total (on_total (λ (n : Accusation). (n.round, n.signer)) signer_cmp_total)
+    then_total (on_total (λ (n : Accusation). signer_in n.round n.signer) signer_cmp_total)
     (on_total (λ (n : Accusation). kind_rank n.kind) nat_cmp_total)
 
 -- rounds that the order ties are equal
@@ -162,13 +163,15 @@ exact_rounds a b h =
     (exact_pairs nat_cmp nat_cmp exact_unsigned exact_unsigned (a.epoch, a.view) (b.epoch, b.view) h)
 
 pub exact_signers : CmpEqualImpliesEq signer_cmp
-exact_signers = exact_pairs round_cmp nat_cmp exact_rounds exact_unsigned
+exact_signers a b h =
+    ap (λ (p : _). signer_in p.0 p.1)
+    (exact_pairs round_cmp nat_cmp exact_rounds exact_unsigned (a.round, a.signer) (b.round, b.signer) h)
 
 pub exact_accused : CmpEqualImpliesEq accused_cmp
 exact_accused a b h =
-    ap (λ (p : _). record { round = p.0.0; signer = p.0.1; kind = p.1 })
-    (exact_pairs signer_cmp (λ k l. nat_cmp (kind_rank k) (kind_rank l)) exact_signers kinds ((a.round, a.signer), a.kind)
-    ((b.round, b.signer), b.kind) h)
+    ap (λ (p : _). record { round = p.0.round; signer = p.0.signer; kind = p.1 })
+    (exact_pairs signer_cmp (λ k l. nat_cmp (kind_rank k) (kind_rank l)) exact_signers kinds (signer_in a.round a.signer, a.kind)
+    (signer_in b.round b.signer, b.kind) h)
   where
     kinds : (k l : EquivocationKind) → nat_cmp (kind_rank k) (kind_rank l) ≡ Equal → k ≡ l
     kinds Conflicting_notarize Conflicting_notarize e = refl

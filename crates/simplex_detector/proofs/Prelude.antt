@@ -43,7 +43,7 @@ pub use Rattle.simplex_detector.specs.FirstCertified.{RecordsFirsts, are_split, 
 pub use Rattle.simplex_detector.specs.Judging.{certified_under, rules_under, scheme_under, valid_under}
 pub use Rattle.simplex_detector.specs.Laws.{ReorderingAccusesSame}
 pub use Rattle.simplex_detector.specs.Line.{line_of, parted}
-pub use Rattle.simplex_detector.specs.Accusation.{Accusation, is_accused, kind_rank, accused_by, accused_cmp, round_cmp, signer_cmp}
+pub use Rattle.simplex_detector.specs.Accusation.{Accusation, is_accused, kind_rank, accused_by, accused_cmp, round_cmp, signer_cmp, signer_in}
 pub use Rattle.simplex_detector.specs.Recorded.{RecordedAreSlots, Slot, changes, equivocation_of, evidence_from, if_differs, is_news, news_after, other_than, recorded_in, recorded_of, slot_of, slot_with, votes_in_slot, votes_recorded}
 pub use Rattle.simplex_detector.specs.Rounds.{HoldsRound, IsSized, accuses, ListsSigners, TakesVote, found_at, found_of_kind, if_contradicts, is_for, no_slot, round_count, slots}
 pub use Rattle.simplex_detector.specs.Rules.{AreLawful, HaveCommittees, Rules, is_valid, valid_votes}
@@ -53,6 +53,7 @@ pub use Rattle.simplex_detector.specs.Suspects.{JudgeAlike, Suspected, SuspectsS
 pub use Rattle.simplex_detector.specs.Values.{activity_of, evidence_value}
 pub use Rattle.simplex_detector.specs.declared.certified_subjects.CertifiedSubjects.{CertifiedSubjects}
 pub use Rattle.simplex_detector.specs.declared.detector.Detector.{Detector}
+pub use Rattle.simplex_detector.specs.declared.evidence.SignerInRound.{SignerInRound}
 pub use Rattle.simplex_detector.specs.declared.judging.Judging.{Judging}
 pub use Rattle.simplex_detector.specs.declared.judging.Judging.TheVariants.{Claimed, Suspects, Verified}
 pub use Rattle.simplex_detector.specs.declared.judging.SuspectSigners.{SuspectSigners}

@@ -1,5 +1,5 @@
 -- The evidence in what is recorded, signer by signer and round by round, is the evidence of the votes.
-use Rattle.simplex_detector.proofs.Prelude.{Activity, All, All-contains, All-from_recursion, All-push, AllByRecursion, Bool, Conflicting_finalize, Conflicting_notarize, Contains, Contains-append_left, Contains-append_right, Contains-dedup_nat, Contains-permutation, Detector, Equivocation, HoldsRound, IsEquivalence, IsEvidence, IsOrdered, IsPermutation, IsSorted, IsStrictlyIncreasing-dedup, EquivocationKind, Less, List, ListsSigners, Accusation, None, Nullify_finalize, Recalls, RecallsAt, RecallsNothing, RecallsRound, Round, RoundState, RoundVotes, Rules, SignedVote, Slot, Some, VoteKind, [], ap, append-nil, append_assoc, arith, btree_map_get_iff, cond-true, contradicts, dedup, eqb, eqb-true, evidence_from, evidence_of, false≢true, filter_map, filter_map-append, flat_map, flat_map_more, found_at, found_of_kind, get, get_or, if_contradicts, inl, inr, is_some, item_of, kind_rank, length, map, map-append, map-id, accused_by, accused_cmp, nat_cmp, no_slot, option_map, option_to_list, ordering_then, recursion_from_All, refl, round_cmp, signer_cmp, slot_of, slots, sorted_from_strictly_increasing, subst, sym, take, take_more, tied_itself, true, valid_votes, ℕ, ◌++◌, ◌+◌, ◌<◌, ◌∙◌, ◌∷◌, ◌≡◌, ◌⊎◌}
+use Rattle.simplex_detector.proofs.Prelude.{signer_in, Activity, All, All-contains, All-from_recursion, All-push, AllByRecursion, Bool, Conflicting_finalize, Conflicting_notarize, Contains, Contains-append_left, Contains-append_right, Contains-dedup_nat, Contains-permutation, Detector, Equivocation, HoldsRound, IsEquivalence, IsEvidence, IsOrdered, IsPermutation, IsSorted, IsStrictlyIncreasing-dedup, EquivocationKind, Less, List, ListsSigners, Accusation, None, Nullify_finalize, Recalls, RecallsAt, RecallsNothing, RecallsRound, Round, RoundState, RoundVotes, Rules, SignedVote, Slot, Some, VoteKind, [], ap, append-nil, append_assoc, arith, btree_map_get_iff, cond-true, contradicts, dedup, eqb, eqb-true, evidence_from, evidence_of, false≢true, filter_map, filter_map-append, flat_map, flat_map_more, found_at, found_of_kind, get, get_or, if_contradicts, inl, inr, is_some, item_of, kind_rank, length, map, map-append, map-id, accused_by, accused_cmp, nat_cmp, no_slot, option_map, option_to_list, ordering_then, recursion_from_All, refl, round_cmp, signer_cmp, slot_of, slots, sorted_from_strictly_increasing, subst, sym, take, take_more, tied_itself, true, valid_votes, ℕ, ◌++◌, ◌+◌, ◌<◌, ◌∙◌, ◌∷◌, ◌≡◌, ◌⊎◌}
 use Rattle.std.specs.List.Sorted.{IsStrictlySortedBy}
 use Rattle.simplex_detector.proofs.EvidenceLemmas.{evidence_is, from_listing}
 use Rattle.simplex_detector.proofs.Lists.{found_mapped, Contains-flat_map, Contains-from_flat_map, Contains-from_map, Contains-map, each, filter_map-joined, found, made_complete, made_ordered, made_sound, some_from_is_some, sorted_joined}
@@ -65,8 +65,8 @@ ordered_at : (round : Round) (signer : ℕ) → IsStrictlySortedBy accused_cmp (
 unfolding IsStrictlySortedBy
 ordered_at round signer =
     let rise : (k l : EquivocationKind) → nat_cmp (kind_rank k) (kind_rank l) ≡ Less →
-    ordering_then (signer_cmp (round, signer) (round, signer)) (nat_cmp (kind_rank k) (kind_rank l)) ≡ Less =
-    λ k l less i. ordering_then (tied_itself signer_cmp_total (round, signer) i) (less i) in (
+    ordering_then (signer_cmp (signer_in round signer) (signer_in round signer)) (nat_cmp (kind_rank k) (kind_rank l)) ≡ Less =
+    λ k l less i. ordering_then (tied_itself signer_cmp_total (signer_in round signer) i) (less i) in (
       (rise Conflicting_notarize Conflicting_finalize refl, (rise Conflicting_notarize Nullify_finalize refl, tt)),
       ((rise Conflicting_finalize Nullify_finalize refl, tt), (tt, tt)),
     )
@@ -79,7 +79,8 @@ ordered_in round signers sorted =
     (λ s q n m less n_in m_in.
     let (n_here, n_is) = at_name round s n n_in in
     let (m_here, m_is) = at_name round q m m_in in
-    (λ i. ordering_then (signer_cmp (n_here i, n_is i) (m_here i, m_is i)) (nat_cmp (kind_rank n.kind) (kind_rank m.kind))) ∙
+    (λ i. ordering_then (signer_cmp (signer_in (n_here i) (n_is i)) (signer_in (m_here i) (m_is i)))
+    (nat_cmp (kind_rank n.kind) (kind_rank m.kind))) ∙
     (λ i. ordering_then (ordering_then (tied_itself round_cmp_total round i) (less i))
     (nat_cmp (kind_rank n.kind) (kind_rank m.kind))))
     signers (λ s s_in. ordered_at round s) (subst (IsStrictlySortedBy nat_cmp) (sym (map-id signers)) sorted)

@@ -1,5 +1,5 @@
 -- Which signers and rounds are suspect, and that no other signature has a part in the evidence and the splits.
-use Rattle.simplex_detector.proofs.Prelude.{Scheme, Accusation, Activity, All-contains, All-nil, AreLawful, AreSplits, Bool, Claimed, Conflicting_finalize, Conflicting_notarize, Contains, Equivocation, EquivocationKind, IsEquivalence, IsEvidence, IsTrue, JudgeAlike, List, None, Nullify_finalize, Option, Round, Rules, Schedule, SignedVote, Some, Split, SubjectValue, SuspectSigners, Suspected, Suspects, SuspectsSuffice, [], accused_by, accused_count, and-false, and_parts, ap, are_split, arith, certified_by, certified_in, certified_subjects, certified_under, claimed, clash, committee_of, cond, cons_option, contains, contradicts, distinct_count, evidence_of, false, false≢true, faults_of, filter, find, first_kind, flat_map, if_certified, is_accused, is_accused_in, is_at, is_of, is_some, is_split, is_suspect, is_suspect_round, is_valid, judged_by, le-ltb, lt-ltb, map, nat_eq, nat_lt, refl, round_cmp, round_of, rules_of, rules_under, signer_cmp, size_by, split_of, subject_and_certificate, subst, suspect_of, sym, true, valid_by, valid_under, valid_votes, votes_in, with_first, with_second, ℕ, ◌&&◌, ◌+◌, ◌||◌, ◌↔◌, ◌∙◌, ◌∷◌, ◌≡◌, ◌≤◌}
+use Rattle.simplex_detector.proofs.Prelude.{SignerInRound, signer_in, Scheme, Accusation, Activity, All-contains, All-nil, AreLawful, AreSplits, Bool, Claimed, Conflicting_finalize, Conflicting_notarize, Contains, Equivocation, EquivocationKind, IsEquivalence, IsEvidence, IsTrue, JudgeAlike, List, None, Nullify_finalize, Option, Round, Rules, Schedule, SignedVote, Some, Split, SubjectValue, SuspectSigners, Suspected, Suspects, SuspectsSuffice, [], accused_by, accused_count, and-false, and_parts, ap, are_split, arith, certified_by, certified_in, certified_subjects, certified_under, claimed, clash, committee_of, cond, cons_option, contains, contradicts, distinct_count, evidence_of, false, false≢true, faults_of, filter, find, first_kind, flat_map, if_certified, is_accused, is_accused_in, is_at, is_of, is_some, is_split, is_suspect, is_suspect_round, is_valid, judged_by, le-ltb, lt-ltb, map, nat_eq, nat_lt, refl, round_cmp, round_of, rules_of, rules_under, signer_cmp, size_by, split_of, subject_and_certificate, subst, suspect_of, sym, true, valid_by, valid_under, valid_votes, votes_in, with_first, with_second, ℕ, ◌&&◌, ◌+◌, ◌||◌, ◌↔◌, ◌∙◌, ◌∷◌, ◌≡◌, ◌≤◌}
 use Rattle.simplex_detector.proofs.AccountLemmas.{certified_parts, counted_signer, distinct_count-same, kind_from_accused_in, accused_in}
 use Rattle.simplex_detector.proofs.EvidenceLemmas.{evidence_exists, first_spot, moved_evidence, accused_by_more, accused_from_votes, valid_from, valid_in, votes_from_accused}
 use Rattle.simplex_detector.proofs.Lists.{Contains-filter, Contains-first, Contains-from_filter, Contains-from_filter_map, Contains-from_list_any, Contains-from_map, Contains-map, Contains-none, any_from_Contains, found, same_bool}
@@ -247,7 +247,7 @@ module _ {S D C P G : Type 0} (scheme : Scheme S D C P G) (schedule : Schedule S
   -- the suspects that a judging has
   abbrev pub suspects_in : SuspectSigners → Suspected
   suspects_in suspects = record {
-    signers = λ round signer. contains signer_cmp suspects.signers (round, signer);
+    signers = λ round signer. contains signer_cmp suspects.signers (signer_in round signer);
     rounds = contains round_cmp suspects.rounds;
   }
 
@@ -259,8 +259,8 @@ module _ {S D C P G : Type 0} (scheme : Scheme S D C P G) (schedule : Schedule S
     good = λ x signer signature.
         (elim (committee_of schedule (round_of x).epoch) as (λ o.
         valid_by (valid_under scheme.keys scheme.good (Suspects suspects)) o x signer signature
-        ≡ (contains signer_cmp suspects.signers (round_of x, signer) && valid_by scheme.good o x signer signature))
-        [ None ↦ sym (and-false (contains signer_cmp suspects.signers (round_of x, signer))) | Some s ↦ refl ]) i;
+        ≡ (contains signer_cmp suspects.signers (signer_in (round_of x) signer) && valid_by scheme.good o x signer signature))
+        [ None ↦ sym (and-false (contains signer_cmp suspects.signers (signer_in (round_of x) signer))) | Some s ↦ refl ]) i;
     certified = λ x certificate.
         (elim (committee_of schedule (round_of x).epoch) as (λ o.
         certified_by (certified_under scheme.certified (Suspects suspects)) o x certificate
@@ -300,16 +300,17 @@ module _ {S D C P G : Type 0} (rules : Rules S D C P G) (messages : List (Activi
         ∙ ap is_some (All-contains (λ e. evidence_of rules.eq vs (accused_by e) ≡ Some e) claims e is.sound e_in))
 
     -- the signers of the claimed evidence are the suspects
-    pub signers_are_suspect : (round : Round) (signer : ℕ) →
-        Contains (map suspect_of claims) (round, signer) ↔ IsTrue (is_suspect rules messages round signer)
-    signers_are_suspect round signer = (
-      λ h. let (e, e_in, e_is) = Contains-from_map suspect_of claims (round, signer) h in
-          subst (λ (s : Round × ℕ). is_suspect rules messages s.0 s.1 ≡ true) e_is (claim_is_suspect e e_in).0,
+    pub signers_are_suspect : (suspect : SignerInRound) →
+        Contains (map suspect_of claims) suspect ↔ IsTrue (is_suspect rules messages suspect.round suspect.signer)
+    signers_are_suspect suspect = (
+      λ h. let (e, e_in, e_is) = Contains-from_map suspect_of claims suspect h in
+          subst (λ (s : SignerInRound). is_suspect rules messages s.round s.signer ≡ true) e_is (claim_is_suspect e e_in).0,
       λ h.
-          let (kind, named) = kind_from_accused_in rules.eq (valid_votes (claimed rules) messages) round signer h in
-          let (e, e_in, e_is) = Contains-from_map accused_by claims (record { round = round; signer = signer; kind = kind })
-          (is.complete (record { round = round; signer = signer; kind = kind }) named) in
-          subst (Contains (map suspect_of claims)) (ap (λ (n : Accusation). (n.round, n.signer)) e_is)
+          let (kind, named) =
+          kind_from_accused_in rules.eq (valid_votes (claimed rules) messages) suspect.round suspect.signer h in
+          let n : Accusation = record { round = suspect.round; signer = suspect.signer; kind = kind } in
+          let (e, e_in, e_is) = Contains-from_map accused_by claims n (is.complete n named) in
+          subst (Contains (map suspect_of claims)) (ap (λ (n : Accusation). signer_in n.round n.signer) e_is)
           (Contains-map suspect_of claims e e_in),
     )
 
@@ -322,9 +323,9 @@ module _ {S D C P G : Type 0} (rules : Rules S D C P G) (messages : List (Activi
       λ h.
           let (v, v_in, v_accused) =
           Contains-from_list_any (λ v. is_suspect rules messages round v.signer) (valid_votes (claimed rules) messages) h in
-          let (e, e_in, e_is) =
-          Contains-from_map suspect_of claims (round, v.signer) ((signers_are_suspect round v.signer).1 v_accused) in
-          subst (Contains (map (λ (e : Equivocation D G). round_of e.first.subject) claims)) (ap (λ (s : Round × ℕ). s.0) e_is)
+          let suspect = signer_in round v.signer in
+          let (e, e_in, e_is) = Contains-from_map suspect_of claims suspect ((signers_are_suspect suspect).1 v_accused) in
+          subst (Contains (map (λ (e : Equivocation D G). round_of e.first.subject) claims)) (ap (λ (s : SignerInRound). s.round) e_is)
           (Contains-map (λ (e : Equivocation D G). round_of e.first.subject) claims e e_in),
     )
 

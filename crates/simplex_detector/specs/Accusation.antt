@@ -7,6 +7,7 @@ use Rattle.simplex_base.specs.Positions.{Round}
 use Rattle.simplex_scheme.specs.Subject.{round_of}
 use Rattle.simplex_votes.specs.Votes.{SignedVote, is_of}
 use Rattle.simplex_evidence.specs.Contradiction.{EquivocationKind, Conflicting_notarize, Conflicting_finalize, Nullify_finalize, contradicts, Equivocation}
+use Rattle.simplex_detector.specs.declared.evidence.SignerInRound.{SignerInRound}
 
 -- a signer, in a round, with a kind of contradiction
 pub record Accusation : Type 0 where
@@ -18,6 +19,10 @@ pub record Accusation : Type 0 where
 abbrev pub is_accused : {D G : Type 0} → (D → D → Bool) → List (SignedVote D G) → Accusation → Bool
 is_accused eq vs n = list_any (λ v. is_of n.round n.signer v && list_any (contradicts eq n.kind v) vs) vs
 
+-- a signer in a round
+abbrev pub signer_in : Round → ℕ → SignerInRound
+signer_in round signer = record { round = round; signer = signer }
+
 -- whom an evidence accuses
 abbrev pub accused_by : {D G : Type 0} → Equivocation D G → Accusation
 accused_by e = record { round = round_of e.first.subject; signer = e.first.signer; kind = e.kind }
@@ -28,9 +33,9 @@ accused_by e = record { round = round_of e.first.subject; signer = e.first.signe
 abbrev pub round_cmp : Round → Round → Ordering
 round_cmp a b = ordering_then (nat_cmp a.epoch b.epoch) (nat_cmp a.view b.view)
 
--- signers, each with a round, are ordered by round and then by signer
-abbrev pub signer_cmp : Round × ℕ → Round × ℕ → Ordering
-signer_cmp a b = ordering_then (round_cmp a.0 b.0) (nat_cmp a.1 b.1)
+-- signers in rounds are ordered by round and then by signer
+abbrev pub signer_cmp : SignerInRound → SignerInRound → Ordering
+signer_cmp a b = ordering_then (round_cmp a.round b.round) (nat_cmp a.signer b.signer)
 
 -- the place of a kind in the order of kinds
 abbrev pub kind_rank : EquivocationKind → ℕ
@@ -41,4 +46,4 @@ kind_rank Nullify_finalize = 2
 -- accusations are ordered by round, signer and kind
 abbrev pub accused_cmp : Accusation → Accusation → Ordering
 accused_cmp a b =
-    ordering_then (signer_cmp (a.round, a.signer) (b.round, b.signer)) (nat_cmp (kind_rank a.kind) (kind_rank b.kind))
+    ordering_then (signer_cmp (signer_in a.round a.signer) (signer_in b.round b.signer)) (nat_cmp (kind_rank a.kind) (kind_rank b.kind))

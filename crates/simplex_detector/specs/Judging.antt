@@ -3,9 +3,8 @@ use Rattle.std.specs.Prelude.{ℕ, Bool, true, false, ◌&&◌, List, length, na
 use Rattle.std.specs.BTreeSet.{contains}
 use Rattle.simplex_base.specs.Positions.{Round}
 use Rattle.simplex_scheme.specs.Subject.{SubjectValue, round_of}
-use Rattle.simplex_scheme.specs.Committees.{Schedule}
-use Rattle.simplex_detector.specs.Scheme.{rules_of, Scheme}
-use Rattle.simplex_detector.specs.Accusation.{round_cmp, signer_cmp}
+use Rattle.simplex_scheme.specs.Committees.{Schedule, rules_of}
+use Rattle.simplex_detector.specs.Accusation.{round_cmp, signer_cmp, signer_in}
 use Rattle.simplex_detector.specs.Rules.{Rules}
 use Rattle.simplex_detector.specs.declared.judging.Judging.{Judging}
 use Rattle.simplex_detector.specs.declared.judging.Judging.TheVariants.{Verified, Claimed, Suspects}
@@ -14,7 +13,7 @@ use Rattle.simplex_detector.specs.declared.judging.Judging.TheVariants.{Verified
 abbrev pub is_verified : Judging → Round → ℕ → Bool
 is_verified Verified round signer = true
 is_verified Claimed round signer = false
-is_verified (Suspects suspects) round signer = contains signer_cmp suspects.signers (round, signer)
+is_verified (Suspects suspects) round signer = contains signer_cmp suspects.signers (signer_in round signer)
 
 -- whether a round's certificates are verified
 abbrev pub are_verified : Judging → Round → Bool
@@ -28,7 +27,7 @@ abbrev pub valid_under : {S D P G : Type 0} → (S → List P) → (S → Subjec
 valid_under keys good Verified = good
 valid_under keys good Claimed = λ committee x signer signature. nat_lt signer (length (keys committee))
 valid_under keys good (Suspects suspects) = λ committee x signer signature.
-    contains signer_cmp suspects.signers (round_of x, signer) && good committee x signer signature
+    contains signer_cmp suspects.signers (signer_in (round_of x) signer) && good committee x signer signature
 
 -- which certificates certify under a committee that judges so
 abbrev pub certified_under : {S D C : Type 0} → (S → SubjectValue D → C → Bool) → Judging → S → SubjectValue D → C → Bool

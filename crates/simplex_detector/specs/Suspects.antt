@@ -7,9 +7,10 @@ use Rattle.simplex_scheme.specs.Subject.{SubjectValue, round_of}
 use Rattle.simplex_evidence.specs.Contradiction.{Equivocation}
 use Rattle.simplex_evidence.specs.declared.types.activity.Activity.{Activity}
 use Rattle.simplex_detector.specs.Evidence.{IsEvidence}
-use Rattle.simplex_detector.specs.Accusation.{round_cmp, signer_cmp}
+use Rattle.simplex_detector.specs.Accusation.{round_cmp, signer_cmp, signer_in}
 use Rattle.simplex_detector.specs.Rules.{Rules, AreLawful, valid_votes}
 use Rattle.simplex_detector.specs.Splits.{is_accused_in, AreSplits}
+use Rattle.simplex_detector.specs.declared.evidence.SignerInRound.{SignerInRound}
 use Rattle.simplex_detector.specs.declared.judging.Judging.{Judging}
 use Rattle.simplex_detector.specs.declared.judging.Judging.TheVariants as judging
 use Rattle.simplex_detector.specs.declared.judging.SuspectSigners.{SuspectSigners}
@@ -20,9 +21,9 @@ pub record Suspected : Type 0 where
   pub signers : Round → ℕ → Bool
   pub rounds : Round → Bool
 
--- the round and the signer of an evidence
-abbrev pub suspect_of : {D G : Type 0} → Equivocation D G → Round × ℕ
-suspect_of e = (round_of e.first.subject, e.first.signer)
+-- the signer of an evidence in its round
+abbrev pub suspect_of : {D G : Type 0} → Equivocation D G → SignerInRound
+suspect_of e = signer_in (round_of e.first.subject) e.first.signer
 
 -- ---- other judges of the same messages
 

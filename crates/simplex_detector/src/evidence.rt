@@ -17,6 +17,28 @@ use simplex_scheme::scheme::{Digest, Proposal, SchemeTypes};
 use simplex_votes::types::Attributable;
 use std::alloc::{AllocError, Global};
 
+/// A signer in a round, ordered by round and then by signer.
+#[derive(Clone, Copy, Debug, PartialEq, Eq, PartialOrd, Ord, Hash)]
+pub struct SignerInRound {
+    /// The round.
+    pub round: Round,
+    /// The signer.
+    pub signer: Participant,
+}
+
+impl SignerInRound {
+    /// The signer of a vote, in the vote's round.
+    fn of<V: Roundable + Attributable>(vote: &V) -> Self
+        ensures { result ≡ record {
+          round = V.round_of vote.now;
+          signer = V.signer_of vote.now;
+        } }
+    {
+        let (round, signer) = (vote.round(), vote.signer());
+        SignerInRound { round, signer }
+    }
+}
+
 /// Two votes of one signer in one round that contradict.
 #[derive(Drop)]
 #[derive_where(PartialEq, Eq, Hash)]
@@ -101,13 +123,6 @@ impl<S: SchemeTypes, D: Digest> EqByParts for Evidence<S, D> {
     ] };
 }
 
-/// The epoch and the view of a round, and a signer.
-fn place(round: Round, signer: Participant) -> (u64, u64, u32)
-    ensures { result ≡ (round.epoch, round.view, signer) }
-{
-    (round.epoch().get(), round.view().get(), signer.get())
-}
-
 /// The line of two notarizes.
 fn conflicting_notarize_line<S: SchemeTypes, D: Digest>(
     alloc: Global,
@@ -119,7 +134,7 @@ fn conflicting_notarize_line<S: SchemeTypes, D: Digest>(
     let (first, second) = (conflict.notarize_1(), conflict.notarize_2());
     line_of_two(
         alloc,
-        place(first.round(), first.signer()),
+        SignerInRound::of(first),
         "conflicting-notarize",
         &first.proposal,
         &second.proposal,
@@ -137,7 +152,7 @@ fn conflicting_finalize_line<S: SchemeTypes, D: Digest>(
     let (first, second) = (conflict.finalize_1(), conflict.finalize_2());
     line_of_two(
         alloc,
-        place(first.round(), first.signer()),
+        SignerInRound::of(first),
         "conflicting-finalize",
         &first.proposal,
         &second.proposal,
@@ -155,7 +170,7 @@ fn nullify_finalize_line<S: SchemeTypes, D: Digest>(
     let (nullify, finalize) = (conflict.nullify(), conflict.finalize());
     line_of_one(
         alloc,
-        place(nullify.round(), nullify.signer()),
+        SignerInRound::of(nullify),
         "nullify-finalize",
         &finalize.proposal,
     )
@@ -171,36 +186,38 @@ fn proposal_words<D: Digest>(alloc: Global, proposal: &Proposal<D>) -> Result<St
     format!(in alloc; "{parent} {payload}")
 }
 
-/// The line of two votes for proposals, at an epoch, a view and a signer.
+/// The line of two votes for proposals, of a signer in a round.
 fn line_of_two<D: Digest>(
     alloc: Global,
-    place: (u64, u64, u32),
+    accused: SignerInRound,
     kind: &str,
     first: &Proposal<D>,
     second: &Proposal<D>,
 ) -> Result<String, AllocError>
     ensures { IfOk result (λ line.
-        string_bytes line ≡ parted (decimal place.0 ∷ decimal place.1 ∷ decimal place.2 ∷
-        kind.now ∷ with_proposal D.bytes_of first.now (with_proposal D.bytes_of second.now []))) }
+        string_bytes line ≡ parted (decimal accused.round.epoch ∷
+        decimal accused.round.view ∷ decimal accused.signer ∷ kind.now ∷ with_proposal D.bytes_of first.now (with_proposal D.bytes_of second.now []))) }
 {
-    let (epoch, view, signer) = place;
+    let (epoch, view) = (accused.round.epoch().get(), accused.round.view().get());
+    let signer = accused.signer.get();
     let first = proposal_words(alloc, first)?;
     let second = proposal_words(alloc, second)?;
     format!(in alloc; "{epoch} {view} {signer} {kind} {first} {second}")
 }
 
-/// The line of two votes, one of them for a proposal, at an epoch, a view and a signer.
+/// The line of two votes, one of them for a proposal, of a signer in a round.
 fn line_of_one<D: Digest>(
     alloc: Global,
-    place: (u64, u64, u32),
+    accused: SignerInRound,
     kind: &str,
     proposal: &Proposal<D>,
 ) -> Result<String, AllocError>
     ensures { IfOk result (λ line.
-        string_bytes line ≡ parted (decimal place.0 ∷ decimal place.1 ∷ decimal place.2 ∷
-        kind.now ∷ with_proposal D.bytes_of proposal.now [])) }
+        string_bytes line ≡ parted (decimal accused.round.epoch ∷
+        decimal accused.round.view ∷ decimal accused.signer ∷ kind.now ∷ with_proposal D.bytes_of proposal.now [])) }
 {
-    let (epoch, view, signer) = place;
+    let (epoch, view) = (accused.round.epoch().get(), accused.round.view().get());
+    let signer = accused.signer.get();
     let proposal = proposal_words(alloc, proposal)?;
     format!(in alloc; "{epoch} {view} {signer} {kind} {proposal}")
 }

@@ -4,11 +4,12 @@ ghost use Rattle.std.specs.Prelude.{◌≡◌, ℕ, All, Contains, IfOk, IsTrue,
 ghost use Rattle.std.specs.BTreeSet.{contains, IsFromIterResult};
 ghost use Rattle.simplex_base.specs.Positions as positions;
 ghost use Rattle.simplex_scheme.specs.Subject.{subject_value, round_of};
-ghost use Rattle.simplex_detector.specs.Accusation.{round_cmp, signer_cmp};
+ghost use Rattle.simplex_detector.specs.Accusation.{round_cmp, signer_cmp, signer_in};
 ghost use Rattle.simplex_detector.specs.Suspects.{suspect_of};
 ghost use Rattle.simplex_detector.specs.Values.{evidence_value};
+ghost use Rattle.simplex_detector.specs.declared.evidence.SignerInRound as suspect;
 
-use crate::evidence::Evidence;
+use crate::evidence::{Evidence, SignerInRound};
 use simplex_base::positions::{Participant, Round, Roundable};
 use simplex_scheme::scheme::{Digest, SchemeTypes, Subject};
 use std::alloc::{AllocError, Global};
@@ -20,7 +21,7 @@ pub struct SuspectSigners {
     /// The rounds whose certificates are verified.
     pub rounds: BTreeSet<Round>,
     /// Each signer, with the round in which its votes are verified.
-    pub signers: BTreeSet<(Round, Participant)>,
+    pub signers: BTreeSet<SignerInRound>,
 }
 
 /// How strictly votes and certificates are judged. The scheme verifies only what this says is verified.
@@ -39,9 +40,10 @@ impl SuspectSigners {
     /// Whether a signer is suspect in the round of a subject.
     pub(crate) fn has<D: Digest>(&self, subject: &Subject<'_, D>, signer: Participant) -> bool
         ensures { result ≡ contains signer_cmp self.now.signers
-            (round_of (subject_value subject.now), signer) }
+            (signer_in (round_of (subject_value subject.now)) signer) }
     {
-        self.signers.contains(&(subject.round(), signer))
+        let round = subject.round();
+        self.signers.contains(&SignerInRound { round, signer })
     }
 }
 
@@ -60,9 +62,9 @@ pub fn suspects_of<S: SchemeTypes, D: Digest>(
     ensures only_rounds { IfOk result (λ suspects. (round : positions.Round) →
         IsTrue (contains round_cmp suspects.rounds round) →
         Contains (map (λ e. round_of (evidence_value e).first.subject) evidence.now) round) }
-    ensures only_signers { IfOk result (λ suspects. (round : positions.Round) (signer : ℕ) →
-        IsTrue (contains signer_cmp suspects.signers (round, signer)) →
-        Contains (map (λ e. suspect_of (evidence_value e)) evidence.now) (round, signer)) }
+    ensures only_signers { IfOk result (λ suspects. (signer : suspect.SignerInRound) →
+        IsTrue (contains signer_cmp suspects.signers signer) →
+        Contains (map (λ e. suspect_of (evidence_value e)) evidence.now) signer) }
 {
     let rounds = rounds_of(alloc, evidence)?;
     let signers = signers_of(alloc, evidence)?;
@@ -84,12 +86,15 @@ fn rounds_of<S: SchemeTypes, D: Digest>(
 fn signers_of<S: SchemeTypes, D: Digest>(
     alloc: Global,
     evidence: &[Evidence<S, D>],
-) -> Result<BTreeSet<(Round, Participant)>, AllocError>
+) -> Result<BTreeSet<SignerInRound>, AllocError>
     ensures { IfOk result (λ signers. IsFromIterResult signer_cmp
         (map (λ e. suspect_of (evidence_value e)) evidence.now) signers) }
 {
     evidence
         .iter()
-        .map(|item| (item.round(), item.signer()))
+        .map(|item| SignerInRound {
+            round: item.round(),
+            signer: item.signer(),
+        })
         .collect(alloc)
 }

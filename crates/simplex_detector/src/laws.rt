@@ -23,6 +23,7 @@ ghost use Rattle.simplex_detector.specs.Rules.{Rules, AreLawful, HaveCommittees,
 ghost use Rattle.simplex_detector.specs.Splits.{AreSplits};
 ghost use Rattle.simplex_detector.specs.Agreement.{SuspectsDecide};
 ghost use Rattle.simplex_detector.specs.Stays.{EvidenceStays};
+ghost use Rattle.simplex_detector.specs.declared.evidence.SignerInRound.{SignerInRound};
 ghost use Rattle.simplex_detector.specs.Suspects.{claimed, suspect_of, is_suspect, is_suspect_round, NobodyIsSuspect, SuspectsDetermineReports, SuspectsSuffice};
 ghost use Rattle.simplex_detector.specs.SplitLaws.{EnoughAreAccused, SignersAreAccountable, SplitsAreUnique, SplitsHaveAccused};
 ghost use Rattle.simplex_detector.specs.Values.{evidence_value};
@@ -146,8 +147,8 @@ pub fn suspects_suffice<S: CertificateScheme, D: Digest>()
         (messages : List (Activity S D S.Certificate S.PublicKey S.Signature))
         (claims : List (contradiction.Equivocation D S.Signature)) → AreLawful rules →
         IsEvidence rules.eq (valid_votes (claimed rules) messages) claims →
-        (round : Round) (signer : ℕ) → Contains (map suspect_of claims) (round, signer) ↔
-        IsTrue (is_suspect rules messages round signer) }
+        (suspect : SignerInRound) → Contains (map suspect_of claims) suspect ↔
+        IsTrue (is_suspect rules messages suspect.round suspect.signer) }
 {}
 
 /// Messages that claim the same votes have the same suspects. If the votes of suspects have the same signatures, too, and the

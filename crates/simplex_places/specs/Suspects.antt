@@ -4,7 +4,7 @@ use Rattle.std.specs.BTreeSet.{contains}
 use Rattle.simplex_base.specs.Positions.{Round}
 use Rattle.simplex_evidence.specs.declared.types.activity.Activity.{Activity}
 use Rattle.simplex_detector.specs.Detector.{Recalls}
-use Rattle.simplex_detector.specs.Accusation.{round_cmp, signer_cmp}
+use Rattle.simplex_detector.specs.Accusation.{round_cmp, signer_cmp, signer_in}
 use Rattle.simplex_detector.specs.Rules.{Rules}
 use Rattle.simplex_detector.specs.Suspects.{Suspected, is_suspect, is_suspect_round}
 use Rattle.simplex_detector.specs.declared.detector.Detector.{Detector}
@@ -22,7 +22,7 @@ suspected_in rules messages = record { signers = is_suspect rules messages; roun
 -- the suspects that two sets hold
 abbrev pub suspected_by : SuspectSigners → Suspected
 suspected_by suspects = record {
-  signers = λ round signer. contains signer_cmp suspects.signers (round, signer);
+  signers = λ round signer. contains signer_cmp suspects.signers (signer_in round signer);
   rounds = contains round_cmp suspects.rounds;
 }
 

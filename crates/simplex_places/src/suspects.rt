@@ -6,7 +6,7 @@ ghost use Rattle.simplex_base.specs.Positions as positions;
 ghost use Rattle.simplex_evidence.specs.declared.types.activity.Activity as activities;
 ghost use Rattle.simplex_scheme.specs.Committees.{Schedule, committee_of, size_by};
 ghost use Rattle.simplex_detector.specs.Detector.{Recalls};
-ghost use Rattle.simplex_detector.specs.Accusation.{round_cmp, signer_cmp};
+ghost use Rattle.simplex_detector.specs.Accusation.{round_cmp, signer_cmp, signer_in};
 ghost use Rattle.simplex_detector.specs.Rules.{AreLawful};
 ghost use Rattle.simplex_detector.specs.Suspects.{is_suspect, is_suspect_round};
 ghost use Rattle.simplex_detector.specs.declared.judging.Judging.TheVariants.{Claimed};
@@ -25,6 +25,7 @@ use simplex_base::codec::fixed_bytes::Role;
 use simplex_base::positions::{Epoch, Participant, Round, View};
 use simplex_scheme::committees::Committees;
 use simplex_detector::detector::Detector;
+use simplex_detector::evidence::SignerInRound;
 use simplex_detector::judging::{SuspectSigners, suspects_of};
 use simplex_detector::laws::{suspects_decide, suspects_suffice};
 use simplex_scheme::scheme::{CertificateScheme, Digest};
@@ -41,7 +42,7 @@ fn claimed_suspects<S: Counted<D>, D: Digest>(
         AreLawful (⟦<S as Audited<D>>⟧.basis committees).rules →
         Recalls (⟦<S as Audited<D>>⟧.basis_under Claimed committees).rules messages detector.now →
         (round : positions.Round) (signer : ℕ) →
-        contains signer_cmp suspects.signers (round, signer) ≡
+        contains signer_cmp suspects.signers (signer_in round signer) ≡
         is_suspect (⟦<S as Audited<D>>⟧.basis committees).rules messages round signer) }
     ensures rounds { IfOk result (λ suspects. (committees : Schedule S)
         (messages : List (activities.Activity S D S.Certificate S.PublicKey S.Signature)) →
@@ -82,7 +83,8 @@ fn is_sought<S: CertificateScheme>(
         suspects.rounds.contains(&round) && is_member(committees, place.epoch, place.signer)
     } else {
         let signer = Participant::new(place.signer);
-        suspects.signers.contains(&(round, signer))
+        let suspect = SignerInRound { round, signer };
+        suspects.signers.contains(&suspect)
     }
 }
 

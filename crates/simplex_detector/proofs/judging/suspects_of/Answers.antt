@@ -13,6 +13,6 @@ returns-clause-only_rounds g c round has =
     (btree_set_contains_from_list round_cmp_total exact_rounds _ c.in_ok-rounds.rounds c.in_ok-rounds.ensures round).0 has
 
 pub returns-clause-only_signers : goal.returns-clause-only_signers
-returns-clause-only_signers g c round signer has =
+returns-clause-only_signers g c suspect has =
     (btree_set_contains_from_list signer_cmp_total exact_signers _ c.in_ok-signers.signers c.in_ok-signers.ensures
-    (round, signer)).0 has
+    suspect).0 has

@@ -8,5 +8,5 @@ pub returns-clause-rounds : goal.returns-clause-rounds
 returns-clause-rounds g c rules messages claims l is round = rounds_are_suspect rules messages l.payloads claims is round
 
 pub returns-clause-signers : goal.returns-clause-signers
-returns-clause-signers g c rules messages claims l is round signer =
-    signers_are_suspect rules messages l.payloads claims is round signer
+returns-clause-signers g c rules messages claims l is suspect =
+    signers_are_suspect rules messages l.payloads claims is suspect

@@ -1,14 +1,14 @@
 use Rattle.std.proofs.Common.{◌≡◌, ℕ, map, sym, ap, subst, ◌∙◌}
 use Rattle.std.specs.BTreeSet.{contains}
 use Rattle.std.proofs.lemmas.Simd.{map-map}
-use Rattle.simplex_base.specs.Positions.{Round}
 use Rattle.simplex_scheme.specs.Subject.{round_of}
 use Rattle.simplex_detector.specs.Scheme.{rules_of, scheme_of}
 use Rattle.simplex_detector.specs.Evidence.{IsEvidence}
-use Rattle.simplex_detector.specs.Accusation.{round_cmp, signer_cmp}
+use Rattle.simplex_detector.specs.Accusation.{round_cmp, signer_cmp, signer_in}
 use Rattle.simplex_detector.specs.Rules.{valid_votes}
 use Rattle.simplex_detector.specs.Suspects.{is_suspect, is_suspect_round, suspect_of}
 use Rattle.simplex_detector.specs.Values.{evidence_value}
+use Rattle.simplex_detector.specs.declared.evidence.SignerInRound.{SignerInRound}
 use Rattle.simplex_detector.specs.declared.judging.Judging.TheVariants.{Claimed}
 use Rattle.simplex_detector.proofs.SuspectLemmas.{claims_are_claimed}
 use Rattle.simplex_places.proofs.SuspectLemmas.{holds_alike}
@@ -25,12 +25,12 @@ returns-clause-signers g c = λ committees messages lawful recalls round signer.
     let suspects = c.in_ok-suspects.suspects in
     let is = subst (λ judged. IsEvidence eq (valid_votes judged messages) claims) (claims_are_claimed scheme committees)
     (c.in_ok-evidence.ensures.evidence Claimed committees messages recalls) in
-    let law = c.suspects_suffice.ensures.signers rules messages claims lawful is round signer in
+    let law = c.suspects_suffice.ensures.signers rules messages claims lawful is (signer_in round signer) in
     let same : map (λ e. suspect_of (evidence_value e)) c.deref.result.now ≡ map suspect_of claims =
     ap (map (λ e. suspect_of (evidence_value e))) c.deref.ensures.value ∙ sym (map-map suspect_of evidence_value items) in
-    holds_alike (contains signer_cmp suspects.signers) (λ (s : Round × ℕ). is_suspect rules messages s.0 s.1)
-    (map (λ e. suspect_of (evidence_value e)) c.deref.result.now) (map suspect_of claims) (round, signer)
-    same c.in_ok-suspects.ensures.signers (c.in_ok-suspects.ensures.only_signers round signer) law
+    holds_alike (contains signer_cmp suspects.signers) (λ (s : SignerInRound). is_suspect rules messages s.round s.signer)
+    (map (λ e. suspect_of (evidence_value e)) c.deref.result.now) (map suspect_of claims) (signer_in round signer)
+    same c.in_ok-suspects.ensures.signers (c.in_ok-suspects.ensures.only_signers (signer_in round signer)) law
 
 pub returns-clause-rounds : goal.returns-clause-rounds
 returns-clause-rounds g c = λ committees messages lawful recalls round.
