@@ -11,7 +11,6 @@ ghost use Rattle.simplex_detector.specs.Values.{activity_of};
 
 use simplex_base::codec::{EncodeSize, Fixed, Read};
 use simplex_base::positions::{Participant, Round, Roundable};
-use simplex_base::values::EqByParts;
 use simplex_evidence::types::{ConflictingFinalize, ConflictingNotarize, NullifyFinalize};
 use simplex_scheme::scheme::{Digest, Proposal, SchemeTypes};
 use simplex_votes::types::Attributable;
@@ -104,23 +103,6 @@ impl<S: SchemeTypes, D: Digest> Evidence<S, D> {
             Evidence::NullifyFinalize(conflict) => nullify_finalize_line(alloc, conflict),
         }
     }
-}
-
-impl<S: SchemeTypes, D: Digest> EqByParts for Evidence<S, D> {
-    ghost use Rattle.std.specs.Prelude.{refl};
-    ghost use Rattle.simplex_detector.specs.EncodedEvidence.{same_evidence};
-    ghost use Rattle.simplex_detector.specs.declared.evidence.Evidence.TheVariants.{ConflictingNotarize, ConflictingFinalize, NullifyFinalize};
-
-    ghost same = { same_evidence
-        ⟦<ConflictingNotarize<S, D> as PartialEq>⟧.eq
-        ⟦<ConflictingFinalize<S, D> as PartialEq>⟧.eq
-        ⟦<NullifyFinalize<S, D> as PartialEq>⟧.eq };
-
-    ghost equal = { elim [
-      | ConflictingNotarize _ ↦ elim [ ConflictingNotarize _ ↦ refl | _ ↦ refl ]
-      | ConflictingFinalize _ ↦ elim [ ConflictingFinalize _ ↦ refl | _ ↦ refl ]
-      | NullifyFinalize _ ↦ elim [ NullifyFinalize _ ↦ refl | _ ↦ refl ]
-    ] };
 }
 
 /// The line of two notarizes.

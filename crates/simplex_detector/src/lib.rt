@@ -9,6 +9,7 @@
 
 mod boxed_map;
 mod certified_subjects;
+mod derived;
 pub mod detector;
 pub mod evidence;
 pub mod judge;

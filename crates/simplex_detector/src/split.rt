@@ -1,10 +1,9 @@
 //! Rounds whose certificates contradict, and the line that reports one.
 
-ghost use Rattle.std.specs.Prelude.{◌≡◌, ◌&&◌, IfOk, nat_eq, refl, string_bytes};
+ghost use Rattle.std.specs.Prelude.{◌≡◌, IfOk, string_bytes};
 ghost use Rattle.simplex_detector.specs.Splits.{split_line};
 
 use simplex_base::positions::Round;
-use simplex_base::values::{EqByParts, ExactClone, InfallibleClone};
 use std::alloc::{AllocError, Global};
 
 /// A round in which two messages whose certificates verify contradict: two notarizations or two finalizations of
@@ -18,21 +17,6 @@ pub struct Split {
     /// f + 1, f being how many of the round's committee may lie. At least this many signed both certificates: two quorums
     /// of n participants share at least n - 2f, which is at least f + 1.
     pub least: u32,
-}
-
-impl ExactClone for Split {
-    ghost exact = { λ x y same. same };
-}
-
-impl InfallibleClone for Split {
-    ghost infallible = { λ _. tt };
-}
-
-impl EqByParts for Split {
-    ghost same = { λ x y. ⟦<Round as PartialEq>⟧.eq x.round y.round &&
-        (nat_eq x.named y.named && nat_eq x.least y.least) };
-
-    ghost equal = { λ x y. refl };
 }
 
 impl Split {

@@ -1,0 +1,64 @@
+//! What the derived `==`, `cmp` and `clone` of this crate's types return, for each type.
+
+ghost use Rattle.std.specs.Prelude.{nat_eq, refl, ◌&&◌};
+ghost use Rattle.std.specs.Ordering.{nat_cmp, ordering_then};
+
+use crate::evidence::{Evidence, SignerInRound};
+use crate::split::Split;
+use simplex_base::positions::Round;
+use simplex_base::values::{EqByParts, ExactClone, InfallibleClone, OrdByParts};
+use simplex_evidence::types::{ConflictingFinalize, ConflictingNotarize, NullifyFinalize};
+use simplex_scheme::scheme::{Digest, SchemeTypes};
+
+impl<S: SchemeTypes, D: Digest> EqByParts for Evidence<S, D> {
+    ghost use Rattle.simplex_detector.specs.EncodedEvidence.{same_evidence};
+    ghost use Rattle.simplex_detector.specs.declared.evidence.Evidence.TheVariants.{ConflictingNotarize, ConflictingFinalize, NullifyFinalize};
+
+    ghost same = { same_evidence
+        ⟦<ConflictingNotarize<S, D> as PartialEq>⟧.eq
+        ⟦<ConflictingFinalize<S, D> as PartialEq>⟧.eq
+        ⟦<NullifyFinalize<S, D> as PartialEq>⟧.eq };
+
+    ghost equal = { elim [
+      | ConflictingNotarize _ ↦ elim [ ConflictingNotarize _ ↦ refl | _ ↦ refl ]
+      | ConflictingFinalize _ ↦ elim [ ConflictingFinalize _ ↦ refl | _ ↦ refl ]
+      | NullifyFinalize _ ↦ elim [ NullifyFinalize _ ↦ refl | _ ↦ refl ]
+    ] };
+}
+
+impl ExactClone for SignerInRound {
+    ghost exact = { λ x y same. same };
+}
+
+impl InfallibleClone for SignerInRound {
+    ghost infallible = { λ _. tt };
+}
+
+impl EqByParts for SignerInRound {
+    ghost same = { λ x y. ⟦<Round as PartialEq>⟧.eq x.round y.round &&
+        nat_eq x.signer y.signer };
+
+    ghost equal = { λ x y. refl };
+}
+
+impl OrdByParts for SignerInRound {
+    ghost order = { λ x y. ordering_then (⟦<Round as Ord>⟧.cmp x.round y.round)
+        (nat_cmp x.signer y.signer) };
+
+    ghost ordered = { λ x y. refl };
+}
+
+impl ExactClone for Split {
+    ghost exact = { λ x y same. same };
+}
+
+impl InfallibleClone for Split {
+    ghost infallible = { λ _. tt };
+}
+
+impl EqByParts for Split {
+    ghost same = { λ x y. ⟦<Round as PartialEq>⟧.eq x.round y.round &&
+        (nat_eq x.named y.named && nat_eq x.least y.least) };
+
+    ghost equal = { λ x y. refl };
+}
