@@ -148,8 +148,7 @@ fn audit_suspects<S: Listing<D>, D: Digest>(
         return Ok(claims);
     }
     let suspects = suspects_of(alloc, &claims.evidence)?;
-    let report = audit_stream(alloc, committees, Judging::Suspects(suspects), stream)?;
-    Ok(report)
+    audit_stream(alloc, committees, Judging::Suspects(suspects), stream)
 }
 
 /// The report of a stream whose votes and certificates are judged as strictly as a `Judging` says.

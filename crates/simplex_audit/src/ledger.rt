@@ -45,8 +45,7 @@ impl<'a, S: Listing<D>, D: Digest> Ledger<'a, S, D> {
             WasFed ⟦<S as Audited<D>>⟧.basis committees.now ledger stored.now) }
     {
         counts_are_few(stored.len());
-        let ledger = Ledger::new(alloc, committees).feed(stored)?;
-        Ok(ledger)
+        Ledger::new(alloc, committees).feed(stored)
     }
 
     /// The ledger that was fed this piece, too. `AllocError` only where an allocation failed, and then there is no ledger. The

@@ -23,8 +23,7 @@ fn stored_after<S: Listing<D>, D: Digest>(
 {
     let resumed = Ledger::<S, D>::resume(alloc, committees, stored)?;
     let ledger = resumed.feed(batch)?;
-    let bytes = ledger.store(alloc)?;
-    Ok(bytes)
+    ledger.store(alloc)
 }
 
 /// Puts the evidence of what was stored and of a batch behind it, as messages, at the start of a

@@ -150,8 +150,7 @@ fn records_by<K: Key<D, S::Signature>, S: Listing<D>, D: Digest>(
     let evidence = report.evidence.as_slice();
     let keys = sought::<K, S, D>(alloc, evidence)?;
     let places = find::<K, S, D>(alloc, committees.bound(), stream, keys)?;
-    let found = listed(alloc, &places, evidence)?;
-    Ok(found)
+    listed(alloc, &places, evidence)
 }
 
 /// The evidence of the report of a stream as records, in the order of the report, each with the places of its two votes in

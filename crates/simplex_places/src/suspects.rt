@@ -157,6 +157,5 @@ pub fn suspects<S: Counted<D>, D: Digest>(
     let bound = reading_bound::<S, D>(committees);
     let claims = read_claims::<S, D>(alloc, committees, bound, stream)?;
     let suspects = claimed_suspects(alloc, &claims.detector)?;
-    let found = sought(alloc, committees, &suspects, claims.places.as_slice())?;
-    Ok(found)
+    sought(alloc, committees, &suspects, claims.places.as_slice())
 }

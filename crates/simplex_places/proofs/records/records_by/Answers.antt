@@ -1,6 +1,7 @@
 use Rattle.std.proofs.Common.{◌≡◌, ℕ, true, map, sym, ap, subst, ◌∙◌}
 use Rattle.std.specs.Prelude.{All}
 use Rattle.std.specs.List.{AllZip}
+use Rattle.std.proofs.lemmas.Result.{IfOk-weaker}
 use Rattle.simplex_base.specs.Format.{Format, fixed}
 use Rattle.simplex_evidence.specs.Activity.{activity_format, votes_in}
 use Rattle.simplex_evidence.specs.declared.types.activity.Activity.{Activity}
@@ -34,12 +35,13 @@ format g bound =
 pub returns-clause-whose : goal.returns-clause-whose
 returns-clause-whose g c =
     let es = c.args.report.now.evidence.items in
-    let found = c.in_ok-found.ensures ∙ ap (map _) c.as_slice-evidence.ensures.value in
-    subst (AllZip IsOfEvidence (map evidence_value es)) (sym found)
-    (all_of_evidence g.K.Ord.cmp g.K.Key.key_of c.in_ok-places.places evidence_value es)
+    IfOk-weaker c.listed.result _ _
+    (λ found is. subst (AllZip IsOfEvidence (map evidence_value es)) (sym (is ∙ ap (map _) c.as_slice-evidence.ensures.value))
+    (all_of_evidence g.K.Ord.cmp g.K.Key.key_of c.in_ok-places.places evidence_value es))
+    c.listed.ensures
 
 pub returns-clause-records : goal.returns-clause-records
-returns-clause-records g c audit messages rest are =
+returns-clause-records g c = IfOk-weaker c.listed.result _ _ (λ found is audit messages rest are.
     let cmp = g.K.Ord.cmp in
     let eq = g.K.PartialEq.eq in
     let key_of = g.K.Key.key_of in
@@ -61,11 +63,12 @@ returns-clause-records g c audit messages rest are =
     noted.are_messages in
     let same = (audit.single messages noted.messages rest noted.rest are bounded).0 in
     let encoding = (format g c.bound.result).encoding in
-    let found = subst (NotesAlong cmp eq key_of (votes_in listed) encoding 0 before after) (sym same) noted.found in
+    let noted_all = subst (NotesAlong cmp eq key_of (votes_in listed) encoding 0 before after) (sym same) noted.found in
     let sought = subst (All (λ e. AreSought cmp key_of before (evidence_value e))) c.as_slice-evidence.ensures.value
     c.in_ok-keys.ensures in
     let stand = records_stand cmp eq key_of (same_signed_vote payload_eq signature_eq) alike itself (votes_in listed)
-    (is_valid rules) (format g c.bound.result).encoding messages before after found evidence_value payload_eq es
+    (is_valid rules) (format g c.bound.result).encoding messages before after noted_all evidence_value payload_eq es
     (audit.sound messages rest are) sought in
     subst (AllZip (IsRecord (carries payload_eq signature_eq listed) (format g c.bound.result).encoding messages)
-    (map evidence_value es)) (sym (c.in_ok-found.ensures ∙ ap (map _) c.as_slice-evidence.ensures.value)) stand
+    (map evidence_value es)) (sym (is ∙ ap (map _) c.as_slice-evidence.ensures.value)) stand)
+    c.listed.ensures

@@ -1,4 +1,5 @@
 use Rattle.std.proofs.Common.{ℕ, ap, ◌∙◌}
+use Rattle.std.proofs.lemmas.Result.{IfOk-weaker}
 use Rattle.simplex_base.specs.Format.{fixed}
 use Rattle.simplex_evidence.specs.Activity.{activity_encoding}
 use Rattle.simplex_scheme.specs.Committees.{committee_of, size_by}
@@ -21,17 +22,18 @@ returns-clause-listed g c =
     (activity_encoding g.D.PartialEq.eq payload g.S.Certificate.Encoding.encoding signature) 0 read.messages in
     let claimed = suspected_by c.in_ok-suspects.suspects in
     let lawful = c.reading_bound-bound.ensures.lawful in
-    record {
+    IfOk-weaker c.sought.result _ _ (λ found is. record {
       messages = read.messages;
       rest = read.rest;
       are_messages = read.are_messages;
-      found_are = c.in_ok-found.ensures ∙ (ap (sought_of claimed size) (c.as_slice.ensures.value ∙ read.places_are)
+      found_are = is ∙ (ap (sought_of claimed size) (c.as_slice.ensures.value ∙ read.places_are)
           ∙ sought_alike claimed (suspected_in rules read.messages) size (record {
             signers = c.in_ok-suspects.ensures.signers committees read.messages lawful read.recalled;
             rounds = c.in_ok-suspects.ensures.rounds committees read.messages lawful read.recalled;
           }) places);
-    }
+    }) c.sought.ensures
 
 pub returns-clause-votes : goal.returns-clause-votes
 returns-clause-votes g c =
-    c.suspects_are_votes.ensures c.args.committees.now c.args.stream.now c.in_ok-found.found.items (returns-clause-listed g c)
+    IfOk-weaker c.sought.result _ _
+    (λ found. c.suspects_are_votes.ensures c.args.committees.now c.args.stream.now found.items) (returns-clause-listed g c)
