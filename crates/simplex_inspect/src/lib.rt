@@ -6,6 +6,7 @@
 #![tactic(auto)]
 
 pub mod basis;
+mod derived;
 pub mod fault;
 pub mod input;
 pub mod inspect;

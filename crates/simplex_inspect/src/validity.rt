@@ -1,9 +1,7 @@
 //! The validity of a signature and of a certificate.
 
-ghost use Rattle.std.specs.Prelude.{◌≡◌, refl};
+ghost use Rattle.std.specs.Prelude.{◌≡◌};
 ghost use Rattle.simplex_inspect.specs.Validity.{validity_of_signature, validity_of_certificate};
-
-use simplex_base::values::{EqByParts, ExactClone, InfallibleClone};
 
 /// Whether a signature or a certificate is valid, and why not.
 #[derive(Clone, Copy, Debug, PartialEq, Eq)]
@@ -21,30 +19,6 @@ pub enum Validity {
     /// Of a certificate: it lists a quorum or more, and the scheme does not accept it. For the schemes here that is because the
     /// signature of an attestation that it lists is not valid; another scheme may ask for more than valid signatures.
     WrongAttestation,
-}
-
-impl ExactClone for Validity {
-    ghost exact = { λ x y same. same };
-}
-
-impl InfallibleClone for Validity {
-    ghost infallible = { λ _. tt };
-}
-
-impl EqByParts for Validity {
-    ghost use Rattle.simplex_inspect.specs.Validity.{same_validity};
-    ghost use Rattle.simplex_inspect.specs.declared.validity.Validity.TheVariants.{Valid, NoCommittee, OutsideSigner, WrongSignature, TooFew, WrongAttestation};
-
-    ghost same = { same_validity };
-
-    ghost equal = { elim [
-      | Valid ↦ elim [ Valid ↦ refl | _ ↦ refl ]
-      | NoCommittee ↦ elim [ NoCommittee ↦ refl | _ ↦ refl ]
-      | OutsideSigner ↦ elim [ OutsideSigner ↦ refl | _ ↦ refl ]
-      | WrongSignature ↦ elim [ WrongSignature ↦ refl | _ ↦ refl ]
-      | TooFew ↦ elim [ TooFew ↦ refl | _ ↦ refl ]
-      | WrongAttestation ↦ elim [ WrongAttestation ↦ refl | _ ↦ refl ]
-    ] };
 }
 
 /// The validity of a signature, from whether it is valid, how many participants the epoch's committee has (0 where there is

@@ -9,6 +9,7 @@
 //! places of sought votes.
 #![tactic(auto)]
 
+mod derived;
 mod first_places;
 pub mod located;
 pub mod places;

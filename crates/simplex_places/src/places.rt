@@ -1,6 +1,6 @@
 //! Where the attestations of a message stand.
 
-ghost use Rattle.std.specs.Prelude.{◌≡◌, ◌+◌, ◌-◌, ◌<◌, ◌^◌, ◌++◌, [], ◌∷◌, ◌&&◌, true, false, IfOk, OnOk, length, nat_eq, refl};
+ghost use Rattle.std.specs.Prelude.{◌≡◌, ◌+◌, ◌-◌, ◌<◌, ◌^◌, ◌++◌, [], ◌∷◌, IfOk, OnOk, length};
 ghost use Rattle.std.specs.List.{flat_map};
 ghost use Rattle.simplex_base.specs.Format.{format_of};
 ghost use Rattle.simplex_scheme.specs.Subject.{message_of, subject_value};
@@ -10,7 +10,6 @@ use crate::located::Counted;
 use simplex_base::codec::varint::size_u32;
 use simplex_base::codec::{EncodeSize, Encoding, Fixed, Read};
 use simplex_base::positions::{Round, Roundable};
-use simplex_base::values::{EqByParts, ExactClone, InfallibleClone};
 use simplex_evidence::types::{Activity, Contents};
 use simplex_scheme::scheme::{Attestation, Digest, SchemeTypes, Subject, VoteKind};
 use std::alloc::AllocError;
@@ -35,23 +34,6 @@ pub struct AttestationPlace {
     pub kind: u32,
 }
 
-impl ExactClone for AttestationPlace {
-    ghost exact = { λ x y same. same };
-}
-
-impl InfallibleClone for AttestationPlace {
-    ghost infallible = { λ _. tt };
-}
-
-impl EqByParts for AttestationPlace {
-    ghost same = { λ x y. nat_eq x.epoch y.epoch && (nat_eq x.view y.view &&
-        (nat_eq x.verdict_place y.verdict_place && (nat_eq x.subject_place y.subject_place &&
-        (nat_eq x.subject_length y.subject_length && (nat_eq x.signer y.signer &&
-        nat_eq x.kind y.kind))))) };
-
-    ghost equal = { λ x y. refl };
-}
-
 /// An attestation of the stream.
 #[derive(Clone, Copy, Debug, PartialEq, Eq)]
 pub(crate) struct Placed {
@@ -59,21 +41,6 @@ pub(crate) struct Placed {
     pub attestation: AttestationPlace,
     /// Whether a certificate lists it. If not, it is a standalone vote or one in evidence.
     pub is_listed: bool,
-}
-
-impl ExactClone for Placed {
-    ghost exact = { λ x y same. same };
-}
-
-impl InfallibleClone for Placed {
-    ghost infallible = { λ _. tt };
-}
-
-impl EqByParts for Placed {
-    ghost same = { λ x y. ⟦<AttestationPlace as PartialEq>⟧.eq x.attestation y.attestation &&
-        ⟦<bool as PartialEq>⟧.eq x.is_listed y.is_listed };
-
-    ghost equal = { λ x y. refl };
 }
 
 /// What was signed, where its bytes stand, and whether a certificate lists its attestations.

@@ -1,6 +1,6 @@
 //! The evidence of a report as records, with the places of its votes in the stream.
 
-ghost use Rattle.std.specs.Prelude.{◌≡◌, ◌&&◌, IfOk, Some, map, nat_eq, refl};
+ghost use Rattle.std.specs.Prelude.{◌≡◌, IfOk, Some, map};
 ghost use Rattle.std.specs.BTreeMap.{get};
 ghost use Rattle.std.specs.List.{AllZip};
 ghost use Rattle.simplex_audit.specs.Guarantees.{IsAudit};
@@ -14,7 +14,6 @@ use crate::located::Located;
 use crate::votes::{Key, VoteKey, first, second};
 use simplex_audit::audit::Report;
 use simplex_audit::basis::Audited;
-use simplex_base::values::{EqByParts, ExactClone, InfallibleClone};
 use simplex_scheme::committees::Committees;
 use simplex_detector::evidence::Evidence;
 use simplex_scheme::scheme::{Digest, Listing, SchemeTypes};
@@ -50,22 +49,6 @@ pub struct Record {
     pub signer: u32,
     /// The kind: [`CONFLICTING_NOTARIZE`], [`CONFLICTING_FINALIZE`] or [`NULLIFY_FINALIZE`].
     pub kind: u32,
-}
-
-impl ExactClone for Record {
-    ghost exact = { λ x y same. same };
-}
-
-impl InfallibleClone for Record {
-    ghost infallible = { λ _. tt };
-}
-
-impl EqByParts for Record {
-    ghost same = { λ x y. nat_eq x.epoch y.epoch && (nat_eq x.view y.view &&
-        (nat_eq x.first_place y.first_place && (nat_eq x.second_place y.second_place &&
-        (nat_eq x.signer y.signer && nat_eq x.kind y.kind)))) };
-
-    ghost equal = { λ x y. refl };
 }
 
 /// The number of an evidence's kind.
