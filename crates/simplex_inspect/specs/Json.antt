@@ -28,14 +28,9 @@ abbrev pub signature_json : ℕ → List ℕ → Option Validity → Json
 signature_json signer signature validity =
     object_of ((codes "signer", number_json signer) ∷ (codes "signature", bytes_json signature) ∷ validity_members validity)
 
--- the members of a vote for a proposal
-abbrev pub proposal_members : List ℕ → ℕ → List ℕ → List (List ℕ × Json)
-proposal_members vote parent payload =
-    (codes "vote", string vote) ∷ (codes "parent", number_json parent) ∷ (codes "payload", bytes_json payload) ∷ []
-
--- the members of a nullify
-abbrev pub nullify_members : List (List ℕ × Json)
-nullify_members = (codes "vote", string (codes "nullify")) ∷ []
+-- the members of a proposal
+abbrev pub proposal_members : ℕ → List ℕ → List (List ℕ × Json)
+proposal_members parent payload = (codes "parent", number_json parent) ∷ (codes "payload", bytes_json payload) ∷ []
 
 -- the members before a message's statements: its offset, its length in bytes, its kind and its round
 abbrev pub head_members : ℕ → ℕ → List ℕ → ℕ → ℕ → List (List ℕ × Json)

@@ -1,6 +1,7 @@
 -- The line of a message.
 use Rattle.std.specs.Prelude.{ℕ, List, [], ◌∷◌, None, codes, map, option_map}
-use Rattle.json.specs.Json.{Json}
+use Rattle.json.specs.Json.{Json, string}
+use Rattle.simplex_scheme.specs.Kind.{kind_of, kind_word}
 use Rattle.simplex_scheme.specs.Subject.{SubjectValue, Notarizes, Nullifies, Finalizes}
 use Rattle.simplex_scheme.specs.declared.scheme.Attestation.{Attestation}
 use Rattle.simplex_evidence.specs.Activity.{activity_round, contents_of}
@@ -8,15 +9,19 @@ use Rattle.simplex_evidence.specs.Contents.{ContentsValue, OneVote, OneCertifica
 use Rattle.simplex_evidence.specs.declared.types.activity.Activity.{Activity}
 use Rattle.simplex_evidence.specs.declared.types.activity.Activity.TheVariants as activity
 use Rattle.simplex_votes.specs.Votes.{SignedVote, vote_on}
-use Rattle.simplex_inspect.specs.Json.{signature_json, proposal_members, nullify_members, head_members, listing_json}
+use Rattle.simplex_inspect.specs.Json.{signature_json, proposal_members, head_members, listing_json}
 use Rattle.simplex_inspect.specs.Shown.{Shown, signature_validity, certificate_validity}
 use Rattle.simplex_inspect.specs.Values.{line_of}
 
--- the members of a subject
+-- the members of a subject's proposal, if it has one
+abbrev pub proposed_members : {D : Type 0} → (D → List ℕ) → SubjectValue D → List (List ℕ × Json)
+proposed_members bytes_of (Notarizes p) = proposal_members p.parent (bytes_of p.payload)
+proposed_members bytes_of (Nullifies r) = []
+proposed_members bytes_of (Finalizes p) = proposal_members p.parent (bytes_of p.payload)
+
+-- the members of a subject: the kind of its votes, and its proposal
 abbrev pub subject_members : {D : Type 0} → (D → List ℕ) → SubjectValue D → List (List ℕ × Json)
-subject_members bytes_of (Notarizes p) = proposal_members (codes "notarize") p.parent (bytes_of p.payload)
-subject_members bytes_of (Nullifies r) = nullify_members
-subject_members bytes_of (Finalizes p) = proposal_members (codes "finalize") p.parent (bytes_of p.payload)
+subject_members bytes_of x = (codes "vote", string (kind_word (kind_of x))) ∷ proposed_members bytes_of x
 
 -- the signature of a vote, with its validity
 abbrev pub signed_json : {S D C P G : Type 0} → Shown S D C P G → SignedVote D G → Json

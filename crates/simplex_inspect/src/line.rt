@@ -9,7 +9,7 @@ ghost use Rattle.simplex_scheme.specs.Committees.{valid_by, certified_by, size_b
 ghost use Rattle.simplex_votes.specs.Votes.{vote_on};
 ghost use Rattle.simplex_evidence.specs.Activity.{contents_of};
 ghost use Rattle.simplex_evidence.specs.Contents.{signed_value};
-ghost use Rattle.simplex_inspect.specs.Line.{subject_members, attestation_json, vote_json, certificate_json, statements_json, message_word, message_json};
+ghost use Rattle.simplex_inspect.specs.Line.{proposed_members, subject_members, attestation_json, vote_json, certificate_json, statements_json, message_word, message_json};
 ghost use Rattle.simplex_inspect.specs.Shown.{signature_validity, certificate_validity};
 ghost use Rattle.simplex_inspect.specs.Tokens.{Appended, member_tokens, open_tokens, value_tokens};
 ghost use Rattle.simplex_inspect.specs.Values.{IsJsonLine};
@@ -119,7 +119,26 @@ fn certificate_validity<S: Listing<D>, D: Digest>(
     Some(validity_of_certificate(valid, size as usize, quorum_among(size), count))
 }
 
-/// Writes the members of a subject.
+/// Writes the members of a subject's proposal, if it has one.
+fn write_proposed<D: Digest>(
+    alloc: Global,
+    writer: &mut Writer,
+    subject: &Subject<'_, D>,
+) -> Result<(), AllocError>
+    ensures { OnOk result (Appended
+        (member_tokens (proposed_members D.bytes_of (subject_value subject.now)))
+        writer.old writer.new) }
+{
+    match subject {
+        Subject::Notarize { proposal } | Subject::Finalize { proposal } => {
+            let (parent, payload) = (proposal.parent.get(), proposal.payload.as_bytes());
+            write_proposal(alloc, writer, parent, payload)
+        }
+        Subject::Nullify { .. } => Ok(()),
+    }
+}
+
+/// Writes the members of a subject: the kind of its votes, and its proposal.
 fn write_subject<D: Digest>(
     alloc: Global,
     writer: &mut Writer,
@@ -129,17 +148,8 @@ fn write_subject<D: Digest>(
         (member_tokens (subject_members D.bytes_of (subject_value subject.now)))
         writer.old writer.new) }
 {
-    match subject {
-        Subject::Notarize { proposal } => {
-            let (parent, payload) = (proposal.parent.get(), proposal.payload.as_bytes());
-            write_proposal(alloc, writer, "notarize", parent, payload)
-        }
-        Subject::Nullify { .. } => write_text(writer, "vote", "nullify"),
-        Subject::Finalize { proposal } => {
-            let (parent, payload) = (proposal.parent.get(), proposal.payload.as_bytes());
-            write_proposal(alloc, writer, "finalize", parent, payload)
-        }
-    }
+    write_text(writer, "vote", subject.kind().word())?;
+    write_proposed(alloc, writer, subject)
 }
 
 /// Writes an attestation of a subject, with the validity of its signature.

@@ -103,18 +103,16 @@ pub fn write_signature(
     writer.end_object()
 }
 
-/// Writes the members of a vote for a proposal.
+/// Writes the members of a proposal.
 pub fn write_proposal(
     alloc: Global,
     writer: &mut Writer,
-    vote: &str,
     parent: u64,
     payload: &[u8],
 ) -> Result<(), AllocError>
     ensures { OnOk result (Appended
-        (member_tokens (proposal_members vote.now parent payload.now)) writer.old writer.new) }
+        (member_tokens (proposal_members parent payload.now)) writer.old writer.new) }
 {
-    write_text(writer, "vote", vote)?;
     write_number(writer, "parent", parent)?;
     write_bytes(alloc, writer, "payload", payload)
 }
