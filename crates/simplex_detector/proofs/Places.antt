@@ -170,8 +170,8 @@ exact_signers a b h =
 pub exact_accused : CmpEqualImpliesEq accused_cmp
 exact_accused a b h =
     ap (λ (p : _). record { round = p.0.round; signer = p.0.signer; kind = p.1 })
-    (exact_pairs signer_cmp (λ k l. nat_cmp (kind_rank k) (kind_rank l)) exact_signers kinds (signer_in a.round a.signer, a.kind)
-    (signer_in b.round b.signer, b.kind) h)
+    (exact_pairs signer_cmp (λ k l. nat_cmp (kind_rank k) (kind_rank l)) exact_signers kinds
+    (signer_in a.round a.signer, a.kind) (signer_in b.round b.signer, b.kind) h)
   where
     kinds : (k l : EquivocationKind) → nat_cmp (kind_rank k) (kind_rank l) ≡ Equal → k ≡ l
     kinds Conflicting_notarize Conflicting_notarize e = refl

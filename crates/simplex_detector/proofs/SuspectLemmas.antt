@@ -325,7 +325,8 @@ module _ {S D C P G : Type 0} (rules : Rules S D C P G) (messages : List (Activi
           Contains-from_list_any (λ v. is_suspect rules messages round v.signer) (valid_votes (claimed rules) messages) h in
           let suspect = signer_in round v.signer in
           let (e, e_in, e_is) = Contains-from_map suspect_of claims suspect ((signers_are_suspect suspect).1 v_accused) in
-          subst (Contains (map (λ (e : Equivocation D G). round_of e.first.subject) claims)) (ap (λ (s : SignerInRound). s.round) e_is)
+          subst (Contains (map (λ (e : Equivocation D G). round_of e.first.subject) claims))
+          (ap (λ (s : SignerInRound). s.round) e_is)
           (Contains-map (λ (e : Equivocation D G). round_of e.first.subject) claims e e_in),
     )
 

@@ -46,4 +46,5 @@ kind_rank Nullify_finalize = 2
 -- accusations are ordered by round, signer and kind
 abbrev pub accused_cmp : Accusation → Accusation → Ordering
 accused_cmp a b =
-    ordering_then (signer_cmp (signer_in a.round a.signer) (signer_in b.round b.signer)) (nat_cmp (kind_rank a.kind) (kind_rank b.kind))
+    ordering_then (signer_cmp (signer_in a.round a.signer) (signer_in b.round b.signer))
+    (nat_cmp (kind_rank a.kind) (kind_rank b.kind))

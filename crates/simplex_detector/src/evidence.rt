@@ -177,8 +177,9 @@ fn line_of_two<D: Digest>(
     second: &Proposal<D>,
 ) -> Result<String, AllocError>
     ensures { IfOk result (λ line.
-        string_bytes line ≡ parted (decimal accused.round.epoch ∷
-        decimal accused.round.view ∷ decimal accused.signer ∷ kind.now ∷ with_proposal D.bytes_of first.now (with_proposal D.bytes_of second.now []))) }
+        string_bytes line ≡ parted (decimal accused.round.epoch ∷ decimal accused.round.view ∷
+        decimal accused.signer ∷ kind.now ∷
+        with_proposal D.bytes_of first.now (with_proposal D.bytes_of second.now []))) }
 {
     let (epoch, view) = (accused.round.epoch().get(), accused.round.view().get());
     let signer = accused.signer.get();
@@ -195,8 +196,8 @@ fn line_of_one<D: Digest>(
     proposal: &Proposal<D>,
 ) -> Result<String, AllocError>
     ensures { IfOk result (λ line.
-        string_bytes line ≡ parted (decimal accused.round.epoch ∷
-        decimal accused.round.view ∷ decimal accused.signer ∷ kind.now ∷ with_proposal D.bytes_of proposal.now [])) }
+        string_bytes line ≡ parted (decimal accused.round.epoch ∷ decimal accused.round.view ∷
+        decimal accused.signer ∷ kind.now ∷ with_proposal D.bytes_of proposal.now [])) }
 {
     let (epoch, view) = (accused.round.epoch().get(), accused.round.view().get());
     let signer = accused.signer.get();

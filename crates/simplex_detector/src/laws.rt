@@ -13,6 +13,7 @@ ghost use Rattle.simplex_evidence.specs.Contradiction as contradiction;
 ghost use Rattle.simplex_evidence.specs.declared.types.activity.Activity.{Activity};
 ghost use Rattle.simplex_scheme.specs.Committees.{Schedule, committee_of};
 ghost use Rattle.simplex_detector.specs.declared.judging.Judging.{Judging};
+ghost use Rattle.simplex_detector.specs.declared.judging.Judging.TheVariants.{Claimed};
 ghost use Rattle.simplex_detector.specs.Evidence.{IsEvidence, IsEquivocation};
 ghost use Rattle.simplex_detector.specs.Independence.{FloorParts, IsOfOneRound, OthersStay, PartsAddUp, RoundsAreIndependent, in_rounds};
 ghost use Rattle.simplex_detector.specs.Interchange.{AreInterchangeable, HaveSameState, SameStateAmong, SameStateJoined};
@@ -124,6 +125,9 @@ pub fn recorded_votes_have_room<S: Listing<D>, D: Digest>()
 /// signatures are valid or not. Verifying only the votes of suspects and the certificates of their rounds yields the evidence
 /// and the splits of all messages. Where nobody is suspect there are none.
 pub fn suspects_determine_reports<S: Listing<D>, D: Digest>()
+    // What is judged as `Claimed` is what the votes claim.
+    ensures claims { (schedule : Schedule S) → ⟦<S as Judges<D>>⟧.rules_under Claimed schedule ≡
+        claimed (⟦<S as Judges<D>>⟧.rules schedule) }
     ensures nobody { (schedule : Schedule S) → NobodyIsSuspect (⟦<S as Judges<D>>⟧.rules schedule)
         (λ judging. ⟦<S as Judges<D>>⟧.rules_under judging schedule) }
     ensures suspects { (schedule : Schedule S) → SuspectsDetermineReports

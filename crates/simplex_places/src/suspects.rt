@@ -27,7 +27,7 @@ use simplex_scheme::committees::Committees;
 use simplex_detector::detector::Detector;
 use simplex_detector::evidence::SignerInRound;
 use simplex_detector::judging::{SuspectSigners, suspects_of};
-use simplex_detector::laws::{suspects_decide, suspects_suffice};
+use simplex_detector::laws::{suspects_decide, suspects_determine_reports, suspects_suffice};
 use simplex_scheme::scheme::{CertificateScheme, Digest};
 use simplex_schemes::vouched::Vouched;
 use std::alloc::{AllocError, Global};
@@ -51,6 +51,7 @@ fn claimed_suspects<S: Counted<D>, D: Digest>(
         (round : positions.Round) → contains round_cmp suspects.rounds round ≡
         is_suspect_round (⟦<S as Audited<D>>⟧.basis committees).rules messages round) }
 {
+    suspects_determine_reports::<S, D>();
     suspects_suffice::<S, D>();
     let evidence = detector.evidence(alloc)?;
     let suspects = suspects_of(alloc, &evidence)?;

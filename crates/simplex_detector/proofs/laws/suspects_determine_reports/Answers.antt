@@ -10,6 +10,9 @@ abbrev scheme : (g : given.Over) →
 scheme g =
     scheme_of g.D.PartialEq.eq g.S.CertificateScheme.keys g.S.Scheme.good g.S.CertificateVerifier.certified g.S.Listing.listed
 
+pub returns-clause-claims : goal.returns-clause-claims
+returns-clause-claims g c schedule = claims_are_claimed (scheme g) schedule
+
 pub returns-clause-nobody : goal.returns-clause-nobody
 returns-clause-nobody g c schedule messages splits l is are =
     let same = claims_are_claimed (scheme g) schedule in

@@ -10,7 +10,7 @@ use Rattle.simplex_detector.specs.Suspects.{is_suspect, is_suspect_round, suspec
 use Rattle.simplex_detector.specs.Values.{evidence_value}
 use Rattle.simplex_detector.specs.declared.evidence.SignerInRound.{SignerInRound}
 use Rattle.simplex_detector.specs.declared.judging.Judging.TheVariants.{Claimed}
-use Rattle.simplex_detector.proofs.SuspectLemmas.{claims_are_claimed}
+use Rattle.simplex_detector.specs.Scheme.{scheme_of}
 use Rattle.simplex_places.proofs.SuspectLemmas.{holds_alike}
 use Rattle.simplex_places.proofs.suspects.claimed_suspects.Goals as goal
 
@@ -23,7 +23,8 @@ returns-clause-signers g c = λ committees messages lawful recalls round signer.
     let items = c.in_ok-evidence.evidence.items in
     let claims = map evidence_value items in
     let suspects = c.in_ok-suspects.suspects in
-    let is = subst (λ judged. IsEvidence eq (valid_votes judged messages) claims) (claims_are_claimed scheme committees)
+    let is = subst (λ judged. IsEvidence eq (valid_votes judged messages) claims)
+    (c.suspects_determine_reports.ensures.claims committees)
     (c.in_ok-evidence.ensures.evidence Claimed committees messages recalls) in
     let law = c.suspects_suffice.ensures.signers rules messages claims lawful is (signer_in round signer) in
     let same : map (λ e. suspect_of (evidence_value e)) c.deref.result.now ≡ map suspect_of claims =
@@ -41,7 +42,8 @@ returns-clause-rounds g c = λ committees messages lawful recalls round.
     let items = c.in_ok-evidence.evidence.items in
     let claims = map evidence_value items in
     let suspects = c.in_ok-suspects.suspects in
-    let is = subst (λ judged. IsEvidence eq (valid_votes judged messages) claims) (claims_are_claimed scheme committees)
+    let is = subst (λ judged. IsEvidence eq (valid_votes judged messages) claims)
+    (c.suspects_determine_reports.ensures.claims committees)
     (c.in_ok-evidence.ensures.evidence Claimed committees messages recalls) in
     let law = c.suspects_suffice.ensures.rounds rules messages claims lawful is round in
     let same : map (λ e. round_of (evidence_value e).first.subject) c.deref.result.now
