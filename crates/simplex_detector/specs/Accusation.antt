@@ -19,10 +19,6 @@ pub record Accusation : Type 0 where
 abbrev pub is_accused : {D G : Type 0} → (D → D → Bool) → List (SignedVote D G) → Accusation → Bool
 is_accused eq vs n = list_any (λ v. is_of n.round n.signer v && list_any (contradicts eq n.kind v) vs) vs
 
--- a signer in a round
-abbrev pub signer_in : Round → ℕ → SignerInRound
-signer_in round signer = record { round = round; signer = signer }
-
 -- whom an evidence accuses
 abbrev pub accused_by : {D G : Type 0} → Equivocation D G → Accusation
 accused_by e = record { round = round_of e.first.subject; signer = e.first.signer; kind = e.kind }
@@ -32,6 +28,10 @@ accused_by e = record { round = round_of e.first.subject; signer = e.first.signe
 -- rounds are ordered by epoch, and then by view
 abbrev pub round_cmp : Round → Round → Ordering
 round_cmp a b = ordering_then (nat_cmp a.epoch b.epoch) (nat_cmp a.view b.view)
+
+-- a signer in a round
+abbrev pub signer_in : Round → ℕ → SignerInRound
+signer_in round signer = record { round = round; signer = signer }
 
 -- signers in rounds are ordered by round and then by signer
 abbrev pub signer_cmp : SignerInRound → SignerInRound → Ordering

@@ -1,6 +1,6 @@
 -- Streams with other verdicts: the same attestations have to be verified, and their verdicts determine the report.
 use Rattle.std.proofs.Common.{◌≡◌, ℕ, ◌<◌, ◌≤◌, Bool, true, false, List, [], ◌∷◌, ◌++◌, length, map, get_or, inl, inr, set, true≢false, refl, sym, ap, subst, ◌∙◌, arith}
-use Rattle.std.specs.Prelude.{◌⊎◌, ◌&&◌, if◌then◌else◌, All, Contains, filter, nat_lt}
+use Rattle.std.specs.Prelude.{◌⊎◌, ◌&&◌, if◌then◌else◌, All, Contains, nat_lt}
 use Rattle.std.specs.List.{flat_map}
 use Rattle.std.proofs.lemmas.Bool.{cases_eq, cases_lt, lt-ltb}
 use Rattle.std.proofs.lemmas.List.{get_or_default, get_or_past, get_or-set_other, get_or-set_same, length-set, same_lists, set-get_or}
@@ -17,7 +17,6 @@ use Rattle.simplex_detector.specs.Rules.{AreLawful, Rules, valid_votes}
 use Rattle.simplex_detector.specs.Splits.{AreSplits}
 use Rattle.simplex_detector.specs.Agreement.{AgreeOnSuspects, SuspectsDecide, claim_of}
 use Rattle.simplex_detector.specs.Suspects.{is_suspect, is_suspect_round}
-use Rattle.simplex_detector.proofs.Lists.{Contains-filter, Contains-map}
 use Rattle.simplex_audit.specs.Basis.{Basis}
 use Rattle.simplex_stream.specs.Messages.{AreMessages}
 use Rattle.simplex_stream.specs.Fault.{IsFault}
@@ -29,7 +28,7 @@ use Rattle.simplex_places.specs.Suspects.{HaveToBeVerified, is_sought, round_at,
 use Rattle.simplex_places.specs.Verdicts.{DetermineTheReport, DiffersInVerdicts, HaveSameVerdicts}
 use Rattle.simplex_places.specs.declared.places.Placed.{Placed}
 use Rattle.simplex_places.specs.declared.places.AttestationPlace.{AttestationPlace}
-use Rattle.simplex_places.proofs.SuspectLemmas.{AreAlike, one_alike, sought_alike}
+use Rattle.simplex_places.proofs.SuspectLemmas.{AreAlike, each_passing, one_alike, sought_alike}
 use Rattle.simplex_places.proofs.VerdictLemmas.{AreChanged, as_set, before_tail, first_or_later, format, messages_changed, places_in, same_size}
 
 -- ---- one verdict after another
@@ -310,10 +309,9 @@ module _ (S D P : Type 0) (n : ℕ) (some : 1 ≤ n) (eq : D → D → Bool) (pa
               | inr c ↦ inr c
             ])
             (λ q q_in passes. sym
-            (All-contains (λ (s : AttestationPlace). get_or one s.verdict_place 0 ≡ get_or other s.verdict_place 0) found
-            q.attestation same
-            (subst (λ (l : List AttestationPlace). Contains l q.attestation) (sym found_are)
-            (Contains-map (λ (p : Placed). p.attestation) (filter must all) q (Contains-filter must all q q_in passes)))))
+            (All-contains (λ (p : Placed). must p ≡ true → get_or one (verdict_of p) 0 ≡ get_or other (verdict_of p) 0) all q
+            (each_passing (λ s. get_or one s.verdict_place 0 ≡ get_or other s.verdict_place 0) must all
+            (subst (λ l. HaveSameVerdicts l one other) found_are same)) q_in passes))
             (rewritten one first, is)).1
 
     -- the verdicts of the attestations that have to be verified determine the report

@@ -1,8 +1,8 @@
 -- Which attestations are sought.
-use Rattle.std.proofs.Common.{◌≡◌, ℕ, ◌+◌, ◌<◌, Bool, true, false, cond, List, [], ◌∷◌, ◌++◌, length, map, get_or, take, refl, sym, ap, subst, ◌∙◌, append-nil}
+use Rattle.std.proofs.Common.{◌≡◌, ℕ, ◌+◌, ◌<◌, Bool, true, false, cond, List, [], ◌∷◌, ◌++◌, length, map, get_or, take, true≢false, refl, sym, ap, subst, ◌∙◌, append-nil}
 use Rattle.std.specs.Prelude.{◌&&◌, ◌↔◌, if◌then◌else◌, All, Contains, IsTrue, filter, nat_lt}
 use Rattle.std.proofs.lemmas.List.{map-append}
-use Rattle.std.proofs.lemmas.List.Elements.{All-contains, filter_more}
+use Rattle.std.proofs.lemmas.List.Elements.{All-cons, All-contains, All-head, All-nil, All-tail, filter_more}
 use Rattle.simplex_base.specs.Positions.{Round}
 use Rattle.simplex_detector.specs.Suspects.{Suspected}
 use Rattle.simplex_places.specs.Suspects.{is_sought, round_at, sought_of}
@@ -21,6 +21,17 @@ pub holds_alike : {A : Type 0} (holds test : A → Bool) (xs ys : List A) (x : A
 holds_alike holds test xs ys x same all only law =
     same_bool (holds x) (test x) (λ h. law.0 (subst (λ l. Contains l x) same (only h)))
     (λ h. All-contains (λ y. IsTrue (holds y)) ys x (subst (All (λ y. IsTrue (holds y))) same all) (law.1 h))
+
+-- what holds of the attestations of those that pass a test holds of each that passes it
+pub each_passing : (P : AttestationPlace → Type 0) (test : Placed → Bool) (places : List Placed) →
+    All P (map (λ p. p.attestation) (filter test places)) → All (λ p. test p ≡ true → P p.attestation) places
+each_passing P test [] all = All-nil _
+each_passing P test (p ∷ ps) all =
+    (elim (test p) as (λ b. test p ≡ b → All P (map (λ q. q.attestation) (cond b (p ∷ filter test ps) (filter test ps))) →
+    All (λ q. test q ≡ true → P q.attestation) (p ∷ ps)) [
+      | true ↦ λ is all. All-cons _ p ps (λ passes. All-head P _ _ all) (each_passing P test ps (All-tail P _ _ all))
+      | false ↦ λ is all. All-cons _ p ps (λ passes. absurd (true≢false (sym passes ∙ is))) (each_passing P test ps all)
+    ]) refl all
 
 -- the same items pass tests that are the same
 filter_alike : {A : Type 0} (p q : A → Bool) → ((x : A) → p x ≡ q x) → (xs : List A) → filter p xs ≡ filter q xs
