@@ -7,7 +7,6 @@ ghost use Rattle.simplex_detector.specs.Detector.{RecallsNone, RecallsMore, Give
 ghost use Rattle.simplex_detector.specs.EncodedEvidence.{IsEncoded};
 ghost use Rattle.simplex_detector.specs.Values.{evidence_value};
 
-use simplex_scheme::committees::Committees;
 use crate::evidence::Evidence;
 use crate::judge::Judge;
 use crate::judging::Judging;
@@ -17,6 +16,7 @@ use crate::split::Split;
 use simplex_base::codec::Read;
 use simplex_base::positions::Round;
 use simplex_evidence::types::Activity;
+use simplex_scheme::committees::Committees;
 use simplex_scheme::scheme::{Digest, Listing, SchemeTypes};
 use std::alloc::{AllocError, Global};
 use std::collections::BTreeMap;

@@ -10,13 +10,13 @@ ghost use Rattle.simplex_detector.specs.FirstCertified.{nothing_certified};
 ghost use Rattle.simplex_detector.specs.Detector.{TakesIn, TakesContents, GivesSplit};
 
 use crate::certified_subjects::CertifiedSubjects;
-use simplex_scheme::committees::Committees;
 use crate::judge::{Judge, Signatures};
 use crate::round_votes::RoundVotes;
 use crate::rules::Judges;
 use crate::split::Split;
 use simplex_base::positions::Round;
 use simplex_evidence::types::{Contents, Signed};
+use simplex_scheme::committees::Committees;
 use simplex_scheme::scheme::{Digest, Listing, SchemeTypes, Subject, max_faults};
 use std::alloc::{AllocError, Global};
 

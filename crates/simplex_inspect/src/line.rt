@@ -22,8 +22,8 @@ use crate::validity::{Validity, validity_of_certificate, validity_of_signature};
 use json::Writer;
 use simplex_base::codec::Fixed;
 use simplex_base::positions::Roundable;
-use simplex_scheme::committees::Committees;
 use simplex_evidence::types::{Activity, Contents, Signed};
+use simplex_scheme::committees::Committees;
 use simplex_scheme::scheme::{
     Attestation, CertificateScheme, Digest, Listing, Scheme, Subject, quorum,
 };
