@@ -1,4 +1,4 @@
-.PHONY: run audit audit_stored inspect library install test quick check
+.PHONY: run audit audit_stored inspect library install test quick check try
 
 PREFIX ?= /usr/local
 
@@ -44,3 +44,9 @@ quick:
 # Proves what changed.
 check:
 	rt all check
+
+# Proves what changed in a crate, and then answers the stored test vectors: make try CRATE=simplex_lead.
+try:
+	@test -d "crates/$(CRATE)/src" || { echo 'Which crate? make try CRATE=simplex_lead' >&2; exit 2; }
+	env --chdir="crates/$(CRATE)" rt check
+	.ci/quick
