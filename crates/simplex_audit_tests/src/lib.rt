@@ -1,13 +1,15 @@
 //! Tests of the audit and of the calls over it: the audit beside an auditor by its definition, which is written plainly, how
 //! many attestations are verified, and how often a scheme is asked about certificates, how many votes are recorded, a large
 //! committee, a long certificate byte by byte, long payloads, who is suspect, the records of a report, what a ledger stores,
-//! and calls that allocate nothing.
+//! what a compaction keeps, and calls that allocate nothing.
 #![tactic(auto)]
 
 #[cfg(test)]
 mod against_model;
 #[cfg(test)]
 mod bisected;
+#[cfg(test)]
+mod compacted;
 #[cfg(test)]
 mod counted;
 #[cfg(test)]

@@ -1,10 +1,10 @@
 -- What is recorded, round by round, after one more message.
-use Rattle.simplex_detector.proofs.Prelude.{Scheme, Activity, All, All-from_recursion, All-map, AllByRecursion, Attestation, BTreeMap, Bool, Detector, EquivocationKind, HoldsRound, IsEquivalence, IsSized, IsTrue, List, None, Option, Recalls, RecallsAt, RecallsNothing, RecallsRound, RecordsFirsts, Round, RoundState, RoundVotes, Rules, Schedule, SignedVote, Some, SubjectValue, TakesContents, TakesIn, VoteKind, [], activity_round, and_left, and_parts, and_right, ap, append-nil, append_assoc, arith, certified_by, certified_subjects, clash, committee_of, cond, cond-false, contradicts, false, filter, filter-append, get, if_certified, is_at, is_key, is_news, is_of, is_valid, kind_of, length, map, no_slot, nothing_certified, option_to_list, recorded_in, recursion_from_All, refl, round_cmp, round_count, round_of, rules_of, same_kind, same_round, size_by, slot_of, slots, subject_and_certificate, subst, sym, true, valid_by, valid_votes, vote_on, votes_in, ℕ, ◌++◌, ◌∙◌, ◌∷◌, ◌≡◌}
+use Rattle.simplex_detector.proofs.Prelude.{Scheme, Activity, All, All-from_recursion, All-map, AllByRecursion, Attestation, BTreeMap, Bool, Detector, EquivocationKind, HoldsRound, IsEquivalence, IsSized, IsTrue, List, None, Option, Recalls, RecallsAt, RecallsNothing, RecallsRound, RecordsFirsts, Round, RoundState, RoundVotes, Rules, Schedule, SignedVote, Some, SubjectValue, TakesContents, TakesIn, VoteKind, [], activity_round, and-false, and-true, and_left, and_parts, and_right, ap, append-nil, append_assoc, are_split, arith, certified_by, certified_in, certified_subjects, changes_firsts, clash, committee_of, cond, cond-false, contradicts, false, filter, filter-append, first_certified, firsts_of, get, have_news, if_certified, is_at, is_key, is_news, is_of, is_valid, kind_of, length, map, message_is_news, no_slot, nothing_certified, option_to_list, or-false, recorded_in, recursion_from_All, refl, round_cmp, round_count, round_of, rules_of, same_kind, same_round, size_by, slot_of, slots, subject_and_certificate, subject_is_news, subst, sym, true, valid_by, valid_votes, vote_on, votes_in, ℕ, ◌++◌, ◌&&◌, ◌||◌, ◌∙◌, ◌∷◌, ◌≡◌}
 use Rattle.simplex_detector.proofs.AccountLemmas.{certificate_parts}
 use Rattle.simplex_detector.proofs.EvidenceLemmas.{valid_votes-push}
 use Rattle.simplex_detector.proofs.Places.{is_of-true, key_tells, other_round}
-use Rattle.simplex_detector.proofs.RecordedLemmas.{none_in_round, of_round, recorded_in_push, same_held, slot_after_vote}
-use Rattle.simplex_detector.proofs.SplitLemmas.{records_other_message, subjects_push}
+use Rattle.simplex_detector.proofs.RecordedLemmas.{RecordsMore, have_news-append, none_in_round, of_round, recorded_in_push, same_held, slot_after_vote}
+use Rattle.simplex_detector.proofs.SplitLemmas.{news_recorded, records_other_message, subjects_push}
 use Rattle.simplex_evidence.specs.Activity.{contents_of}
 use Rattle.simplex_evidence.specs.Contents.{ContentsValue, OneVote, OneCertificate, TwoVotes, AreInConflict, contents_round, contents_votes}
 
@@ -122,65 +122,95 @@ module _ {S D C P G : Type 0} (scheme : Scheme S D C P G) where
   judges = rules_of scheme
 
   -- what a committee records of the valid ones among votes on a subject
-  abbrev pub RecordsValid : S → SubjectValue D → List (Attestation S P G) → RoundVotes S D P G → RoundVotes S D P G → Type 0
-  RecordsValid s x given before after =
-      (vs : List (SignedVote D G)) → HoldsRound scheme.eq (length (scheme.keys s)) vs (round_of x) before →
-      HoldsRound scheme.eq (length (scheme.keys s))
-      (vs ++ filter (λ v. scheme.good s v.subject v.signer v.signature) (map (vote_on x) given)) (round_of x) after
+  abbrev pub RecordsValid : S → SubjectValue D → List (Attestation S P G) → Bool → RoundVotes S D P G → RoundVotes S D P G →
+      Type 0
+  RecordsValid s x given news before after =
+      RecordsMore scheme.eq (length (scheme.keys s)) (scheme.good s) x given news before after
 
-  -- the valid votes are recorded, for any other committees
-  cast_by : (s : S) (x : SubjectValue D) (given : List (Attestation S P G)) (before after : RoundVotes S D P G) →
-      RecordsValid s x given before after → (schedule : Schedule S) → committee_of schedule (round_of x).epoch ≡ Some s →
-      (vs : List (SignedVote D G)) → HoldsRound scheme.eq ((judges schedule).size (round_of x).epoch) vs (round_of x) before →
-      HoldsRound scheme.eq ((judges schedule).size (round_of x).epoch)
-      (vs ++ filter (is_valid (judges schedule)) (map (vote_on x) given)) (round_of x) after
-  cast_by s x given before after records schedule is vs holds =
-      let size : length (scheme.keys s) ≡ (judges schedule).size (round_of x).epoch = ap (size_by scheme.keys) (sym is) in
-      subst (λ n. HoldsRound scheme.eq n (vs ++ filter (is_valid (judges schedule)) (map (vote_on x) given)) (round_of x) after)
-      size (subst (λ ws. HoldsRound scheme.eq (length (scheme.keys s)) (vs ++ ws) (round_of x) after) (same given)
-      (records vs (subst (λ n. HoldsRound scheme.eq n vs (round_of x) before) (sym size) holds)))
-    where
-      same : (given : List (Attestation S P G)) →
-          filter (λ v. scheme.good s v.subject v.signer v.signature) (map (vote_on x) given)
-          ≡ filter (is_valid (judges schedule)) (map (vote_on x) given)
-      same [] = refl
-      same (a ∷ given) = λ i.
-          cond (valid_by scheme.good (sym is i) x a.signer a.signature) (vote_on x a ∷ same given i) (same given i)
+  -- the votes on a subject that are valid under a committee are valid under any committees of which it is the epoch's
+  same_valid : (s : S) (x : SubjectValue D) (schedule : Schedule S) → committee_of schedule (round_of x).epoch ≡ Some s →
+      (given : List (Attestation S P G)) → filter (λ v. scheme.good s v.subject v.signer v.signature) (map (vote_on x) given)
+      ≡ filter (is_valid (judges schedule)) (map (vote_on x) given)
+  same_valid s x schedule is [] = refl
+  same_valid s x schedule is (a ∷ given) = λ i.
+      cond (valid_by scheme.good (sym is i) x a.signer a.signature) (vote_on x a ∷ same_valid s x schedule is given i)
+      (same_valid s x schedule is given i)
+
+  module _ (s : S) (x : SubjectValue D) (given : List (Attestation S P G)) (news : Bool) (before after : RoundVotes S D P G)
+      (records : RecordsValid s x given news before after) (schedule : Schedule S)
+      (is : committee_of schedule (round_of x).epoch ≡ Some s) (vs : List (SignedVote D G))
+      (holds : HoldsRound scheme.eq ((judges schedule).size (round_of x).epoch) vs (round_of x) before) where
+    size_is : length (scheme.keys s) ≡ (judges schedule).size (round_of x).epoch
+    size_is = ap (size_by scheme.keys) (sym is)
+
+    held_before : HoldsRound scheme.eq (length (scheme.keys s)) vs (round_of x) before
+    held_before = subst (λ n. HoldsRound scheme.eq n vs (round_of x) before) (sym size_is) holds
+
+    -- the valid votes are recorded, for any other committees
+    cast_by : HoldsRound scheme.eq ((judges schedule).size (round_of x).epoch)
+        (vs ++ filter (is_valid (judges schedule)) (map (vote_on x) given)) (round_of x) after
+    cast_by =
+        subst (λ n. HoldsRound scheme.eq n (vs ++ filter (is_valid (judges schedule)) (map (vote_on x) given)) (round_of x)
+        after) size_is (subst (λ ws. HoldsRound scheme.eq (length (scheme.keys s)) (vs ++ ws) (round_of x) after)
+        (same_valid s x schedule is given) (records.held vs held_before))
+
+    -- and whether one of them is news is told
+    told_by : news ≡ have_news scheme.eq vs (filter (is_valid (judges schedule)) (map (vote_on x) given))
+    told_by = records.tells vs held_before ∙ ap (have_news scheme.eq vs) (same_valid s x schedule is given)
 
   -- a vote on a subject
-  pub takes_vote : (s : S) (x : SubjectValue D) (a : Attestation S P G) (old new : RoundState S D P G) →
-      new.certified ≡ old.certified → RecordsValid s x (a ∷ []) old.votes new.votes →
-      TakesIn judges s (round_of x) (vote_on x a ∷ []) None old new
-  takes_vote s x a old new same records = record {
-    cast = cast_by s x (a ∷ []) old.votes new.votes records;
+  pub takes_vote : (s : S) (x : SubjectValue D) (a : Attestation S P G) (news : Bool) (old new : RoundState S D P G) →
+      new.certified ≡ old.certified → RecordsValid s x (a ∷ []) news old.votes new.votes →
+      TakesIn judges s (round_of x) (vote_on x a ∷ []) None news old new
+  takes_vote s x a news old new same records = record {
+    cast = cast_by s x (a ∷ []) news old.votes new.votes records;
     certified = λ schedule is xs holds. subst (λ ys. RecordsFirsts scheme.eq ys (round_of x) new.certified)
         (sym (append-nil xs)) (subst (RecordsFirsts scheme.eq xs (round_of x)) (sym same) holds);
+    tells = λ schedule is vs xs holds firsts. told_by s x (a ∷ []) news old.votes new.votes records schedule is vs holds
+        ∙ sym (or-false (have_news scheme.eq vs (filter (is_valid (judges schedule)) (vote_on x a ∷ []))));
   }
 
   -- a certificate of a subject, with the votes that it lists
   pub takes_certificate : (s : S) (x : SubjectValue D) (c : C) (given : List (Attestation S P G)) → given ≡ scheme.listed c →
-      (old new : RoundState S D P G) → ((xs : List (SubjectValue D)) → RecordsFirsts scheme.eq xs (round_of x) old.certified →
+      (news certifies : Bool) (old new : RoundState S D P G) →
+      ((xs : List (SubjectValue D)) → RecordsFirsts scheme.eq xs (round_of x) old.certified →
       RecordsFirsts scheme.eq (xs ++ cond (scheme.certified s x c) (x ∷ []) []) (round_of x) new.certified) →
-      RecordsValid s x given old.votes new.votes →
-      TakesIn judges s (round_of x) (map (vote_on x) (scheme.listed c)) (Some (x, c)) old new
-  takes_certificate s x c given is_given old new subjects votes = record {
-    cast = cast_by s x (scheme.listed c) old.votes new.votes
-        (subst (λ listed. RecordsValid s x listed old.votes new.votes) is_given votes);
-    certified = λ schedule is xs holds.
-        let alone = elim (scheme.certified s x c) as (λ b. cond b (x ∷ []) [] ≡ option_to_list (cond b (Some x) None))
-        [ true ↦ refl | false ↦ refl ] in
-        subst (λ ys. RecordsFirsts scheme.eq (xs ++ ys) (round_of x) new.certified)
-        (alone ∙ ap (λ o. option_to_list (cond (certified_by scheme.certified o x c) (Some x) None)) (sym is))
-        (subjects xs holds);
-  }
+      certifies ≡ (changes_firsts scheme.eq (firsts_of old.certified) old.certified.split x && scheme.certified s x c) →
+      RecordsValid s x given news old.votes new.votes →
+      TakesIn judges s (round_of x) (map (vote_on x) (scheme.listed c)) (Some (x, c)) (news || certifies) old new
+  takes_certificate s x c given is_given news certifies old new subjects told votes =
+      let listed = subst (λ listed. RecordsValid s x listed news old.votes new.votes) is_given votes in
+      record {
+        cast = cast_by s x (scheme.listed c) news old.votes new.votes listed;
+        certified = λ schedule is xs holds.
+            let alone = elim (scheme.certified s x c) as (λ b. cond b (x ∷ []) [] ≡ option_to_list (cond b (Some x) None))
+            [ true ↦ refl | false ↦ refl ] in
+            subst (λ ys. RecordsFirsts scheme.eq (xs ++ ys) (round_of x) new.certified)
+            (alone ∙ ap (λ o. option_to_list (cond (certified_by scheme.certified o x c) (Some x) None)) (sym is))
+            (subjects xs holds);
+        tells = λ schedule is vs xs holds firsts.
+            let subject = told
+            ∙ ap (λ b. b && scheme.certified s x c) (news_recorded scheme.eq xs (round_of x) old.certified firsts x)
+            ∙ if_certifies (scheme.certified s x c) xs x
+            ∙ ap (λ o. subject_is_news scheme.eq xs (cond (certified_by scheme.certified o x c) (Some x) None)) (sym is) in
+            λ i. told_by s x (scheme.listed c) news old.votes new.votes listed schedule is vs holds i || subject i;
+      }
+    where
+      if_certifies : (b : Bool) (xs : List (SubjectValue D)) (y : SubjectValue D) →
+          (changes_firsts scheme.eq (first_certified xs (round_of y)) (are_split scheme.eq xs (round_of y)) y && b)
+          ≡ subject_is_news scheme.eq xs (cond b (Some y) None)
+      if_certifies true xs y =
+          and-true (changes_firsts scheme.eq (first_certified xs (round_of y)) (are_split scheme.eq xs (round_of y)) y)
+      if_certifies false xs y =
+          and-false (changes_firsts scheme.eq (first_certified xs (round_of y)) (are_split scheme.eq xs (round_of y)) y)
 
   module _ (schedule : Schedule S) (messages : List (Activity S D C P G)) (m : Activity S D C P G) where
     -- what is recorded of the message's round, after it
-    pub recalls_taken : (s : S) → committee_of schedule (activity_round m).epoch ≡ Some s → (old new : RoundState S D P G) →
-        TakesContents judges s scheme.listed (contents_of m) old new →
+    pub recalls_taken : (s : S) → committee_of schedule (activity_round m).epoch ≡ Some s → (news : Bool)
+        (old new : RoundState S D P G) → TakesContents judges s scheme.listed (contents_of m) news old new →
         RecallsRound (judges schedule) messages (activity_round m) old →
         RecallsRound (judges schedule) (messages ++ m ∷ []) (activity_round m) new
-    recalls_taken s is old new takes recalls = record {
+    recalls_taken s is news old new takes recalls = record {
       votes = subst
           (λ vs. HoldsRound scheme.eq ((judges schedule).size (activity_round m).epoch) vs (activity_round m) new.votes)
           (sym (valid_votes-push (judges schedule) messages m))
@@ -191,88 +221,127 @@ module _ {S D C P G : Type 0} (scheme : Scheme S D C P G) where
           (takes.certified schedule is (certified_subjects (judges schedule) messages) recalls.subjects);
     }
 
-    -- what is recorded of the message's round where the detector has no state of it yet
-    pub recalls_first : (s : S) → committee_of schedule (activity_round m).epoch ≡ Some s → IsEquivalence scheme.eq →
-        (rounds : BTreeMap Round (RoundState S D P G)) (fresh new : RoundState S D P G) →
-        None ≡ get round_cmp rounds (activity_round m) → IsSized (length (scheme.keys s)) fresh.votes →
-        ((signer : ℕ) (kind : VoteKind) → slots fresh.votes signer kind ≡ no_slot) → round_count fresh.votes ≡ 0 →
-        fresh.certified ≡ nothing_certified → TakesContents judges s scheme.listed (contents_of m) fresh new →
-        Recalls (judges schedule) messages (let detector : Detector S D P G = record { rounds = rounds } in detector) →
-        RecallsRound (judges schedule) (messages ++ m ∷ []) (activity_round m) new
-    recalls_first s is l rounds fresh new none sized empty no_votes nothing takes holds =
-        let at : RecallsNothing (judges schedule) messages (activity_round m) =
-        subst (RecallsAt (judges schedule) messages (activity_round m)) (sym none) (holds (activity_round m)) in
-        recalls_taken s is fresh new takes (record {
-          votes = record {
-            sized = subst (λ n. IsSized n fresh.votes) (ap (size_by scheme.keys) (sym is)) sized;
-            held = λ signer kind. empty signer kind ∙ at.votes signer kind;
-            counted = no_votes
-                ∙ sym (none_in_round scheme.eq l (valid_votes (judges schedule) messages) (activity_round m) at.votes);
-          };
-          subjects = subst (RecordsFirsts scheme.eq (certified_subjects (judges schedule) messages) (activity_round m))
-              (sym nothing) at.subjects;
-        })
+    -- whether the message is news
+    pub news_taken : (s : S) → committee_of schedule (activity_round m).epoch ≡ Some s → (news : Bool)
+        (old new : RoundState S D P G) → TakesContents judges s scheme.listed (contents_of m) news old new →
+        RecallsRound (judges schedule) messages (activity_round m) old → news ≡ message_is_news (judges schedule) messages m
+    news_taken s is news old new takes recalls =
+        takes.tells schedule is (valid_votes (judges schedule) messages) (certified_subjects (judges schedule) messages)
+        recalls.votes recalls.subjects
 
-    -- without a committee nothing more is valid or certified, and nothing more is recorded
-    pub recalls_no_committee : All (IsHere (activity_round m)) (votes_in scheme.listed m) →
-        None ≡ committee_of schedule (activity_round m).epoch → (q : Round) (o : Option (RoundState S D P G)) →
-        RecallsAt (judges schedule) messages q o → RecallsAt (judges schedule) (messages ++ m ∷ []) q o
-    recalls_no_committee here none q = by
-      where
-        no_vote : (vs : List (SignedVote D G)) → AllByRecursion (IsHere (activity_round m)) vs →
-            filter (is_valid (judges schedule)) vs ≡ []
-        no_vote [] h = refl
-        no_vote (v ∷ vs) h =
-            (λ i. cond (valid_by scheme.good ((ap (λ r. committee_of schedule r.epoch) h.0 ∙ sym none) i) v.subject v.signer
-            v.signature) (v ∷ filter (is_valid (judges schedule)) vs) (filter (is_valid (judges schedule)) vs)) ∙ no_vote vs h.1
+    -- without a committee nothing more is valid or certified
+    module _ (here : All (IsHere (activity_round m)) (votes_in scheme.listed m))
+        (none : None ≡ committee_of schedule (activity_round m).epoch) where
+      no_vote : filter (is_valid (judges schedule)) (votes_in scheme.listed m) ≡ []
+      no_vote = each (votes_in scheme.listed m) (recursion_from_All _ (votes_in scheme.listed m) here)
+        where
+          each : (vs : List (SignedVote D G)) → AllByRecursion (IsHere (activity_round m)) vs →
+              filter (is_valid (judges schedule)) vs ≡ []
+          each [] h = refl
+          each (v ∷ vs) h =
+              (λ i. cond (valid_by scheme.good ((ap (λ r. committee_of schedule r.epoch) h.0 ∙ sym none) i) v.subject v.signer
+              v.signature) (v ∷ filter (is_valid (judges schedule)) vs) (filter (is_valid (judges schedule)) vs)) ∙ each vs h.1
 
-        no_subject : (o : Option (SubjectValue D × C)) → subject_and_certificate m ≡ o → if_certified (judges schedule) o ≡ None
-        no_subject None is = refl
-        no_subject (Some s) is = λ i.
-            cond (certified_by scheme.certified
-            ((ap (λ r. committee_of schedule r.epoch) (sym (certificate_parts scheme.listed m s is).0) ∙ sym none) i) s.0 s.1)
-            (Some s.0) None
+      no_subject : certified_in (judges schedule) m ≡ None
+      no_subject = by (subject_and_certificate m) refl
+        where
+          by : (o : Option (SubjectValue D × C)) → subject_and_certificate m ≡ o → if_certified (judges schedule) o ≡ None
+          by None is = refl
+          by (Some s) is = λ i.
+              cond (certified_by scheme.certified
+              ((ap (λ r. committee_of schedule r.epoch) (sym (certificate_parts scheme.listed m s is).0) ∙ sym none) i) s.0 s.1)
+              (Some s.0) None
 
-        votes : valid_votes (judges schedule) messages ≡ valid_votes (judges schedule) (messages ++ m ∷ [])
-        votes =
-            sym (valid_votes-push (judges schedule) messages m ∙ ap (λ vs. valid_votes (judges schedule) messages ++ vs)
-            (no_vote (votes_in scheme.listed m) (recursion_from_All _ (votes_in scheme.listed m) here))
-            ∙ append-nil (valid_votes (judges schedule) messages))
+      -- nothing more is recorded
+      pub recalls_no_committee : (q : Round) (o : Option (RoundState S D P G)) → RecallsAt (judges schedule) messages q o →
+          RecallsAt (judges schedule) (messages ++ m ∷ []) q o
+      recalls_no_committee q = by
+        where
+          votes : valid_votes (judges schedule) messages ≡ valid_votes (judges schedule) (messages ++ m ∷ [])
+          votes =
+              sym (valid_votes-push (judges schedule) messages m
+              ∙ ap (λ vs. valid_votes (judges schedule) messages ++ vs) no_vote
+              ∙ append-nil (valid_votes (judges schedule) messages))
 
-        subjects : certified_subjects (judges schedule) messages ≡ certified_subjects (judges schedule) (messages ++ m ∷ [])
-        subjects =
-            sym (subjects_push (judges schedule) messages m
-            ∙ ap (λ p. certified_subjects (judges schedule) messages ++ option_to_list p)
-            (no_subject (subject_and_certificate m) refl) ∙ append-nil (certified_subjects (judges schedule) messages))
+          subjects : certified_subjects (judges schedule) messages ≡ certified_subjects (judges schedule) (messages ++ m ∷ [])
+          subjects =
+              sym (subjects_push (judges schedule) messages m
+              ∙ ap (λ p. certified_subjects (judges schedule) messages ++ option_to_list p) no_subject
+              ∙ append-nil (certified_subjects (judges schedule) messages))
 
-        by : (o : Option (RoundState S D P G)) → RecallsAt (judges schedule) messages q o →
-            RecallsAt (judges schedule) (messages ++ m ∷ []) q o
-        by None r = record {
-          votes = subst (λ vs. (signer : ℕ) (kind : VoteKind) → no_slot ≡ slot_of scheme.eq vs kind q signer) votes r.votes;
-          subjects = subst (λ xs. RecordsFirsts scheme.eq xs q nothing_certified) subjects r.subjects;
-        }
-        by (Some round_state) r = record {
-          votes = subst (λ vs. HoldsRound scheme.eq ((judges schedule).size q.epoch) vs q round_state.votes) votes r.votes;
-          subjects = subst (λ xs. RecordsFirsts scheme.eq xs q round_state.certified) subjects r.subjects;
-        }
+          by : (o : Option (RoundState S D P G)) → RecallsAt (judges schedule) messages q o →
+              RecallsAt (judges schedule) (messages ++ m ∷ []) q o
+          by None r = record {
+            votes = subst (λ vs. (signer : ℕ) (kind : VoteKind) → no_slot ≡ slot_of scheme.eq vs kind q signer) votes r.votes;
+            subjects = subst (λ xs. RecordsFirsts scheme.eq xs q nothing_certified) subjects r.subjects;
+          }
+          by (Some round_state) r = record {
+            votes = subst (λ vs. HoldsRound scheme.eq ((judges schedule).size q.epoch) vs q round_state.votes) votes r.votes;
+            subjects = subst (λ xs. RecordsFirsts scheme.eq xs q round_state.certified) subjects r.subjects;
+          }
+
+      -- so the message is no news
+      pub no_news_no_committee : message_is_news (judges schedule) messages m ≡ false
+      no_news_no_committee = λ i.
+          have_news scheme.eq (valid_votes (judges schedule) messages) (no_vote i)
+          || subject_is_news scheme.eq (certified_subjects (judges schedule) messages) (no_subject i)
+
+  -- what is recorded of the message's round, and whether the message is news, where the detector has no state of the round yet
+  pub recalls_first : (schedule : Schedule S) (m : Activity S D C P G) (s : S) →
+      committee_of schedule (activity_round m).epoch ≡ Some s → IsEquivalence scheme.eq →
+      (rounds : BTreeMap Round (RoundState S D P G)) (news : Bool) (fresh new : RoundState S D P G) →
+      None ≡ get round_cmp rounds (activity_round m) → IsSized (length (scheme.keys s)) fresh.votes →
+      ((signer : ℕ) (kind : VoteKind) → slots fresh.votes signer kind ≡ no_slot) → round_count fresh.votes ≡ 0 →
+      fresh.certified ≡ nothing_certified → TakesContents judges s scheme.listed (contents_of m) news fresh new →
+      (messages : List (Activity S D C P G)) →
+      Recalls (judges schedule) messages (let detector : Detector S D P G = record { rounds = rounds } in detector) →
+      RecallsRound (judges schedule) (messages ++ m ∷ []) (activity_round m) new
+      × (news ≡ message_is_news (judges schedule) messages m)
+  recalls_first schedule m s is l rounds news fresh new none sized empty no_votes nothing takes messages holds =
+      let at : RecallsNothing (judges schedule) messages (activity_round m) =
+      subst (RecallsAt (judges schedule) messages (activity_round m)) (sym none) (holds (activity_round m)) in
+      let before : RecallsRound (judges schedule) messages (activity_round m) fresh = record {
+        votes = record {
+          sized = subst (λ n. IsSized n fresh.votes) (ap (size_by scheme.keys) (sym is)) sized;
+          held = λ signer kind. empty signer kind ∙ at.votes signer kind;
+          counted = no_votes
+              ∙ sym (none_in_round scheme.eq l (valid_votes (judges schedule) messages) (activity_round m) at.votes);
+        };
+        subjects = subst (RecordsFirsts scheme.eq (certified_subjects (judges schedule) messages) (activity_round m))
+            (sym nothing) at.subjects;
+      } in (
+        recalls_taken schedule messages m s is news fresh new takes before,
+        news_taken schedule messages m s is news fresh new takes before,
+      )
 
 -- two votes of one round, one after the other
-pub takes_two : {S D C P G : Type 0} (rules : Schedule S → Rules S D C P G) (s : S) (v w : SignedVote D G)
+pub takes_two : {S D C P G : Type 0} (rules : Schedule S → Rules S D C P G) (s : S) (v w : SignedVote D G) (one two : Bool)
     (old mid new : RoundState S D P G) → round_of w.subject ≡ round_of v.subject →
-    TakesIn rules s (round_of v.subject) (v ∷ []) None old mid → TakesIn rules s (round_of w.subject) (w ∷ []) None mid new →
-    TakesIn rules s (round_of v.subject) (v ∷ w ∷ []) None old new
-takes_two {S} {D} {C} {P} {G} rules s v w old mid new here one two =
-    both one (subst (λ r. TakesIn rules s r (w ∷ []) None mid new) here two)
+    TakesIn rules s (round_of v.subject) (v ∷ []) None one old mid →
+    TakesIn rules s (round_of w.subject) (w ∷ []) None two mid new →
+    TakesIn rules s (round_of v.subject) (v ∷ w ∷ []) None (one || two) old new
+takes_two {S} {D} {C} {P} {G} rules s v w one two old mid new here first second =
+    both first (subst (λ r. TakesIn rules s r (w ∷ []) None two mid new) here second)
   where
-    both : {round : Round} → TakesIn rules s round (v ∷ []) None old mid → TakesIn rules s round (w ∷ []) None mid new →
-        TakesIn rules s round (v ∷ w ∷ []) None old new
-    both {round} first second = record {
+    both : {round : Round} → TakesIn rules s round (v ∷ []) None one old mid → TakesIn rules s round (w ∷ []) None two mid new →
+        TakesIn rules s round (v ∷ w ∷ []) None (one || two) old new
+    both {round} a b = record {
       cast = λ schedule is vs holds.
           let keep = is_valid (rules schedule) in
           subst (λ ws. HoldsRound (rules schedule).eq ((rules schedule).size round.epoch) ws round new.votes)
           (append_assoc vs (filter keep (v ∷ [])) (filter keep (w ∷ []))
           ∙ ap (λ ws. vs ++ ws) (sym (filter-append keep (v ∷ []) (w ∷ []))))
-          (second.cast schedule is _ (first.cast schedule is vs holds));
+          (b.cast schedule is _ (a.cast schedule is vs holds));
       certified = λ schedule is xs holds. subst (λ ys. RecordsFirsts (rules schedule).eq (ys ++ []) round new.certified)
-          (append-nil xs) (second.certified schedule is (xs ++ []) (first.certified schedule is xs holds));
+          (append-nil xs) (b.certified schedule is (xs ++ []) (a.certified schedule is xs holds));
+      tells = λ schedule is vs xs holds firsts.
+          let eq = (rules schedule).eq in
+          let keep = is_valid (rules schedule) in
+          let mid_votes = vs ++ filter keep (v ∷ []) in
+          let a_news = a.tells schedule is vs xs holds firsts ∙ or-false (have_news eq vs (filter keep (v ∷ []))) in
+          let b_news = b.tells schedule is mid_votes (xs ++ []) (a.cast schedule is vs holds) (a.certified schedule is xs firsts)
+          ∙ or-false (have_news eq mid_votes (filter keep (w ∷ []))) in
+          (λ i. a_news i || b_news i) ∙ sym (have_news-append eq vs (filter keep (v ∷ [])) (filter keep (w ∷ [])))
+          ∙ ap (have_news eq vs) (sym (filter-append keep (v ∷ []) (w ∷ [])))
+          ∙ sym (or-false (have_news eq vs (filter keep (v ∷ w ∷ []))));
     }

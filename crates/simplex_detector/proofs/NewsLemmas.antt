@@ -1,7 +1,7 @@
 -- Which messages are news, that messages without those that are none have the same state, and that votes can stand alone.
 use Rattle.simplex_detector.proofs.Prelude.{Activity, Bool, Contains, IsEquivalence, List, None, Option, Round, Rules, SignedVote, Some, VoteKind, SubjectValue, [], and_parts, ap, append-nil, append_assoc, are_split, arith, cases_Bool, certified_in, certified_subjects, changes, changes_firsts, cond, excludes_some, false, false_from_ne_true, false≢true, filter, filter_map-append, first_certified, first_with, flat_map, inl, inr, is_at, is_news, is_none, length, length-append, news_after, not, option_or, option_to_list, or_cases, or_parts, refl, round_of, same_round, same_kind, slot_of, kind_of, subst, sym, true, valid_votes, votes_in_slot, ⊎_elim, ◌&&◌, ◌++◌, ◌||◌, ◌∙◌, ◌∷◌, ◌≡◌}
 use Rattle.simplex_detector.specs.Interchange.{HaveSameState}
-use Rattle.simplex_detector.specs.News.{CompactsNext, IsCompaction, LogsCompact, NewsChangesState, VotesCanStandAlone, certifies_news, compacted, have_news, if_news, message_is_news, messages_with_news, subject_is_news, valid_votes_in}
+use Rattle.simplex_detector.specs.News.{IsCompaction, LogsCompact, NewsChangesState, VotesCanStandAlone, certifies_news, compacted, have_news, message_is_news, messages_with_news, subject_is_news, valid_votes_in}
 use Rattle.simplex_detector.proofs.EvidenceLemmas.{valid_votes-append, valid_votes-push}
 use Rattle.simplex_detector.proofs.InterchangeLemmas.{interchangeable, same_slot_among, state-joined, state-push, state-refl, state-sym, state-trans}
 use Rattle.simplex_detector.proofs.Lists.{Contains-filter, Contains-first, Contains-none, same_bool}
@@ -341,19 +341,3 @@ module _ {S D C P G : Type 0} (rules : Rules S D C P G) (l : IsEquivalence rules
     splits = same_splits before others m quiet none;
     firsts = same_firsts before others m quiet none;
   }
-
-module _ {S D C P G : Type 0} (rules : Rules S D C P G) where
-  -- the news of messages and of one message more
-  news_next : (before ms : List (Activity S D C P G)) (m : Activity S D C P G) →
-      messages_with_news rules before (ms ++ m ∷ []) ≡ messages_with_news rules before ms ++ if_news rules (before ++ ms) m
-  news_next before [] m =
-      append-nil (if_news rules before m) ∙ ap (λ ks. if_news rules ks m) (sym (append-nil before))
-  news_next before (k ∷ ms) m =
-      let first = if_news rules before k in
-      let rest = messages_with_news rules (before ++ k ∷ []) ms in
-      ap (λ ks. first ++ ks) (news_next (before ++ k ∷ []) ms m
-      ∙ ap (λ ks. rest ++ if_news rules ks m) (append_assoc before (k ∷ []) ms))
-      ∙ sym (append_assoc first rest (if_news rules (before ++ k ∷ ms) m))
-
-  pub compacts_next : (ms : List (Activity S D C P G)) (m : Activity S D C P G) → CompactsNext rules ms m
-  compacts_next ms m = news_next [] ms m

@@ -1,5 +1,5 @@
 -- Which votes are recorded, vote by vote, slot by slot and round by round, and the evidence in the slots.
-use Rattle.simplex_detector.proofs.Prelude.{Attestation, Bool, Conflicting_finalize, Conflicting_notarize, Contains, Equivocation, Finalizes, HoldsRound, IsEquivalence, EquivocationKind, List, Accusation, None, Nullifies, Nullify_finalize, Option, RecordedAreSlots, Round, RoundVotes, SignedVote, Slot, Some, VoteKind, SubjectValue, TakesVote, [], and_from, and_left, and_parts, and_right, ap, append-nil, append_assoc, arith, equivocation_of, changes, clash, cond, cond-false, contradicts, eqb, evidence_from, evidence_of, excludes, false, false_from_ne_true, false≢true, filter, filter-append, find, find-append, first_kind, if_differs, if◌then◌else◌, is_at, is_for, is_news, is_of, length, length-append, map, map-append, news_after, no_slot, option_or, option_to_list, other_than, recorded_in, recorded_of, refl, round_of, same_Some, same_round, same_kind, second_kind, slot_of, slot_with, slots, kind_of, subst, sym, true, vote_on, votes_in_slot, with_first, with_second, ℕ, ◌&&◌, ◌++◌, ◌+◌, ◌<◌, ◌∙◌, ◌∷◌, ◌≡◌, ◌≤◌}
+use Rattle.simplex_detector.proofs.Prelude.{Attestation, Bool, Conflicting_finalize, Conflicting_notarize, Contains, Equivocation, Finalizes, HoldsRound, IsEquivalence, EquivocationKind, List, Accusation, None, Nullifies, Nullify_finalize, Option, RecordedAreSlots, RecordsVotes, Round, RoundVotes, SignedVote, Slot, Some, VoteKind, SubjectValue, TakesVote, [], and_from, and_left, and_parts, and_right, ap, append-nil, append_assoc, arith, equivocation_of, changes, clash, cond, cond-false, contradicts, eqb, evidence_from, evidence_of, excludes, false, false_from_ne_true, false≢true, filter, filter-append, find, find-append, first_kind, have_news, if_differs, if◌then◌else◌, is_at, is_for, is_news, is_of, length, length-append, map, map-append, news_after, no_slot, option_or, option_to_list, or-false, or_assoc, other_than, recorded_in, recorded_of, refl, round_of, same_Some, same_round, same_kind, second_kind, slot_of, slot_with, slots, kind_of, subst, sym, true, vote_on, votes_in_slot, with_first, with_second, ℕ, ◌&&◌, ◌++◌, ◌+◌, ◌<◌, ◌||◌, ◌∙◌, ◌∷◌, ◌≡◌, ◌≤◌}
 use Rattle.simplex_scheme.specs.declared.kind.VoteKind.TheVariants as kinds
 use Rattle.simplex_detector.proofs.EvidenceLemmas.{first_spot}
 use Rattle.simplex_detector.proofs.Lists.{Contains-cons, Contains-filter, Contains-first, Contains-none, find_from_Contains, find_push, found, none_found}
@@ -333,8 +333,8 @@ same_held eq n vs ws round recorded same many holds = record {
 module _ {S D P G : Type 0} (eq : D → D → Bool) (l : IsEquivalence eq) (n : ℕ) (vs : List (SignedVote D G)) (v : SignedVote D G)
     (before : RoundVotes S D P G) (holds : HoldsRound eq n vs (round_of v.subject) before) where
   -- whether a vote is news is determined by its slot
-  news_held : changes eq (slots before v.signer (kind_of v.subject)).earliest (slots before v.signer (kind_of v.subject)).other
-      v.subject ≡ is_news eq vs v
+  pub news_held : changes eq (slots before v.signer (kind_of v.subject)).earliest (slots before v.signer
+      (kind_of v.subject)).other v.subject ≡ is_news eq vs v
   news_held = ap (λ (slot : Slot D G). changes eq slot.earliest slot.other v.subject) (holds.held v.signer (kind_of v.subject))
 
   -- a vote that is no news changes nothing
@@ -366,22 +366,44 @@ module _ {S D P G : Type 0} (eq : D → D → Bool) (l : IsEquivalence eq) (n : 
             ∙ sym (recorded_in_push eq vs v (round_of v.subject));
       }
 
--- what is held of a round after the valid ones of some more votes on a subject
-abbrev pub HoldsMore : {S D P G : Type 0} → (D → D → Bool) → ℕ → (SubjectValue D → ℕ → G → Bool) → SubjectValue D →
-    List (Attestation S P G) → RoundVotes S D P G → RoundVotes S D P G → Type 0
-HoldsMore {D = D} {G = G} eq n good x given before after =
-    (vs : List (SignedVote D G)) → HoldsRound eq n vs (round_of x) before →
-    HoldsRound eq n (vs ++ filter (λ v. good v.subject v.signer v.signature) (map (vote_on x) given)) (round_of x) after
+-- ---- which votes are news
+
+-- the news of two lists of votes, one after the other
+pub have_news-append : {D G : Type 0} (eq : D → D → Bool) (before vs ws : List (SignedVote D G)) →
+    have_news eq before (vs ++ ws) ≡ (have_news eq before vs || have_news eq (before ++ vs) ws)
+have_news-append eq before [] ws = ap (λ us. have_news eq us ws) (sym (append-nil before))
+have_news-append eq before (v ∷ vs) ws =
+    ap (λ b. is_news eq before v || b) (have_news-append eq (before ++ v ∷ []) vs ws
+    ∙ ap (λ us. have_news eq (before ++ v ∷ []) vs || have_news eq us ws) (append_assoc before (v ∷ []) vs)) ∙
+    sym (or_assoc (is_news eq before v) (have_news eq (before ++ v ∷ []) vs) (have_news eq (before ++ v ∷ vs) ws))
+
+-- the news of one vote at most
+pub have_news-one : {D G : Type 0} (eq : D → D → Bool) (vs : List (SignedVote D G)) (v : SignedVote D G) (b : Bool) →
+    have_news eq vs (cond b (v ∷ []) []) ≡ (b && is_news eq vs v)
+have_news-one eq vs v true = or-false (is_news eq vs v)
+have_news-one eq vs v false = refl
+
+-- the valid ones of some more votes on a subject are recorded
+abbrev pub RecordsMore : {S D P G : Type 0} → (D → D → Bool) → ℕ → (SubjectValue D → ℕ → G → Bool) → SubjectValue D →
+    List (Attestation S P G) → Bool → RoundVotes S D P G → RoundVotes S D P G → Type 0
+RecordsMore eq n good x given news before after =
+    RecordsVotes eq n (round_of x) (filter (λ v. good v.subject v.signer v.signature) (map (vote_on x) given)) news before after
 
 -- one attestation more
-pub holds_one_more : {S D P G : Type 0} (eq : D → D → Bool) (n : ℕ) (good : SubjectValue D → ℕ → G → Bool) (x : SubjectValue D)
-    (given : List (Attestation S P G)) (a : Attestation S P G) (before recorded after : RoundVotes S D P G) →
-    HoldsMore eq n good x given before recorded → HoldsMore eq n good x (a ∷ []) recorded after →
-    HoldsMore eq n good x (given ++ a ∷ []) before after
-holds_one_more {D = D} {G = G} eq n good x given a before recorded after some one vs holds =
+pub records_one_more : {S D P G : Type 0} (eq : D → D → Bool) (n : ℕ) (good : SubjectValue D → ℕ → G → Bool)
+    (x : SubjectValue D) (given : List (Attestation S P G)) (a : Attestation S P G) (news one : Bool)
+    (before recorded after : RoundVotes S D P G) → RecordsMore eq n good x given news before recorded →
+    RecordsMore eq n good x (a ∷ []) one recorded after → RecordsMore eq n good x (given ++ a ∷ []) (news || one) before after
+records_one_more {D = D} {G = G} eq n good x given a news one before recorded after some next =
     let keep : SignedVote D G → Bool = λ v. good v.subject v.signer v.signature in
-    subst (λ ws. HoldsRound eq n ws (round_of x) after)
-    (append_assoc vs (filter keep (map (vote_on x) given)) (filter keep (map (vote_on x) (a ∷ []))) ∙
-    ap (λ ws. vs ++ ws) (sym (filter-append keep (map (vote_on x) given) (map (vote_on x) (a ∷ [])))
-    ∙ ap (filter keep) (sym (map-append (vote_on x) given (a ∷ [])))))
-    (one _ (some vs holds))
+    let valid = filter keep (map (vote_on x) given) in
+    let last = filter keep (map (vote_on x) (a ∷ [])) in
+    let together : valid ++ last ≡ filter keep (map (vote_on x) (given ++ a ∷ [])) =
+    sym (filter-append keep (map (vote_on x) given) (map (vote_on x) (a ∷ [])))
+    ∙ ap (filter keep) (sym (map-append (vote_on x) given (a ∷ []))) in
+    record {
+      held = λ vs holds. subst (λ ws. HoldsRound eq n ws (round_of x) after)
+          (append_assoc vs valid last ∙ ap (λ ws. vs ++ ws) together) (next.held (vs ++ valid) (some.held vs holds));
+      tells = λ vs holds. (λ i. some.tells vs holds i || next.tells (vs ++ valid) (some.held vs holds) i)
+          ∙ sym (have_news-append eq vs valid last) ∙ ap (have_news eq vs) together;
+    }

@@ -208,6 +208,17 @@ module _ {D : Type 0} (eq : D → D → Bool) (laws : IsEquivalence eq) (xs : Li
       ]) (subst (λ s. is_none (firsts_of recorded s) ≡ false) (same_kind-true (kind_of y) kind is) h)
       stays kind false is h = refl
 
+-- whether a certified subject is news follows from what is recorded of its round
+pub news_recorded : {D : Type 0} (eq : D → D → Bool) (xs : List (SubjectValue D)) (round : Round)
+    (recorded : CertifiedSubjects D) → RecordsFirsts eq xs round recorded → (y : SubjectValue D) →
+    changes_firsts eq (firsts_of recorded) recorded.split y
+    ≡ changes_firsts eq (first_certified xs round) (are_split eq xs round) y
+news_recorded eq xs round recorded records y = elim (cases_Bool recorded.split) [
+  | inl e ↦ (λ i. changes_firsts eq (firsts_of recorded) (e i) y)
+      ∙ sym (λ i. changes_firsts eq (first_certified xs round) ((sym records.split ∙ e) i) y)
+  | inr e ↦ λ i. changes_firsts eq (λ kind. records.firsts e kind i) (records.split i) y
+]
+
 -- ---- from messages to what they certify
 
 -- whether there is a value and it passes

@@ -1,5 +1,5 @@
 -- The state of every round so far.
-use Rattle.std.specs.Prelude.{◌≡◌, ℕ, ◌-◌, ◌^◌, List, [], ◌++◌, filter, min, Option, Some, None}
+use Rattle.std.specs.Prelude.{◌≡◌, ℕ, ◌-◌, ◌^◌, Bool, ◌||◌, List, [], ◌++◌, filter, min, Option, Some, None}
 use Rattle.std.specs.BTreeMap.{get}
 use Rattle.std.specs.Option.{option_to_list}
 use Rattle.simplex_base.specs.Positions.{Round}
@@ -13,6 +13,7 @@ use Rattle.simplex_evidence.specs.declared.types.activity.Activity.{Activity}
 use Rattle.simplex_scheme.specs.Committees.{Schedule, committee_of}
 use Rattle.simplex_detector.specs.Evidence.{IsEvidence}
 use Rattle.simplex_detector.specs.FirstCertified.{certified_subjects, nothing_certified, RecordsFirsts}
+use Rattle.simplex_detector.specs.News.{have_news, message_is_news, subject_is_news}
 use Rattle.simplex_detector.specs.Recorded.{slot_of, votes_recorded}
 use Rattle.simplex_detector.specs.Accusation.{round_cmp}
 use Rattle.simplex_detector.specs.Rounds.{no_slot, HoldsRound}
@@ -80,13 +81,19 @@ abbrev pub RecallsMore : {S D C P G : Type 0} → Rules S D C P G → List (Acti
 RecallsMore {S} {D} {C} {P} {G} rules more old new =
     (messages : List (Activity S D C P G)) → Recalls rules messages old → Recalls rules (messages ++ more) new
 
+-- `news` tells whether one more message is news after any messages whose state this is
+abbrev pub TellsNews : {S D C P G : Type 0} → Rules S D C P G → Activity S D C P G → Detector S D P G → Bool → Type 0
+TellsNews {S} {D} {C} {P} {G} rules message old news =
+    (messages : List (Activity S D C P G)) → Recalls rules messages old → news ≡ message_is_news rules messages message
+
 -- ---- one message more
 
 module _ {S D C P G : Type 0} (rules : Schedule S → Rules S D C P G) (committee : S) where
   -- Some votes of a round and a certificate, if there is one, are taken in. The committee of the round's epoch judges them,
-  -- for any earlier messages and any other committees.
+  -- for any earlier messages and any other committees. `news` tells whether a valid one of the votes is news, or the certified
+  -- subject.
   pub record TakesIn (round : Round) (votes : List (SignedVote D G)) (certificate : Option (SubjectValue D × C))
-      (old new : RoundState S D P G) : Type 0 where
+      (news : Bool) (old new : RoundState S D P G) : Type 0 where
     pub cast : (schedule : Schedule S) → committee_of schedule round.epoch ≡ Some committee → (vs : List (SignedVote D G)) →
         HoldsRound (rules schedule).eq ((rules schedule).size round.epoch) vs round old.votes →
         HoldsRound (rules schedule).eq ((rules schedule).size round.epoch) (vs ++ filter (is_valid (rules schedule)) votes)
@@ -95,9 +102,15 @@ module _ {S D C P G : Type 0} (rules : Schedule S → Rules S D C P G) (committe
         (xs : List (SubjectValue D)) →
         RecordsFirsts (rules schedule).eq xs round old.certified →
         RecordsFirsts (rules schedule).eq (xs ++ option_to_list (if_certified (rules schedule) certificate)) round new.certified
+    pub tells : (schedule : Schedule S) → committee_of schedule round.epoch ≡ Some committee → (vs : List (SignedVote D G))
+        (xs : List (SubjectValue D)) →
+        HoldsRound (rules schedule).eq ((rules schedule).size round.epoch) vs round old.votes →
+        RecordsFirsts (rules schedule).eq xs round old.certified →
+        news ≡ (have_news (rules schedule).eq vs (filter (is_valid (rules schedule)) votes)
+        || subject_is_news (rules schedule).eq xs (if_certified (rules schedule) certificate))
 
   -- what a message holds is taken in: its votes, and its certificate if it has one
-  abbrev pub TakesContents : (C → List (Attestation S P G)) → ContentsValue D C G → RoundState S D P G →
+  abbrev pub TakesContents : (C → List (Attestation S P G)) → ContentsValue D C G → Bool → RoundState S D P G →
       RoundState S D P G → Type 0
-  TakesContents listed held old new =
-      TakesIn (contents_round held) (contents_votes listed held) (contents_certificate held) old new
+  TakesContents listed held news old new =
+      TakesIn (contents_round held) (contents_votes listed held) (contents_certificate held) news old new

@@ -3,11 +3,19 @@ use Rattle.std.specs.Prelude.{ℕ, Bool, true, false, ◌&&◌, List, length, na
 use Rattle.std.specs.BTreeSet.{contains}
 use Rattle.simplex_base.specs.Positions.{Round}
 use Rattle.simplex_scheme.specs.Subject.{SubjectValue, round_of}
-use Rattle.simplex_scheme.specs.Committees.{Schedule, rules_of}
+use Rattle.simplex_scheme.specs.Committees.{Schedule}
 use Rattle.simplex_detector.specs.Accusation.{round_cmp, signer_cmp, signer_in}
 use Rattle.simplex_detector.specs.Rules.{Rules}
+use Rattle.simplex_detector.specs.Scheme.{Scheme, rules_of}
+use Rattle.simplex_detector.specs.declared.judge.Signatures.{Signatures}
+use Rattle.simplex_detector.specs.declared.judge.Signatures.TheVariants as signatures
 use Rattle.simplex_detector.specs.declared.judging.Judging.{Judging}
 use Rattle.simplex_detector.specs.declared.judging.Judging.TheVariants.{Verified, Claimed, Suspects}
+
+-- whether signatures are known to be valid
+abbrev pub are_known : Signatures → Bool
+are_known signatures.Verified = true
+are_known signatures.Unverified = false
 
 -- whether a signer's votes in a round are verified
 abbrev pub is_verified : Judging → Round → ℕ → Bool

@@ -21,4 +21,5 @@ pub mod Agreement
 pub mod Independence
 pub mod Interchange
 pub mod News
+pub mod NewsLaws
 pub mod Stays

@@ -10,6 +10,7 @@ use Rattle.simplex_scheme.specs.Kind.{kind_of, same_kind}
 use Rattle.simplex_votes.specs.Votes.{SignedVote, notarize_vote, nullify_vote, finalize_vote}
 use Rattle.simplex_evidence.specs.Contradiction.{EquivocationKind, Conflicting_notarize, Conflicting_finalize, Nullify_finalize, Equivocation, contradicts}
 use Rattle.simplex_evidence.specs.VoteMap.{item_of}
+use Rattle.simplex_detector.specs.News.{have_news}
 use Rattle.simplex_detector.specs.VotePairs.{pairs_count}
 use Rattle.simplex_detector.specs.Recorded.{Slot, slot_of, slot_with, changes, evidence_from, recorded_in}
 use Rattle.simplex_detector.specs.declared.vote_pairs.VotePairs.{VotePairs}
@@ -69,6 +70,12 @@ pub record HoldsRound {S D P G : Type 0} (eq : D → D → Bool) (n : ℕ) (vs :
   pub sized : IsSized n recorded
   pub held : (signer : ℕ) (kind : VoteKind) → slots recorded signer kind ≡ slot_of eq vs kind round signer
   pub counted : round_count recorded ≡ recorded_in eq vs round
+
+-- some votes of a round are recorded behind any others, and `news` tells whether one of them was news
+pub record RecordsVotes {S D P G : Type 0} (eq : D → D → Bool) (n : ℕ) (round : Round) (votes : List (SignedVote D G))
+    (news : Bool) (before after : RoundVotes S D P G) : Type 0 where
+  pub held : (vs : List (SignedVote D G)) → HoldsRound eq n vs round before → HoldsRound eq n (vs ++ votes) round after
+  pub tells : (vs : List (SignedVote D G)) → HoldsRound eq n vs round before → news ≡ have_news eq vs votes
 
 -- ---- the evidence in what is recorded
 

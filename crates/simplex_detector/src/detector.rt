@@ -3,7 +3,7 @@
 ghost use Rattle.std.specs.Prelude.{◌≡◌, [], ◌∷◌, ◌++◌, All, map, IfOk, OnOk};
 ghost use Rattle.std.specs.Option.{option_to_list};
 ghost use Rattle.simplex_base.specs.Format.{format_of};
-ghost use Rattle.simplex_detector.specs.Detector.{RecallsNone, RecallsMore, GivesEvidence, GivesSplits, CountsVotes};
+ghost use Rattle.simplex_detector.specs.Detector.{RecallsNone, RecallsMore, TellsNews, GivesEvidence, GivesSplits, CountsVotes};
 ghost use Rattle.simplex_detector.specs.EncodedEvidence.{IsEncoded};
 ghost use Rattle.simplex_detector.specs.Values.{evidence_value};
 
@@ -37,8 +37,8 @@ impl<S: Listing<D>, D: Digest> Detector<S, D> {
         }
     }
 
-    /// Records one message. Its round is looked up once, and again where it is new. `AllocError`
-    /// only where an allocation failed: the message may then be recorded in part, and nothing is
+    /// Records one message, and returns whether it is news: whether it changed the state. Its round is looked up once, and
+    /// again if it is new. `AllocError` only if an allocation failed: the message may then be recorded in part, and nothing is
     /// stated of what the detector returns from then on, so drop it.
     pub fn observe(
         &mut self,
@@ -46,26 +46,28 @@ impl<S: Listing<D>, D: Digest> Detector<S, D> {
         committees: &Committees<S>,
         judging: &Judging,
         message: &Activity<S, D>,
-    ) -> Result<(), AllocError>
-        ensures { OnOk result (RecallsMore
+    ) -> Result<bool, AllocError>
+        ensures records { OnOk result (RecallsMore
             (⟦<S as Judges<D>>⟧.rules_under judging.now committees.now)
             (message.now ∷ []) self.old self.new) }
+        ensures news { IfOk result (λ news. TellsNews
+            (⟦<S as Judges<D>>⟧.rules_under judging.now committees.now) message.now self.old news) }
     {
         let contents = message.contents();
         let round = contents.round();
         let Some(committee) = committees.get(round.epoch()) else {
-            return Ok(());
+            return Ok(false);
         };
         let judge = Judge { committee, judging };
         if let Some(round_state) = self.rounds.get_mut(&round) {
             return round_state.observe(&judge, &contents);
         }
         let mut round_state = RoundState::new(alloc, committee.participants().len());
-        round_state.observe(&judge, &contents)?;
+        let news = round_state.observe(&judge, &contents)?;
         if !round_state.is_empty() {
             self.rounds.insert(round, round_state)?;
         }
-        Ok(())
+        Ok(news)
     }
 
     /// The evidence in the valid votes so far: at most one for each round, signer and kind, in that order.

@@ -2,7 +2,7 @@
 
 ghost use Rattle.std.specs.Prelude.{◌≡◌, true, IsTrue};
 ghost use Rattle.simplex_scheme.specs.Subject.{subject_value, round_of};
-ghost use Rattle.simplex_detector.specs.Judging.{is_verified, are_verified, valid_under, certified_under};
+ghost use Rattle.simplex_detector.specs.Judging.{are_known, is_verified, are_verified, valid_under, certified_under};
 
 use crate::judging::Judging;
 use simplex_base::positions::Roundable;
@@ -15,6 +15,15 @@ pub enum Signatures {
     Verified,
     /// Nothing is known of them yet.
     Unverified,
+}
+
+impl Signatures {
+    /// Whether the signatures are known to be valid.
+    pub fn are_known(self) -> bool
+        ensures { result ≡ are_known self }
+    {
+        matches!(self, Signatures::Verified)
+    }
 }
 
 /// The committee of an epoch, and how strictly it judges.

@@ -8,7 +8,8 @@ ghost use Rattle.simplex_base.specs.Positions.{Round};
 ghost use Rattle.simplex_base.specs.Format.{format_of};
 ghost use Rattle.simplex_scheme.specs.Subject.{round_of};
 ghost use Rattle.simplex_votes.specs.Votes.{SignedVote};
-ghost use Rattle.simplex_evidence.specs.Activity.{activity_encoding};
+ghost use Rattle.simplex_evidence.specs.Activity.{activity_encoding, contents_of};
+ghost use Rattle.simplex_evidence.specs.Contents.{AreInConflict};
 ghost use Rattle.simplex_evidence.specs.Contradiction as contradiction;
 ghost use Rattle.simplex_evidence.specs.declared.types.activity.Activity.{Activity};
 ghost use Rattle.simplex_scheme.specs.Committees.{Schedule, committee_of};
@@ -188,6 +189,10 @@ pub fn rounds_are_independent<S: CertificateScheme, D: Digest>()
         AreLawful rules → AreLawful (in_rounds part rules) }
     ensures committees { (rules : Rules S D S.Certificate S.PublicKey S.Signature)
         (part : Round → Bool) → HaveCommittees rules → HaveCommittees (in_rounds part rules) }
+    // The votes of a message are of one round, as two votes that contradict are.
+    ensures whole { (rules : Rules S D S.Certificate S.PublicKey S.Signature)
+        (message : Activity S D S.Certificate S.PublicKey S.Signature) →
+        AreInConflict rules.eq (contents_of message) → IsOfOneRound rules.listed message }
 {}
 
 /// Messages of which the same is recorded are interchangeable: either can be stored or sent in place of the other, with the

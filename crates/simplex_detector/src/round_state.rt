@@ -1,6 +1,6 @@
 //! The state of one round: its votes and its certified subjects.
 
-ghost use Rattle.std.specs.Prelude.{◌≡◌, ◌↔◌, [], ◌∷◌, None, Some, ℕ, map, OnOk, IsTrue};
+ghost use Rattle.std.specs.Prelude.{◌≡◌, ◌↔◌, [], ◌∷◌, None, Some, ℕ, map, IfOk, IsTrue};
 ghost use Rattle.simplex_scheme.specs.declared.kind.VoteKind.{VoteKind};
 ghost use Rattle.simplex_scheme.specs.Subject.{subject_value, round_of};
 ghost use Rattle.simplex_votes.specs.Votes.{vote_on};
@@ -11,7 +11,7 @@ ghost use Rattle.simplex_detector.specs.Detector.{TakesIn, TakesContents, GivesS
 
 use crate::certified_subjects::CertifiedSubjects;
 use crate::judge::{Judge, Signatures};
-use crate::round_votes::RoundVotes;
+use crate::round_votes::{RoundVotes, either};
 use crate::rules::Judges;
 use crate::split::Split;
 use simplex_base::positions::Round;
@@ -56,15 +56,16 @@ impl<S: SchemeTypes, D: Digest> RoundState<S, D> {
 }
 
 impl<S: Listing<D>, D: Digest> RoundState<S, D> {
-    /// Takes in what a message of the round holds, judged by the committee of its epoch.
+    /// Takes in what a message of the round holds, judged by the committee of its epoch, and returns whether it is news.
     pub fn observe(
         &mut self,
         judge: &Judge<'_, S>,
         contents: &Contents<'_, S, D>,
-    ) -> Result<(), AllocError>
-        ensures { AreInConflict D.eq (contents_value contents.now) → OnOk result (TakesContents
-            (⟦<S as Judges<D>>⟧.rules_under judge.now.judging.now) judge.now.committee.now
-            S.listed (contents_value contents.now) self.old self.new) }
+    ) -> Result<bool, AllocError>
+        ensures { AreInConflict D.eq (contents_value contents.now) → IfOk result (λ news.
+            TakesContents (⟦<S as Judges<D>>⟧.rules_under judge.now.judging.now)
+            judge.now.committee.now S.listed (contents_value contents.now) news
+            self.old self.new) }
     {
         match contents {
             Contents::Vote(vote) => self.observe_vote(judge, vote),
@@ -72,22 +73,23 @@ impl<S: Listing<D>, D: Digest> RoundState<S, D> {
                 self.observe_certificate(judge, subject, certificate)
             }
             Contents::Evidence(first, second) => {
-                self.observe_vote(judge, first)?;
-                self.observe_vote(judge, second)
+                let one = self.observe_vote(judge, first)?;
+                let other = self.observe_vote(judge, second)?;
+                Ok(either(one, other))
             }
         }
     }
 
-    /// Takes in a vote of the round.
+    /// Takes in a vote of the round, and returns whether it is valid and news.
     fn observe_vote(
         &mut self,
         judge: &Judge<'_, S>,
         vote: &Signed<'_, S, D>,
-    ) -> Result<(), AllocError>
-        ensures { OnOk result (TakesIn
+    ) -> Result<bool, AllocError>
+        ensures { IfOk result (λ news. TakesIn
             (⟦<S as Judges<D>>⟧.rules_under judge.now.judging.now) judge.now.committee.now
             (round_of (signed_value vote.now).subject)
-            (signed_value vote.now ∷ []) None self.old self.new) }
+            (signed_value vote.now ∷ []) None news self.old self.new) }
     {
         let signatures = Signatures::Unverified;
         self.votes
@@ -95,23 +97,26 @@ impl<S: Listing<D>, D: Digest> RoundState<S, D> {
     }
 
     /// Takes in a certificate of the round and the votes that it lists. If it is found to certify the subject, the listed
-    /// signatures are known to be valid; else each is verified by itself.
+    /// signatures are known to be valid; else each is verified by itself. Returns whether one of the votes is valid and news,
+    /// or the certified subject is news.
     fn observe_certificate(
         &mut self,
         judge: &Judge<'_, S>,
         subject: &Subject<'_, D>,
         certificate: &S::Certificate,
-    ) -> Result<(), AllocError>
-        ensures { OnOk result (TakesIn
+    ) -> Result<bool, AllocError>
+        ensures { IfOk result (λ news. TakesIn
             (⟦<S as Judges<D>>⟧.rules_under judge.now.judging.now) judge.now.committee.now
             (round_of (subject_value subject.now))
             (map (vote_on (subject_value subject.now)) (S.listed certificate.now))
-            (Some (subject_value subject.now, certificate.now)) self.old self.new) }
+            (Some (subject_value subject.now, certificate.now)) news self.old self.new) }
     {
         let signatures = self.certified.observe(judge, subject, certificate);
         let attestations = S::attestations(certificate);
-        self.votes
-            .observe_all(judge, subject, attestations, signatures)
+        let news = self
+            .votes
+            .observe_all(judge, subject, attestations, signatures)?;
+        Ok(either(news, signatures.are_known()))
     }
 
     /// The split of the round, if it is split.

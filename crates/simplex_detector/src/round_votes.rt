@@ -1,18 +1,18 @@
 //! The recorded votes of one round: enough to report every accused signer, and no more.
 
-ghost use Rattle.std.specs.Prelude.{◌≡◌, ◌↔◌, ◌-◌, ◌^◌, min, List, [], ◌∷◌, ◌++◌, ℕ, true, count_by, map, filter, length, option_map, All, IfOk, OnOk, IsTrue};
+ghost use Rattle.std.specs.Prelude.{◌≡◌, ◌↔◌, ◌-◌, ◌^◌, min, List, [], ◌∷◌, ◌++◌, ◌||◌, ℕ, true, count_by, map, filter, length, option_map, All, IfOk, OnOk, IsTrue};
 ghost use Rattle.std.specs.List.{flat_map, range_with_len};
 ghost use Rattle.std.specs.Option.{option_to_list};
 ghost use Rattle.simplex_base.specs.Format.{format_of};
 ghost use Rattle.simplex_scheme.specs.declared.kind.VoteKind.{VoteKind};
 ghost use Rattle.simplex_scheme.specs.Kind.{kind_of};
 ghost use Rattle.simplex_scheme.specs.Subject.{subject_value, round_of};
-ghost use Rattle.simplex_votes.specs.Votes.{SignedVote, vote_on};
+ghost use Rattle.simplex_votes.specs.Votes.{vote_on};
 ghost use Rattle.simplex_evidence.specs.Contradiction.{Conflicting_notarize, Conflicting_finalize, Nullify_finalize};
 ghost use Rattle.simplex_detector.specs.EncodedEvidence.{StayEncoded};
 ghost use Rattle.simplex_detector.specs.Judging.{valid_under};
 ghost use Rattle.simplex_detector.specs.Recorded.{changes};
-ghost use Rattle.simplex_detector.specs.Rounds.{round_count, slots, no_slot, IsSized, TakesVote, HoldsRound, found_of_kind, found_at, accuses, ListsSigners};
+ghost use Rattle.simplex_detector.specs.Rounds.{round_count, slots, no_slot, IsSized, TakesVote, RecordsVotes, found_of_kind, found_at, accuses, ListsSigners};
 ghost use Rattle.simplex_detector.specs.Values.{evidence_value};
 
 use crate::boxed_map::BoxedMap;
@@ -116,64 +116,63 @@ impl<S: SchemeTypes, D: Digest> RoundVotes<S, D> {
         }
     }
 
-    /// Records a vote if it is valid and news. It is verified only if it is news and its signature is not known to be
-    /// valid, and copied only if it is recorded.
+    /// Records a vote if it is valid and news, and returns whether it is. It is verified only if it is news and its signature
+    /// is not known to be valid, and copied only if it is recorded.
     pub fn observe(
         &mut self,
         judge: &Judge<'_, S>,
         subject: &Subject<'_, D>,
         attestation: &Attestation<S>,
         signatures: Signatures,
-    ) -> Result<(), AllocError>
+    ) -> Result<bool, AllocError>
     where
         S: Scheme<D>,
         requires { signatures ≡ Signatures.Verified → S.good judge.now.committee.now
             (subject_value subject.now) attestation.now.signer attestation.now.signature ≡ true }
-        ensures { OnOk result ((vs : List (SignedVote D S.Signature)) →
-            HoldsRound D.eq (length (S.keys judge.now.committee.now)) vs
-            (round_of (subject_value subject.now)) self.old →
-            HoldsRound D.eq (length (S.keys judge.now.committee.now))
-            (vs ++ filter (λ v. valid_under S.keys S.good judge.now.judging.now
+        ensures { IfOk result (λ news.
+            RecordsVotes D.eq (length (S.keys judge.now.committee.now))
+            (round_of (subject_value subject.now))
+            (filter (λ v. valid_under S.keys S.good judge.now.judging.now
             judge.now.committee.now v.subject v.signer v.signature)
-            (vote_on (subject_value subject.now) attestation.now ∷ []))
-            (round_of (subject_value subject.now)) self.new) }
+            (vote_on (subject_value subject.now) attestation.now ∷ [])) news self.old self.new) }
     {
         if !self.is_news(subject, attestation.signer) {
-            return Ok(());
+            return Ok(false);
         }
         if !judge.accepts(subject, attestation, signatures) {
-            return Ok(());
+            return Ok(false);
         }
         let (signer, signature) = (attestation.signer, attestation.signature);
-        self.add(subject, Attestation { signer, signature })
+        self.add(subject, Attestation { signer, signature })?;
+        Ok(true)
     }
 
-    /// Records, of some votes on one subject, each that is valid and news, as `observe` does. `signatures` is of all of
-    /// them.
+    /// Records, of some votes on one subject, each that is valid and news, as `observe` does, and returns whether one is.
+    /// `signatures` is of all of them.
     pub fn observe_all(
         &mut self,
         judge: &Judge<'_, S>,
         subject: &Subject<'_, D>,
         attestations: &[Attestation<S>],
         signatures: Signatures,
-    ) -> Result<(), AllocError>
+    ) -> Result<bool, AllocError>
     where
         S: Scheme<D>,
         requires { signatures ≡ Signatures.Verified → All (λ a. S.good judge.now.committee.now
             (subject_value subject.now) a.signer a.signature ≡ true) attestations.now }
-        ensures { OnOk result ((vs : List (SignedVote D S.Signature)) →
-            HoldsRound D.eq (length (S.keys judge.now.committee.now)) vs
-            (round_of (subject_value subject.now)) self.old →
-            HoldsRound D.eq (length (S.keys judge.now.committee.now))
-            (vs ++ filter (λ v. valid_under S.keys S.good judge.now.judging.now
+        ensures { IfOk result (λ news.
+            RecordsVotes D.eq (length (S.keys judge.now.committee.now))
+            (round_of (subject_value subject.now))
+            (filter (λ v. valid_under S.keys S.good judge.now.judging.now
             judge.now.committee.now v.subject v.signer v.signature)
-            (map (vote_on (subject_value subject.now)) attestations.now))
-            (round_of (subject_value subject.now)) self.new) }
+            (map (vote_on (subject_value subject.now)) attestations.now)) news self.old self.new) }
     {
+        let mut news = false;
         'listed: for attestation in attestations {
-            self.observe(judge, subject, attestation, signatures)?;
+            let recorded = self.observe(judge, subject, attestation, signatures)?;
+            news = either(news, recorded);
         }
-        Ok(())
+        Ok(news)
     }
 
     /// How many of the committee's participants, as many as are given, the recorded votes accuse.
@@ -276,6 +275,13 @@ impl<S: SchemeTypes, D: Digest> RoundVotes<S, D> {
         let finalize = self.finalizes.first(signer)?;
         Some(Evidence::NullifyFinalize(conflict_of(nullify.copy(), finalize.copy())?))
     }
+}
+
+/// Whether one or the other is.
+pub(crate) fn either(one: bool, other: bool) -> bool
+    ensures { result ≡ (one || other) }
+{
+    one || other
 }
 
 /// Appends an evidence, if there is one.

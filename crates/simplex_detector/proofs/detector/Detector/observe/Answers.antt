@@ -1,7 +1,7 @@
-use Rattle.simplex_detector.proofs.Prelude.{IsSized, IsSome, Judging, RecallsAt, Round, Some, [], activity_round, ap, committee_of, cond, get, is_key, length, on_ok_weaker, refl, round_cmp, subst, sym, ◌++◌, ◌∙◌, ◌∷◌, ◌≡◌, Scheme, scheme_of, scheme_under, rules_of}
+use Rattle.simplex_detector.proofs.Prelude.{IfOk-weaker, IsSized, IsSome, Judging, RecallsAt, Round, Some, [], activity_round, ap, committee_of, cond, get, is_key, length, refl, round_cmp, subst, sym, ◌++◌, ◌∙◌, ◌∷◌, ◌≡◌, Scheme, scheme_of, scheme_under, rules_of}
 use Rattle.simplex_evidence.specs.Activity.{contents_of}
 use Rattle.simplex_evidence.specs.Contents.{contents_round}
-use Rattle.simplex_detector.proofs.DetectorLemmas.{votes_here, recalls_changed, recalls_still_none, recalls_first, recalls_taken, recalls_no_committee}
+use Rattle.simplex_detector.proofs.DetectorLemmas.{news_taken, no_news_no_committee, votes_here, recalls_changed, recalls_still_none, recalls_first, recalls_taken, recalls_no_committee}
 use Rattle.simplex_detector.proofs.detector.Detector.observe.Given as given
 use Rattle.simplex_detector.proofs.detector.Detector.observe.Goals as goal
 
@@ -13,13 +13,17 @@ scheme g =
 
 -- the message's epoch has no committee
 pub returns-in_default : goal.returns-in_default
-returns-in_default g c messages holds round =
+returns-in_default g c =
     let none = c.in_default.ensures ∙ ap (committee_of c.args.committees.now)
     (c.epoch.ensures ∙ ap (λ r. r.epoch) (c.round-round.ensures ∙ ap contents_round c.contents-contents.ensures.value)) in
-    recalls_no_committee (scheme g c.args.judging.now)
-    c.args.committees.now messages c.args.message.now
-    (votes_here g.D.PartialEq.eq g.S.Listing.listed (contents_of c.args.message.now) c.contents-contents.ensures.conflict) none
-    round (get round_cmp c.args.self.now.rounds round) (holds round)
+    let here = votes_here g.D.PartialEq.eq g.S.Listing.listed (contents_of c.args.message.now)
+    c.contents-contents.ensures.conflict in
+    record {
+      records = λ messages holds round. recalls_no_committee (scheme g c.args.judging.now) c.args.committees.now messages
+          c.args.message.now here none round (get round_cmp c.args.self.now.rounds round) (holds round);
+      news = λ messages holds. sym (no_news_no_committee (scheme g c.args.judging.now) c.args.committees.now messages
+          c.args.message.now here none);
+    }
 
 -- something was recorded of its round
 pub returns-in-Some-get_mut : goal.returns-in-Some-get_mut
@@ -31,19 +35,26 @@ returns-in-Some-get_mut g c =
     let found = c.in-Some-get_mut.ensures.value in
     let after = c.observe.new.self in
     let updates = c.get_mut.follows.holds after in
-    on_ok_weaker c.observe.result (λ takes messages holds.
-    let before = subst (RecallsAt all messages (activity_round m)) (sym (found ∙ ap (get round_cmp c.args.self.now.rounds) at))
-    (holds (activity_round m)) in
-    let own = recalls_taken (scheme g c.args.judging.now)
-    c.args.committees.now messages m c.in-Some.committee.now judge c.in-Some-get_mut.round_state.now after takes before in
-    recalls_changed all g.met.D.Eq.laws messages m (votes_here g.D.PartialEq.eq g.S.Listing.listed
-    (contents_of c.args.message.now) c.contents-contents.ensures.conflict) c.round-round.result at (Some after)
-    c.args.self.now.rounds (c.get_mut.follows.lender after) (updates.3 (subst IsSome found refl)).0 own holds)
-    ((rw c.contents-contents.ensures.value at c.observe.ensures) c.contents-contents.ensures.conflict)
+    let takes = (rw c.contents-contents.ensures.value at c.observe.ensures) c.contents-contents.ensures.conflict in
+    record {
+      records = IfOk-weaker c.observe.result _ _ (λ news taken messages holds.
+          let before = subst (RecallsAt all messages (activity_round m))
+          (sym (found ∙ ap (get round_cmp c.args.self.now.rounds) at)) (holds (activity_round m)) in
+          let own = recalls_taken (scheme g c.args.judging.now) c.args.committees.now messages m c.in-Some.committee.now judge
+          news c.in-Some-get_mut.round_state.now after taken before in
+          recalls_changed all g.met.D.Eq.laws messages m (votes_here g.D.PartialEq.eq g.S.Listing.listed
+          (contents_of c.args.message.now) c.contents-contents.ensures.conflict) c.round-round.result at (Some after)
+          c.args.self.now.rounds (c.get_mut.follows.lender after) (updates.3 (subst IsSome found refl)).0 own holds) takes;
+      news = IfOk-weaker c.observe.result _ _ (λ news taken messages holds.
+          let before = subst (RecallsAt all messages (activity_round m))
+          (sym (found ∙ ap (get round_cmp c.args.self.now.rounds) at)) (holds (activity_round m)) in
+          news_taken (scheme g c.args.judging.now) c.args.committees.now messages m c.in-Some.committee.now judge
+          news c.in-Some-get_mut.round_state.now after taken before) takes;
+    }
 
 -- nothing was recorded of its round
 pub returns-in_ok-insert : goal.returns-in_ok-insert
-returns-in_ok-insert g c messages holds =
+returns-in_ok-insert g c =
     let all = rules_of (scheme g c.args.judging.now) c.args.committees.now in
     let m = c.args.message.now in
     let at = c.round-round.ensures ∙ ap contents_round c.contents-contents.ensures.value in
@@ -52,21 +63,25 @@ returns-in_ok-insert g c messages holds =
     let sized = subst (λ n. IsSized n c.new-round_state.result.votes) (c.len.ensures ∙ ap length c.participants.ensures.keys)
     c.new-round_state.ensures.sized in
     let after = c.observe-2.new.self in
-    let own =
-    recalls_first (scheme g c.args.judging.now)
-    c.args.committees.now messages m c.in-Some.committee.now judge g.met.D.Eq.laws c.args.self.now.rounds
-    c.new-round_state.result after (none ∙ ap (get round_cmp c.args.self.now.rounds) at) sized c.new-round_state.ensures.empty
-    c.new-round_state.ensures.none c.new-round_state.ensures.certified
-    ((rw c.contents-contents.ensures.value at c.in_ok-observe.ensures) c.contents-contents.ensures.conflict) holds in
-    recalls_changed all g.met.D.Eq.laws messages m
-    (votes_here g.D.PartialEq.eq g.S.Listing.listed (contents_of c.args.message.now) c.contents-contents.ensures.conflict)
-    c.round-round.result at (Some after) c.args.self.now.rounds c.insert.new.self
-    (subst (λ rounds. (q : Round) → get round_cmp c.insert.new.self q ≡ cond (is_key (round_cmp c.round-round.result) q)
-    (Some after) (get round_cmp rounds q)) c.get_mut.follows.holds-at-none c.in_ok-insert.ensures.updates.0) own holds
+    let first =
+    recalls_first (scheme g c.args.judging.now) c.args.committees.now m c.in-Some.committee.now judge g.met.D.Eq.laws
+    c.args.self.now.rounds c.in_ok-news.news c.new-round_state.result after
+    (none ∙ ap (get round_cmp c.args.self.now.rounds) at) sized c.new-round_state.ensures.empty c.new-round_state.ensures.none
+    c.new-round_state.ensures.certified
+    ((rw c.contents-contents.ensures.value at c.in_ok-news.ensures) c.contents-contents.ensures.conflict) in
+    record {
+      records = λ messages holds. recalls_changed all g.met.D.Eq.laws messages m
+          (votes_here g.D.PartialEq.eq g.S.Listing.listed (contents_of c.args.message.now) c.contents-contents.ensures.conflict)
+          c.round-round.result at (Some after) c.args.self.now.rounds c.insert.new.self
+          (subst (λ rounds. (q : Round) → get round_cmp c.insert.new.self q ≡ cond (is_key (round_cmp c.round-round.result) q)
+          (Some after) (get round_cmp rounds q)) c.get_mut.follows.holds-at-none c.in_ok-insert.ensures.updates.0)
+          (first messages holds).0 holds;
+      news = λ messages holds. (first messages holds).1;
+    }
 
 -- nothing is recorded of its round now either
 pub returns-else-not-is_empty : goal.returns-else-not-is_empty
-returns-else-not-is_empty g c messages holds =
+returns-else-not-is_empty g c =
     let all = rules_of (scheme g c.args.judging.now) c.args.committees.now in
     let m = c.args.message.now in
     let at = c.round-round.ensures ∙ ap contents_round c.contents-contents.ensures.value in
@@ -75,15 +90,20 @@ returns-else-not-is_empty g c messages holds =
     let sized = subst (λ n. IsSized n c.new-round_state.result.votes) (c.len.ensures ∙ ap length c.participants.ensures.keys)
     c.new-round_state.ensures.sized in
     let after = c.observe-2.new.self in
-    let own =
-    recalls_first (scheme g c.args.judging.now)
-    c.args.committees.now messages m c.in-Some.committee.now judge g.met.D.Eq.laws c.args.self.now.rounds
-    c.new-round_state.result after (none ∙ ap (get round_cmp c.args.self.now.rounds) at) sized c.new-round_state.ensures.empty
-    c.new-round_state.ensures.none c.new-round_state.ensures.certified
-    ((rw c.contents-contents.ensures.value at c.in_ok-observe.ensures) c.contents-contents.ensures.conflict) holds in
     let empty = c.if-not-is_empty.false in
-    subst (λ rounds. (round : Round) → RecallsAt all (messages ++ m ∷ []) round (get round_cmp rounds round))
-    (sym c.get_mut.follows.holds-at-none)
-    (recalls_still_none all g.met.D.Eq.laws messages m (votes_here g.D.PartialEq.eq g.S.Listing.listed
-    (contents_of c.args.message.now) c.contents-contents.ensures.conflict) c.round-round.result at after c.args.self.now.rounds
-    (sym none) (c.is_empty.ensures.votes empty) (c.is_empty.ensures.certified empty) own holds)
+    let first =
+    recalls_first (scheme g c.args.judging.now) c.args.committees.now m c.in-Some.committee.now judge g.met.D.Eq.laws
+    c.args.self.now.rounds c.in_ok-news.news c.new-round_state.result after
+    (none ∙ ap (get round_cmp c.args.self.now.rounds) at) sized c.new-round_state.ensures.empty c.new-round_state.ensures.none
+    c.new-round_state.ensures.certified
+    ((rw c.contents-contents.ensures.value at c.in_ok-news.ensures) c.contents-contents.ensures.conflict) in
+    record {
+      records = λ messages holds.
+          subst (λ rounds. (round : Round) → RecallsAt all (messages ++ m ∷ []) round (get round_cmp rounds round))
+          (sym c.get_mut.follows.holds-at-none)
+          (recalls_still_none all g.met.D.Eq.laws messages m (votes_here g.D.PartialEq.eq g.S.Listing.listed
+          (contents_of c.args.message.now) c.contents-contents.ensures.conflict) c.round-round.result at after
+          c.args.self.now.rounds (sym none) (c.is_empty.ensures.votes empty) (c.is_empty.ensures.certified empty)
+          (first messages holds).0 holds);
+      news = λ messages holds. (first messages holds).1;
+    }

@@ -1,5 +1,5 @@
-use Rattle.simplex_detector.proofs.Prelude.{All, and_parts, on_ok_weaker, subject_value, subst, sym, true, ◌≡◌}
-use Rattle.simplex_detector.proofs.CommitteeLemmas.{certified_by_scheme, when_known}
+use Rattle.simplex_detector.proofs.Prelude.{All, and_parts, ap, are_known, subject_value, subst, sym, true, ◌∙◌, ◌≡◌}
+use Rattle.simplex_detector.proofs.CommitteeLemmas.{certified_by_scheme, known_tells, when_known}
 use Rattle.simplex_detector.proofs.DetectorLemmas.{takes_certificate}
 use Rattle.simplex_detector.proofs.round_state.RoundState.observe_certificate.Goals as goal
 
@@ -15,6 +15,7 @@ observe_all-requires g c = λ known.
 
 pub returns : goal.returns
 returns g c =
-    on_ok_weaker c.observe_all.result (takes_certificate _ c.args.judge.now.committee.now (subject_value c.args.subject.now)
-    c.args.certificate.now _ c.attestations-attestations.ensures c.args.self.now _ c.observe-signatures.ensures.records)
-    c.observe_all.ensures
+    rw c.either.ensures (takes_certificate _ c.args.judge.now.committee.now (subject_value c.args.subject.now)
+    c.args.certificate.now _ c.attestations-attestations.ensures c.in_ok-news.news c.are_known.result c.args.self.now _
+    c.observe-signatures.ensures.records
+    (c.are_known.ensures ∙ ap are_known c.observe-signatures.ensures.verified ∙ known_tells _) c.in_ok-news.ensures)

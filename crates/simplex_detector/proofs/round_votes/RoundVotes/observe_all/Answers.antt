@@ -1,9 +1,9 @@
-use Rattle.simplex_detector.proofs.Prelude.{append-nil, subject_value, subst, sym, take_all, take_more, true, valid_under, ◌≡◌}
-use Rattle.simplex_detector.proofs.RecordedLemmas.{holds_one_more}
+use Rattle.simplex_detector.proofs.Prelude.{append-nil, refl, subject_value, subst, sym, take_all, take_more, true, valid_under, ◌≡◌}
+use Rattle.simplex_detector.proofs.RecordedLemmas.{records_one_more}
 use Rattle.simplex_detector.proofs.round_votes.RoundVotes.observe_all.Goals as goal
 
 pub listed-init : goal.listed-init
-listed-init g c vs holds = rw (append-nil vs) holds
+listed-init g c = record { held = λ vs holds. rw (append-nil vs) holds; tells = λ vs holds. refl }
 
 -- the signature of each is known to be valid where all are
 pub observe-requires : goal.observe-requires
@@ -15,12 +15,13 @@ observe-requires g c = λ known.
 pub listed-preserved : goal.listed-preserved
 listed-preserved g c =
     rw (
+      c.either-news.ensures,
       take_more c.args.attestations.now c.listed.attestation-index c.attestation-item.result c.listed-test.true,
       sym c.attestation-item.is,
     )
-    (holds_one_more g.D.PartialEq.eq _ (valid_under g.S.CertificateScheme.keys g.S.Scheme.good c.args.judge.now.judging.now
-    c.args.judge.now.committee.now) (subject_value c.args.subject.now) _ c.attestation-item.result c.args.self.now c.listed.self
-    c.observe.new.self c.listed.invariant c.in_ok-observe.ensures)
+    (records_one_more g.D.PartialEq.eq _ (valid_under g.S.CertificateScheme.keys g.S.Scheme.good c.args.judge.now.judging.now
+    c.args.judge.now.committee.now) (subject_value c.args.subject.now) _ c.attestation-item.result c.listed.news _
+    c.args.self.now c.listed.self c.observe.new.self c.listed.invariant c.in_ok-recorded.ensures)
 
 pub returns : goal.returns
 returns g c = rw (take_all c.listed.attestation-index c.args.attestations.now c.listed-test.false) at c.listed.invariant

@@ -13,5 +13,5 @@ returns g c =
     g.S.CertificateVerifier.certified g.S.Listing.listed) Claimed c.args.committees.now)
     (message_places (fixed g.D.FixedSize.SIZE g.D.Fixed.bytes_of g.D.Fixed.of_bytes)
     (fixed g.S.Signature.FixedSize.SIZE g.S.Signature.Fixed.bytes_of g.S.Signature.Fixed.of_bytes) g.S.Listing.listed)
-    _ c.args.message.now c.args.size c.args.self.now _ c.requires.size c.in_ok-observe.ensures
+    _ c.args.message.now c.args.size c.args.self.now _ c.requires.size c.in_ok-observe.ensures.records
     c.in_ok-push_message.ensures refl
