@@ -1,5 +1,5 @@
 -- The rules by which committees judge.
-use Rattle.simplex_detector.proofs.Prelude.{signer_in, Scheme, All, All-cons, All-contains, All-nil, AreLawful, AreRising, Bool, Claimed, Err, Every, HaveCommittees, IfErr, IfOk, IsBinarySearchResult, IsEquivalence, IsNonDecreasingBy, IsQuorum, IsSchedule, IsSearchInRange, Judging, List, Listed, None, Ok, Option, Result, Schedule, Some, SubjectValue, Suspects, Verified, [], and_parts, are_known, ap, arith, bound_of, cases_lt, certified_by, certified_under, committee_of, contains, drop, drop_more, eqb, eqb-true, false, false≢true, find, get_or, get_or_default, greatest, if◌then◌else◌, inl, inr, is_le, keys, length, ltb-true, max, nat_cmp, nat_tests, option_map, ord_max, ordering_index, parted, ranked, refl, round_cmp, round_of, rules_of, same_Some, signer_cmp, size_by, subst, suc, sym, true, valid_by, valid_under, zero, ℕ, ◌+◌, ◌-◌, ◌<◌, ◌∙◌, ◌∷◌, ◌≡◌, ◌≤◌}
+use Rattle.simplex_detector.proofs.Prelude.{signer_in, Scheme, All, All-cons, All-contains, All-nil, AreLawful, AreRising, Bool, Claimed, Err, Every, HaveCommittees, IfErr, IfOk, IsBinarySearchResult, IsEquivalence, IsNonDecreasingBy, IsQuorum, IsSchedule, IsSearchInRange, Judging, List, Listed, None, Ok, Option, Result, Schedule, Some, SubjectValue, Suspects, Verified, [], and_parts, are_known, ap, arith, bound_of, cases_lt, certified_by, certified_under, committee_of, contains, drop, drop_more, eqb, eqb-true, false, false≢true, find, get_or, get_or_default, greatest, if◌then◌else◌, inl, inr, is_le, keys, length, ltb-true, max, nat_cmp, nat_tests, option_map, ord_max, ordering_index, parted, ranked, refl, round_cmp, round_of, rules_of, same_Some, signer_cmp, size_by, subst, suc, sym, true, valid_by, valid_under, zero, ℕ, ◌+◌, ◌-◌, ◌<◌, ◌∙◌, ◌∷◌, ◌≡◌, ◌≤◌, From, is_from}
 use Rattle.simplex_detector.specs.declared.judge.Signatures.{Signatures}
 use Rattle.simplex_detector.specs.declared.judge.Signatures.TheVariants as signatures
 
@@ -48,6 +48,8 @@ members_under keys good members Claimed s x signer signature h = ltb-true _ _ h
 members_under keys good members (Suspects suspects) s x signer signature h =
     members s x signer signature
     (and_parts (contains signer_cmp suspects.signers (signer_in (round_of x) signer)) (good s x signer signature) h).1
+members_under keys good members (From floor) s x signer signature h =
+    members s x signer signature (and_parts (is_from floor (round_of x)) (good s x signer signature) h).1
 
 -- a certificate that certifies under any judging certifies under the scheme
 pub certified_by_scheme : {S D C : Type 0} (certified : S → SubjectValue D → C → Bool) (judging : Judging) (s : S)
@@ -57,6 +59,8 @@ certified_by_scheme certified Verified s x certificate h = h
 certified_by_scheme certified Claimed s x certificate h = absurd (false≢true h)
 certified_by_scheme certified (Suspects suspects) s x certificate h =
     (and_parts (contains round_cmp suspects.rounds (round_of x)) (certified s x certificate) h).1
+certified_by_scheme certified (From floor) s x certificate h =
+    (and_parts (is_from floor (round_of x)) (certified s x certificate) h).1
 
 -- ---- which signatures are known to be valid
 

@@ -1,9 +1,9 @@
 -- Rounds are independent: what a part of the rounds has of the votes, the evidence and the splits.
-use Rattle.simplex_detector.proofs.Prelude.{Activity, All, All-contains, AreLawful, AreSplits, Bool, Conflicting_finalize, Conflicting_notarize, Contains, Contains-permutation, Equivocation, EquivocationKind, HaveCommittees, IsEvidence, IsPermutation, IsPermutation-sym, IsStrictlySortedBy, IsStrictlySortedBy-filter, Less, Greater, Equal, List, Accusation, None, Nullify_finalize, Option, Round, Rules, SignedVote, Some, Split, SubjectValue, [], accused_by, accused_cmp, accused_count, activity_round, and_from, and_parts, ap, append-nil, are_split, arith, certified_in, certified_subjects, clash, cond, cons_option, contradicts, eq-eqb, eqb, evidence_of, false, false≢true, filter, filter_map-append, find, first_kind, flat_map, if_certified, is_accused, is_accused_in, is_at, is_le, is_of, is_some, is_split, is_valid, kind_rank, length, map, map-append, nat_cmp, not, not-true, ordering_then, refl, round_cmp, round_of, same_Some, split_of, subject_and_certificate, subst, suc, sym, true, valid_votes, votes_in, with_first, with_second, zero, ℕ, ◌&&◌, ◌++◌, ◌<◌, ◌||◌, ◌∙◌, ◌∷◌, ◌≡◌}
+use Rattle.simplex_detector.proofs.Prelude.{From, Schedule, Scheme, FloorsRise, and-false, certified_by, certified_under, committee_of, first_round, in_rounds, is_from, is_lt, nat_tests, ord_max, rules_of, rules_under, size_by, valid_by, valid_under, Activity, All, All-contains, AreLawful, AreSplits, Bool, Conflicting_finalize, Conflicting_notarize, Contains, Contains-permutation, Equivocation, EquivocationKind, HaveCommittees, IsEvidence, IsPermutation, IsPermutation-sym, IsStrictlySortedBy, IsStrictlySortedBy-filter, Less, Greater, Equal, List, Accusation, None, Nullify_finalize, Option, Round, Rules, SignedVote, Some, Split, SubjectValue, [], accused_by, accused_cmp, accused_count, activity_round, and_from, and_parts, ap, append-nil, are_split, arith, certified_in, certified_subjects, clash, cond, cons_option, contradicts, eq-eqb, eqb, evidence_of, false, false≢true, filter, filter_map-append, find, first_kind, flat_map, if_certified, is_accused, is_accused_in, is_at, is_le, is_of, is_some, is_split, is_valid, kind_rank, length, map, map-append, nat_cmp, not, not-true, ordering_then, refl, round_cmp, round_of, same_Some, split_of, subject_and_certificate, subst, suc, sym, true, valid_votes, votes_in, with_first, with_second, zero, ℕ, ◌&&◌, ◌++◌, ◌<◌, ◌||◌, ◌∙◌, ◌∷◌, ◌≡◌}
 use Rattle.std.proofs.lemmas.List.Sorted.{IsPermutation-refl}
 use Rattle.std.specs.Ordering.{ordering_reverse}
 use Rattle.std.specs.Prelude.{slice_get}
-use Rattle.simplex_detector.specs.Independence.{AreSplitsOf, FloorParts, IsEvidenceOf, IsOfOneRound, OthersStay, PartStays, PartsAddUp, RoundsAreIndependent, evidence_within, in_rounds, is_from, of_rounds, splits_within}
+use Rattle.simplex_detector.specs.Independence.{AreSplitsOf, FloorParts, IsEvidenceOf, IsOfOneRound, OthersStay, PartStays, PartsAddUp, RoundsAreIndependent, evidence_within, of_rounds, splits_within}
 use Rattle.simplex_detector.proofs.AccountLemmas.{counted_signer, distinct_count-same}
 use Rattle.simplex_detector.proofs.EvidenceLemmas.{accused-from_evidence, accused_by_more, accused_from_votes, first_spot, valid_votes-append, votes_from_accused}
 use Rattle.simplex_detector.proofs.Filters.{element_at, filter-flat_map, filter_both, filter_none, filter_swap, find_filtered, map-filter, place_of}
@@ -506,4 +506,104 @@ committees_in_rounds rules part l = record {
   members = λ x signer signature h.
       l.members x signer signature (and_parts (part (round_of x)) (rules.good x signer signature) h).1;
   someone = λ x c h. l.someone x c (and_parts (part (round_of x)) (rules.certified x c) h).1;
+}
+
+-- ---- floors
+
+-- judging in a part of a part is judging in the rounds of both
+both_parts : {S D C P G : Type 0} (rules : Rules S D C P G) (wide narrow part : Round → Bool) →
+    ((round : Round) → (narrow round && wide round) ≡ part round) →
+    in_rounds narrow (in_rounds wide rules) ≡ in_rounds part rules
+both_parts rules wide narrow part same =
+    let each_round : (round : Round) (b : Bool) → (narrow round && (wide round && b)) ≡ (part round && b) =
+    λ round b. (elim (narrow round) as (λ n. (n && wide round) ≡ part round → (n && (wide round && b)) ≡ (part round && b))
+    [ true ↦ λ h i. h i && b | false ↦ λ h i. h i && b ]) (same round) in
+    λ i. record {
+      eq = rules.eq;
+      good = λ x signer signature. each_round (round_of x) (rules.good x signer signature) i;
+      certified = λ x c. each_round (round_of x) (rules.certified x c) i;
+      listed = rules.listed;
+      size = rules.size;
+    }
+
+-- a part that is all rounds changes nothing
+all_rounds : {S D C P G : Type 0} (rules : Rules S D C P G) (part : Round → Bool) →
+    ((round : Round) → part round ≡ true) → in_rounds part rules ≡ rules
+all_rounds rules part all = λ i. record {
+  eq = rules.eq;
+  good = λ x signer signature. all (round_of x) i && rules.good x signer signature;
+  certified = λ x c. all (round_of x) i && rules.certified x c;
+  listed = rules.listed;
+  size = rules.size;
+}
+
+-- no round is below the first
+from_first : (round : Round) → is_from first_round round ≡ true
+from_first round =
+    let least : (n : ℕ) → is_le (nat_cmp 0 n) ≡ true = λ n. grind (arith, nat_tests) in
+    (elim (nat_cmp 0 round.epoch)
+    as (λ o. is_le o ≡ true → is_le (ordering_then o (nat_cmp 0 round.view)) ≡ true)
+    [ Less ↦ λ h. refl | Equal ↦ λ h. least round.view | Greater ↦ λ h. absurd (false≢true h) ]) (least round.epoch)
+
+-- a round is from both floors on if it is from the higher on
+from_both : (low high round : Round) →
+    (is_from high round && is_from low round) ≡ is_from (ord_max round_cmp low high) round
+from_both low high round =
+    (elim (round_cmp high low) as (λ o. round_cmp high low ≡ o →
+    (is_from high round && is_from low round) ≡ is_from (cond (is_lt o) low high) round) [
+      | Less ↦ λ e. from_lower high low e
+      | Equal ↦ λ e. subst (λ r. (is_from high round && is_from r round) ≡ is_from high round) (exact_rounds high low e)
+          (same_both (is_from high round))
+      | Greater ↦ λ e. and_swap (is_from high round) (is_from low round)
+          ∙ from_lower low high (round_cmp_total.antisymm low high ∙ ap ordering_reverse e)
+    ]) refl
+  where
+    same_both : (b : Bool) → (b && b) ≡ b
+    same_both true = refl
+    same_both false = refl
+
+    and_swap : (a b : Bool) → (a && b) ≡ (b && a)
+    and_swap true true = refl
+    and_swap true false = refl
+    and_swap false true = refl
+    and_swap false false = refl
+
+    -- what is from the higher floor on is from the lower on
+    from_lower : (a b : Round) → round_cmp a b ≡ Less → (is_from a round && is_from b round) ≡ is_from b round
+    from_lower a b less =
+        (elim (is_from b round) as (λ q. is_from b round ≡ q → (is_from a round && q) ≡ q) [
+          | true ↦ λ e. (elim (round_cmp b round) as (λ o. round_cmp b round ≡ o → is_le o ≡ true →
+              (is_from a round && true) ≡ true) [
+                | Less ↦ λ k h. ap (λ o. is_le o && true) (round_cmp_total.trans a b round less k)
+                | Equal ↦ λ k h. subst (λ r. (is_from a r && true) ≡ true) (exact_rounds b round k)
+                    (ap (λ o. is_le o && true) less)
+                | Greater ↦ λ k h. absurd (false≢true h)
+              ]) refl e
+          | false ↦ λ e. and-false (is_from a round)
+        ]) refl
+
+pub floors_rise : {S D C P G : Type 0} (rules : Rules S D C P G) → FloorsRise rules
+floors_rise rules = record {
+  first = all_rounds rules (is_from first_round) from_first;
+  higher = λ low high. both_parts rules (is_from low) (is_from high) (is_from (ord_max round_cmp low high))
+      (from_both low high);
+}
+
+-- what is judged as `From` a floor is judged in the rounds from it on, also without a committee
+pub judged_from : {S D C P G : Type 0} (scheme : Scheme S D C P G) (schedule : Schedule S) (floor : Round) →
+    rules_under scheme (From floor) schedule ≡ in_rounds (is_from floor) (rules_of scheme schedule)
+judged_from scheme schedule floor = λ i. record {
+  eq = scheme.eq;
+  good = λ x signer signature.
+      (elim (committee_of schedule (round_of x).epoch) as (λ o.
+      valid_by (valid_under scheme.keys scheme.good (From floor)) o x signer signature
+      ≡ (is_from floor (round_of x) && valid_by scheme.good o x signer signature))
+      [ None ↦ sym (and-false (is_from floor (round_of x))) | Some s ↦ refl ]) i;
+  certified = λ x c.
+      (elim (committee_of schedule (round_of x).epoch) as (λ o.
+      certified_by (certified_under scheme.certified (From floor)) o x c
+      ≡ (is_from floor (round_of x) && certified_by scheme.certified o x c))
+      [ None ↦ sym (and-false (is_from floor (round_of x))) | Some s ↦ refl ]) i;
+  listed = scheme.listed;
+  size = λ epoch. size_by scheme.keys (committee_of schedule epoch);
 }

@@ -15,6 +15,7 @@ pub mod SuspectLemmas
 pub mod AgreementLemmas
 pub mod Filters
 pub mod IndependenceLemmas
+pub mod PruneLemmas
 pub mod InterchangeLemmas
 pub mod NewsLemmas
 pub mod StayLemmas

@@ -27,7 +27,7 @@ pub use Rattle.std.specs.Cmp.{IsEquivalence, IsTotalOrder}
 pub use Rattle.std.specs.List.{AllByRecursion, cons_option, count_by, range_with_len, dedup, filter_map, find, flat_map, list_any}
 pub use Rattle.std.specs.List.Sorted.{IsBinarySearchResult, IsNonDecreasing, IsNonDecreasingBy, IsSearchInRange, IsSorted, IsStrictlySortedBy}
 pub use Rattle.std.specs.Option.{IsSome, is_none, is_some, option_eq, option_or, option_to_list}
-pub use Rattle.std.specs.Ordering.{is_eq, is_gt, is_le, nat_cmp, ord_max, ordering_index, ordering_then}
+pub use Rattle.std.specs.Ordering.{is_eq, is_gt, is_le, is_lt, nat_cmp, ord_max, ordering_index, ordering_then}
 pub use Rattle.std.specs.Prelude.{Contains, IsPermutation, IsTrue, filter, if◌then◌else◌, nat_eq, nat_lt, not, option_map, ◌&&◌, ◌↔◌}
 pub use Rattle.std.specs.Set.{distinct_count, is_member, unique_keys}
 pub use Rattle.simplex_base.specs.Format.{Format, fixed}
@@ -41,6 +41,7 @@ pub use Rattle.simplex_detector.specs.EncodedEvidence.{IsEncoded, StayEncoded}
 pub use Rattle.simplex_detector.specs.Evidence.{IsEquivocation, IsEvidence, evidence_of, with_first, with_second}
 pub use Rattle.simplex_detector.specs.FirstCertified.{RecordsFirsts, are_split, certified_subjects, changes_firsts, excludes_first, excludes_some, first_certified, first_with, firsts_of, nothing_certified}
 pub use Rattle.simplex_detector.specs.Judging.{are_known, certified_under, rules_under, scheme_under, valid_under}
+pub use Rattle.simplex_detector.specs.Independence.{FloorsRise, first_round, in_rounds, is_from}
 pub use Rattle.simplex_detector.specs.Laws.{ReorderingAccusesSame}
 pub use Rattle.simplex_detector.specs.Line.{line_of, parted}
 pub use Rattle.simplex_detector.specs.News.{have_news, message_is_news, subject_is_news}
@@ -56,7 +57,7 @@ pub use Rattle.simplex_detector.specs.declared.certified_subjects.CertifiedSubje
 pub use Rattle.simplex_detector.specs.declared.detector.Detector.{Detector}
 pub use Rattle.simplex_detector.specs.declared.evidence.SignerInRound.{SignerInRound}
 pub use Rattle.simplex_detector.specs.declared.judging.Judging.{Judging}
-pub use Rattle.simplex_detector.specs.declared.judging.Judging.TheVariants.{Claimed, Suspects, Verified}
+pub use Rattle.simplex_detector.specs.declared.judging.Judging.TheVariants.{Claimed, From, Suspects, Verified}
 pub use Rattle.simplex_detector.specs.declared.judging.SuspectSigners.{SuspectSigners}
 pub use Rattle.simplex_detector.specs.declared.round_state.RoundState.{RoundState}
 pub use Rattle.simplex_detector.specs.declared.round_votes.RoundVotes.{RoundVotes}

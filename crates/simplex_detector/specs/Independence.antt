@@ -2,7 +2,7 @@
 use Rattle.std.specs.Prelude.{◌≡◌, ℕ, ◌<◌, ◌==◌, ◌&&◌, Bool, false, not, List, ◌++◌, length, map, filter, slice_get, Some, All, IsPermutation}
 use Rattle.std.specs.List.{flat_map}
 use Rattle.std.specs.List.Sorted.{IsStrictlySortedBy}
-use Rattle.std.specs.Ordering.{is_le}
+use Rattle.std.specs.Ordering.{is_le, ord_max}
 use Rattle.simplex_base.specs.Positions.{Round}
 use Rattle.simplex_scheme.specs.Subject.{round_of}
 use Rattle.simplex_scheme.specs.declared.scheme.Attestation.{Attestation}
@@ -17,6 +17,10 @@ use Rattle.simplex_detector.specs.Suspects.{judged_by}
 use Rattle.simplex_detector.specs.declared.split.Split.{Split}
 
 -- ---- a part of the rounds
+
+-- the round that no other is below
+abbrev pub first_round : Round
+first_round = record { epoch = 0; view = 0 }
 
 -- whether a round is at a floor or above it
 abbrev pub is_from : Round → Round → Bool
@@ -41,6 +45,13 @@ module _ (part : Round → Bool) where
   -- the splits of these rounds, in their order
   abbrev pub splits_within : List Split → List Split
   splits_within splits = filter (λ s. part s.round) splits
+
+-- From the first round on everything is judged. What is judged from a floor on, and of that from another floor on, is what is
+-- judged from the higher of them on.
+pub record FloorsRise {S D C P G : Type 0} (rules : Rules S D C P G) : Type 0 where
+  pub first : in_rounds (is_from first_round) rules ≡ rules
+  pub higher : (low high : Round) →
+      in_rounds (is_from high) (in_rounds (is_from low) rules) ≡ in_rounds (is_from (ord_max round_cmp low high)) rules
 
 -- each vote of a message is of the message's round, as in every message that can be encoded
 abbrev pub IsOfOneRound : {S D C P G : Type 0} → (C → List (Attestation S P G)) → Activity S D C P G → Type 0

@@ -1,15 +1,18 @@
 //! The state of every round so far.
 
-ghost use Rattle.std.specs.Prelude.{◌≡◌, [], ◌∷◌, ◌++◌, All, map, IfOk, OnOk};
+ghost use Rattle.std.specs.Prelude.{◌≡◌, [], ◌∷◌, ◌++◌, List, All, map, IfOk, OnOk};
 ghost use Rattle.std.specs.Option.{option_to_list};
 ghost use Rattle.simplex_base.specs.Format.{format_of};
-ghost use Rattle.simplex_detector.specs.Detector.{RecallsNone, RecallsMore, TellsNews, GivesEvidence, GivesSplits, CountsVotes};
+ghost use Rattle.simplex_detector.specs.Detector.{RecallsNone, RecallsMore, TellsNews, GivesEvidence, GivesSplits, CountsVotes, Recalls};
+ghost use Rattle.simplex_evidence.specs.declared.types.activity.Activity.{Activity};
 ghost use Rattle.simplex_detector.specs.EncodedEvidence.{IsEncoded};
+ghost use Rattle.simplex_detector.specs.Independence.{in_rounds, is_from};
+ghost use Rattle.simplex_detector.specs.Rules.{Rules};
 ghost use Rattle.simplex_detector.specs.Values.{evidence_value};
 
 use crate::evidence::Evidence;
 use crate::judge::Judge;
-use crate::judging::Judging;
+use crate::judging::{Judging, is_at_least};
 use crate::round_state::RoundState;
 use crate::rules::Judges;
 use crate::split::Split;
@@ -68,6 +71,21 @@ impl<S: Listing<D>, D: Digest> Detector<S, D> {
             self.rounds.insert(round, round_state)?;
         }
         Ok(news)
+    }
+
+    /// Gives up the states of all rounds below a floor. The detector is then as if nothing of these rounds had been valid.
+    /// Nothing is allocated. The states are walked once.
+    pub fn prune(&mut self, floor: Round)
+        ensures { (rules : Rules S D S.Certificate S.PublicKey S.Signature)
+            (messages : List (Activity S D S.Certificate S.PublicKey S.Signature)) →
+            Recalls rules messages self.old →
+            Recalls (in_rounds (is_from floor) rules) messages self.new }
+    {
+        let stays = |round: &Round, round_state: &mut RoundState<S, D>| -> bool
+            ensures { (result ≡ is_from floor round.now) ×
+                (round_state.exit.now ≡ round_state.entry.now) }
+        { is_at_least(*round, floor) };
+        self.rounds.retain(stays);
     }
 
     /// The evidence in the valid votes so far: at most one for each round, signer and kind, in that order.

@@ -4,7 +4,7 @@ ghost use Rattle.std.specs.Prelude.{◌≡◌, true, IsTrue};
 ghost use Rattle.simplex_scheme.specs.Subject.{subject_value, round_of};
 ghost use Rattle.simplex_detector.specs.Judging.{are_known, is_verified, are_verified, valid_under, certified_under};
 
-use crate::judging::Judging;
+use crate::judging::{Judging, is_at_least};
 use simplex_base::positions::Roundable;
 use simplex_scheme::scheme::{Attestation, CertificateVerifier, Digest, Scheme, Subject};
 
@@ -59,6 +59,10 @@ impl<S> Judge<'_, S> {
                 suspects.has(subject, attestation.signer)
                     && self.verify_attestation(subject, attestation, signatures)
             }
+            Judging::From(floor) => {
+                let is_judged = is_at_least(subject.round(), *floor);
+                is_judged && self.verify_attestation(subject, attestation, signatures)
+            }
         }
     }
 
@@ -79,6 +83,10 @@ impl<S> Judge<'_, S> {
             Judging::Suspects(suspects) => {
                 suspects.rounds.contains(&subject.round())
                     && self.verify_certificate(subject, certificate)
+            }
+            Judging::From(floor) => {
+                let is_judged = is_at_least(subject.round(), *floor);
+                is_judged && self.verify_certificate(subject, certificate)
             }
         }
     }

@@ -5,6 +5,7 @@ ghost use Rattle.std.specs.BTreeSet.{contains, IsFromIterResult};
 ghost use Rattle.simplex_base.specs.Positions as positions;
 ghost use Rattle.simplex_scheme.specs.Subject.{subject_value, round_of};
 ghost use Rattle.simplex_detector.specs.Accusation.{round_cmp, signer_cmp, signer_in};
+ghost use Rattle.simplex_detector.specs.Independence.{is_from};
 ghost use Rattle.simplex_detector.specs.Suspects.{suspect_of};
 ghost use Rattle.simplex_detector.specs.Values.{evidence_value};
 ghost use Rattle.simplex_detector.specs.declared.evidence.SignerInRound as suspect;
@@ -34,6 +35,9 @@ pub enum Judging {
     /// The votes of these signers in their rounds are verified, and the certificates of these rounds. No other vote is valid,
     /// and no other certificate certifies.
     Suspects(SuspectSigners),
+    /// The votes and the certificates of the rounds from this one on are verified. No vote of a round below it is valid, and no
+    /// certificate of such a round certifies.
+    From(Round),
 }
 
 impl SuspectSigners {
@@ -45,6 +49,13 @@ impl SuspectSigners {
         let round = subject.round();
         self.signers.contains(&SignerInRound { round, signer })
     }
+}
+
+/// Whether a round is at a floor or above it.
+pub(crate) fn is_at_least(round: Round, floor: Round) -> bool
+    ensures { result ≡ is_from floor round }
+{
+    floor <= round
 }
 
 /// The signers of some evidence, each with its round, and the rounds. `AllocError` only where an

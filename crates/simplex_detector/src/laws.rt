@@ -14,9 +14,9 @@ ghost use Rattle.simplex_evidence.specs.Contradiction as contradiction;
 ghost use Rattle.simplex_evidence.specs.declared.types.activity.Activity.{Activity};
 ghost use Rattle.simplex_scheme.specs.Committees.{Schedule, committee_of};
 ghost use Rattle.simplex_detector.specs.declared.judging.Judging.{Judging};
-ghost use Rattle.simplex_detector.specs.declared.judging.Judging.TheVariants.{Claimed};
+ghost use Rattle.simplex_detector.specs.declared.judging.Judging.TheVariants.{Claimed, From};
 ghost use Rattle.simplex_detector.specs.Evidence.{IsEvidence, IsEquivocation};
-ghost use Rattle.simplex_detector.specs.Independence.{FloorParts, IsOfOneRound, OthersStay, PartsAddUp, RoundsAreIndependent, in_rounds};
+ghost use Rattle.simplex_detector.specs.Independence.{FloorParts, FloorsRise, IsOfOneRound, OthersStay, PartsAddUp, RoundsAreIndependent, in_rounds, is_from};
 ghost use Rattle.simplex_detector.specs.Interchange.{AreInterchangeable, HaveSameState, SameStateAmong, SameStateJoined};
 ghost use Rattle.simplex_detector.specs.News.{CompactsNext, FewAreNews, IsCompaction, LogsCompact, NewsChangesState, VotesCanStandAlone};
 ghost use Rattle.simplex_detector.specs.Recorded.{RecordedAreSlots, FewAreRecorded, votes_recorded};
@@ -111,13 +111,12 @@ pub fn few_votes_are_recorded<S: CertificateScheme, D: Digest>()
 
 /// No more votes of messages are recorded than their encodings have bytes, if no certificate lists more attestations
 /// than its encoding has bytes.
-pub fn recorded_votes_have_room<S: Listing<D>, D: Digest>()
-    ensures { ((certificate : S.Certificate) →
-        length (S.listed certificate) ≤ length (S.Certificate.encoding certificate)) →
-        (schedule : Schedule S) (messages : List
-        (Activity S D S.Certificate S.PublicKey S.Signature)) →
-        votes_recorded D.eq (valid_votes (⟦<S as Judges<D>>⟧.rules schedule)
-        messages) ≤
+pub fn recorded_votes_have_room<S: CertificateScheme, D: Digest>()
+    ensures { (rules : Rules S D S.Certificate S.PublicKey S.Signature) →
+        ((certificate : S.Certificate) →
+        length (rules.listed certificate) ≤ length (S.Certificate.encoding certificate)) →
+        (messages : List (Activity S D S.Certificate S.PublicKey S.Signature)) →
+        votes_recorded D.eq (valid_votes rules messages) ≤
         length (flat_map (activity_encoding D.eq (format_of ⟦<D as Read>⟧) S.Certificate.encoding
         (format_of ⟦<S::Signature as Read>⟧)) messages) }
 {}
@@ -193,6 +192,15 @@ pub fn rounds_are_independent<S: CertificateScheme, D: Digest>()
     ensures whole { (rules : Rules S D S.Certificate S.PublicKey S.Signature)
         (message : Activity S D S.Certificate S.PublicKey S.Signature) →
         AreInConflict rules.eq (contents_of message) → IsOfOneRound rules.listed message }
+{}
+
+/// To judge from a floor on is to judge as if nothing of a round below it were valid. From the first round on everything is
+/// judged, and of two floors the higher counts.
+pub fn floors_rise<S: Listing<D>, D: Digest>()
+    ensures judged { (schedule : Schedule S) (floor : Round) →
+        ⟦<S as Judges<D>>⟧.rules_under (From floor) schedule ≡
+        in_rounds (is_from floor) (⟦<S as Judges<D>>⟧.rules schedule) }
+    ensures rise { (rules : Rules S D S.Certificate S.PublicKey S.Signature) → FloorsRise rules }
 {}
 
 /// Messages of which the same is recorded are interchangeable: either can be stored or sent in place of the other, with the
