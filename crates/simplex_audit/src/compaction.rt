@@ -57,10 +57,10 @@ impl<S: Listing<D>, D: Digest> Visitor<Activity<S, D>> for Compactor<S, D> {
         _size: usize,
         message: &Activity<S, D>,
     ) -> Result<(), AllocError> {
-        let recorder = &mut self.recorder;
-        let news = recorder
+        let news = self
+            .recorder
             .detector
-            .observe(alloc, committees, &recorder.judging, message)?;
+            .observe(alloc, committees, &self.recorder.judging, message)?;
         append_if(news, message, &mut self.kept)
     }
 

@@ -22,15 +22,20 @@ abbrev Message : given.Over → Type 0
 Message g =
     Activity g.row.S.Denot g.row.D.Denot g.row.S-Certificate.Denot g.row.S-PublicKey.Denot g.row.S-Signature.Denot
 
+abbrev payload : (g : given.Over) → Format g.row.D.Denot
+payload g = fixed g.D.FixedSize.SIZE g.D.Fixed.bytes_of g.D.Fixed.of_bytes
+
+abbrev signature : (g : given.Over) → Format g.row.S-Signature.Denot
+signature g = fixed g.S.Signature.FixedSize.SIZE g.S.Signature.Fixed.bytes_of g.S.Signature.Fixed.of_bytes
+
 -- the format of messages under a bound
 abbrev format : (g : given.Over) → ℕ → Format (Message g)
 format g bound =
-    activity_format g.D.PartialEq.eq (fixed g.D.FixedSize.SIZE g.D.Fixed.bytes_of g.D.Fixed.of_bytes)
-    (record {
+    activity_format g.D.PartialEq.eq (payload g) (record {
       is_value = g.S.Certificate.Read.fits bound;
       encoding = g.S.Certificate.Encoding.encoding;
       reading = g.S.Certificate.Read.reading bound;
-    }) (fixed g.S.Signature.FixedSize.SIZE g.S.Signature.Fixed.bytes_of g.S.Signature.Fixed.of_bytes)
+    }) (signature g)
 
 -- the rules by which messages are judged
 abbrev rules : (g : given.Over) → Schedule g.row.S.Denot → Judging → Rules g.row.S.Denot g.row.D.Denot
@@ -59,5 +64,7 @@ returns g c =
     (λ ms each. c.news_suffices.ensures.few all ms g.met.D.Eq.laws
     (c.reading_bound-bound.ensures.committees_under c.args.judging)
     (All-weaker (format g bound).is_value (IsOfOneRound g.S.Listing.listed)
-    (λ m is. c.rounds_are_independent.ensures.whole all m (in_conflict _ _ _ _ m is)) ms each))
-    c.args.stream.now p.rest.now _ _ p.stop progress (omega arith) c.fault_at.ensures
+    (λ m is. c.rounds_are_independent.ensures.whole all m (in_conflict g.D.PartialEq.eq (payload g)
+    (g.S.Certificate.Read.fits bound) (signature g) m is)) ms each))
+    c.args.stream.now p.rest.now _ (length c.args.stream.now - length p.rest.now) p.stop progress
+    (omega (arith, c.in_ok-progress.ensures.room)) c.fault_at.ensures

@@ -1,3 +1,4 @@
+use Rattle.simplex_detector.proofs.Prelude.{[]}
 use Rattle.simplex_detector.specs.NewsLaws.{news_next}
 use Rattle.simplex_detector.proofs.BoundLemmas.{few_are_news}
 use Rattle.simplex_detector.proofs.NewsLemmas.{is_compaction, logs_are_compact, news_changes_state}
