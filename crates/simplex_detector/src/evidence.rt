@@ -36,6 +36,14 @@ impl SignerInRound {
         let (round, signer) = (vote.round(), vote.signer());
         SignerInRound { round, signer }
     }
+
+    /// The numbers of the epoch, of the view and of the signer.
+    fn numbers(self) -> (u64, u64, u32)
+        ensures { result ≡ (self.round.epoch, self.round.view, self.signer) }
+    {
+        let (epoch, view) = (self.round.epoch().get(), self.round.view().get());
+        (epoch, view, self.signer.get())
+    }
 }
 
 /// Two votes of one signer in one round that contradict.
@@ -181,8 +189,7 @@ fn line_of_two<D: Digest>(
         decimal accused.signer ∷ kind.now ∷
         with_proposal D.bytes_of first.now (with_proposal D.bytes_of second.now []))) }
 {
-    let (epoch, view) = (accused.round.epoch().get(), accused.round.view().get());
-    let signer = accused.signer.get();
+    let (epoch, view, signer) = accused.numbers();
     let first = proposal_words(alloc, first)?;
     let second = proposal_words(alloc, second)?;
     format!(in alloc; "{epoch} {view} {signer} {kind} {first} {second}")
@@ -199,8 +206,7 @@ fn line_of_one<D: Digest>(
         string_bytes line ≡ parted (decimal accused.round.epoch ∷ decimal accused.round.view ∷
         decimal accused.signer ∷ kind.now ∷ with_proposal D.bytes_of proposal.now [])) }
 {
-    let (epoch, view) = (accused.round.epoch().get(), accused.round.view().get());
-    let signer = accused.signer.get();
+    let (epoch, view, signer) = accused.numbers();
     let proposal = proposal_words(alloc, proposal)?;
     format!(in alloc; "{epoch} {view} {signer} {kind} {proposal}")
 }
