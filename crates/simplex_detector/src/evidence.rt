@@ -176,6 +176,20 @@ fn proposal_words<D: Digest>(alloc: Global, proposal: &Proposal<D>) -> Result<St
     format!(in alloc; "{parent} {payload}")
 }
 
+/// The parents and the payloads of two proposals.
+fn words_of_two<D: Digest>(
+    alloc: Global,
+    first: &Proposal<D>,
+    second: &Proposal<D>,
+) -> Result<String, AllocError>
+    ensures { IfOk result (λ words. string_bytes words ≡
+        parted (with_proposal D.bytes_of first.now (with_proposal D.bytes_of second.now []))) }
+{
+    let first = proposal_words(alloc, first)?;
+    let second = proposal_words(alloc, second)?;
+    format!(in alloc; "{first} {second}")
+}
+
 /// The line of two votes for proposals, of a signer in a round.
 fn line_of_two<D: Digest>(
     alloc: Global,
@@ -190,9 +204,8 @@ fn line_of_two<D: Digest>(
         with_proposal D.bytes_of first.now (with_proposal D.bytes_of second.now []))) }
 {
     let (epoch, view, signer) = accused.numbers();
-    let first = proposal_words(alloc, first)?;
-    let second = proposal_words(alloc, second)?;
-    format!(in alloc; "{epoch} {view} {signer} {kind} {first} {second}")
+    let proposals = words_of_two(alloc, first, second)?;
+    format!(in alloc; "{epoch} {view} {signer} {kind} {proposals}")
 }
 
 /// The line of two votes, one of them for a proposal, of a signer in a round.
