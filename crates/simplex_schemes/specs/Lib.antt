@@ -4,6 +4,7 @@ pub mod Skimmed
 pub mod CommitteeLaws
 pub mod Plain
 pub mod PlainLaws
+pub mod Hashers
 pub mod PlainCommittee
 pub mod Marked
 pub mod MarkedLaws

@@ -10,6 +10,7 @@
 
 pub mod certificates;
 mod derived;
+mod hashed;
 pub mod listed;
 pub mod marked;
 pub mod plain;

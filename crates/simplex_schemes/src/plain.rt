@@ -2,16 +2,16 @@
 //! Anyone can make the signature of any participant, so that test vectors can be made and verified, and it binds
 //! nobody.
 
-ghost use Rattle.std.specs.Prelude.{◌≡◌, ◌≢◌, ◌↔◌, ◌+◌, ◌*◌, ℕ, List, Option, Some, None, Ok, IsOk, IsTrue, IfOk, IfErr, IfSome, MatchOption, All, length, nat_eq, slice_get, option_copied, option_map, option_and_then, ◌++◌, ◌<◌, ◌≤◌, ◌^◌, true};
+ghost use Rattle.std.specs.Prelude.{◌≡◌, ◌≢◌, ◌↔◌, ◌+◌, ◌*◌, ℕ, List, Option, Some, None, Ok, IsOk, IsTrue, IfOk, IfErr, IfSome, MatchOption, All, length, nat_eq, slice_get, option_copied, option_map, option_and_then, ◌<◌, ◌≤◌, ◌^◌, true};
 ghost use Rattle.std.proofs.Common.{lit<, lit≤};
 ghost use Rattle.simplex_base.specs.Format.{format_of};
-ghost use Rattle.simplex_base.specs.Varint.{number_64};
 ghost use Rattle.simplex_scheme.specs.Namespace.{names_of};
 ghost use Rattle.simplex_scheme.specs.Subject.{SubjectValue, subject_value};
 ghost use Rattle.simplex_scheme.specs.Committee.{IsInOrder, IsQuorum, is_quorum, quorum_of, signers_of, RefusesFew};
 ghost use Rattle.simplex_schemes.specs.CommitteeLaws.{quorum_meaning, listed_size};
 ghost use Rattle.std.specs.List.{IsDistinct};
 ghost use Rattle.simplex_schemes.specs.Plain.{hashed, plain_good};
+ghost use Rattle.simplex_schemes.specs.Hashers.{HoldsName};
 ghost use Rattle.simplex_schemes.specs.PlainLaws.{good_members};
 ghost use Rattle.simplex_schemes.specs.PlainCommittee.{AreCommitteeKeys, IsPlainCommittee};
 ghost use Rattle.simplex_scheme.specs.Proposal.{proposal_format};
@@ -19,14 +19,14 @@ ghost use Rattle.simplex_base.specs.Positions.{round_format};
 ghost use Rattle.sha2.specs.Sha256.{sha256};
 
 use crate::certificates::{AttestationVerifier, are_certified, assembled, is_certified};
+use crate::hashed::{Hashers, hash_of_proposal, hash_of_round};
 use crate::listed::Listed;
 use simplex_base::codec::fixed_bytes::{FixedBytes, Role};
-use simplex_base::codec::varint::Varint;
 use simplex_base::codec::{Fixed, Read};
-use simplex_base::positions::{Participant, Round, View};
+use simplex_base::positions::{Participant, Round};
 use simplex_scheme::scheme::{
-    AssemblyError, Attestation, CertificateScheme, CertificateVerifier, Digest, Hasher, Listing,
-    Namespace, Proposal, PublicKey, Scheme, SchemeTypes, Set, Sha256, Signature, Subject,
+    AssemblyError, Attestation, CertificateScheme, CertificateVerifier, Digest, Listing, Namespace,
+    Proposal, PublicKey, Scheme, SchemeTypes, Set, Signature, Subject,
 };
 use std::alloc::{AllocError, Global};
 use std::marker::Model;
@@ -57,6 +57,7 @@ pub type PlainSignature = FixedBytes<PlainSignatureRole, 32>;
 #[derive(Drop)]
 pub struct Plain {
     namespace: Namespace,
+    hashers: Hashers,
     participants: Set<PlainKey>,
     me: Option<Participant>,
 }
@@ -65,6 +66,7 @@ impl Model for Plain {
     ghost use Rattle.std.specs.Prelude.{◌<◌, ◌≤◌, ◌^◌, length};
     ghost use Rattle.std.specs.Option.{ForSome};
     ghost use Rattle.simplex_schemes.specs.Plain.{PlainScheme};
+    ghost use Rattle.simplex_schemes.specs.Hashers.{HoldNames};
 
     ghost Value = { PlainScheme };
 
@@ -76,7 +78,8 @@ impl Model for Plain {
 
     ghost invariant = { λ plain. (1 ≤ length plain.participants) ×
         (length plain.participants < 2 ^ 32) ×
-        ForSome plain.me (λ me. me < length plain.participants) };
+        ForSome plain.me (λ me. me < length plain.participants) ×
+        HoldNames plain.hashers plain.namespace };
 }
 
 /// The greatest number of keys of a committee.
@@ -124,8 +127,10 @@ impl Plain {
         ensures { IfOk result (λ plain.
             plain ≡ record { names = names_of namespace.now; keys = participants; me = None }) }
     {
+        let namespace = Namespace::new(alloc, namespace)?;
         Ok(Plain {
-            namespace: Namespace::new(alloc, namespace)?,
+            hashers: Hashers::new(&namespace),
+            namespace,
             participants,
             me: None,
         })
@@ -154,8 +159,10 @@ impl Plain {
         let Some(place) = participants.position(key) else {
             return Ok(None);
         };
+        let namespace = Namespace::new(alloc, namespace)?;
         Ok(Some(Plain {
-            namespace: Namespace::new(alloc, namespace)?,
+            hashers: Hashers::new(&namespace),
+            namespace,
             participants,
             me: Some(Participant::new(place as u32)),
         }))
@@ -168,75 +175,37 @@ impl Plain {
         self.participants.get(signer?.get() as usize)
     }
 
-    /// The signature of a participant over a round, in a namespace.
+    /// The signature of a participant over a round, in the namespace that the hasher holds.
     fn sign_round(
         &self,
-        name: &[u8],
+        hasher: &sha2::Sha256,
         signer: Option<Participant>,
         round: Round,
     ) -> Option<PlainSignature>
-        ensures { result ≡ option_map (λ key.
-            sha256 (hashed name.now key (round_format.encoding round)))
+        ensures { (name : List ℕ) → HoldsName hasher.now name → result ≡ option_map (λ key.
+            sha256 (hashed name key (round_format.encoding round)))
             (option_and_then (slice_get self.now.keys) signer) }
     {
         let key = self.key_of(signer)?;
-        Some(hash_of_round(name, key, round))
+        Some(hash_of_round(hasher, key, round))
     }
 
-    /// The signature of a participant over a proposal, in a namespace.
+    /// The signature of a participant over a proposal, in the namespace that the hasher holds.
     fn sign_proposal<D: Digest>(
         &self,
-        name: &[u8],
+        hasher: &sha2::Sha256,
         signer: Option<Participant>,
         proposal: &Proposal<D>,
     ) -> Option<PlainSignature>
-        ensures { result ≡ option_map (λ key.
-            sha256 (hashed name.now key
+        ensures { (name : List ℕ) → HoldsName hasher.now name → result ≡ option_map (λ key.
+            sha256 (hashed name key
             ((proposal_format (format_of ⟦<D as Read>⟧)).encoding proposal.now)))
             (option_and_then (slice_get self.now.keys) signer) }
     {
         let key = self.key_of(signer)?;
         let payload = proposal.payload.as_bytes();
-        Some(hash_of_proposal(name, key, proposal.round, proposal.parent, payload))
+        Some(hash_of_proposal(hasher, key, proposal.round, proposal.parent, payload))
     }
-}
-
-/// The hash of a namespace, a key and a round.
-fn hash_of_round(name: &[u8], key: &PlainKey, round: Round) -> PlainSignature
-    ensures { result ≡ sha256 (hashed name.now key.now (round_format.encoding round)) }
-{
-    let digest = Sha256::hash(&[
-        Varint::new(name.len() as u64).as_slice(),
-        name,
-        key.as_bytes(),
-        Varint::new(round.epoch().get()).as_slice(),
-        Varint::new(round.view().get()).as_slice(),
-    ]);
-    PlainSignature::from_bytes(digest.as_bytes())
-}
-
-/// The hash of a namespace, a key and a proposal.
-fn hash_of_proposal<'a>(
-    name: &'a [u8],
-    key: &PlainKey,
-    round: Round,
-    parent: View,
-    payload: &'a [u8],
-) -> PlainSignature
-    ensures { result ≡ sha256
-        (hashed name.now key.now (round_format.encoding round ++
-        (number_64.encoding parent ++ payload.now))) }
-{
-    let digest = Sha256::hash(&[
-        Varint::new(name.len() as u64).as_slice(),
-        name,
-        key.as_bytes(),
-        Varint::new(round.epoch().get()).as_slice(),
-        Varint::new(round.view().get()).as_slice(),
-        Varint::new(parent.get()).as_slice(),
-        payload,
-    ]);
-    PlainSignature::from_bytes(digest.as_bytes())
 }
 
 impl SchemeTypes for Plain {
@@ -289,14 +258,14 @@ impl<D: Digest> AttestationVerifier<D> for Plain {
 
     fn accepts(&self, subject: &Subject<'_, D>, attestation: &Attestation<Self>) -> bool {
         let signer = Some(attestation.signer);
-        let names = &self.namespace;
+        let hashers = &self.hashers;
         let signature = match subject {
             Subject::Notarize { proposal } => {
-                self.sign_proposal(names.notarize.as_slice(), signer, proposal)
+                self.sign_proposal(&hashers.notarize, signer, proposal)
             }
-            Subject::Nullify { round } => self.sign_round(names.nullify.as_slice(), signer, *round),
+            Subject::Nullify { round } => self.sign_round(&hashers.nullify, signer, *round),
             Subject::Finalize { proposal } => {
-                self.sign_proposal(names.finalize.as_slice(), signer, proposal)
+                self.sign_proposal(&hashers.finalize, signer, proposal)
             }
         };
         match signature {
@@ -353,14 +322,14 @@ impl<D: Digest> Scheme<D> for Plain {
         // Nothing is allocated.
         ensures ample { IsOk result }
     {
-        let names = &self.namespace;
+        let hashers = &self.hashers;
         let signature = match subject {
             Subject::Notarize { proposal } => {
-                self.sign_proposal(names.notarize.as_slice(), self.me, proposal)
+                self.sign_proposal(&hashers.notarize, self.me, proposal)
             }
-            Subject::Nullify { round } => self.sign_round(names.nullify.as_slice(), self.me, round),
+            Subject::Nullify { round } => self.sign_round(&hashers.nullify, self.me, round),
             Subject::Finalize { proposal } => {
-                self.sign_proposal(names.finalize.as_slice(), self.me, proposal)
+                self.sign_proposal(&hashers.finalize, self.me, proposal)
             }
         };
         match (self.me, signature) {

@@ -2,8 +2,8 @@ use Rattle.std.proofs.Common.{arith, ◌≡◌, ◌<◌, length}
 use Rattle.simplex_schemes.proofs.PlainLemmas.{key_at, not_outside}
 use Rattle.simplex_schemes.proofs.plain.Plain.signer.Goals as goal
 
-pub returns-in_err-new-clause-outside : goal.returns-in_err-new-clause-outside
-returns-in_err-new-clause-outside c none = absurd (not_outside _ _ _ c.in-Some.ensures.found none)
+pub returns-in_err-namespace-clause-outside : goal.returns-in_err-namespace-clause-outside
+returns-in_err-namespace-clause-outside c none = absurd (not_outside _ _ _ c.in-Some.ensures.found none)
 
 pub overflow_cast-place : goal.overflow_cast-place
 overflow_cast-place c =
@@ -18,7 +18,8 @@ invariant_of-result c = (
   c.requires.few,
   λ me is. let at : c.in-Some.place < length c.args.participants =
       (key_at c.args.participants c.in-Some.place c.args.key.now c.in-Some.ensures.found).0 in
-      let same : c.new-2.result ≡ me = cc in omega (arith, c.new-2.ensures),
+      let same : c.new-3.result ≡ me = cc in omega (arith, c.new-3.ensures),
+  c.new-2.ensures,
 )
 
 pub returns-clause-outside : goal.returns-clause-outside
