@@ -1,19 +1,21 @@
 -- What an auditor stands for from piece to piece.
-use Rattle.std.proofs.Common.{◌≡◌, ℕ, ◌+◌, ◌<◌, List, [], ◌++◌, length, drop, Bor, Option, refl, sym, ap, subst, ◌∙◌, arith, length-append}
+use Rattle.std.proofs.Common.{Bool, ◌≡◌, ℕ, ◌+◌, ◌<◌, List, [], ◌++◌, length, drop, Bor, Option, refl, sym, ap, subst, ◌∙◌, arith, length-append}
 use Rattle.std.specs.Prelude.{All}
 use Rattle.std.proofs.lemmas.List.Elements.{All-nil}
 use Rattle.std.proofs.Math.Seq.{drop-append_seam}
 use Rattle.simplex_base.specs.Format.{Format}
 use Rattle.simplex_base.specs.LeastSize.{NoneShorter}
+use Rattle.simplex_base.specs.Positions.{Round}
 use Rattle.simplex_base.specs.declared.codec.error.Error.{Error}
 use Rattle.simplex_evidence.specs.declared.types.activity.Activity.{Activity}
 use Rattle.simplex_scheme.specs.Committees.{Schedule}
-use Rattle.simplex_detector.specs.Rules.{Rules, HaveCommittees}
+use Rattle.simplex_detector.specs.Independence.{in_rounds, is_from}
+use Rattle.simplex_detector.specs.Rules.{AreLawful, Rules, HaveCommittees}
 use Rattle.simplex_detector.specs.Detector.{Recalls, RecallsMore}
 use Rattle.simplex_detector.specs.declared.detector.Detector.{Detector}
 use Rattle.simplex_detector.specs.declared.judging.Judging.{Judging}
-use Rattle.simplex_audit.specs.Auditor.{IsFed, Stands}
-use Rattle.simplex_audit.specs.Basis.{Basis}
+use Rattle.simplex_audit.specs.Auditor.{IsFed, StandsFrom}
+use Rattle.simplex_audit.specs.Basis.{Basis, basis_from}
 use Rattle.simplex_stream.specs.Messages.{IsStuck, IsStop}
 use Rattle.simplex_stream.specs.Progress.{IsProgress, IsDecoded}
 use Rattle.simplex_stream.specs.Tail.{bytes_held, Awaits}
@@ -91,19 +93,22 @@ fed_more {S} basis old next piece same bound fed committees stream h = record {
 
 -- an auditor whose tail a piece completes no message of stands for the stream with the piece appended
 pub stands_still : {S D C P G : Type 0} (basis : Schedule S → Basis S D C P G) (old next : Auditor S D P G) (piece : List ℕ) →
-    next.committees ≡ old.committees → next.bound ≡ old.bound → next.detector ≡ old.detector →
+    next.committees ≡ old.committees → next.bound ≡ old.bound → next.floor ≡ old.floor → next.detector ≡ old.detector →
     next.taken.fed ≡ old.taken.fed + length piece → next.taken.read ≡ old.taken.read →
     bytes_held next.taken.tail ≡ bytes_held old.taken.tail ++ piece → next.taken.tail.due ≡ old.taken.tail.due →
     length (bytes_held old.taken.tail) + length piece < old.taken.tail.due →
-    (committees : Schedule S) (stream : List ℕ) → Stands basis committees old stream →
-    Stands basis committees next (stream ++ piece)
-stands_still {S} {D} {C} {P} {G} basis old next piece same bound detector fed read rest due few committees stream h =
+    (floor : Round) (committees : Schedule S) (stream : List ℕ) → StandsFrom floor basis committees old stream →
+    StandsFrom floor basis committees next (stream ++ piece)
+stands_still {S} {D} {C} {P} {G} basis old next piece same bound same_floor detector fed read rest due few floor committees
+    stream h =
     let format = (basis committees).format in
-    let recorded : Detector S D P G → List (Activity S D C P G) → Type 0 = λ s ms. Recalls (basis committees).rules ms s in
+    let recorded : Detector S D P G → List (Activity S D C P G) → Type 0 =
+    λ s ms. Recalls (basis_from floor (basis committees)).rules ms s in
     let tail = bytes_held old.taken.tail in
     let all = decoded_still format (recorded old.detector) stream tail piece old.taken.read old.taken.tail.due h.decoded
     h.awaits few in
     record {
+      floor_is = same_floor ∙ h.floor_is;
       fed = fed_more basis old next piece same bound fed committees stream h.fed;
       decoded = subst (λ (s : Detector S D P G). IsDecoded format (recorded s) (stream ++ piece)
           (bytes_held next.taken.tail) next.taken.read) (sym detector)
@@ -118,26 +123,32 @@ stands_still {S} {D} {C} {P} {G} basis old next piece same bound detector fed re
 -- an auditor that reads its tail with a piece appended stands for the stream with the piece appended
 pub stands_after : {S D C P G : Type 0} (basis : Schedule S → Basis S D C P G) (old next : Auditor S D P G)
     (piece bytes left : List ℕ) (more : ℕ) (stop : Option Error) →
-    next.committees ≡ old.committees → next.bound ≡ old.bound → next.taken.fed ≡ old.taken.fed + length piece →
-    next.taken.read ≡ old.taken.read + more → bytes_held next.taken.tail ≡ left →
+    next.committees ≡ old.committees → next.bound ≡ old.bound → next.floor ≡ old.floor →
+    next.taken.fed ≡ old.taken.fed + length piece → next.taken.read ≡ old.taken.read + more →
+    bytes_held next.taken.tail ≡ left →
     bytes ≡ bytes_held old.taken.tail ++ piece →
     (old.bound ≡ (basis old.committees.now).bound → IsProgress (basis old.committees.now).format
-    (λ ms. RecallsMore (basis old.committees.now).rules ms old.detector next.detector) bytes left more stop) →
+    (λ ms. RecallsMore (basis_from old.floor (basis old.committees.now)).rules ms old.detector next.detector)
+    bytes left more stop) →
     (old.bound ≡ (basis old.committees.now).bound → Awaits (basis old.committees.now).format next.taken.tail) →
-    (committees : Schedule S) (stream : List ℕ) → Stands basis committees old stream →
-    Stands basis committees next (stream ++ piece)
-stands_after {S} {D} {C} {P} {G} basis old next piece bytes left more stop same bound fed read rest parts after awaits
-    committees stream h =
+    (floor : Round) (committees : Schedule S) (stream : List ℕ) → StandsFrom floor basis committees old stream →
+    StandsFrom floor basis committees next (stream ++ piece)
+stands_after {S} {D} {C} {P} {G} basis old next piece bytes left more stop same bound same_floor fed read rest parts after
+    awaits floor committees stream h =
     let tail = bytes_held old.taken.tail in
-    let after_of : Schedule S → List ℕ → Type 0 = λ s xs. old.bound ≡ (basis s).bound →
-    IsProgress (basis s).format (λ ms. RecallsMore (basis s).rules ms old.detector next.detector) xs left more stop in
+    let after_of : Round → Schedule S → List ℕ → Type 0 = λ f s xs. old.bound ≡ (basis s).bound →
+    IsProgress (basis s).format (λ ms. RecallsMore (basis_from f (basis s)).rules ms old.detector next.detector)
+    xs left more stop in
     let awaits_of : Schedule S → Type 0 = λ s. old.bound ≡ (basis s).bound → Awaits (basis s).format next.taken.tail in
-    let further = subst (λ (s : Schedule S). after_of s (tail ++ piece)) h.fed.committees_are
-    (subst (λ (xs : List ℕ). after_of old.committees.now xs) parts after) h.fed.bound_is in
-    let all = decode_more (basis committees).format (basis committees).rules stream piece tail left
+    let further = subst (λ (f : Round). after_of f committees (tail ++ piece)) h.floor_is
+    (subst (λ (s : Schedule S). after_of old.floor s (tail ++ piece)) h.fed.committees_are
+    (subst (λ (xs : List ℕ). after_of old.floor old.committees.now xs) parts after)) h.fed.bound_is in
+    let rules = (basis_from floor (basis committees)).rules in
+    let all = decode_more (basis committees).format rules stream piece tail left
     old.taken.read more stop old.detector next.detector h.decoded further in
-    let recorded : List (Activity S D C P G) → Type 0 = λ ms. Recalls (basis committees).rules ms next.detector in
+    let recorded : List (Activity S D C P G) → Type 0 = λ ms. Recalls rules ms next.detector in
     record {
+      floor_is = same_floor ∙ h.floor_is;
       fed = fed_more basis old next piece same bound fed committees stream h.fed;
       decoded = subst (λ (n : ℕ). IsDecoded (basis committees).format recorded (stream ++ piece) (bytes_held next.taken.tail) n)
           (sym read) (subst (λ (xs : List ℕ). IsDecoded (basis committees).format recorded (stream ++ piece) xs
@@ -151,6 +162,22 @@ front_dropped all front left n whole len =
     let same : n ≡ length front = let e = ap length whole in omega (arith, length-append front left) in
     ap (λ (xs : List ℕ). drop n xs) whole ∙ (ap (λ (k : ℕ). drop k (front ++ left)) same ∙ drop-append_seam front left)
 
+-- what the state makes is the report of each stream whose messages these are
+abbrev pub MakesReport : {S D C P G : Type 0} → Basis S D C P G → Detector S D P G → ℕ → ℕ → Option Error →
+    Report S D P G → Type 0
+MakesReport basis detector place read stop report =
+    (stream rest : List ℕ) → HaveCommittees basis.rules → place + length rest ≡ length stream →
+    IsProgress basis.format (λ ms. Recalls basis.rules ms detector) stream rest read stop → IsReport basis stream report
+
+-- what it makes under some rules it makes under rules that are the same
+pub makes_same : {S D C P G : Type 0} (bound : ℕ) (format : Format (Activity S D C P G)) (rules judged : Rules S D C P G)
+    (detector : Detector S D P G) (place read : ℕ) (stop : Option Error) (report : Report S D P G) → rules ≡ judged →
+    MakesReport (record { bound = bound; format = format; rules = rules }) detector place read stop report →
+    MakesReport (record { bound = bound; format = format; rules = judged }) detector place read stop report
+makes_same bound format rules judged detector place read stop report same makes =
+    subst (λ r. MakesReport (record { bound = bound; format = format; rules = r }) detector place read stop report)
+    same makes
+
 -- the report of the state is the report of each stream that the auditor stands for
 pub stands_reported : {S D C P G : Type 0} (basis : Schedule S → Basis S D C P G) (auditor : Auditor S D P G) (place : ℕ)
     (stop : Option Error) (report : Report S D P G) →
@@ -158,21 +185,21 @@ pub stands_reported : {S D C P G : Type 0} (basis : Schedule S → Basis S D C P
     (auditor.bound ≡ (basis auditor.committees.now).bound →
     IsStuck (basis auditor.committees.now).format (bytes_held auditor.taken.tail) →
     IsStop (basis auditor.committees.now).format.reading (bytes_held auditor.taken.tail) stop) →
-    ((stream rest : List ℕ) → HaveCommittees (basis auditor.committees.now).rules → place + length rest ≡ length stream →
-    IsProgress (basis auditor.committees.now).format (λ ms. Recalls (basis auditor.committees.now).rules ms auditor.detector)
-    stream rest auditor.taken.read stop → IsReport (basis auditor.committees.now) stream report) →
-    (committees : Schedule S) (stream : List ℕ) → Stands basis committees auditor stream →
-    IsReport (basis committees) stream report
-stands_reported {S} basis auditor place stop report at why is committees stream h =
+    MakesReport (basis_from auditor.floor (basis auditor.committees.now)) auditor.detector place auditor.taken.read stop
+    report →
+    (floor : Round) (committees : Schedule S) (stream : List ℕ) → StandsFrom floor basis committees auditor stream →
+    AreLawful (basis_from floor (basis committees)).rules → IsReport (basis_from floor (basis committees)) stream report
+stands_reported {S} basis auditor place stop report at why is floor committees stream h lawful =
     let tail = bytes_held auditor.taken.tail in
-    let reported : Schedule S → Type 0 = λ s.
-    HaveCommittees (basis s).rules → IsProgress (basis s).format (λ ms. Recalls (basis s).rules ms auditor.detector) stream
-    tail auditor.taken.read stop → IsReport (basis s) stream report in
+    let reported : Round → Schedule S → Type 0 = λ f s. let judged = basis_from f (basis s) in
+    HaveCommittees judged.rules → IsProgress judged.format (λ ms. Recalls judged.rules ms auditor.detector) stream
+    tail auditor.taken.read stop → IsReport judged stream report in
     let stopped : Schedule S → Type 0 = λ s. auditor.bound ≡ (basis s).bound → IsStuck (basis s).format tail →
     IsStop (basis s).format.reading tail stop in
-    let here : reported auditor.committees.now = λ some read. is stream tail some (at ∙ h.fed.fed_is) read in
-    subst reported h.fed.committees_are here
-    (record { members = h.fed.lawful.members; someone = h.fed.lawful.someone })
+    let here : reported auditor.floor auditor.committees.now =
+    λ some read. is stream tail some (at ∙ h.fed.fed_is) read in
+    subst (λ (f : Round). reported f committees) h.floor_is (subst (reported auditor.floor) h.fed.committees_are here)
+    (record { members = lawful.members; someone = lawful.someone })
     (record {
       messages = h.decoded.messages;
       are_messages = h.decoded.are_messages;
@@ -185,13 +212,16 @@ stands_reported {S} basis auditor place stop report at why is committees stream 
 pub stands_audited : {S D C P G : Type 0} (basis : Schedule S → Basis S D C P G) (auditor : Auditor S D P G)
     (report : Report S D P G) →
     ((committees : Schedule S) → IsNeverEmpty (basis committees).format) →
-    ((committees : Schedule S) → MessageLaws (basis committees).rules) →
-    ((committees : Schedule S) (stream : List ℕ) → Stands basis committees auditor stream →
-    IsReport (basis committees) stream report) →
+    ((floor : Round) (committees : Schedule S) → MessageLaws (basis_from floor (basis committees)).rules) →
+    ((rules : Rules S D C P G) (part : Round → Bool) → AreLawful rules → AreLawful (in_rounds part rules)) →
+    ((floor : Round) (committees : Schedule S) (stream : List ℕ) → StandsFrom floor basis committees auditor stream →
+    AreLawful (basis_from floor (basis committees)).rules → IsReport (basis_from floor (basis committees)) stream report) →
     All (basis auditor.committees.now).format.is_value (as_messages report) →
-    (committees : Schedule S) (stream : List ℕ) → Stands basis committees auditor stream →
-    IsAudit (basis committees) stream report
-stands_audited {S} basis auditor report some laws is each committees stream h =
-    audited (basis committees) h.fed.readable (some committees) h.fed.lawful (laws committees) stream report
-    (is committees stream h)
+    (floor : Round) (committees : Schedule S) (stream : List ℕ) → StandsFrom floor basis committees auditor stream →
+    IsAudit (basis_from floor (basis committees)) stream report
+stands_audited {S} basis auditor report some laws parts is each floor committees stream h =
+    let judged = basis_from floor (basis committees) in
+    let lawful = parts (basis committees).rules (is_from floor) h.fed.lawful in
+    audited judged h.fed.readable (some committees) lawful (laws floor committees) stream report
+    (is floor committees stream h lawful)
     (subst (λ (s : Schedule S). All (basis s).format.is_value (as_messages report)) h.fed.committees_are each)

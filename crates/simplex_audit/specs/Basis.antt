@@ -1,9 +1,11 @@
 -- The basis of an audit.
 use Rattle.std.specs.Prelude.{ℕ}
 use Rattle.simplex_base.specs.Format.{Format, Readable, format_under}
+use Rattle.simplex_base.specs.Positions.{Round}
 use Rattle.simplex_evidence.specs.declared.types.activity.Activity.{Activity}
 use Rattle.simplex_scheme.specs.Committees.{Schedule, bound_of}
 use Rattle.simplex_detector.specs.Scheme.{rules_of, Scheme}
+use Rattle.simplex_detector.specs.Independence.{in_rounds, is_from}
 use Rattle.simplex_detector.specs.Rules.{Rules}
 
 -- How messages are read, and the rules by which they are judged. S, P and G are the types of the scheme, its keys and its
@@ -23,3 +25,8 @@ basis_of message scheme committees = record {
   format = format_under message (bound_of scheme.keys committees);
   rules = rules_of scheme committees;
 }
+
+-- the same basis, except that no vote and no certificate of a round below a floor is valid
+abbrev pub basis_from : {S D C P G : Type 0} → Round → Basis S D C P G → Basis S D C P G
+basis_from floor basis =
+    record { bound = basis.bound; format = basis.format; rules = in_rounds (is_from floor) basis.rules }

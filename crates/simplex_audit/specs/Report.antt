@@ -1,9 +1,11 @@
 -- What an audit of a stream returns.
 use Rattle.std.specs.Prelude.{◌≡◌, ℕ, List, map, length}
 use Rattle.std.specs.List.{flat_map}
+use Rattle.simplex_base.specs.Positions.{Round}
 use Rattle.simplex_evidence.specs.Contradiction.{Equivocation}
 use Rattle.simplex_evidence.specs.declared.types.activity.Activity.{Activity}
 use Rattle.simplex_detector.specs.Evidence.{IsEvidence}
+use Rattle.simplex_detector.specs.Independence.{evidence_within, is_from, splits_within}
 use Rattle.simplex_detector.specs.Rules.{valid_votes}
 use Rattle.simplex_detector.specs.Splits.{AreSplits}
 use Rattle.simplex_detector.specs.Values.{activity_of, evidence_value}
@@ -30,3 +32,9 @@ pub record IsReport {S D C P G : Type 0} (basis : Basis S D C P G) (stream : Lis
   pub fault_is : IsFault basis.format.reading (length (flat_map basis.format.encoding messages)) rest report.fault
   pub evidence_is : IsEvidence basis.rules.eq (valid_votes basis.rules messages) (evidence_in report)
   pub splits_are : AreSplits basis.rules messages report.splits.items
+
+-- a report is another of the same messages, less what is below a floor
+pub record IsPartFrom {S D P G : Type 0} (floor : Round) (whole report : Report S D P G) : Type 0 where
+  pub read : report.read ≡ whole.read
+  pub evidence : evidence_in report ≡ evidence_within (is_from floor) (evidence_in whole)
+  pub splits : report.splits.items ≡ splits_within (is_from floor) whole.splits.items

@@ -1,22 +1,31 @@
 //! The audit of a stream that comes in pieces.
 
 ghost use Rattle.std.specs.Prelude.{◌≡◌, ◌+◌, ◌<◌, ◌≤◌, ◌^◌, ◌-◌, min, ℕ, List, [], ◌++◌, length, IfOk};
+ghost use Rattle.simplex_base.specs.Positions as positions;
+ghost use Rattle.simplex_audit.specs.Basis.{basis_from};
 ghost use Rattle.simplex_audit.specs.Guarantees.{EvidenceIsDetermined, HasOneReading, IsAudit};
+ghost use Rattle.simplex_audit.specs.Report.{IsReport, IsPartFrom};
+ghost use Rattle.simplex_audit.specs.declared.audit.Report as reports;
 ghost use Rattle.simplex_stream.specs.Messages.{AreMessages};
 ghost use Rattle.simplex_stream.specs.Tail.{bytes_held};
 ghost use Rattle.simplex_evidence.specs.declared.types.activity.Activity.{Activity};
+ghost use Rattle.std.specs.Ordering.{ord_max};
+ghost use Rattle.simplex_detector.specs.Accusation.{round_cmp};
 ghost use Rattle.simplex_scheme.specs.Committees.{Schedule};
+ghost use Rattle.simplex_detector.specs.Independence.{first_round};
 ghost use Rattle.simplex_detector.specs.Recorded.{RecordedAreSlots, FewAreRecorded, votes_recorded};
 ghost use Rattle.simplex_detector.specs.Rules.{valid_votes};
 
 use crate::audit::Report;
 use crate::basis::Audited;
 use crate::laws::message_laws;
-use crate::reading::{read_messages, reading_bound};
+use crate::reading::{read_from, reading_bound};
 use crate::reporting::make_report;
+use simplex_base::positions::{Epoch, Round, View};
 use simplex_detector::detector::Detector;
-use simplex_detector::judging::Judging;
-use simplex_detector::laws::{few_votes_are_recorded, recorded_votes_have_room};
+use simplex_detector::laws::{
+    few_votes_are_recorded, floors_rise, recorded_votes_have_room, rounds_are_independent,
+};
 use simplex_evidence::types::Activity;
 use simplex_scheme::committees::Committees;
 use simplex_scheme::scheme::{Digest, Listing, SchemeTypes};
@@ -26,11 +35,13 @@ use std::alloc::{AllocError, Global};
 
 /// Audits a stream that comes in pieces. It holds the bytes after the last whole message, at most five votes of each signer in
 /// a round, those that evidence can consist of, and for each round the first certified subject of each kind until two
-/// contradict. It does not hold the stream.
+/// contradict, each of the rounds from its floor on. It does not hold the stream.
 #[derive(Drop)]
 pub struct Auditor<'a, S: SchemeTypes, D: Digest> {
     committees: &'a Committees<S>,
     bound: u32,
+    /// The first round that is judged.
+    floor: Round,
     detector: Detector<S, D>,
     taken: Taken,
 }
@@ -48,16 +59,18 @@ struct Taken {
 }
 
 impl<'a, S: Listing<D>, D: Digest> Auditor<'a, S, D> {
-    ghost use Rattle.simplex_audit.specs.Auditor.{Stands, fed_of};
+    ghost use Rattle.simplex_audit.specs.Auditor.{Stands, StandsFrom, fed_of, floor_of};
 
     /// An auditor of these committees that was fed nothing.
     pub fn new(alloc: Global, committees: &'a Committees<S>) -> Self
         ensures fed { fed_of result ≡ 0 }
         ensures stands { Stands ⟦<S as Audited<D>>⟧.basis committees.now result [] }
     {
+        floors_rise::<S, D>();
         Auditor {
             committees,
             bound: reading_bound::<S, D>(committees),
+            floor: lowest_round(),
             detector: Detector::new(alloc),
             taken: Taken {
                 tail: Tail::new(alloc),
@@ -77,9 +90,10 @@ impl<'a, S: Listing<D>, D: Digest> Auditor<'a, S, D> {
     pub fn feed(self, piece: &[u8]) -> Result<Self, AllocError>
         requires { fed_of self + length piece.now < 2 ^ 64 }
         ensures fed { IfOk result (λ next. fed_of next ≡ fed_of self.entry + length piece.now) }
-        ensures stands { IfOk result (λ next. (committees : Schedule S) (stream : List ℕ) →
-            Stands ⟦<S as Audited<D>>⟧.basis committees self.entry stream →
-            Stands ⟦<S as Audited<D>>⟧.basis committees next (stream ++ piece.now)) }
+        ensures stands { IfOk result (λ next.
+            (floor : positions.Round) (committees : Schedule S) (stream : List ℕ) →
+            StandsFrom floor ⟦<S as Audited<D>>⟧.basis committees self.entry stream →
+            StandsFrom floor ⟦<S as Audited<D>>⟧.basis committees next (stream ++ piece.now)) }
     {
         if self.taken.tail.bytes().is_empty() {
             return self.read_piece(piece);
@@ -95,13 +109,15 @@ impl<'a, S: Listing<D>, D: Digest> Auditor<'a, S, D> {
         requires empty { bytes_held self.taken.tail ≡ [] }
         requires fits { fed_of self + length piece.now < 2 ^ 64 }
         ensures fed { IfOk result (λ next. fed_of next ≡ fed_of self.entry + length piece.now) }
-        ensures stands { IfOk result (λ next. (committees : Schedule S) (stream : List ℕ) →
-            Stands ⟦<S as Audited<D>>⟧.basis committees self.entry stream →
-            Stands ⟦<S as Audited<D>>⟧.basis committees next (stream ++ piece.now)) }
+        ensures stands { IfOk result (λ next.
+            (floor : positions.Round) (committees : Schedule S) (stream : List ℕ) →
+            StandsFrom floor ⟦<S as Audited<D>>⟧.basis committees self.entry stream →
+            StandsFrom floor ⟦<S as Audited<D>>⟧.basis committees next (stream ++ piece.now)) }
     {
         let Auditor {
             committees,
             bound,
+            floor,
             detector,
             taken,
         } = self;
@@ -111,15 +127,13 @@ impl<'a, S: Listing<D>, D: Digest> Auditor<'a, S, D> {
             read,
         } = taken;
         let alloc = tail.allocator();
-        let judging = Judging::Verified;
-        let (detector, progress) = read_messages(
-            alloc, committees, judging, bound, piece, detector,
-        )?;
+        let (detector, progress) = read_from(alloc, committees, floor, bound, piece, detector)?;
         tail.push(progress.rest)?;
         tail.advance::<Activity<S, D>>(0, &bound);
         Ok(Auditor {
             committees,
             bound,
+            floor,
             detector,
             taken: Taken {
                 tail,
@@ -133,13 +147,15 @@ impl<'a, S: Listing<D>, D: Digest> Auditor<'a, S, D> {
     fn read_tail(self, piece: &[u8]) -> Result<Self, AllocError>
         requires { fed_of self + length piece.now < 2 ^ 64 }
         ensures fed { IfOk result (λ next. fed_of next ≡ fed_of self.entry + length piece.now) }
-        ensures stands { IfOk result (λ next. (committees : Schedule S) (stream : List ℕ) →
-            Stands ⟦<S as Audited<D>>⟧.basis committees self.entry stream →
-            Stands ⟦<S as Audited<D>>⟧.basis committees next (stream ++ piece.now)) }
+        ensures stands { IfOk result (λ next.
+            (floor : positions.Round) (committees : Schedule S) (stream : List ℕ) →
+            StandsFrom floor ⟦<S as Audited<D>>⟧.basis committees self.entry stream →
+            StandsFrom floor ⟦<S as Audited<D>>⟧.basis committees next (stream ++ piece.now)) }
     {
         let Auditor {
             committees,
             bound,
+            floor,
             detector,
             taken,
         } = self;
@@ -151,19 +167,13 @@ impl<'a, S: Listing<D>, D: Digest> Auditor<'a, S, D> {
         let alloc = tail.allocator();
         tail.push(piece)?;
         let bytes = tail.bytes();
-        let (detector, progress) = read_messages(
-            alloc,
-            committees,
-            Judging::Verified,
-            bound,
-            bytes,
-            detector,
-        )?;
+        let (detector, progress) = read_from(alloc, committees, floor, bound, bytes, detector)?;
         let (more, count) = (progress.read, bytes.len() - progress.rest.len());
         tail.advance::<Activity<S, D>>(count, &bound);
         Ok(Auditor {
             committees,
             bound,
+            floor,
             detector,
             taken: Taken {
                 tail,
@@ -178,13 +188,15 @@ impl<'a, S: Listing<D>, D: Digest> Auditor<'a, S, D> {
         requires fits { fed_of self + length piece.now < 2 ^ 64 }
         requires few { length (bytes_held self.taken.tail) + length piece.now < self.taken.tail.due }
         ensures fed { IfOk result (λ next. fed_of next ≡ fed_of self.entry + length piece.now) }
-        ensures stands { IfOk result (λ next. (committees : Schedule S) (stream : List ℕ) →
-            Stands ⟦<S as Audited<D>>⟧.basis committees self.entry stream →
-            Stands ⟦<S as Audited<D>>⟧.basis committees next (stream ++ piece.now)) }
+        ensures stands { IfOk result (λ next.
+            (floor : positions.Round) (committees : Schedule S) (stream : List ℕ) →
+            StandsFrom floor ⟦<S as Audited<D>>⟧.basis committees self.entry stream →
+            StandsFrom floor ⟦<S as Audited<D>>⟧.basis committees next (stream ++ piece.now)) }
     {
         let Auditor {
             committees,
             bound,
+            floor,
             detector,
             taken,
         } = self;
@@ -197,6 +209,7 @@ impl<'a, S: Listing<D>, D: Digest> Auditor<'a, S, D> {
         Ok(Auditor {
             committees,
             bound,
+            floor,
             detector,
             taken: Taken {
                 tail,
@@ -206,15 +219,55 @@ impl<'a, S: Listing<D>, D: Digest> Auditor<'a, S, D> {
         })
     }
 
-    /// The report of the stream so far. `AllocError` is returned only after an allocation failed.
+    /// Gives up all rounds below a floor: what was recorded of them is dropped, and from now on their messages are read, and
+    /// neither verified nor recorded. So what is reported depends on the stream and the floor, and not on when this is called;
+    /// take a report before, since no later one has what is below the floor. The floor never falls: below the present one
+    /// nothing changes. Nothing is allocated.
+    pub fn prune(&mut self, floor: Round)
+        ensures fed { fed_of self.new ≡ fed_of self.old }
+        ensures floor { floor_of self.new ≡ ord_max round_cmp (floor_of self.old) floor }
+        ensures stands { (low : positions.Round) (committees : Schedule S) (stream : List ℕ) →
+            StandsFrom low ⟦<S as Audited<D>>⟧.basis committees self.old stream →
+            StandsFrom (ord_max round_cmp low floor) ⟦<S as Audited<D>>⟧.basis committees self.new
+            stream }
+    {
+        floors_rise::<S, D>();
+        self.floor = self.floor.max(floor);
+        self.detector.prune(floor);
+    }
+
+    /// The first round that is judged: that of epoch 0 and view 0, or the highest floor that `prune` was given.
+    pub fn floor(&self) -> Round
+        ensures floor { result ≡ floor_of self.now }
+        ensures stands { (floor : positions.Round) (committees : Schedule S) (stream : List ℕ) →
+            StandsFrom floor ⟦<S as Audited<D>>⟧.basis committees self.now stream → result ≡ floor }
+    {
+        self.floor
+    }
+
+    /// The report of the stream so far, from the floor on. `AllocError` is returned only after an allocation failed.
     pub fn report(&self) -> Result<Report<S, D>, AllocError>
-        // All that `audit` states of a stream and of its report holds of each stream that the auditor stands for.
+        // All that `audit` states of a stream and of its report holds of each stream that the auditor stands for from its
+        // floor on, where nothing of a round below the floor is valid.
+        ensures from_floor { IfOk result (λ report.
+            (floor : positions.Round) (committees : Schedule S) (stream : List ℕ) →
+            StandsFrom floor ⟦<S as Audited<D>>⟧.basis committees self.now stream →
+            IsAudit (basis_from floor (⟦<S as Audited<D>>⟧.basis committees)) stream report) }
+        // It is the report of the whole stream, less what is below the floor.
+        ensures part { IfOk result (λ report.
+            (floor : positions.Round) (committees : Schedule S) (stream : List ℕ) →
+            StandsFrom floor ⟦<S as Audited<D>>⟧.basis committees self.now stream →
+            (whole : reports.Report S D S.PublicKey S.Signature) →
+            IsReport (⟦<S as Audited<D>>⟧.basis committees) stream whole →
+            IsPartFrom floor whole report) }
+        // If no round was given up, it is the audit of the whole stream.
         ensures audit { IfOk result (λ report. (committees : Schedule S) (stream : List ℕ) →
             Stands ⟦<S as Audited<D>>⟧.basis committees self.now stream →
             IsAudit (⟦<S as Audited<D>>⟧.basis committees) stream report) }
         // Each stream has exactly one list of messages.
-        ensures single { (committees : Schedule S) (stream other : List ℕ) →
-            Stands ⟦<S as Audited<D>>⟧.basis committees self.now stream →
+        ensures single { (floor : positions.Round) (committees : Schedule S)
+            (stream other : List ℕ) →
+            StandsFrom floor ⟦<S as Audited<D>>⟧.basis committees self.now stream →
             HasOneReading (⟦<S as Audited<D>>⟧.basis committees) other }
         // Evidence of any messages, not of the stream's alone, accuses exactly those whom they
         // accuse, and is the only one.
@@ -222,6 +275,21 @@ impl<'a, S: Listing<D>, D: Digest> Auditor<'a, S, D> {
             EvidenceIsDetermined (⟦<S as Audited<D>>⟧.basis committees) }
     {
         message_laws::<S, D>();
+        rounds_are_independent::<S, D>();
+        floors_rise::<S, D>();
+        self.report_from()
+    }
+
+    /// The report of what is from the floor on.
+    fn report_from(&self) -> Result<Report<S, D>, AllocError>
+        ensures { IfOk result (λ report.
+            (floor : positions.Round) (committees : Schedule S) (stream : List ℕ) →
+            StandsFrom floor ⟦<S as Audited<D>>⟧.basis committees self.now stream →
+            IsAudit (basis_from floor (⟦<S as Audited<D>>⟧.basis committees)) stream report) }
+    {
+        message_laws::<S, D>();
+        rounds_are_independent::<S, D>();
+        floors_rise::<S, D>();
         let alloc = self.taken.tail.allocator();
         let rest = self.taken.tail.bytes();
         let place = self.taken.fed - rest.len();
@@ -239,17 +307,18 @@ impl<'a, S: Listing<D>, D: Digest> Auditor<'a, S, D> {
     /// How many bytes it was fed.
     pub fn fed(&self) -> usize
         ensures fed { result ≡ fed_of self.now }
-        ensures stream { (committees : Schedule S) (stream : List ℕ) →
-            Stands ⟦<S as Audited<D>>⟧.basis committees self.now stream → result ≡ length stream }
+        ensures stream { (floor : positions.Round) (committees : Schedule S) (stream : List ℕ) →
+            StandsFrom floor ⟦<S as Audited<D>>⟧.basis committees self.now stream →
+            result ≡ length stream }
     {
         self.taken.fed
     }
 
     /// The bytes after the last whole message.
     pub fn rest(&self) -> &[u8]
-        ensures { (committees : Schedule S) (stream : List ℕ)
+        ensures { (floor : positions.Round) (committees : Schedule S) (stream : List ℕ)
             (messages : List (Activity S D S.Certificate S.PublicKey S.Signature)) (rest : List ℕ) →
-            Stands ⟦<S as Audited<D>>⟧.basis committees self.now stream →
+            StandsFrom floor ⟦<S as Audited<D>>⟧.basis committees self.now stream →
             AreMessages (⟦<S as Audited<D>>⟧.basis committees).format stream messages rest →
             result.now ≡ rest }
     {
@@ -260,13 +329,29 @@ impl<'a, S: Listing<D>, D: Digest> Auditor<'a, S, D> {
     /// notarizes and finalizes also the earliest with another proposal, so at most five. The number stops at 2^64 - 1, which it
     /// can reach only where certificates list more attestations than they have bytes.
     pub fn votes(&self) -> usize
+        // They are the votes from the floor on.
+        ensures number_from { (floor : positions.Round) (committees : Schedule S) (stream : List ℕ)
+            (messages : List (Activity S D S.Certificate S.PublicKey S.Signature)) (rest : List ℕ) →
+            StandsFrom floor ⟦<S as Audited<D>>⟧.basis committees self.now stream →
+            AreMessages (⟦<S as Audited<D>>⟧.basis committees).format stream messages rest →
+            result ≡ min (votes_recorded D.eq (valid_votes (basis_from floor
+            (⟦<S as Audited<D>>⟧.basis committees)).rules messages)) (2 ^ 64 - 1) }
+        // The number is exact where no certificate lists more attestations than its encoding has bytes.
+        ensures exact_from { ((certificate : S.Certificate) →
+            length (S.listed certificate) ≤ length (S.Certificate.encoding certificate)) →
+            (floor : positions.Round) (committees : Schedule S) (stream : List ℕ)
+            (messages : List (Activity S D S.Certificate S.PublicKey S.Signature)) (rest : List ℕ) →
+            StandsFrom floor ⟦<S as Audited<D>>⟧.basis committees self.now stream →
+            AreMessages (⟦<S as Audited<D>>⟧.basis committees).format stream messages rest →
+            result ≡ votes_recorded D.eq (valid_votes (basis_from floor
+            (⟦<S as Audited<D>>⟧.basis committees)).rules messages) }
+        // If no round was given up, they are the votes of the whole stream.
         ensures number { (committees : Schedule S) (stream : List ℕ)
             (messages : List (Activity S D S.Certificate S.PublicKey S.Signature)) (rest : List ℕ) →
             Stands ⟦<S as Audited<D>>⟧.basis committees self.now stream →
             AreMessages (⟦<S as Audited<D>>⟧.basis committees).format stream messages rest →
             result ≡ min (votes_recorded D.eq
             (valid_votes (⟦<S as Audited<D>>⟧.basis committees).rules messages)) (2 ^ 64 - 1) }
-        // It is exact where no certificate lists more attestations than its encoding has bytes.
         ensures exact { ((certificate : S.Certificate) →
             length (S.listed certificate) ≤ length (S.Certificate.encoding certificate)) →
             (committees : Schedule S) (stream : List ℕ)
@@ -288,9 +373,17 @@ impl<'a, S: Listing<D>, D: Digest> Auditor<'a, S, D> {
     {
         few_votes_are_recorded::<S, D>();
         recorded_votes_have_room::<S, D>();
+        floors_rise::<S, D>();
         counts_are_few(self.taken.fed);
         self.detector.votes()
     }
+}
+
+/// The round that no other is below.
+fn lowest_round() -> Round
+    ensures { result ≡ first_round }
+{
+    Round::new(Epoch::new(0), View::zero())
 }
 
 /// A `usize` is below 2^64.

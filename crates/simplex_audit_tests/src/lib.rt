@@ -1,7 +1,7 @@
 //! Tests of the audit and of the calls over it: the audit beside an auditor by its definition, which is written plainly, how
 //! many attestations are verified, and how often a scheme is asked about certificates, how many votes are recorded, a large
-//! committee, a long certificate byte by byte, long payloads, who is suspect, the records of a report, what a ledger stores,
-//! what a compaction keeps, and calls that allocate nothing.
+//! committee, a long certificate byte by byte, rounds that are given up, long payloads, who is suspect, the records of a
+//! report, what a ledger stores, what a compaction keeps, and calls that allocate nothing.
 #![tactic(auto)]
 
 #[cfg(test)]
@@ -20,6 +20,8 @@ mod model;
 mod outcome;
 #[cfg(test)]
 mod pieces;
+#[cfg(test)]
+mod pruned;
 #[cfg(test)]
 mod recorded;
 #[cfg(test)]

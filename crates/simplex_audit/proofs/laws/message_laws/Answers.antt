@@ -1,19 +1,22 @@
-use Rattle.simplex_detector.specs.Scheme.{rules_of, scheme_of}
+use Rattle.std.proofs.Common.{sym, subst}
+use Rattle.std.specs.Prelude.{All}
+use Rattle.simplex_detector.specs.Evidence.{IsEquivocation, IsEvidence}
+use Rattle.simplex_detector.specs.Laws.{AccusesExactly, EvidenceIsUnique}
 use Rattle.simplex_audit.proofs.laws.message_laws.Goals as goal
 
 pub returns : goal.returns
-returns g c committees =
-    let rules = rules_of (scheme_of g.D.PartialEq.eq g.S.CertificateScheme.keys g.S.Scheme.good
-    g.S.CertificateVerifier.certified g.S.Listing.listed) committees in
-    record {
-      any_order = c.accused_stay.ensures.any_order rules;
-      later = c.accused_stay.ensures.later rules;
-      names = c.evidence_is_determined.ensures.names;
-      sound = c.evidence_is_determined.ensures.sound;
-      only = c.evidence_is_determined.ensures.only;
-      again = c.evidence_is_determined.ensures.again rules;
-      enough = c.certificates_are_accountable.ensures.enough rules;
-      signers = c.certificates_are_accountable.ensures.signers rules;
-      only_splits = c.splits_are_determined.ensures.only rules;
-      split_accused = c.splits_are_determined.ensures.names rules;
-    }
+returns g c rules same = record {
+  any_order = c.accused_stay.ensures.any_order rules;
+  later = c.accused_stay.ensures.later rules;
+  names = λ vs es. subst (λ eq. IsEvidence eq vs es → AccusesExactly eq vs es) (sym same)
+      (c.evidence_is_determined.ensures.names vs es);
+  sound = λ vs es. subst (λ eq. IsEvidence eq vs es → All (IsEquivocation eq vs) es) (sym same)
+      (c.evidence_is_determined.ensures.sound vs es);
+  only = λ vs es. subst (λ eq. IsEvidence eq vs es → EvidenceIsUnique eq vs es) (sym same)
+      (c.evidence_is_determined.ensures.only vs es);
+  again = c.evidence_is_determined.ensures.again rules;
+  enough = c.certificates_are_accountable.ensures.enough rules;
+  signers = c.certificates_are_accountable.ensures.signers rules;
+  only_splits = c.splits_are_determined.ensures.only rules;
+  split_accused = c.splits_are_determined.ensures.names rules;
+}

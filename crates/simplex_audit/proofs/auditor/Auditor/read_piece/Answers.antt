@@ -21,7 +21,7 @@ format g bound =
 pub returns-clause-stands : goal.returns-clause-stands
 returns-clause-stands g c =
     let p = c.in_ok-detector.progress in
-    stands_after _ c.args.self _ c.args.piece.now c.args.piece.now p.rest.now p.read p.stop refl refl refl refl
+    stands_after _ c.args.self _ c.args.piece.now c.args.piece.now p.rest.now p.read p.stop refl refl refl refl refl
     (c.advance.ensures.held ∙ (c.in_ok-push.ensures.held ∙ ap (λ (xs : List ℕ). xs ++ p.rest.now) c.requires.empty))
     (sym (ap (λ (xs : List ℕ). xs ++ c.args.piece.now) c.requires.empty))
     c.in_ok-detector.ensures.progress

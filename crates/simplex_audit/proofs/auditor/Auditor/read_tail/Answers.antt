@@ -20,17 +20,17 @@ format g bound =
     }) (fixed g.S.Signature.FixedSize.SIZE g.S.Signature.Fixed.bytes_of g.S.Signature.Fixed.of_bytes)
 
 pub returns-clause-stands : goal.returns-clause-stands
-returns-clause-stands g c = λ committees stream stands.
+returns-clause-stands g c = λ floor committees stream stands.
     let p = c.in_ok-detector.progress in
     let room = c.in_ok-detector.ensures.room in
     let bytes = ap length c.bytes-bytes.ensures in
     let bound : c.args.self.bound ≡ bound_of g.S.CertificateScheme.keys c.args.self.committees.now =
     stands.fed.bound_is ∙ ap (bound_of g.S.CertificateScheme.keys) (sym stands.fed.committees_are) in
     let whole = (c.in_ok-detector.ensures.progress bound).are_messages.whole in
-    stands_after _ c.args.self _ c.args.piece.now c.bytes-bytes.result.now p.rest.now p.read p.stop refl refl refl refl
+    stands_after _ c.args.self _ c.args.piece.now c.bytes-bytes.result.now p.rest.now p.read p.stop refl refl refl refl refl
     (c.advance.ensures.held
     ∙ front_dropped _ _ p.rest.now _ (sym c.bytes-bytes.ensures ∙ whole) (omega arith))
     (c.bytes-bytes.ensures ∙ c.in_ok-push.ensures.held)
     c.in_ok-detector.ensures.progress
     (λ same. subst (λ (n : ℕ). Awaits (format g n) c.advance.new.self) same c.advance.ensures.awaits)
-    committees stream stands
+    floor committees stream stands
