@@ -1,8 +1,7 @@
 -- What is kept of a stream that is compacted, and that it can stand for the stream's messages.
-use Rattle.std.proofs.Common.{◌≡◌, ℕ, ◌+◌, Bool, true, false, Option, List, [], ◌∷◌, ◌++◌, length, cond, refl, sym, ap, subst, ◌∙◌, arith, append-nil}
+use Rattle.std.proofs.Common.{◌≡◌, ℕ, ◌+◌, Bool, true, false, Option, List, [], ◌∷◌, ◌++◌, length, cond, refl, sym, ap, subst, ◌∙◌, append-nil}
 use Rattle.std.specs.Prelude.{All, Contains}
 use Rattle.std.specs.List.{flat_map}
-use Rattle.std.proofs.lemmas.Grind.{flat_map-append}
 use Rattle.std.proofs.lemmas.List.Elements.{All-append, All-contains, All-contains_itself, All-cons, All-head, All-nil, All-tail, All-weaker, Contains-append_right}
 use Rattle.simplex_base.specs.Format.{Format, IsLawful}
 use Rattle.simplex_base.specs.declared.codec.error.Error.{Error}
@@ -29,8 +28,7 @@ use Rattle.simplex_audit.specs.Basis.{Basis}
 use Rattle.simplex_audit.specs.Compacting.{CompactsMore}
 use Rattle.simplex_audit.specs.Compaction.{HaveSameReports, IsCompacted}
 use Rattle.simplex_audit.specs.Recording.{RecordsMore}
-use Rattle.simplex_audit.specs.Report.{IsReport, evidence_in}
-use Rattle.simplex_audit.specs.declared.audit.Report.{Report}
+use Rattle.simplex_audit.specs.Report.{evidence_in}
 use Rattle.simplex_audit.specs.declared.compaction.Compaction.{Compaction}
 use Rattle.simplex_audit.specs.declared.compaction.Compactor.{Compactor}
 
@@ -97,7 +95,7 @@ messages_behind : {M : Type 0} (format : Format M) → IsLawful format → (stre
 messages_behind {M} format law stream bytes rest front all before are =
     let c = messages_continue format law stream bytes [] rest front all before are in
     let value : (m : M) → Contains c.further m → format.is_value m = λ m m_in. All-contains format.is_value all m are.each
-    (subst (λ ms. Contains ms m) (sym c.same) (Contains-append_right front c.further m m_in)) in
+    (subst (λ (ms : List M). Contains ms m) (sym c.same) (Contains-append_right front c.further m m_in)) in
     record {
       further = c.further;
       same = c.same;
@@ -150,7 +148,7 @@ module _ {S D C P G : Type 0} (basis : Basis S D C P G) (law : IsLawful basis.fo
       let ms = p.messages in
       let news = compacted basis.rules ms in
       let theirs = news_each basis.rules (Contains ms) [] ms (All-contains_itself ms) in
-      let kept = subst (λ xs. AreMessages basis.format xs news []) (sym p.recorded)
+      let kept = subst (λ (xs : List ℕ). AreMessages basis.format xs news []) (sym p.recorded)
       (are_joined basis.format some news
       (news_each basis.rules basis.format.is_value [] ms p.are_messages.each)) in
       record {

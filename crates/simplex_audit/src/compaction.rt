@@ -1,15 +1,19 @@
 //! A shorter stream in place of a stream: its messages without those that were no news when they came.
 
 ghost use Rattle.std.specs.Prelude.{◌≡◌, ◌++◌, ⊤, [], IfOk, OnOk, if◌then◌else◌};
+ghost use Rattle.simplex_audit.specs.Basis.{basis_from};
 ghost use Rattle.simplex_audit.specs.Compaction.{IsCompacted};
+ghost use Rattle.simplex_detector.specs.Independence.{first_round};
 
 use crate::basis::Audited;
 use crate::reading::{Recorder, reading_bound};
 use simplex_base::codec::{Encoding, Write};
+use simplex_base::positions::Round;
 use simplex_detector::detector::Detector;
 use simplex_detector::judging::Judging;
 use simplex_detector::laws::{
-    evidence_is_determined, news_suffices, rounds_are_independent, splits_are_determined,
+    evidence_is_determined, floors_rise, news_suffices, rounds_are_independent,
+    splits_are_determined,
 };
 use simplex_detector::rules::Judges;
 use simplex_evidence::types::Activity;
@@ -86,22 +90,29 @@ fn append_if<M: Write>(news: bool, message: &M, kept: &mut Vec<u8>) -> Result<()
     message.write(kept)
 }
 
-/// Leaves out of a stream the messages that are no news when they come. A message is news if it changes what an audit records:
-/// if a valid vote of it is the earliest of its kind, round and signer or the earliest there with another proposal, or if its
-/// certificate certifies the first subject of its kind in its round or splits the round. What is left can stand for the
-/// stream's messages: with any messages before and any bytes behind, an audit has the same evidence and the same splits.
-/// Compacting it again changes nothing, and the compactions of several logs can be joined and compacted again. Of a round with
-/// n participants at most 5n + 3 messages are left. All this is relative to the committees: messages of an epoch without one
-/// are no news. Votes and certificates are verified as in an audit. `AllocError` is returned only after an allocation failed.
+/// Leaves out of a stream the messages that are no news when they come, and those of rounds below a floor. A message is news if
+/// it changes what an audit records: if a valid vote of it is the earliest of its kind, round and signer or the earliest there
+/// with another proposal, or if its certificate certifies the first subject of its kind in its round or splits the round. What
+/// is left can stand for the stream's messages: with any messages before and any bytes behind, an audit has the same evidence
+/// and the same splits from the floor on. Compacting it again changes nothing, and the compactions of several logs can be
+/// joined and compacted again. Of a round with n participants at most 5n + 3 messages are left. All this is relative to the
+/// committees: messages of an epoch without one are no news. Votes and certificates are verified as in an audit, and none below
+/// the floor. `AllocError` is returned only after an allocation failed.
 pub fn compact<S: Listing<D>, D: Digest>(
     alloc: Global,
     committees: &Committees<S>,
     stream: &[u8],
+    floor: Round,
 ) -> Result<Compaction, AllocError>
-    ensures { IfOk result (λ compaction.
+    // What is kept is the compaction of the stream, of which nothing below the floor is valid.
+    ensures part { IfOk result (λ compaction. IsCompacted
+        (basis_from floor (⟦<S as Audited<D>>⟧.basis committees.now)) stream.now compaction) }
+    // From the first round on nothing is left out for its round.
+    ensures whole { floor ≡ first_round → IfOk result (λ compaction.
         IsCompacted (⟦<S as Audited<D>>⟧.basis committees.now) stream.now compaction) }
 {
-    compact_under(alloc, committees, Judging::Verified, stream)
+    floors_rise::<S, D>();
+    compact_under(alloc, committees, Judging::From(floor), stream)
 }
 
 /// The compaction of a stream whose votes and certificates are judged as strictly as a `Judging` says.

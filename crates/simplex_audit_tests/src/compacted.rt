@@ -3,6 +3,7 @@
 use crate::outcome::{marked, outcome_of};
 use simplex_audit::audit::Committees;
 use simplex_audit::compaction::compact;
+use simplex_base::positions::{Epoch, Round, View};
 use simplex_scheme::scheme::{Digest, Listing};
 use simplex_schemes::marked::MarkedDigest;
 use std::alloc::{AllocError, Global};
@@ -60,8 +61,13 @@ fn joined(alloc: Global, parts: &[&[u8]]) -> Result<Vec<u8>, AllocError> {
     Ok(bytes)
 }
 
+/// The round of a view of epoch 0.
+fn round(view: u64) -> Round {
+    Round::new(Epoch::new(0), View::new(view))
+}
+
 /// The compactions of the logs are compacted to what the logs are compacted to. The audit of what is kept is that of the
-/// stream.
+/// stream. From a later round on nothing is kept.
 fn check<S: Listing<D>, D: Digest>(
     rt: &impl Abort,
     alloc: Global,
@@ -69,19 +75,21 @@ fn check<S: Listing<D>, D: Digest>(
 ) -> Result<(), Fail> {
     let mut each = Vec::new(alloc);
     for log in [FIRST, SECOND, THIRD] {
-        let kept = compact::<S, D>(alloc, committees, log)?;
+        let kept = compact::<S, D>(alloc, committees, log, round(0))?;
         each.extend_from_slice(kept.messages.as_slice())?;
     }
     let logs = joined(alloc, &[FIRST, SECOND, THIRD])?;
     let cut = joined(alloc, &[FIRST, SECOND, THIRD, &[0, 0, 10]])?;
     for stream in [logs.as_slice(), each.as_slice(), cut.as_slice(), KEPT] {
         let audited = outcome_of::<S, D>(alloc, committees, stream)?;
-        let compaction = compact::<S, D>(alloc, committees, stream)?;
+        let compaction = compact::<S, D>(alloc, committees, stream, round(10))?;
         assert!(rt; compaction.messages.as_slice() == KEPT, "of {stream:?}");
         assert_eq!(rt; compaction.read, audited.read, "of {stream:?}");
         assert_eq!(rt; compaction.fault, audited.fault, "of {stream:?}");
         let kept = outcome_of::<S, D>(alloc, committees, compaction.messages.as_slice())?;
         assert_eq!(rt; kept.text, audited.text, "of {stream:?}");
+        let later = compact::<S, D>(alloc, committees, stream, round(11))?;
+        assert!(rt; later.messages.is_empty() && later.read == audited.read);
     }
     Ok(())
 }

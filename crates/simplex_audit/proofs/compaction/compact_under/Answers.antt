@@ -1,4 +1,4 @@
-use Rattle.std.proofs.Common.{◌≡◌, ℕ, ◌+◌, ◌-◌, ap, arith, length, subst}
+use Rattle.std.proofs.Common.{◌≡◌, ℕ, ◌-◌, arith, length, subst}
 use Rattle.std.specs.List.{flat_map}
 use Rattle.std.proofs.lemmas.List.Elements.{All-weaker}
 use Rattle.simplex_base.specs.Format.{Format, fixed}
