@@ -220,9 +220,9 @@ impl<'a, S: Listing<D>, D: Digest> Auditor<'a, S, D> {
     }
 
     /// Gives up all rounds below a floor: what was recorded of them is dropped, and from now on their messages are read, and
-    /// neither verified nor recorded. So what is reported depends on the stream and the floor, and not on when this is called;
-    /// take a report before, since no later one has what is below the floor. The floor never falls: below the present one
-    /// nothing changes. Nothing is allocated.
+    /// neither verified nor recorded. So a report depends on the stream and the floor, and not on when this is called. Take a
+    /// report before, since no later one has what is below the floor. The floor never falls: a lower one than the present one
+    /// changes nothing. Nothing is allocated.
     pub fn prune(&mut self, floor: Round)
         ensures fed { fed_of self.new ≡ fed_of self.old }
         ensures floor { floor_of self.new ≡ ord_max round_cmp (floor_of self.old) floor }
@@ -247,8 +247,8 @@ impl<'a, S: Listing<D>, D: Digest> Auditor<'a, S, D> {
 
     /// The report of the stream so far, from the floor on. `AllocError` is returned only after an allocation failed.
     pub fn report(&self) -> Result<Report<S, D>, AllocError>
-        // All that `audit` states of a stream and of its report holds of each stream that the auditor stands for from its
-        // floor on, where nothing of a round below the floor is valid.
+        // All that `audit` states holds of each stream that the auditor stands for, under rules by which nothing of a round
+        // below its floor is valid.
         ensures from_floor { IfOk result (λ report.
             (floor : positions.Round) (committees : Schedule S) (stream : List ℕ) →
             StandsFrom floor ⟦<S as Audited<D>>⟧.basis committees self.now stream →
