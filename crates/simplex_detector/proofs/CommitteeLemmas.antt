@@ -1,5 +1,5 @@
 -- The rules by which committees judge.
-use Rattle.simplex_detector.proofs.Prelude.{signer_in, Scheme, All, All-cons, All-contains, All-nil, AreLawful, AreRising, Bool, Claimed, Err, Every, HaveCommittees, IfErr, IfOk, IsBinarySearchResult, IsEquivalence, IsNonDecreasingBy, IsQuorum, IsSchedule, IsSearchInRange, Judging, List, Listed, None, Ok, Option, Result, Schedule, Some, SubjectValue, Suspects, Verified, [], and_parts, are_known, ap, arith, bound_of, cases_lt, certified_by, certified_under, committee_of, contains, drop, drop_more, eqb, eqb-true, false, false≢true, find, get_or, get_or_default, greatest, if◌then◌else◌, inl, inr, is_le, keys, length, ltb-true, max, nat_cmp, nat_tests, option_map, ord_max, ordering_index, parted, ranked, refl, round_cmp, round_of, rules_of, same_Some, signer_cmp, size_by, subst, suc, sym, true, valid_by, valid_under, zero, ℕ, ◌+◌, ◌-◌, ◌<◌, ◌∙◌, ◌∷◌, ◌≡◌, ◌≤◌, From, is_from}
+use Rattle.simplex_detector.proofs.Prelude.{signer_in, Scheme, AreLawful, Bool, Claimed, HaveCommittees, IsEquivalence, IsQuorum, Judging, List, None, Schedule, Some, SubjectValue, Suspects, Verified, and_parts, are_known, certified_by, certified_under, committee_of, contains, false, false≢true, if◌then◌else◌, keys, length, ltb-true, refl, round_cmp, round_of, rules_of, signer_cmp, size_by, true, valid_by, valid_under, ℕ, ◌<◌, ◌≡◌, ◌≤◌, From, is_from}
 use Rattle.simplex_detector.specs.declared.judge.Signatures.{Signatures}
 use Rattle.simplex_detector.specs.declared.judge.Signatures.TheVariants as signatures
 

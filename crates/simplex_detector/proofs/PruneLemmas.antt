@@ -1,5 +1,5 @@
 -- The state of a part of the rounds is what it was before the states of other rounds were given up.
-use Rattle.simplex_detector.proofs.Prelude.{Activity, BTreeMap, Bool, CertifiedSubjects, Detector, HoldsRound, List, None, Option, Recalls, RecallsAt, RecallsNothing, RecordsFirsts, Round, RoundState, Rules, SignedVote, Slot, Some, VoteKind, SubjectValue, [], and_left, and_parts, ap, append-nil, append_assoc, arith, certified_subjects, changes, cond, excludes, false, false_from_ne_true, false≢true, filter, filter-append, find, firsts_of, get, in_rounds, is_at, is_key, is_news, kind_of, length, no_slot, nothing_certified, other_than, recorded_in, refl, round_cmp, round_of, same_kind, same_round, slot_of, subst, sym, true, valid_votes, ℕ, ◌&&◌, ◌++◌, ◌+◌, ◌∙◌, ◌∷◌, ◌≡◌}
+use Rattle.simplex_detector.proofs.Prelude.{Activity, BTreeMap, Bool, CertifiedSubjects, Detector, HoldsRound, List, None, Option, Recalls, RecallsAt, RecallsNothing, RecordsFirsts, Round, RoundState, Rules, SignedVote, Slot, Some, VoteKind, SubjectValue, [], and_left, and_parts, ap, append-nil, append_assoc, arith, certified_subjects, changes, cond, excludes, false, false_from_ne_true, false≢true, filter, filter-append, find, firsts_of, get, in_rounds, is_at, is_key, is_news, kind_of, length, no_slot, nothing_certified, other_than, recorded_in, refl, round_cmp, round_of, same_kind, same_round, slot_of, subst, sym, true, valid_votes, ℕ, ◌&&◌, ◌++◌, ◌∙◌, ◌∷◌, ◌≡◌}
 use Rattle.std.specs.Map.{lookup}
 use Rattle.simplex_scheme.specs.declared.kind.VoteKind.TheVariants as kinds
 use Rattle.simplex_detector.proofs.Filters.{find_filtered}
