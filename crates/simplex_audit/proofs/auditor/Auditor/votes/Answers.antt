@@ -7,7 +7,7 @@ use Rattle.simplex_detector.specs.Detector.{Recalls}
 use Rattle.simplex_detector.specs.Independence.{first_round, in_rounds, is_from}
 use Rattle.simplex_detector.specs.Recorded.{votes_recorded}
 use Rattle.simplex_detector.specs.Rules.{Rules, valid_votes}
-use Rattle.simplex_detector.specs.Scheme.{scheme_of}
+use Rattle.simplex_detector.specs.Scheme.{rules_of, scheme_of}
 use Rattle.simplex_detector.specs.declared.detector.Detector.{Detector}
 use Rattle.simplex_detector.specs.declared.judging.Judging.TheVariants.{From}
 use Rattle.simplex_audit.specs.Auditor.{StandsFrom}
