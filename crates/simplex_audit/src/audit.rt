@@ -148,7 +148,8 @@ fn audit_suspects<S: Listing<D>, D: Digest>(
         return Ok(claims);
     }
     let suspects = suspects_of(alloc, &claims.evidence)?;
-    audit_stream(alloc, committees, Judging::Suspects(suspects), stream)
+    let report = audit_stream(alloc, committees, Judging::Suspects(suspects), stream)?;
+    Ok(report)
 }
 
 /// The report of a stream whose votes and certificates are judged as strictly as a `Judging` says.

@@ -2,7 +2,6 @@ use Rattle.std.proofs.Common.{◌≡◌, length, map, sym, ap, ◌∙◌, subst,
 use Rattle.std.specs.Prelude.{All, IsTrue}
 use Rattle.std.specs.BTreeSet.{contains}
 use Rattle.std.proofs.lemmas.Bool.{eqb-true}
-use Rattle.std.proofs.lemmas.Result.{IfOk-weaker}
 use Rattle.std.proofs.lemmas.Simd.{map-map}
 use Rattle.simplex_scheme.specs.Subject.{round_of}
 use Rattle.simplex_detector.specs.Accusation.{round_cmp, signer_cmp}
@@ -35,9 +34,8 @@ returns-clause-report g c =
     let has_signers = subst (All (λ suspect. IsTrue (contains signer_cmp suspects.signers suspect)))
     (ap (map (λ e. suspect_of (evidence_value e))) c.deref.ensures.value
     ∙ sym (map-map suspect_of evidence_value claims.evidence.items)) c.in_ok-suspects.ensures.signers in
-    IfOk-weaker c.audit_stream.result _ _ (λ report is.
-    suspects_reported _ _ c.in_ok-claims.ensures.readable _ _ _ c.args.stream.now claims report
+    suspects_reported _ _ c.in_ok-claims.ensures.readable _ _ _ c.args.stream.now claims c.in_ok-report.report
     c.in_ok-claims.ensures.report
     (λ messages es splits claimed judged are. c.suspects_determine_reports.ensures.suspects c.args.committees.now messages
     (evidence_in claims) suspects c.in_ok-claims.ensures.lawful claimed has_rounds has_signers es splits judged are)
-    is) c.audit_stream.ensures.report
+    c.in_ok-report.ensures.report
