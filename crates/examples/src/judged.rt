@@ -130,7 +130,6 @@ impl CertificateScheme for Judged {
     }
 
     fn me(&self) -> Option<Participant> {
-        let _ = &self.participants;
         None
     }
 
