@@ -46,13 +46,13 @@ pub no_rising : (namespace : List ℕ) (texts : List (List ℕ)) (n : ℕ) → n
     → ((pairs : List (ℕ × PlainScheme)) → AreGroups namespace texts pairs → AreRising pairs → ⊥) → NameNone namespace texts
 no_rising namespace texts n first stands not (Every committee) is =
     let at : n ≡ 0 = omega (arith, first) in
-    keys_stand texts is.keys is.named.named is.named.size.0 (subst (λ k. StandsBeforeGroup (drop k texts)) at stands)
+    keys_stand texts is.keys is.named.named is.named.are_keys.some (subst (λ k. StandsBeforeGroup (drop k texts)) at stands)
 no_rising namespace texts n first stands not (Listed pairs) (some, rising, are) = not pairs are rising
 
 -- there are no texts
 pub no_texts_named : (namespace : List ℕ) (texts : List (List ℕ)) → texts ≡ [] → NameNone namespace texts
 no_texts_named namespace texts none (Every committee) is =
-    keys_stand texts is.keys is.named.named is.named.size.0 (subst StandsBeforeGroup (sym none) tt)
+    keys_stand texts is.keys is.named.named is.named.are_keys.some (subst StandsBeforeGroup (sym none) tt)
 no_texts_named namespace texts none (Listed pairs) (some, rising, are) = groups_some namespace texts pairs some none are
 
 -- a namespace and texts that name no committees

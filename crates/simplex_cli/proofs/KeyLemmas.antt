@@ -1,9 +1,9 @@
 -- Which keys texts name.
-use Rattle.std.proofs.Common.{◌≡◌, ℕ, suc, ◌<◌, ◌≤◌, ◌^◌, List, [], ◌∷◌, ◌++◌, length, Option, None, Some, refl, ap, sym, ◌∙◌, append_assoc, subst, arith}
-use Rattle.std.specs.Prelude.{◌≢◌, AllPairs, IsPermutation, String, string_bytes, map}
+use Rattle.std.proofs.Common.{◌≡◌, ℕ, suc, List, [], ◌∷◌, ◌++◌, length, Option, None, Some, refl, ap, sym, ◌∙◌, append_assoc, subst}
+use Rattle.std.specs.Prelude.{String, string_bytes, map}
 use Rattle.std.specs.Global.{Global}
 use Rattle.std.proofs.lemmas.List.{length-map}
-use Rattle.std.proofs.lemmas.List.Sorted.{length_permutation}
+use Rattle.simplex_schemes.specs.PlainCommittee.{AreCommitteeKeys}
 use Rattle.simplex_cli.specs.Arguments.{key_named, keys_named, with_key, AreNoKeys, IsCommitteeSize, NameKeys}
 
 -- some keys in front of others, where these are there
@@ -52,21 +52,11 @@ length-keys_named [] keys e = let same : [] ≡ keys = cc in sym (ap length same
 length-keys_named (text ∷ texts) keys e =
     length-with_key (key_named text) (keys_named texts) keys (length texts) (length-keys_named texts) e
 
--- a committee has as many keys as texts
-pub size-named : (texts : List (String Global)) (keys set : List (List ℕ)) → keys_named (map string_bytes texts) ≡ Some keys
-    → IsPermutation keys set → (1 ≤ length texts) × (length texts < 2 ^ 32)
-    → ((1 ≤ length keys) × (length keys < 2 ^ 32)) × ((1 ≤ length set) × (length set < 2 ^ 32))
-size-named texts keys set named permuted size =
-    let first = length-keys_named (map string_bytes texts) keys named in
-    let second = length_permutation keys set permuted in
-    let mapped = length-map texts string_bytes in
-    ((omega arith, omega arith), (omega arith, omega arith))
-
 -- too few texts, or too many
 pub no_keys-size : (texts : List (String Global)) → (IsCommitteeSize (length texts) → ⊥) → AreNoKeys (map string_bytes texts)
 no_keys-size texts wrong = λ keys named.
     let size : length keys ≡ length texts = length-keys_named _ _ named.named ∙ length-map texts string_bytes in
-    wrong (subst IsCommitteeSize size named.size)
+    wrong (subst IsCommitteeSize size (named.are_keys.some, named.are_keys.few))
 
 -- some text names no key
 pub no_keys-unnamed : (texts : List (String Global)) → keys_named (map string_bytes texts) ≡ None →
@@ -82,10 +72,10 @@ keys-named texts keys named size =
     let same : length keys ≡ length texts = length-keys_named _ _ named ∙ length-map texts string_bytes in
     (keys, named, subst IsCommitteeSize (sym same) size)
 
--- a key is named twice
-pub no_keys-repeated : (texts : List (String Global)) (keys : List (List ℕ)) → keys_named (map string_bytes texts) ≡ Some keys →
-    (AllPairs (λ a b. a ≢ b) keys → ⊥) → AreNoKeys (map string_bytes texts)
-no_keys-repeated texts keys named repeated = λ others are.
+-- texts name keys that are no committee's
+pub no_keys-named : (texts : List (String Global)) (keys : List (List ℕ)) → keys_named (map string_bytes texts) ≡ Some keys →
+    (AreCommitteeKeys keys → ⊥) → AreNoKeys (map string_bytes texts)
+no_keys-named texts keys named wrong = λ others are.
     let both : Some others ≡ Some keys = sym are.named ∙ named in
     let equal : others ≡ keys = cc in
-    repeated (subst (λ (ks : List (List ℕ)). AllPairs (λ a b. a ≢ b) ks) equal are.distinct)
+    wrong (subst AreCommitteeKeys equal are.are_keys)

@@ -1,13 +1,10 @@
 -- What the arguments of a program name.
-use Rattle.std.specs.Cmp.Lexicographic.{slice_cmp}
-use Rattle.std.specs.List.Sorted.{IsStrictlySortedBy}
-use Rattle.std.specs.Ordering.{nat_cmp}
-use Rattle.std.specs.Prelude.{⊤, ◌≡◌, ◌≢◌, ◌⊎◌, ℕ, ◌<◌, ◌≤◌, ◌^◌, List, [], ◌∷◌, ◌++◌, length, Option, Some, None, Result, Ok, Err, All, AllPairs, IsPermutation, String, string_bytes, codes, decimal, drop, map}
+use Rattle.std.specs.Prelude.{⊤, ◌≡◌, ◌≢◌, ◌⊎◌, ℕ, ◌<◌, ◌≤◌, ◌^◌, List, [], ◌∷◌, ◌++◌, length, Option, Some, None, Result, Ok, Err, All, String, string_bytes, codes, decimal, drop, map}
 use Rattle.std.specs.Global.{Global}
 use Rattle.hex.specs.Hex.{decode_sized}
 use Rattle.hex.specs.declared.error.FromHexError.{FromHexError}
-use Rattle.simplex_scheme.specs.Namespace.{names_of}
 use Rattle.simplex_schemes.specs.Plain.{PlainScheme}
+use Rattle.simplex_schemes.specs.PlainCommittee.{AreCommitteeKeys, IsPlainCommittee}
 use Rattle.simplex_scheme.specs.Committees.{Schedule, Every, Listed, AreRising}
 
 -- the words of the arguments of a process: those after the program's name
@@ -45,26 +42,18 @@ NameKeys texts = (keys : List (List ℕ)) × (keys_named texts ≡ Some keys) ×
 -- the texts name these keys: as many as a committee may have, and none twice
 pub record AreKeyTexts (texts : List (List ℕ)) (keys : List (List ℕ)) : Type 0 where
   pub named : keys_named texts ≡ Some keys
-  pub size : IsCommitteeSize (length keys)
-  pub distinct : AllPairs (λ a b. a ≢ b) keys
+  pub are_keys : AreCommitteeKeys keys
 
 -- the texts name no such keys
 abbrev pub AreNoKeys : List (List ℕ) → Type 0
 AreNoKeys texts = (keys : List (List ℕ)) → ¬ AreKeyTexts texts keys
 
--- these keys ascend: each is before the next by the first byte in which they differ
-abbrev pub Ascend : List (List ℕ) → Type 0
-Ascend = IsStrictlySortedBy (slice_cmp nat_cmp)
-
 -- the scheme verifies for the committee whose keys the texts name, in any order: a participant's number is the place of its
 -- key among them in ascending order
 pub record IsNamedCommittee (namespace : List ℕ) (texts : List (List ℕ)) (scheme : PlainScheme) : Type 0 where
   pub keys : List (List ℕ)
-  pub participants : List (List ℕ)
   pub named : AreKeyTexts texts keys
-  pub same : IsPermutation keys participants
-  pub ascending : Ascend participants
-  pub verifies : scheme ≡ record { names = names_of namespace; keys = participants; me = None }
+  pub committee : IsPlainCommittee namespace keys scheme
 
 -- the text begins a group: its first byte is an `@`
 abbrev pub BeginsGroup : List ℕ → Type 0

@@ -1,11 +1,8 @@
 -- Keys of a committee of the plain scheme, one after the other.
-use Rattle.std.specs.Cmp.Lexicographic.{slice_cmp}
 use Rattle.std.specs.List.{range_with_len}
-use Rattle.std.specs.List.Sorted.{IsStrictlySortedBy}
-use Rattle.std.specs.Ordering.{nat_cmp}
-use Rattle.std.specs.Prelude.{◌≡◌, ◌≢◌, ℕ, ◌*◌, ◌/◌, ◌%◌, ◌<◌, ◌≤◌, ◌^◌, List, length, map, take, drop, None, AllPairs, IsPermutation}
-use Rattle.simplex_scheme.specs.Namespace.{names_of}
+use Rattle.std.specs.Prelude.{◌≡◌, ◌≢◌, ℕ, ◌*◌, ◌/◌, ◌%◌, ◌<◌, ◌≤◌, ◌^◌, List, length, map, take, drop, AllPairs}
 use Rattle.simplex_schemes.specs.Plain.{PlainScheme}
+use Rattle.simplex_schemes.specs.PlainCommittee.{IsPlainCommittee}
 use Rattle.simplex_scheme.specs.Committees.{Schedule, Every, Listed}
 
 -- the key at a place: the 32 bytes from 32 times the place on
@@ -29,10 +26,7 @@ pub record AreKeys (bytes : List ℕ) : Type 0 where
 -- key among them in ascending order.
 pub record IsCommitteeOf (namespace bytes : List ℕ) (scheme : PlainScheme) : Type 0 where
   pub keys : AreKeys bytes
-  pub participants : List (List ℕ)
-  pub same : IsPermutation (keys_in bytes) participants
-  pub ascending : IsStrictlySortedBy (slice_cmp nat_cmp) participants
-  pub verifies : scheme ≡ record { names = names_of namespace; keys = participants; me = None }
+  pub committee : IsPlainCommittee namespace (keys_in bytes) scheme
 
 -- one committee for every epoch, that of the keys
 abbrev pub AreOfKeys : List ℕ → List ℕ → Schedule PlainScheme → Type 0

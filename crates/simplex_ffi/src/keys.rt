@@ -1,17 +1,12 @@
 //! Committees of the plain scheme by their keys, one after the other.
 
-ghost use Rattle.std.specs.Prelude.{◌≡◌, ◌+◌, ◌*◌, ◌/◌, ◌%◌, ◌↔◌, ◌<◌, ◌≤◌, ◌^◌, None, Ok, IsTrue, IfOk, IfErr, IfSome, IsPermutation, length};
-ghost use Rattle.std.specs.List.Sorted.{IsStrictlySortedBy};
+ghost use Rattle.std.specs.Prelude.{◌≡◌, ◌+◌, ◌*◌, ◌/◌, ◌%◌, ◌↔◌, ◌<◌, ◌≤◌, ◌^◌, None, Ok, IsTrue, IfOk, IfErr, IfSome, length};
 ghost use Rattle.simplex_ffi.specs.Keys.{AreKeys, AreOfKeys, IsLengthOfKeys, key_at, keys_in};
 
 use simplex_base::codec::Fixed;
 use simplex_scheme::committees::Committees;
-use simplex_scheme::scheme::Set;
-use simplex_schemes::plain::{Plain, PlainKey};
+use simplex_schemes::plain::{Plain, PlainKey, is_committee_size};
 use std::alloc::{AllocError, Global};
-
-/// The greatest number of keys of a committee.
-const MOST_KEYS: usize = 4_294_967_295;
 
 /// The key at a place.
 fn key_at(bytes: &[u8], place: usize) -> PlainKey
@@ -26,7 +21,7 @@ fn key_at(bytes: &[u8], place: usize) -> PlainKey
 fn have_keys(size: usize) -> bool
     ensures { IsTrue result ↔ IsLengthOfKeys size }
 {
-    size % 32 == 0 && size >= 32 && size / 32 <= MOST_KEYS
+    size % 32 == 0 && is_committee_size(size / 32)
 }
 
 /// The keys, one for each 32 bytes.
@@ -39,28 +34,6 @@ fn read_keys(alloc: Global, bytes: &[u8]) -> Result<Vec<PlainKey>, AllocError>
         keys.push(key_at(bytes, place))?;
     }
     Ok(keys)
-}
-
-/// The keys as a set, or `None` where they are not the keys of a committee.
-fn read_set(alloc: Global, bytes: &[u8]) -> Result<Option<Set<PlainKey>>, AllocError>
-    ensures keys { IfOk result (λ answer. IfSome answer (λ set. AreKeys bytes.now)) }
-    ensures same { IfOk result (λ answer. IfSome answer (λ set.
-        IsPermutation (keys_in bytes.now) set)) }
-    ensures ascending { IfOk result (λ answer. IfSome answer (λ set.
-        IsStrictlySortedBy ⟦<PlainKey as Ord>⟧.cmp set)) }
-    ensures size { IfOk result (λ answer. IfSome answer (λ set.
-        (1 ≤ length set) × (length set < 2 ^ 32))) }
-    ensures none { result ≡ Ok None → ¬ AreKeys bytes.now }
-    ensures memory { IfErr result (λ _. IsLengthOfKeys (length bytes.now)) }
-{
-    if !have_keys(bytes.len()) {
-        return Ok(None);
-    }
-    let keys = read_keys(alloc, bytes)?;
-    match Set::try_from_vec(keys) {
-        Ok(set) => Ok(Some(set)),
-        Err(_) => Ok(None),
-    }
 }
 
 /// The committee of these keys, of 32 bytes each and in any order, under this base, for every epoch. A
@@ -77,9 +50,11 @@ pub fn committees(
     ensures length { IfOk result (λ answer. IfSome answer (λ _. IsLengthOfKeys (length keys.now))) }
     ensures memory { IfErr result (λ _. IsLengthOfKeys (length keys.now)) }
 {
-    let Some(participants) = read_set(alloc, keys)? else {
+    if !have_keys(keys.len()) {
         return Ok(None);
-    };
-    let committee = Plain::verifier(alloc, namespace, participants)?;
-    Ok(Some(Committees::every(committee)))
+    }
+    match Plain::of_keys(alloc, namespace, read_keys(alloc, keys)?)? {
+        Some(committee) => Ok(Some(Committees::every(committee))),
+        None => Ok(None),
+    }
 }

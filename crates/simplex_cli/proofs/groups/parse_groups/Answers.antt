@@ -85,7 +85,7 @@ returns-in_err-map_err-clause-memory c = λ memory.
     c.split_at.ensures.back
     (subst StandsBeforeGroup (drop-map string_bytes c.count_keys.result c.in-Some.behind.now
     ∙ ap (map string_bytes) (sym c.split_at.ensures.back)) c.count_keys.ensures.group)
-    (is.keys, is.named.named, is.named.size)
+    (is.keys, is.named.named, (is.named.are_keys.some, is.named.are_keys.few))
 
 pub returns-clause-groups : goal.returns-clause-groups
 returns-clause-groups c =
