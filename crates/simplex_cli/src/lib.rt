@@ -11,6 +11,7 @@ pub mod arguments;
 mod auditing;
 pub mod command;
 pub mod complaints;
+mod derived;
 pub mod groups;
 mod inspecting;
 pub mod keys;

@@ -3,8 +3,6 @@
 ghost use Rattle.std.specs.Prelude.{◌≡◌, ◌≤◌, length};
 ghost use Rattle.simplex_cli.specs.Program.{name_of, usage_of};
 
-use simplex_base::values::{EqByParts, ExactClone, InfallibleClone};
-
 /// Which signatures a run verifies, and what it holds. The text, the fault and the status of a run are the same either way,
 /// unless an allocation fails.
 #[derive(Clone, Copy, Debug, PartialEq, Eq)]
@@ -14,27 +12,6 @@ pub enum Verification {
     Full,
     /// Only those of the votes of suspects and of the certificates of their rounds. The whole input is held.
     Deferred,
-}
-
-impl ExactClone for Verification {
-    ghost exact = { λ x y same. same };
-}
-
-impl InfallibleClone for Verification {
-    ghost infallible = { λ _. tt };
-}
-
-impl EqByParts for Verification {
-    ghost use Rattle.std.specs.Prelude.{refl};
-    ghost use Rattle.simplex_cli.specs.Program.{same_verification};
-    ghost use Rattle.simplex_cli.specs.declared.program.Verification.TheVariants.{Full, Deferred};
-
-    ghost same = { same_verification };
-
-    ghost equal = { elim [
-      | Full ↦ elim [ Full ↦ refl | _ ↦ refl ]
-      | Deferred ↦ elim [ Deferred ↦ refl | _ ↦ refl ]
-    ] };
 }
 
 /// The programs.

@@ -4,7 +4,6 @@ ghost use Rattle.std.specs.Prelude.{◌≡◌};
 ghost use Rattle.simplex_cli.specs.Status.{number_of, status_after, failure_of};
 
 use simplex_audit::run::RunError;
-use simplex_base::values::{EqByParts, ExactClone, InfallibleClone};
 use std::alloc::AllocError;
 
 /// How a program ends.
@@ -18,29 +17,6 @@ pub enum Status {
     Usage,
     /// A read, a write or an allocation failed.
     Failed,
-}
-
-impl ExactClone for Status {
-    ghost exact = { λ x y same. same };
-}
-
-impl InfallibleClone for Status {
-    ghost infallible = { λ _. tt };
-}
-
-impl EqByParts for Status {
-    ghost use Rattle.std.specs.Prelude.{refl};
-    ghost use Rattle.simplex_cli.specs.Status.{same_status};
-    ghost use Rattle.simplex_cli.specs.declared.status.Status.TheVariants.{Whole, Fault, Usage, Failed};
-
-    ghost same = { same_status };
-
-    ghost equal = { elim [
-      | Whole ↦ elim [ Whole ↦ refl | _ ↦ refl ]
-      | Fault ↦ elim [ Fault ↦ refl | _ ↦ refl ]
-      | Usage ↦ elim [ Usage ↦ refl | _ ↦ refl ]
-      | Failed ↦ elim [ Failed ↦ refl | _ ↦ refl ]
-    ] };
 }
 
 impl Status {
@@ -90,29 +66,6 @@ impl From<RunError> for Failure {
             RunError::OutOfMemory => Failure::OutOfMemory,
         }
     }
-}
-
-impl ExactClone for Failure {
-    ghost exact = { λ x y same. same };
-}
-
-impl InfallibleClone for Failure {
-    ghost infallible = { λ _. tt };
-}
-
-impl EqByParts for Failure {
-    ghost use Rattle.std.specs.Prelude.{refl};
-    ghost use Rattle.simplex_cli.specs.Status.{same_failure};
-    ghost use Rattle.simplex_cli.specs.declared.status.Failure.TheVariants.{Usage, Read, Write, OutOfMemory};
-
-    ghost same = { same_failure };
-
-    ghost equal = { elim [
-      | Usage ↦ elim [ Usage ↦ refl | _ ↦ refl ]
-      | Read ↦ elim [ Read ↦ refl | _ ↦ refl ]
-      | Write ↦ elim [ Write ↦ refl | _ ↦ refl ]
-      | OutOfMemory ↦ elim [ OutOfMemory ↦ refl | _ ↦ refl ]
-    ] };
 }
 
 impl Failure {

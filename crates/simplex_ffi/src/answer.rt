@@ -1,6 +1,6 @@
 //! The audit of a whole stream, whose report is put into a buffer.
 
-ghost use Rattle.std.specs.Prelude.{◌≡◌, ◌≢◌, ◌<◌, ◌≤◌, ◌++◌, ◌&&◌, IsTrue, IfOk, false, drop, length, nat_eq, refl, string_bytes};
+ghost use Rattle.std.specs.Prelude.{◌≡◌, ◌≢◌, ◌<◌, ◌≤◌, ◌++◌, IsTrue, IfOk, false, drop, length, string_bytes};
 ghost use Rattle.simplex_audit.specs.Guarantees.{IsAudit};
 ghost use Rattle.simplex_audit.specs.Run.{report_text};
 ghost use Rattle.simplex_ffi.specs.Answer.{IsAudited, IsSummary, ended_of, place_of_fault};
@@ -9,7 +9,6 @@ use simplex_audit::audit::{Committees, Fault, Report, audit};
 use simplex_audit::basis::Audited;
 use simplex_audit::text::text;
 use simplex_base::codec::Fixed;
-use simplex_base::values::{EqByParts, ExactClone, InfallibleClone};
 use simplex_scheme::scheme::{Digest, Listing, SchemeTypes};
 use std::alloc::{AllocError, Global};
 
@@ -45,22 +44,6 @@ pub struct ReportSummary {
     pub fault_place: usize,
     /// The number of bytes of the text.
     pub length: usize,
-}
-
-impl ExactClone for ReportSummary {
-    ghost exact = { λ x y same. same };
-}
-
-impl InfallibleClone for ReportSummary {
-    ghost infallible = { λ _. tt };
-}
-
-impl EqByParts for ReportSummary {
-    ghost same = { λ x y. nat_eq x.read y.read && (nat_eq x.evidence y.evidence &&
-        (nat_eq x.splits y.splits && (nat_eq x.faulted y.faulted &&
-        (nat_eq x.fault_place y.fault_place && nat_eq x.length y.length)))) };
-
-    ghost equal = { λ x y. refl };
 }
 
 /// The status of a stream that was read whole, or that has a fault.

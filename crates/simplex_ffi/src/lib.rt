@@ -9,6 +9,7 @@
 #![tactic(auto)]
 
 pub mod answer;
+mod derived;
 pub mod keys;
 pub mod leaders;
 pub mod numbers;
