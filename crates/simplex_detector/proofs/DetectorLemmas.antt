@@ -339,8 +339,8 @@ takes_two {S} {D} {C} {P} {G} rules s v w one two old mid new here first second 
           let keep = is_valid (rules schedule) in
           let mid_votes = vs ++ filter keep (v ∷ []) in
           let a_news = a.tells schedule is vs xs holds firsts ∙ or-false (have_news eq vs (filter keep (v ∷ []))) in
-          let b_news = b.tells schedule is mid_votes (xs ++ []) (a.cast schedule is vs holds) (a.certified schedule is xs firsts)
-          ∙ or-false (have_news eq mid_votes (filter keep (w ∷ []))) in
+          let b_news = b.tells schedule is mid_votes (xs ++ []) (a.cast schedule is vs holds)
+          (a.certified schedule is xs firsts) ∙ or-false (have_news eq mid_votes (filter keep (w ∷ []))) in
           (λ i. a_news i || b_news i) ∙ sym (have_news-append eq vs (filter keep (v ∷ [])) (filter keep (w ∷ [])))
           ∙ ap (have_news eq vs) (sym (filter-append keep (v ∷ []) (w ∷ [])))
           ∙ sym (or-false (have_news eq vs (filter keep (v ∷ w ∷ []))));

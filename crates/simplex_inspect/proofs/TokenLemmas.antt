@@ -99,7 +99,8 @@ object_written r ms d p q h =
 -- a listing was written
 pub listed : {E : Type 0} (r : Result (Unit {0}) E) (ms : List (List ℕ × Json)) (name : List ℕ) (js : List Json)
     (validity : Option Validity) {a b c : Written} (d : Written) → Appended (open_tokens ms name) a b →
-    Appended (value_tokens js) b c → OnOk r (Appended (close_tokens validity) c d) → OnOk r (Appended (json_tokens (listing_json ms name js validity)) a d)
+    Appended (value_tokens js) b c → OnOk r (Appended (close_tokens validity) c d) →
+    OnOk r (Appended (json_tokens (listing_json ms name js validity)) a d)
 listed r ms name js validity d p q h =
     on_ok r (λ s. same (listing_tokens ms name js validity) (behind p (behind q s))) h
 
