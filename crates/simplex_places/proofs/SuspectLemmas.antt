@@ -25,12 +25,15 @@ holds_alike holds test xs ys x same all only law =
 -- what holds of the attestations of those that pass a test holds of each that passes it
 pub each_passing : (P : AttestationPlace → Type 0) (test : Placed → Bool) (places : List Placed) →
     All P (map (λ p. p.attestation) (filter test places)) → All (λ p. test p ≡ true → P p.attestation) places
-each_passing P test [] all = All-nil _
+each_passing P test [] all = All-nil (λ (q : Placed). test q ≡ true → P q.attestation)
 each_passing P test (p ∷ ps) all =
+    let Q : Placed → Type 0 = λ q. test q ≡ true → P q.attestation in
+    let rest = map (λ (q : Placed). q.attestation) (filter test ps) in
     (elim (test p) as (λ b. test p ≡ b → All P (map (λ q. q.attestation) (cond b (p ∷ filter test ps) (filter test ps))) →
-    All (λ q. test q ≡ true → P q.attestation) (p ∷ ps)) [
-      | true ↦ λ is all. All-cons _ p ps (λ passes. All-head P _ _ all) (each_passing P test ps (All-tail P _ _ all))
-      | false ↦ λ is all. All-cons _ p ps (λ passes. absurd (true≢false (sym passes ∙ is))) (each_passing P test ps all)
+    All Q (p ∷ ps)) [
+      | true ↦ λ is all. All-cons Q p ps (λ passes. All-head P p.attestation rest all)
+          (each_passing P test ps (All-tail P p.attestation rest all))
+      | false ↦ λ is all. All-cons Q p ps (λ passes. absurd (true≢false (sym passes ∙ is))) (each_passing P test ps all)
     ]) refl all
 
 -- the same items pass tests that are the same
