@@ -23,6 +23,19 @@ const BATCH: &[u8] = &[
     0, 0,
 ];
 
+/// What a ledger of stored evidence stores after the batch.
+fn fed_batch<S: Listing<D>, D: Digest>(
+    alloc: Global,
+    committees: &Committees<S>,
+    stored: &[u8],
+) -> Result<Vec<u8>, Fail> {
+    let ledger = Ledger::<S, D>::resume(alloc, committees, stored)?;
+    if BATCH.len() > usize::MAX - ledger.fed() {
+        return Err("too many bytes".into());
+    }
+    Ok(ledger.feed(BATCH)?.store(alloc)?)
+}
+
 /// A deferred audit and `store_batch` return what an audit and a ledger do.
 fn check<S: Listing<D>, D: Digest>(
     rt: &impl Abort,
@@ -35,8 +48,7 @@ fn check<S: Listing<D>, D: Digest>(
         assert_eq!(rt; found, wanted, "of {stream:?}");
     }
     for stored in [b"".as_slice(), STORED] {
-        let ledger = Ledger::<S, D>::resume(alloc, committees, stored)?;
-        let wanted = ledger.feed(BATCH)?.store(alloc)?;
+        let wanted = fed_batch::<S, D>(alloc, committees, stored)?;
         let found = store_batch::<S, D>(alloc, committees, stored, BATCH)?;
         assert_eq!(rt; found, wanted, "after {stored:?}");
     }
