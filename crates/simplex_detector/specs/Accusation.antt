@@ -1,5 +1,5 @@
 -- Who is accused, by votes that contradict.
-use Rattle.std.specs.Prelude.{ℕ, Bool, ◌&&◌, List}
+use Rattle.std.specs.Prelude.{ℕ, Bool, ◌&&◌, List, [], ◌∷◌}
 use Rattle.std.specs.List.{list_any}
 use Rattle.std.specs.Ordering.{ordering_then, nat_cmp}
 use Rattle.std.specs.declared.cmp.Ordering.{Ordering}
@@ -14,6 +14,13 @@ pub record Accusation : Type 0 where
   pub round : Round
   pub signer : ℕ
   pub kind : EquivocationKind
+
+-- the accusations of a signer in a round, one for each kind, in the order of kinds
+abbrev pub accusations_of : Round → ℕ → List Accusation
+accusations_of round signer =
+    record { round = round; signer = signer; kind = Conflicting_notarize }
+    ∷ record { round = round; signer = signer; kind = Conflicting_finalize }
+    ∷ record { round = round; signer = signer; kind = Nullify_finalize } ∷ []
 
 -- whether two of the votes, both of this signer and round, contradict with this kind. `eq` compares payloads
 abbrev pub is_accused : {D G : Type 0} → (D → D → Bool) → List (SignedVote D G) → Accusation → Bool

@@ -1,7 +1,7 @@
 -- The state of every round so far.
-use Rattle.std.specs.Prelude.{◌≡◌, ℕ, ◌-◌, ◌^◌, Bool, ◌||◌, List, [], ◌++◌, filter, min, Option, Some, None}
+use Rattle.std.specs.Prelude.{◌≡◌, ℕ, ◌-◌, ◌^◌, Bool, ◌||◌, List, [], ◌++◌, filter, min, Option, Some, None, if◌then◌else◌}
 use Rattle.std.specs.BTreeMap.{get}
-use Rattle.std.specs.Option.{option_to_list}
+use Rattle.std.specs.Option.{is_some, option_to_list}
 use Rattle.simplex_base.specs.Positions.{Round}
 use Rattle.simplex_scheme.specs.declared.kind.VoteKind.{VoteKind}
 use Rattle.simplex_scheme.specs.Subject.{SubjectValue}
@@ -11,14 +11,15 @@ use Rattle.simplex_evidence.specs.Contents.{ContentsValue, contents_round, conte
 use Rattle.simplex_evidence.specs.Contradiction.{Equivocation}
 use Rattle.simplex_evidence.specs.declared.types.activity.Activity.{Activity}
 use Rattle.simplex_scheme.specs.Committees.{Schedule, committee_of}
-use Rattle.simplex_detector.specs.Evidence.{IsEvidence}
-use Rattle.simplex_detector.specs.FirstCertified.{certified_subjects, nothing_certified, RecordsFirsts}
+use Rattle.simplex_detector.specs.Evidence.{IsEvidence, evidence_against}
+use Rattle.simplex_detector.specs.FirstCertified.{certified_subjects, first_certified, nothing_certified, RecordsFirsts}
 use Rattle.simplex_detector.specs.News.{have_news, message_is_news, subject_is_news}
 use Rattle.simplex_detector.specs.Recorded.{slot_of, votes_recorded}
 use Rattle.simplex_detector.specs.Accusation.{round_cmp}
 use Rattle.simplex_detector.specs.Rounds.{no_slot, HoldsRound}
 use Rattle.simplex_detector.specs.Rules.{Rules, HaveCommittees, is_valid, valid_votes}
-use Rattle.simplex_detector.specs.Splits.{if_certified, split_of, AreSplits}
+use Rattle.simplex_detector.specs.Splits.{if_certified, is_split, split_of, AreSplits}
+use Rattle.simplex_detector.specs.declared.evidence.SignerInRound.{SignerInRound}
 use Rattle.simplex_detector.specs.declared.judging.Judging.{Judging}
 use Rattle.simplex_detector.specs.declared.split.Split.{Split}
 use Rattle.simplex_detector.specs.declared.round_state.RoundState.{RoundState}
@@ -57,6 +58,15 @@ module _ {S D C P G : Type 0} (rules : Judging → Schedule S → Rules S D C P 
       Recalls (rules judging schedule) messages detector →
       IsEvidence (rules judging schedule).eq (valid_votes (rules judging schedule) messages) es
 
+  -- the evidence in those votes against one signer in one round, behind other evidence
+  abbrev pub GivesEvidenceAgainst : Detector S D P G → SignerInRound → List (Equivocation D G) → List (Equivocation D G) →
+      Type 0
+  GivesEvidenceAgainst detector accused before after =
+      (judging : Judging) (schedule : Schedule S) (messages : List (Activity S D C P G)) →
+      Recalls (rules judging schedule) messages detector →
+      after ≡ before ++ evidence_against (rules judging schedule).eq (valid_votes (rules judging schedule) messages)
+      accused.round accused.signer
+
   -- the number of the recorded votes of those messages, up to 2^64 - 1
   abbrev pub CountsVotes : Detector S D P G → ℕ → Type 0
   CountsVotes detector count = (judging : Judging) (schedule : Schedule S) (messages : List (Activity S D C P G)) →
@@ -74,6 +84,20 @@ module _ {S D C P G : Type 0} (rules : Judging → Schedule S → Rules S D C P 
   GivesSplit schedule round round_state split = (judging : Judging) (messages : List (Activity S D C P G)) →
       HaveCommittees (rules judging schedule) → RecallsRound (rules judging schedule) messages round round_state →
       split ≡ split_of (rules judging schedule) messages round
+
+  -- the split of a round in those messages, if they split it
+  abbrev pub GivesSplitOf : Schedule S → Round → Detector S D P G → Option Split → Type 0
+  GivesSplitOf schedule round detector split = (judging : Judging) (messages : List (Activity S D C P G)) →
+      HaveCommittees (rules judging schedule) → Recalls (rules judging schedule) messages detector →
+      split ≡ split_of (rules judging schedule) messages round
+
+  -- Whether one of those messages certifies a subject of a kind in a round, if they do not split the round.
+  abbrev pub TellsCertified : Round → VoteKind → Detector S D P G → Option Bool → Type 0
+  TellsCertified round kind detector told =
+      (judging : Judging) (schedule : Schedule S) (messages : List (Activity S D C P G)) →
+      Recalls (rules judging schedule) messages detector →
+      told ≡ (if is_split (rules judging schedule) messages round then None
+      else Some (is_some (first_certified (certified_subjects (rules judging schedule) messages) round kind)))
 
 -- the state of some messages becomes the state of these and more messages
 abbrev pub RecallsMore : {S D C P G : Type 0} → Rules S D C P G → List (Activity S D C P G) → Detector S D P G →

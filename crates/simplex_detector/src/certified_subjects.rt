@@ -10,7 +10,7 @@ ghost use Rattle.simplex_detector.specs.FirstCertified.{nothing_certified, Recor
 
 use crate::judge::{Judge, Signatures};
 use simplex_base::positions::Round;
-use simplex_scheme::scheme::{CertificateVerifier, Digest, Proposal, Subject};
+use simplex_scheme::scheme::{CertificateVerifier, Digest, Proposal, Subject, VoteKind};
 
 /// The first certified subject of each kind in a round, until two contradict, and whether two do.
 #[derive(Drop)]
@@ -80,17 +80,17 @@ impl<D: Digest> CertifiedSubjects<D> {
         ensures { result ≡ changes_firsts D.eq (firsts_of self.now) self.now.split
             (subject_value subject.now) }
     {
-        !self.split && (!self.has_first(subject) || self.excludes(subject))
+        !self.split && (!self.has_first(subject.kind()) || self.excludes(subject))
     }
 
-    /// Whether a subject of the same kind is recorded.
-    fn has_first(&self, subject: &Subject<'_, D>) -> bool
-        ensures { result ≡ is_some (firsts_of self.now (kind_of (subject_value subject.now))) }
+    /// Whether a subject of this kind is recorded.
+    pub fn has_first(&self, kind: VoteKind) -> bool
+        ensures { result ≡ is_some (firsts_of self.now kind) }
     {
-        match subject {
-            Subject::Notarize { .. } => self.notarized.is_some(),
-            Subject::Nullify { .. } => self.nullified.is_some(),
-            Subject::Finalize { .. } => self.finalized.is_some(),
+        match kind {
+            VoteKind::Notarize => self.notarized.is_some(),
+            VoteKind::Nullify => self.nullified.is_some(),
+            VoteKind::Finalize => self.finalized.is_some(),
         }
     }
 
@@ -117,7 +117,7 @@ impl<D: Digest> CertifiedSubjects<D> {
             (subject_value subject.now)) }
     {
         self.split = self.split || self.excludes(subject);
-        if self.has_first(subject) {
+        if self.has_first(subject.kind()) {
             return;
         }
         match subject {

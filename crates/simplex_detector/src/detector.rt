@@ -3,14 +3,14 @@
 ghost use Rattle.std.specs.Prelude.{◌≡◌, [], ◌∷◌, ◌++◌, List, All, map, IfOk, OnOk};
 ghost use Rattle.std.specs.Option.{option_to_list};
 ghost use Rattle.simplex_base.specs.Format.{format_of};
-ghost use Rattle.simplex_detector.specs.Detector.{RecallsNone, RecallsMore, TellsNews, GivesEvidence, GivesSplits, CountsVotes, Recalls};
+ghost use Rattle.simplex_detector.specs.Detector.{RecallsNone, RecallsMore, TellsNews, GivesEvidence, GivesEvidenceAgainst, GivesSplitOf, GivesSplits, CountsVotes, Recalls, TellsCertified};
 ghost use Rattle.simplex_evidence.specs.declared.types.activity.Activity.{Activity};
-ghost use Rattle.simplex_detector.specs.EncodedEvidence.{IsEncoded};
+ghost use Rattle.simplex_detector.specs.EncodedEvidence.{IsEncoded, StayEncoded};
 ghost use Rattle.simplex_detector.specs.Independence.{in_rounds, is_from};
 ghost use Rattle.simplex_detector.specs.Rules.{Rules};
 ghost use Rattle.simplex_detector.specs.Values.{evidence_value};
 
-use crate::evidence::Evidence;
+use crate::evidence::{Evidence, SignerInRound};
 use crate::judge::Judge;
 use crate::judging::{Judging, is_at_least};
 use crate::round_state::RoundState;
@@ -20,7 +20,7 @@ use simplex_base::codec::Read;
 use simplex_base::positions::Round;
 use simplex_evidence::types::Activity;
 use simplex_scheme::committees::Committees;
-use simplex_scheme::scheme::{Digest, Listing, SchemeTypes};
+use simplex_scheme::scheme::{Digest, Listing, SchemeTypes, VoteKind};
 use std::alloc::{AllocError, Global};
 use std::collections::BTreeMap;
 
@@ -120,6 +120,44 @@ impl<S: Listing<D>, D: Digest> Detector<S, D> {
             push_split(&mut splits, round_state.split(committees, *round))?;
         }
         Ok(splits)
+    }
+
+    /// Appends the evidence in the valid votes so far against one signer in one round, in the order of kinds. Two maps are looked
+    /// into, that of rounds and that of the signer's votes. `AllocError` only where an allocation failed.
+    pub fn evidence_against(
+        &self,
+        accused: SignerInRound,
+        found: &mut Vec<Evidence<S, D>>,
+    ) -> Result<(), AllocError>
+        ensures appended { OnOk result (GivesEvidenceAgainst ⟦<S as Judges<D>>⟧.rules_under self.now
+            accused (map evidence_value found.old.items) (map evidence_value found.new.items)) }
+        // Each can be encoded as a message.
+        ensures encoded { OnOk result (StayEncoded D.eq (format_of ⟦<D as Read>⟧)
+            (format_of ⟦<S::Signature as Read>⟧) found.old.items found.new.items) }
+    {
+        match self.rounds.get(&accused.round) {
+            None => Ok(()),
+            Some(round_state) => round_state.votes.report_signer(accused.signer, found),
+        }
+    }
+
+    /// The split of a round, if the messages so far split it.
+    pub fn split_of(&self, committees: &Committees<S>, round: Round) -> Option<Split>
+        ensures { GivesSplitOf ⟦<S as Judges<D>>⟧.rules_under committees.now round self.now result }
+    {
+        let round_state = self.rounds.get(&round)?;
+        round_state.split(committees, round)
+    }
+
+    /// Whether a message so far certifies a subject of this kind in a round; `None` if the round is split, since no more is
+    /// recorded of it then.
+    pub fn has_certified(&self, round: Round, kind: VoteKind) -> Option<bool>
+        ensures { TellsCertified ⟦<S as Judges<D>>⟧.rules_under round kind self.now result }
+    {
+        match self.rounds.get(&round) {
+            None => Some(false),
+            Some(round_state) => round_state.has_certified(kind),
+        }
     }
 
     /// How many valid votes of the messages so far are recorded: for each signer and round the earliest of each kind, and of

@@ -1,12 +1,13 @@
 //! The state of one round: its votes and its certified subjects.
 
-ghost use Rattle.std.specs.Prelude.{◌≡◌, ◌↔◌, [], ◌∷◌, None, Some, ℕ, map, IfOk, IsTrue};
-ghost use Rattle.simplex_scheme.specs.declared.kind.VoteKind.{VoteKind};
+ghost use Rattle.std.specs.Prelude.{◌≡◌, ◌↔◌, [], ◌∷◌, None, Some, ℕ, map, IfOk, IsTrue, if◌then◌else◌};
+ghost use Rattle.std.specs.Option.{is_some};
+ghost use Rattle.simplex_scheme.specs.declared.kind.VoteKind as kinds;
 ghost use Rattle.simplex_scheme.specs.Subject.{subject_value, round_of};
 ghost use Rattle.simplex_votes.specs.Votes.{vote_on};
 ghost use Rattle.simplex_evidence.specs.Contents.{AreInConflict, contents_value, signed_value};
 ghost use Rattle.simplex_detector.specs.Rounds.{round_count, IsSized, slots, no_slot};
-ghost use Rattle.simplex_detector.specs.FirstCertified.{nothing_certified};
+ghost use Rattle.simplex_detector.specs.FirstCertified.{firsts_of, nothing_certified};
 ghost use Rattle.simplex_detector.specs.Detector.{TakesIn, TakesContents, GivesSplit};
 
 use crate::certified_subjects::CertifiedSubjects;
@@ -17,7 +18,7 @@ use crate::split::Split;
 use simplex_base::positions::Round;
 use simplex_evidence::types::{Contents, Signed};
 use simplex_scheme::committees::Committees;
-use simplex_scheme::scheme::{Digest, Listing, SchemeTypes, Subject, max_faults};
+use simplex_scheme::scheme::{Digest, Listing, SchemeTypes, Subject, VoteKind, max_faults};
 use std::alloc::{AllocError, Global};
 
 /// The state of one round.
@@ -33,7 +34,7 @@ impl<S: SchemeTypes, D: Digest> RoundState<S, D> {
     /// The empty state of a round whose committee has this many participants.
     pub fn new(alloc: Global, participants: usize) -> Self
         ensures sized { IsSized participants result.votes }
-        ensures empty { (signer : ℕ) (kind : VoteKind) → slots result.votes signer kind ≡ no_slot }
+        ensures empty { (signer : ℕ) (kind : kinds.VoteKind) → slots result.votes signer kind ≡ no_slot }
         ensures none { round_count result.votes ≡ 0 }
         ensures certified { result.certified ≡ nothing_certified }
     {
@@ -45,13 +46,26 @@ impl<S: SchemeTypes, D: Digest> RoundState<S, D> {
 
     /// Whether nothing is recorded.
     pub fn is_empty(&self) -> bool
-        ensures votes { IsTrue result → (signer : ℕ) (kind : VoteKind) →
+        ensures votes { IsTrue result → (signer : ℕ) (kind : kinds.VoteKind) →
             slots self.now.votes signer kind ≡ no_slot }
         ensures certified { IsTrue result → self.now.certified ≡ nothing_certified }
         ensures exactly { IsTrue result ↔ (round_count self.now.votes ≡ 0) ×
             (self.now.certified ≡ nothing_certified) }
     {
         self.votes.is_empty() && self.certified.is_empty()
+    }
+}
+
+impl<S: SchemeTypes, D: Digest> RoundState<S, D> {
+    /// Whether a certified subject of a kind is recorded; `None` if the round is split, of which no subjects are kept.
+    pub fn has_certified(&self, kind: VoteKind) -> Option<bool>
+        ensures { result ≡ (if self.now.certified.split then None
+            else Some (is_some (firsts_of self.now.certified kind))) }
+    {
+        if self.certified.is_split() {
+            return None;
+        }
+        Some(self.certified.has_first(kind))
     }
 }
 

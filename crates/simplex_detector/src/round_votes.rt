@@ -231,7 +231,7 @@ impl<S: SchemeTypes, D: Digest> RoundVotes<S, D> {
     }
 
     /// Appends the evidence against a signer, in the order of kinds.
-    fn report_signer(
+    pub fn report_signer(
         &self,
         signer: Participant,
         found: &mut Vec<Evidence<S, D>>,

@@ -1,0 +1,1 @@
+-- What was told of the evidence, and what is to be told.

@@ -1,0 +1,7 @@
+//! An auditor that listens: it follows a network by the certificates of its stream, holds a window of rounds and tells each
+//! contradiction once, when the message that completes it comes.
+//!
+//! [`news`] has what was told, and what is to be told.
+#![tactic(auto)]
+
+pub mod news;

@@ -1,0 +1,1 @@
+//! What is to be told of the evidence, and what was told.
