@@ -17,7 +17,7 @@ of_rounds [] vs = 0
 of_rounds (r ∷ rounds) vs = length (filter (of_round r) vs) + of_rounds rounds vs
 
 -- filtering by a weaker test first changes nothing
-filter_filtered : {X : Type 0} (p q : X → Bool) → ((x : X) → p x ≡ true → q x ≡ true) → (xs : List X) →
+pub filter_filtered : {X : Type 0} (p q : X → Bool) → ((x : X) → p x ≡ true → q x ≡ true) → (xs : List X) →
     filter p (filter q xs) ≡ filter p xs
 filter_filtered p q weaker [] = refl
 filter_filtered p q weaker (x ∷ xs) =

@@ -20,3 +20,4 @@ pub mod InterchangeLemmas
 pub mod NewsLemmas
 pub mod StayLemmas
 pub mod BoundLemmas
+pub mod AlertLemmas

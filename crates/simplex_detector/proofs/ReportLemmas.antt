@@ -1,6 +1,8 @@
 -- The evidence in what is recorded, signer by signer and round by round, is the evidence of the votes.
 use Rattle.simplex_detector.proofs.Prelude.{signer_in, Activity, All, All-contains, All-from_recursion, All-push, AllByRecursion, Bool, Conflicting_finalize, Conflicting_notarize, Contains, Contains-append_left, Contains-append_right, Contains-dedup_nat, Contains-permutation, Detector, Equivocation, HoldsRound, IsEquivalence, IsEvidence, IsOrdered, IsPermutation, IsSorted, IsStrictlyIncreasing-dedup, EquivocationKind, Less, List, ListsSigners, Accusation, None, Nullify_finalize, Recalls, RecallsAt, RecallsNothing, RecallsRound, Round, RoundState, RoundVotes, Rules, SignedVote, Slot, Some, VoteKind, [], ap, append-nil, append_assoc, arith, btree_map_get_iff, cond-true, contradicts, dedup, eqb, eqb-true, evidence_from, evidence_of, false≢true, filter_map, filter_map-append, flat_map, flat_map_more, found_at, found_of_kind, get, get_or, if_contradicts, inl, inr, is_some, item_of, kind_rank, length, map, map-append, map-id, accused_by, accused_cmp, nat_cmp, no_slot, option_map, option_to_list, ordering_then, recursion_from_All, refl, round_cmp, signer_cmp, slot_of, slots, sorted_from_strictly_increasing, subst, sym, take, take_more, tied_itself, true, valid_votes, ℕ, ◌++◌, ◌+◌, ◌<◌, ◌∙◌, ◌∷◌, ◌≡◌, ◌⊎◌}
 use Rattle.std.specs.List.Sorted.{IsStrictlySortedBy}
+use Rattle.simplex_detector.specs.Accusation.{accusations_of}
+use Rattle.simplex_detector.specs.Evidence.{evidence_against}
 use Rattle.simplex_detector.proofs.EvidenceLemmas.{evidence_is, from_listing}
 use Rattle.simplex_detector.proofs.Lists.{found_mapped, Contains-flat_map, Contains-from_flat_map, Contains-from_map, Contains-map, each, filter_map-joined, found, made_complete, made_ordered, made_sound, some_from_is_some, sorted_joined}
 use Rattle.simplex_detector.proofs.Places.{exact_rounds, round_cmp_total, signer_cmp_total}
@@ -30,38 +32,32 @@ module _ {S D C P G : Type 0} (rules : Rules S D C P G) (messages : List (Activi
 
 -- ---- the accusations of a signer and of a round, in order
 
-abbrev names_at : Round → ℕ → List Accusation
-names_at round signer =
-    record { round = round; signer = signer; kind = Conflicting_notarize }
-    ∷ record { round = round; signer = signer; kind = Conflicting_finalize }
-    ∷ record { round = round; signer = signer; kind = Nullify_finalize } ∷ []
-
 abbrev pub names_in : Round → List ℕ → List Accusation
-names_in round signers = flat_map (names_at round) signers
+names_in round signers = flat_map (accusations_of round) signers
 
 -- the accusations of a signer in a round are of that signer and round
-at_name : (round : Round) (signer : ℕ) (n : Accusation) → Contains (names_at round signer) n →
+at_name : (round : Round) (signer : ℕ) (n : Accusation) → Contains (accusations_of round signer) n →
     (n.round ≡ round) × (n.signer ≡ signer)
 at_name round signer n h =
-    All-contains (λ (m : Accusation). (m.round ≡ round) × (m.signer ≡ signer)) (names_at round signer) n
-    (All-from_recursion (λ (m : Accusation). (m.round ≡ round) × (m.signer ≡ signer)) (names_at round signer)
+    All-contains (λ (m : Accusation). (m.round ≡ round) × (m.signer ≡ signer)) (accusations_of round signer) n
+    (All-from_recursion (λ (m : Accusation). (m.round ≡ round) × (m.signer ≡ signer)) (accusations_of round signer)
     ((refl, refl), ((refl, refl), ((refl, refl), tt)))) h
 
 in_name : (round : Round) (signers : List ℕ) (n : Accusation) → Contains (names_in round signers) n → n.round ≡ round
 in_name round signers n h =
-    let (signer, _, at) = Contains-from_flat_map (names_at round) signers n h in (at_name round signer n at).0
+    let (signer, _, at) = Contains-from_flat_map (accusations_of round) signers n h in (at_name round signer n at).0
 
 -- each accusation is among those of its own signer and round
-own_name : (n : Accusation) → Contains (names_at n.round n.signer) n
+pub own_name : (n : Accusation) → Contains (accusations_of n.round n.signer) n
 own_name n =
-    elim n.kind as (λ kind. Contains (names_at n.round n.signer) (record { round = n.round; signer = n.signer; kind = kind })) [
+    elim n.kind as (λ kind. Contains (accusations_of n.round n.signer) (record { round = n.round; signer = n.signer; kind = kind })) [
       | Conflicting_notarize ↦ (0, omega arith, refl)
       | Conflicting_finalize ↦ (1, omega arith, refl)
       | Nullify_finalize ↦ (2, omega arith, refl)
     ]
 
 -- those of a signer are in the order of kinds
-ordered_at : (round : Round) (signer : ℕ) → IsStrictlySortedBy accused_cmp (names_at round signer)
+ordered_at : (round : Round) (signer : ℕ) → IsStrictlySortedBy accused_cmp (accusations_of round signer)
 unfolding IsStrictlySortedBy
 ordered_at round signer =
     let rise : (k l : EquivocationKind) → nat_cmp (kind_rank k) (kind_rank l) ≡ Less →
@@ -75,7 +71,7 @@ ordered_at round signer =
 ordered_in : (round : Round) (signers : List ℕ) → IsStrictlySortedBy nat_cmp signers →
     IsStrictlySortedBy accused_cmp (names_in round signers)
 ordered_in round signers sorted =
-    sorted_joined nat_cmp accused_cmp (λ s. s) (names_at round)
+    sorted_joined nat_cmp accused_cmp (λ s. s) (accusations_of round)
     (λ s q n m less n_in m_in.
     let (n_here, n_is) = at_name round s n n_in in
     let (m_here, m_is) = at_name round q m m_in in
@@ -103,14 +99,14 @@ module _ {D G : Type 0} (eq : D → D → Bool) (vs : List (SignedVote D G)) whe
   ]) refl
 
   -- so the evidence is found in the slots of the votes, kind by kind
-  found_at-evidence : (round : Round) (signer : ℕ) (slot : VoteKind → Slot D G) →
+  pub found_at-evidence : (round : Round) (signer : ℕ) (slot : VoteKind → Slot D G) →
       ((kind : VoteKind) → slot kind ≡ slot_of eq vs kind round signer) →
-      found_at eq slot ≡ filter_map (evidence_of eq vs) (names_at round signer)
+      found_at eq slot ≡ filter_map (evidence_of eq vs) (accusations_of round signer)
   found_at-evidence round signer slot is =
       (λ i. option_to_list (of_kind Conflicting_notarize i)
       ++ (option_to_list (of_kind Conflicting_finalize i) ++ sym (append-nil (option_to_list (of_kind Nullify_finalize i))) i))
       ∙
-      sym (filter_map-joined (evidence_of eq vs) (names_at round signer))
+      sym (filter_map-joined (evidence_of eq vs) (accusations_of round signer))
     where
       of_kind : (kind : EquivocationKind) →
           found_of_kind eq slot kind ≡ evidence_of eq vs (record { round = round; signer = signer; kind = kind })
@@ -118,6 +114,11 @@ module _ {D G : Type 0} (eq : D → D → Bool) (vs : List (SignedVote D G)) whe
           let n : Accusation = record { round = round; signer = signer; kind = kind } in
           ap (if_contradicts eq) ((λ i. evidence_from (λ cast. is cast i) kind) ∙ sym (evidence_of-slots eq vs n))
           ∙ contradicts-evidence n
+
+  -- nobody is accused of nothing
+  pub against_nothing : (round : Round) (signer : ℕ) →
+      ((signer : ℕ) (kind : VoteKind) → no_slot ≡ slot_of eq vs kind round signer) → [] ≡ evidence_against eq vs round signer
+  against_nothing round signer empty = found_at-evidence round signer (λ kind. no_slot) (empty signer)
 
   module _ {S P : Type 0} (size : ℕ) (round : Round) (recorded : RoundVotes S D P G)
       (holds : HoldsRound eq size vs round recorded) where
@@ -127,7 +128,7 @@ module _ {D G : Type 0} (eq : D → D → Bool) (vs : List (SignedVote D G)) whe
     found_in_round [] = refl
     found_in_round (s ∷ signers) =
         (λ i. found_at-evidence round s (slots recorded s) (holds.held s) i ++ found_in_round signers i)
-        ∙ sym (filter_map-append (evidence_of eq vs) (names_at round s) (names_in round signers))
+        ∙ sym (filter_map-append (evidence_of eq vs) (accusations_of round s) (names_in round signers))
 
     -- a signer with evidence in the round is among the listed signers
     pub listed_in_round : (signers : List ℕ) → ListsSigners recorded signers → (n : Accusation) → n.round ≡ round →
@@ -137,8 +138,8 @@ module _ {D G : Type 0} (eq : D → D → Bool) (vs : List (SignedVote D G)) whe
         let from_slots =
         (λ i. evidence_from (λ kind. (holds.held n.signer kind ∙ ap (λ r. slot_of eq vs kind r n.signer) (sym here)) i) n.kind)
         ∙ sym (evidence_of-slots eq vs n) ∙ is in
-        Contains-flat_map (names_at round) signers n.signer n (of_kind n.kind x from_slots)
-        (subst (λ r. Contains (names_at r n.signer) n) here (own_name n))
+        Contains-flat_map (accusations_of round) signers n.signer n (of_kind n.kind x from_slots)
+        (subst (λ r. Contains (accusations_of r n.signer) n) here (own_name n))
       where
         item : {V : Type 0} (signer : V → ℕ) (vote : V → SignedVote D G) (items : List V) (y : SignedVote D G) →
             ((v : V) → Contains items v → Contains signers (signer v)) →

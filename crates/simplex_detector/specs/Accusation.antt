@@ -7,6 +7,9 @@ use Rattle.simplex_base.specs.Positions.{Round}
 use Rattle.simplex_scheme.specs.Subject.{round_of}
 use Rattle.simplex_votes.specs.Votes.{SignedVote, is_of}
 use Rattle.simplex_evidence.specs.Contradiction.{EquivocationKind, Conflicting_notarize, Conflicting_finalize, Nullify_finalize, contradicts, Equivocation}
+use Rattle.simplex_detector.specs.declared.evidence.Accusation as declared
+use Rattle.simplex_detector.specs.declared.evidence.EquivocationKind as declared_kind
+use Rattle.simplex_detector.specs.declared.evidence.EquivocationKind.TheVariants as ways
 use Rattle.simplex_detector.specs.declared.evidence.SignerInRound.{SignerInRound}
 
 -- a signer, in a round, with a kind of contradiction
@@ -55,3 +58,25 @@ abbrev pub accused_cmp : Accusation → Accusation → Ordering
 accused_cmp a b =
     ordering_then (signer_cmp (signer_in a.round a.signer) (signer_in b.round b.signer))
     (nat_cmp (kind_rank a.kind) (kind_rank b.kind))
+
+-- ---- as the code has them
+
+-- a kind of contradiction
+abbrev pub way_of : EquivocationKind → declared_kind.EquivocationKind
+way_of Conflicting_notarize = ways.ConflictingNotarize
+way_of Conflicting_finalize = ways.ConflictingFinalize
+way_of Nullify_finalize = ways.NullifyFinalize
+
+-- its place in the order of kinds
+abbrev pub way_rank : declared_kind.EquivocationKind → ℕ
+way_rank ways.ConflictingNotarize = 0
+way_rank ways.ConflictingFinalize = 1
+way_rank ways.NullifyFinalize = 2
+
+-- an accusation
+abbrev pub key_of : Accusation → declared.Accusation
+key_of n = record { accused = signer_in n.round n.signer; kind = way_of n.kind }
+
+-- accusations are ordered by round, signer and kind
+abbrev pub key_cmp : declared.Accusation → declared.Accusation → Ordering
+key_cmp a b = ordering_then (signer_cmp a.accused b.accused) (nat_cmp (way_rank a.kind) (way_rank b.kind))

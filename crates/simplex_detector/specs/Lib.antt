@@ -23,3 +23,4 @@ pub mod Interchange
 pub mod News
 pub mod NewsLaws
 pub mod Stays
+pub mod Alerts

@@ -3,7 +3,7 @@
 ghost use Rattle.std.specs.Prelude.{nat_eq, refl, ◌&&◌};
 ghost use Rattle.std.specs.Ordering.{nat_cmp, ordering_then};
 
-use crate::evidence::{Evidence, SignerInRound};
+use crate::evidence::{Accusation, EquivocationKind, Evidence, SignerInRound};
 use crate::split::Split;
 use simplex_base::positions::Round;
 use simplex_base::values::{EqByParts, ExactClone, InfallibleClone, OrdByParts};
@@ -44,6 +44,62 @@ impl EqByParts for SignerInRound {
 impl OrdByParts for SignerInRound {
     ghost order = { λ x y. ordering_then (⟦<Round as Ord>⟧.cmp x.round y.round)
         (nat_cmp x.signer y.signer) };
+
+    ghost ordered = { λ x y. refl };
+}
+
+impl ExactClone for EquivocationKind {
+    ghost exact = { λ x y same. same };
+}
+
+impl InfallibleClone for EquivocationKind {
+    ghost infallible = { λ _. tt };
+}
+
+impl EqByParts for EquivocationKind {
+    ghost use Rattle.simplex_detector.specs.Accusation.{way_rank};
+    ghost use Rattle.simplex_detector.specs.declared.evidence.EquivocationKind.TheVariants.{ConflictingNotarize, ConflictingFinalize, NullifyFinalize};
+
+    ghost same = { λ x y. nat_eq (way_rank x) (way_rank y) };
+
+    ghost equal = { elim [
+      | ConflictingNotarize ↦ elim [ ConflictingNotarize ↦ refl | ConflictingFinalize ↦ refl | NullifyFinalize ↦ refl ]
+      | ConflictingFinalize ↦ elim [ ConflictingNotarize ↦ refl | ConflictingFinalize ↦ refl | NullifyFinalize ↦ refl ]
+      | NullifyFinalize ↦ elim [ ConflictingNotarize ↦ refl | ConflictingFinalize ↦ refl | NullifyFinalize ↦ refl ]
+    ] };
+}
+
+impl OrdByParts for EquivocationKind {
+    ghost use Rattle.simplex_detector.specs.Accusation.{way_rank};
+    ghost use Rattle.simplex_detector.specs.declared.evidence.EquivocationKind.TheVariants.{ConflictingNotarize, ConflictingFinalize, NullifyFinalize};
+
+    ghost order = { λ x y. nat_cmp (way_rank x) (way_rank y) };
+
+    ghost ordered = { elim [
+      | ConflictingNotarize ↦ elim [ ConflictingNotarize ↦ refl | ConflictingFinalize ↦ refl | NullifyFinalize ↦ refl ]
+      | ConflictingFinalize ↦ elim [ ConflictingNotarize ↦ refl | ConflictingFinalize ↦ refl | NullifyFinalize ↦ refl ]
+      | NullifyFinalize ↦ elim [ ConflictingNotarize ↦ refl | ConflictingFinalize ↦ refl | NullifyFinalize ↦ refl ]
+    ] };
+}
+
+impl ExactClone for Accusation {
+    ghost exact = { λ x y same. same };
+}
+
+impl InfallibleClone for Accusation {
+    ghost infallible = { λ _. tt };
+}
+
+impl EqByParts for Accusation {
+    ghost same = { λ x y. ⟦<SignerInRound as PartialEq>⟧.eq x.accused y.accused &&
+        ⟦<EquivocationKind as PartialEq>⟧.eq x.kind y.kind };
+
+    ghost equal = { λ x y. refl };
+}
+
+impl OrdByParts for Accusation {
+    ghost order = { λ x y. ordering_then (⟦<SignerInRound as Ord>⟧.cmp x.accused y.accused)
+        (⟦<EquivocationKind as Ord>⟧.cmp x.kind y.kind) };
 
     ghost ordered = { λ x y. refl };
 }

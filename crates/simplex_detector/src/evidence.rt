@@ -25,6 +25,26 @@ pub struct SignerInRound {
     pub signer: Participant,
 }
 
+/// How two votes of a signer in a round contradict, in the order in which a report lists evidence.
+#[derive(Clone, Copy, Debug, PartialEq, Eq, PartialOrd, Ord)]
+pub enum EquivocationKind {
+    /// Two notarizes of different proposals.
+    ConflictingNotarize,
+    /// Two finalizes of different proposals.
+    ConflictingFinalize,
+    /// A nullify and a finalize.
+    NullifyFinalize,
+}
+
+/// Whom an evidence accuses: a signer in a round, and how its votes contradict.
+#[derive(Clone, Copy, Debug, PartialEq, Eq, PartialOrd, Ord)]
+pub struct Accusation {
+    /// The signer, in its round.
+    pub accused: SignerInRound,
+    /// How its votes contradict.
+    pub kind: EquivocationKind,
+}
+
 impl SignerInRound {
     /// The signer of a vote, in the vote's round.
     fn of<V: Roundable + Attributable>(vote: &V) -> Self
@@ -59,6 +79,7 @@ pub enum Evidence<S: SchemeTypes, D: Digest> {
 }
 
 impl<S: SchemeTypes, D: Digest> Evidence<S, D> {
+    ghost use Rattle.simplex_detector.specs.Accusation.{accused_by, key_of, way_of};
     ghost use Rattle.simplex_detector.specs.Values.{evidence_value};
 
     /// The round of the first vote; votes that contradict are of one round.
@@ -80,6 +101,28 @@ impl<S: SchemeTypes, D: Digest> Evidence<S, D> {
             Evidence::ConflictingNotarize(conflict) => conflict.signer(),
             Evidence::ConflictingFinalize(conflict) => conflict.signer(),
             Evidence::NullifyFinalize(conflict) => conflict.signer(),
+        }
+    }
+
+    /// How its two votes contradict.
+    pub fn kind(&self) -> EquivocationKind
+        ensures { result ≡ way_of (evidence_value self.now).kind }
+    {
+        match self {
+            Evidence::ConflictingNotarize(_) => EquivocationKind::ConflictingNotarize,
+            Evidence::ConflictingFinalize(_) => EquivocationKind::ConflictingFinalize,
+            Evidence::NullifyFinalize(_) => EquivocationKind::NullifyFinalize,
+        }
+    }
+
+    /// Whom it accuses.
+    pub fn accusation(&self) -> Accusation
+        ensures { result ≡ key_of (accused_by (evidence_value self.now)) }
+    {
+        let (round, signer) = (self.round(), self.signer());
+        Accusation {
+            accused: SignerInRound { round, signer },
+            kind: self.kind(),
         }
     }
 

@@ -7,6 +7,7 @@
 //! contracts the rules by which messages are judged.
 #![tactic(auto)]
 
+pub mod alerts;
 mod boxed_map;
 mod certified_subjects;
 mod derived;

@@ -1,0 +1,321 @@
+-- Evidence as it arises is noted once, message by message.
+use Rattle.simplex_detector.proofs.Prelude.{Accusation, Activity, All, All-contains, All-filter, All-push, AllByRecursion, Bool, Contains, Contains-append_cases, Contains-append_left, Contains-append_right, Detector, Equal, Greater, Less, Ordering, tied_itself, in_rounds, is_from, filter_map, and_left, same_Some, Equivocation, IsEquivalence, Judging, List, None, Option, Recalls, Round, Rules, Schedule, SignedVote, Some, [], accused_by, accused_cmp, activity_round, and_parts, ap, append-nil, append_assoc, arith, cond, contains, contradicts, evidence_of, false, false_from_ne_true, false≢true, filter, filter-append, inl, inr, is_accused, is_eq, is_of, is_some, is_valid, length, length-append, map, map-append, or_right, or_left, refl, round_of, subst, sym, true, valid_votes, votes_in, ℕ, ⊎_elim, ◌++◌, ◌+◌, ◌&&◌, ◌∙◌, ◌∷◌, ◌≡◌, ◌⊎◌}
+use Rattle.std.specs.Int.{from_bool}
+use Rattle.simplex_detector.proofs.EvidenceLemmas.{accused-from_evidence, accused_from_votes, evidence-from_accused, evidence_is, valid_votes-push, votes_from_accused}
+use Rattle.simplex_detector.proofs.Filters.{filter_none}
+use Rattle.simplex_detector.proofs.CountLemmas.{filter_filtered}
+use Rattle.simplex_detector.proofs.IndependenceLemmas.{accused-from_within, is_vote_of, same_evidence-within, votes_in_rounds}
+use Rattle.simplex_detector.proofs.Lists.{Contains-cons_cases, Contains-filter_map, Contains-first, Contains-from_filter, Contains-none, each, made_sound, same_bool, some_from_is_some}
+use Rattle.simplex_detector.proofs.ReportLemmas.{accuses_own, own_name}
+use Rattle.simplex_detector.proofs.Places.{accused_cmp_total, exact_accused, is_of-true, is_of-from}
+use Rattle.simplex_detector.proofs.StayLemmas.{evidence_of-stays}
+use Rattle.simplex_detector.specs.Accusation.{accusations_of}
+use Rattle.simplex_detector.specs.Evidence.{evidence_against}
+use Rattle.simplex_detector.specs.Alerts.{NotesAll, NotesSigners, Tells, TellsSome, has_arisen, times_accused, untold}
+use Rattle.simplex_detector.specs.declared.alerts.Alerts.{Alerts}
+
+-- accusations that the order ties are equal
+accused_same : (m n : Accusation) → is_eq (accused_cmp m n) ≡ true → m ≡ n
+accused_same m n at = exact_accused m n (tied (accused_cmp m n) at)
+  where
+    tied : (o : Ordering) → is_eq o ≡ true → o ≡ Equal
+    tied Equal h = refl
+    tied _ h = absurd (false≢true h)
+
+-- ---- one evidence
+
+-- how often some evidence, and one more, accuses
+times_push : {D G : Type 0} (es : List (Equivocation D G)) (e : Equivocation D G) (n : Accusation) →
+    times_accused (es ++ e ∷ []) n ≡ times_accused es n + from_bool (is_eq (accused_cmp (accused_by e) n))
+times_push es e n =
+    let same = λ (f : Equivocation _ _). is_eq (accused_cmp (accused_by f) n) in
+    ap length (filter-append same es (e ∷ [])) ∙ length-append (filter same es) (filter same (e ∷ []))
+    ∙ ap (λ k. times_accused es n + k) (one (same e))
+  where
+    one : (b : Bool) → length (cond b (e ∷ []) []) ≡ from_bool b
+    one true = refl
+    one false = refl
+
+module _ {S D P G : Type 0} (old new : Alerts S D P G) (e : Equivocation D G)
+    (arises : (n : Accusation) → has_arisen new n ≡ cond (is_eq (accused_cmp (accused_by e) n)) true (has_arisen old n))
+    (grows : untold new ≡ untold old ++ cond (has_arisen old (accused_by e)) [] (e ∷ [])) where
+  -- what arose stays
+  noted_stay : (n : Accusation) → has_arisen old n ≡ true → has_arisen new n ≡ true
+  noted_stay n h = arises n ∙ (elim (is_eq (accused_cmp (accused_by e) n)) as (λ b. cond b true (has_arisen old n) ≡ true)
+      [ true ↦ refl | false ↦ h ])
+
+  -- the evidence is noted, unless it arose before
+  pub notes_one : NotesAll (e ∷ []) old new
+  notes_one = record {
+    added = λ eq vs told sound some.
+        let own = All-contains (λ f. evidence_of eq vs (accused_by f) ≡ Some f) (e ∷ []) e sound (Contains-first e []) in
+        (elim (has_arisen old (accused_by e)) as (λ b. has_arisen old (accused_by e) ≡ b →
+        untold new ≡ untold old ++ cond b [] (e ∷ []) → TellsSome eq vs told new) [
+          | true ↦ λ known is. again eq vs told some own known (is ∙ append-nil (untold old))
+          | false ↦ λ fresh is. first eq vs told some own fresh is
+        ]) refl grows;
+    stay = noted_stay;
+    noted = λ f f_in. ⊎_elim
+        (λ is. subst (λ g. has_arisen new (accused_by g) ≡ true) is own_arises)
+        (λ none. absurd (Contains-none f none)) (Contains-cons_cases e [] f f_in);
+  }
+    where
+      own_arises : has_arisen new (accused_by e) ≡ true
+      own_arises = arises (accused_by e)
+          ∙ ap (λ o. cond (is_eq o) true (has_arisen old (accused_by e))) (tied (accused_by e))
+        where
+          tied : (n : Accusation) → accused_cmp n n ≡ Equal
+          tied n = tied_itself accused_cmp_total n
+
+      -- an accusation that arises now has its evidence
+      arises_now : (eq : D → D → Bool) (vs : List (SignedVote D G)) (told : List (Equivocation D G)) →
+          TellsSome eq vs told old → evidence_of eq vs (accused_by e) ≡ Some e → (n : Accusation) →
+          has_arisen new n ≡ true → is_some (evidence_of eq vs n) ≡ true
+      arises_now eq vs told some own n h =
+          (elim (is_eq (accused_cmp (accused_by e) n)) as (λ b. is_eq (accused_cmp (accused_by e) n) ≡ b →
+          cond b true (has_arisen old n) ≡ true → is_some (evidence_of eq vs n) ≡ true) [
+            | true ↦ λ at k. subst (λ m. is_some (evidence_of eq vs m) ≡ true) (same_accused n at) (ap is_some own)
+            | false ↦ λ away k. some.arisen n k
+          ]) refl (sym (arises n) ∙ h)
+
+      same_accused : (n : Accusation) → is_eq (accused_cmp (accused_by e) n) ≡ true → accused_by e ≡ n
+      same_accused n at = accused_same (accused_by e) n at
+
+      again : (eq : D → D → Bool) (vs : List (SignedVote D G)) (told : List (Equivocation D G)) → TellsSome eq vs told old →
+          evidence_of eq vs (accused_by e) ≡ Some e → has_arisen old (accused_by e) ≡ true → untold new ≡ untold old →
+          TellsSome eq vs told new
+      again eq vs told some own known is = record {
+        arisen = arises_now eq vs told some own;
+        sound = subst (λ us. All (λ f. evidence_of eq vs (accused_by f) ≡ Some f) (told ++ us)) (sym is) some.sound;
+        once = λ n. ap (λ us. times_accused (told ++ us) n) is ∙ some.once n ∙ ap from_bool (sym (arises n
+            ∙ (elim (is_eq (accused_cmp (accused_by e) n)) as (λ b. is_eq (accused_cmp (accused_by e) n) ≡ b →
+            cond b true (has_arisen old n) ≡ has_arisen old n) [
+              | true ↦ λ at. sym (subst (λ m. has_arisen old m ≡ true) (same_accused n at) known)
+              | false ↦ λ away. refl
+            ]) refl));
+      }
+
+      first : (eq : D → D → Bool) (vs : List (SignedVote D G)) (told : List (Equivocation D G)) → TellsSome eq vs told old →
+          evidence_of eq vs (accused_by e) ≡ Some e → has_arisen old (accused_by e) ≡ false →
+          untold new ≡ untold old ++ e ∷ [] → TellsSome eq vs told new
+      first eq vs told some own fresh is =
+          let all : told ++ untold new ≡ (told ++ untold old) ++ e ∷ [] =
+          ap (λ us. told ++ us) is ∙ sym (append_assoc told (untold old) (e ∷ [])) in
+          record {
+            arisen = arises_now eq vs told some own;
+            sound = subst (All (λ f. evidence_of eq vs (accused_by f) ≡ Some f)) (sym all)
+                (All-push (λ f. evidence_of eq vs (accused_by f) ≡ Some f) (told ++ untold old) e some.sound own);
+            once = λ n. ap (λ es. times_accused es n) all ∙ times_push (told ++ untold old) e n
+                ∙ ap (λ k. k + from_bool (is_eq (accused_cmp (accused_by e) n))) (some.once n) ∙ sum n ∙ ap from_bool (sym (arises n));
+          }
+        where
+          sum : (n : Accusation) → from_bool (has_arisen old n) + from_bool (is_eq (accused_cmp (accused_by e) n))
+              ≡ from_bool (cond (is_eq (accused_cmp (accused_by e) n)) true (has_arisen old n))
+          sum n =
+              (elim (is_eq (accused_cmp (accused_by e) n)) as (λ b. is_eq (accused_cmp (accused_by e) n) ≡ b →
+              from_bool (has_arisen old n) + from_bool b ≡ from_bool (cond b true (has_arisen old n))) [
+                | true ↦ λ at. ap (λ b. from_bool b + 1)
+                    (subst (λ m. has_arisen old m ≡ false) (same_accused n at) fresh)
+                | false ↦ λ away. omega arith
+              ]) refl
+
+-- ---- some evidence
+
+-- nothing is noted
+pub notes_none : {S D P G : Type 0} (alerts : Alerts S D P G) → NotesAll [] alerts alerts
+notes_none alerts = record {
+  added = λ eq vs told sound some. some;
+  stay = λ n h. h;
+  noted = λ e e_in. absurd (Contains-none e e_in);
+}
+
+-- evidence and more evidence
+pub notes_more : {S D P G : Type 0} (es fs : List (Equivocation D G)) (a b c : Alerts S D P G) → NotesAll es a b →
+    NotesAll fs b c → NotesAll (es ++ fs) a c
+notes_more es fs a b c one next = record {
+  added = λ eq vs told sound some.
+      let P = λ (e : Equivocation _ _). evidence_of eq vs (accused_by e) ≡ Some e in
+      next.added eq vs told (each P fs (λ e e_in. All-contains P (es ++ fs) e sound (Contains-append_right es fs e e_in)))
+      (one.added eq vs told (each P es (λ e e_in. All-contains P (es ++ fs) e sound (Contains-append_left es fs e e_in))) some);
+  stay = λ n h. next.stay n (one.stay n h);
+  noted = λ e e_in. ⊎_elim (λ k. next.stay (accused_by e) (one.noted e k)) (next.noted e) (Contains-append_cases es fs e e_in);
+}
+
+-- ---- the evidence against a signer, and against several
+
+module _ {S D C P G : Type 0} (rules : Judging → Schedule S → Rules S D C P G) (detector : Detector S D P G) (round : Round)
+    where
+  -- what a detector has against a signer is noted
+  pub notes_signer : (signer : ℕ) (found : List (Equivocation D G)) (old new : Alerts S D P G) →
+      ((judging : Judging) (schedule : Schedule S) (messages : List (Activity S D C P G)) →
+      Recalls (rules judging schedule) messages detector →
+      found ≡ evidence_against (rules judging schedule).eq (valid_votes (rules judging schedule) messages) round signer) →
+      NotesAll found old new → NotesSigners rules detector round (signer ∷ []) old new
+  notes_signer signer found old new is notes = record {
+    added = λ judging schedule messages told holds.
+        let eq = (rules judging schedule).eq in
+        let vs = valid_votes (rules judging schedule) messages in
+        notes.added eq vs told (subst (All (λ e. evidence_of eq vs (accused_by e) ≡ Some e))
+        (sym (is judging schedule messages holds)) (made_sound accused_by accused_cmp (evidence_of eq vs) (accuses_own eq vs)
+        (accusations_of round signer)));
+    stay = notes.stay;
+    noted = λ judging schedule messages holds n here by h.
+        let eq = (rules judging schedule).eq in
+        let vs = valid_votes (rules judging schedule) messages in
+        let (e, e_is) = some_from_is_some (evidence_of eq vs n) h in
+        let is_signer : signer ≡ n.signer = ⊎_elim (λ same. same) (λ none. absurd (Contains-none n.signer none))
+        (Contains-cons_cases signer [] n.signer by) in
+        let among = subst (λ q. Contains (accusations_of q signer) n) here
+        (subst (λ q. Contains (accusations_of n.round q) n) (sym is_signer) (own_name n)) in
+        subst (λ m. has_arisen new m ≡ true) (accuses_own eq vs n e e_is)
+        (notes.noted e (subst (λ es. Contains es e) (sym (is judging schedule messages holds))
+        (Contains-filter_map (evidence_of eq vs) (accusations_of round signer) n e among e_is)));
+  }
+
+  -- nobody is looked at
+  pub signers_none : (alerts : Alerts S D P G) → NotesSigners rules detector round [] alerts alerts
+  signers_none alerts = record {
+    added = λ judging schedule messages told holds some. some;
+    stay = λ n h. h;
+    noted = λ judging schedule messages holds n here by h. absurd (Contains-none n.signer by);
+  }
+
+  -- some signers and more
+  pub signers_more : (xs ys : List ℕ) (a b c : Alerts S D P G) → NotesSigners rules detector round xs a b →
+      NotesSigners rules detector round ys b c → NotesSigners rules detector round (xs ++ ys) a c
+  signers_more xs ys a b c one next = record {
+    added = λ judging schedule messages told holds some.
+        next.added judging schedule messages told holds (one.added judging schedule messages told holds some);
+    stay = λ n h. next.stay n (one.stay n h);
+    noted = λ judging schedule messages holds n here by h.
+        ⊎_elim (λ k. next.stay n (one.noted judging schedule messages holds n here k h))
+        (λ k. next.noted judging schedule messages holds n here k h) (Contains-append_cases xs ys n.signer by);
+  }
+
+-- ---- one message more
+
+module _ {S D C P G : Type 0} (rules : Rules S D C P G) (l : IsEquivalence rules.eq) (messages : List (Activity S D C P G))
+    (m : Activity S D C P G) (round : Round) (signers : List ℕ)
+    (covers : (w : SignedVote D G) → Contains (votes_in rules.listed m) w →
+    (round_of w.subject ≡ round) × Contains signers w.signer) (told : List (Equivocation D G)) (old new : Alerts S D P G)
+    (tells : Tells rules.eq (valid_votes rules messages) told old) where
+  before : List (SignedVote D G)
+  before = valid_votes rules messages
+
+  more : List (SignedVote D G)
+  more = filter (is_valid rules) (votes_in rules.listed m)
+
+  -- what was told before the message is evidence after it, too
+  stays : TellsSome rules.eq (before ++ more) told old
+  stays = record {
+    arisen = λ n h.
+        let (e, is) = some_from_is_some (evidence_of rules.eq before n) (sym (tells.arisen n) ∙ h) in
+        ap is_some (evidence_of-stays rules.eq before more n e is);
+    sound = each (λ e. evidence_of rules.eq (before ++ more) (accused_by e) ≡ Some e) (told ++ untold old) (λ e e_in.
+        evidence_of-stays rules.eq before more (accused_by e) e
+        (All-contains (λ e. evidence_of rules.eq before (accused_by e) ≡ Some e) (told ++ untold old) e tells.all.sound e_in));
+    once = λ n. tells.all.once n ∙ ap from_bool (sym (tells.arisen n));
+  }
+
+  -- evidence that is there with the message was there before, or accuses a signer of it
+  pub tells_next : (TellsSome rules.eq (valid_votes rules (messages ++ m ∷ [])) told old →
+      TellsSome rules.eq (valid_votes rules (messages ++ m ∷ [])) told new) →
+      ((n : Accusation) → has_arisen old n ≡ true → has_arisen new n ≡ true) →
+      ((n : Accusation) → n.round ≡ round → Contains signers n.signer →
+      is_some (evidence_of rules.eq (valid_votes rules (messages ++ m ∷ [])) n) ≡ true → has_arisen new n ≡ true) →
+      Tells rules.eq (valid_votes rules (messages ++ m ∷ [])) told new
+  tells_next added stay noted =
+      let push = valid_votes-push rules messages m in
+      let some = added (subst (λ vs. TellsSome rules.eq vs told old) (sym push) stays) in
+      let vs = valid_votes rules (messages ++ m ∷ []) in
+      let complete : (n : Accusation) → is_some (evidence_of rules.eq vs n) ≡ true → has_arisen new n ≡ true =
+      λ n h.
+      let (v, w, v_in, w_in, of_v, against) =
+      votes_from_accused rules.eq vs n (accused-from_evidence rules.eq vs n h) in
+      let at = is_of-true n.round n.signer v of_v in
+      let beside = is_of-true (round_of v.subject) v.signer w
+      (and_parts (is_of (round_of v.subject) v.signer w) _ against).0 in
+      let known = λ (u : SignedVote D G) (u_in : Contains more u) (here : round_of u.subject ≡ n.round)
+      (by : u.signer ≡ n.signer).
+      let own = covers u (Contains-from_filter (is_valid rules) (votes_in rules.listed m) u u_in).0 in
+      noted n (sym here ∙ own.0) (subst (Contains signers) by own.1) h in
+      ⊎_elim
+      (λ v_old. ⊎_elim
+      (λ w_old. stay n (tells.arisen n ∙ evidence-from_accused rules.eq before l n
+      (accused_from_votes rules.eq before n v w v_old w_old of_v against)))
+      (λ w_new. known w w_new (beside.0 ∙ at.0) (beside.1 ∙ at.1))
+      (Contains-append_cases before more w (subst (λ us. Contains us w) push w_in)))
+      (λ v_new. known v v_new at.0 at.1)
+      (Contains-append_cases before more v (subst (λ us. Contains us v) push v_in)) in
+      let arisen : (n : Accusation) → has_arisen new n ≡ is_some (evidence_of rules.eq vs n) =
+      λ n. same_bool _ _ (some.arisen n) (complete n) in
+      record {
+        arisen = arisen;
+        all = record { sound = some.sound; once = λ n. some.once n ∙ ap from_bool (arisen n) };
+      }
+
+-- ---- a floor
+
+module _ {S D C P G : Type 0} (rules : Rules S D C P G) (l : IsEquivalence rules.eq) (part : Round → Bool)
+    (messages : List (Activity S D C P G)) where
+  here : Equivocation D G → Bool
+  here e = part (accused_by e).round
+
+  -- the evidence of an accusation in the part
+  evidence_in_part : (n : Accusation) → is_some (evidence_of rules.eq (valid_votes (in_rounds part rules) messages) n)
+      ≡ (part n.round && is_some (evidence_of rules.eq (valid_votes rules messages) n))
+  evidence_in_part n =
+      let all = valid_votes rules messages in
+      ap (λ vs. is_some (evidence_of rules.eq vs n)) (votes_in_rounds rules part messages)
+      ∙ (elim (part n.round) as (λ b. part n.round ≡ b →
+      is_some (evidence_of rules.eq (filter (is_vote_of part) all) n) ≡ (b && is_some (evidence_of rules.eq all n))) [
+        | true ↦ λ in_part. ap is_some (same_evidence-within rules.eq part all n in_part)
+        | false ↦ λ away. false_from_ne_true _ (λ h. false≢true (sym away ∙
+            (accused-from_within rules.eq part all n
+            (accused-from_evidence rules.eq (filter (is_vote_of part) all) n h)).0))
+      ]) refl
+
+  same_round_accused : (n : Accusation) (e : Equivocation D G) → is_eq (accused_cmp (accused_by e) n) ≡ true →
+      here e ≡ part n.round
+  same_round_accused n e at = ap (λ (m : Accusation). part m.round) (accused_same (accused_by e) n at)
+
+  -- how often the evidence of the part accuses
+  times_in_part : (es : List (Equivocation D G)) (n : Accusation) →
+      times_accused (filter here es) n ≡ cond (part n.round) (times_accused es n) 0
+  times_in_part es n =
+      let same = λ (e : Equivocation D G). is_eq (accused_cmp (accused_by e) n) in
+      (elim (part n.round) as (λ b. part n.round ≡ b → times_accused (filter here es) n ≡ cond b (times_accused es n) 0) [
+        | true ↦ λ in_part. ap length (filter_filtered same here (λ e at. same_round_accused n e at ∙ in_part) es)
+        | false ↦ λ away. ap length (filter_none same (filter here es) (each (λ e. same e ≡ false) (filter here es) (λ e e_in.
+            false_from_ne_true (same e) (λ at. false≢true (sym away ∙ sym (same_round_accused n e at)
+            ∙ (Contains-from_filter here es e e_in).1)))))
+      ]) refl
+
+  pub tells_part : (told : List (Equivocation D G)) (old new : Alerts S D P G) →
+      ((n : Accusation) → has_arisen new n ≡ (part n.round && has_arisen old n)) →
+      untold new ≡ filter here (untold old) → Tells rules.eq (valid_votes rules messages) told old →
+      Tells rules.eq (valid_votes (in_rounds part rules) messages) (filter here told) new
+  tells_part told old new arises left tells =
+      let all = valid_votes rules messages in
+      let within = valid_votes (in_rounds part rules) messages in
+      let joined : filter here told ++ untold new ≡ filter here (told ++ untold old) =
+      ap (λ us. filter here told ++ us) left ∙ sym (filter-append here told (untold old)) in
+      record {
+        arisen = λ n. arises n ∙ ap (λ b. part n.round && b) (tells.arisen n) ∙ sym (evidence_in_part n);
+        all = record {
+          sound = subst (All (λ e. evidence_of rules.eq within (accused_by e) ≡ Some e)) (sym joined)
+              (each _ (filter here (told ++ untold old)) (λ e e_in.
+              let (e_told, in_part) = Contains-from_filter here (told ++ untold old) e e_in in
+              ap (λ vs. evidence_of rules.eq vs (accused_by e)) (votes_in_rounds rules part messages)
+              ∙ same_evidence-within rules.eq part all (accused_by e) in_part
+              ∙ All-contains (λ e. evidence_of rules.eq all (accused_by e) ≡ Some e) (told ++ untold old) e tells.all.sound
+              e_told));
+          once = λ n. ap (λ es. times_accused es n) joined ∙ times_in_part (told ++ untold old) n
+              ∙ ap (λ k. cond (part n.round) k 0) (tells.all.once n) ∙ sum (part n.round)
+              (is_some (evidence_of rules.eq all n)) ∙ ap from_bool (sym (evidence_in_part n));
+        };
+      }
+    where
+      sum : (a b : Bool) → cond a (from_bool b) 0 ≡ from_bool (a && b)
+      sum true b = refl
+      sum false b = refl

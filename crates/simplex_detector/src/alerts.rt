@@ -1,0 +1,148 @@
+//! Evidence as it arises: each is told once.
+
+ghost use Rattle.std.specs.Prelude.{◌≡◌, [], ◌∷◌, map, OnOk};
+ghost use Rattle.simplex_scheme.specs.declared.scheme.Attestation as attestations;
+ghost use Rattle.simplex_detector.specs.Accusation.{accused_by};
+ghost use Rattle.simplex_detector.specs.Alerts.{NotesAll, NotesMessage, NotesSigners, TellsFrom, TellsNone, TellsUntold};
+ghost use Rattle.simplex_detector.specs.Independence.{is_from};
+ghost use Rattle.simplex_detector.specs.Rules.{Rules};
+ghost use Rattle.simplex_detector.specs.Values.{evidence_value};
+
+use crate::detector::Detector;
+use crate::evidence::{Accusation, Evidence, SignerInRound};
+use crate::judging::is_at_least;
+use crate::rules::Judges;
+use simplex_base::positions::Round;
+use simplex_evidence::types::{Activity, Contents};
+use simplex_scheme::scheme::{Attestation, Digest, Listing, SchemeTypes};
+use std::alloc::{AllocError, Global};
+use std::collections::BTreeSet;
+use std::mem;
+
+/// The evidence that arose in messages and was not told yet. Each evidence is told once, in the order in which the messages that
+/// complete it came.
+#[derive(Drop)]
+pub struct Alerts<S: SchemeTypes, D: Digest> {
+    /// Whom the evidence so far accuses, told or not.
+    accused: BTreeSet<Accusation>,
+    /// The evidence that was not told yet.
+    untold: Vec<Evidence<S, D>>,
+}
+
+impl<S: Listing<D>, D: Digest> Alerts<S, D> {
+    /// Nothing arose yet.
+    pub fn new(alloc: Global) -> Self
+        ensures { TellsNone ⟦<S as Judges<D>>⟧.rules_under result }
+    {
+        Alerts {
+            accused: BTreeSet::new(alloc),
+            untold: Vec::new(alloc),
+        }
+    }
+
+    /// Notes the evidence that one message adds, after a detector observed it. Of a message that is no news nothing has to be
+    /// noted. It looks only for evidence against the signers of the message. `AllocError` only where an allocation failed: some
+    /// of the evidence may then be noted.
+    pub fn note(
+        &mut self,
+        alloc: Global,
+        detector: &Detector<S, D>,
+        message: &Activity<S, D>,
+    ) -> Result<(), AllocError>
+        ensures { OnOk result (NotesMessage ⟦<S as Judges<D>>⟧.rules_under detector.now message.now
+            self.old self.new) }
+    {
+        let contents = message.contents();
+        let round = contents.round();
+        match &contents {
+            Contents::Vote(vote) => {
+                let signer = vote.attestation.signer;
+                self.note_signer(alloc, detector, SignerInRound { round, signer })
+            }
+            Contents::Certificate(_, certificate) => {
+                self.note_signers(alloc, detector, round, S::attestations(certificate))
+            }
+            Contents::Evidence(vote, _) => {
+                let signer = vote.attestation.signer;
+                self.note_signer(alloc, detector, SignerInRound { round, signer })
+            }
+        }
+    }
+
+    /// Notes the evidence against the signers of some attestations in a round.
+    fn note_signers(
+        &mut self,
+        alloc: Global,
+        detector: &Detector<S, D>,
+        round: Round,
+        attestations: &[Attestation<S>],
+    ) -> Result<(), AllocError>
+        ensures { OnOk result (NotesSigners ⟦<S as Judges<D>>⟧.rules_under detector.now round
+            (map (λ (a : attestations.Attestation S S.PublicKey S.Signature). a.signer) attestations.now)
+            self.old self.new) }
+    {
+        'listed: for attestation in attestations {
+            let signer = attestation.signer;
+            self.note_signer(alloc, detector, SignerInRound { round, signer })?;
+        }
+        Ok(())
+    }
+
+    /// Notes the evidence against a signer in a round.
+    fn note_signer(
+        &mut self,
+        alloc: Global,
+        detector: &Detector<S, D>,
+        signer: SignerInRound,
+    ) -> Result<(), AllocError>
+        ensures { OnOk result (NotesSigners ⟦<S as Judges<D>>⟧.rules_under detector.now signer.round
+            (signer.signer ∷ []) self.old self.new) }
+    {
+        let mut found = Vec::new(alloc);
+        detector.evidence_against(signer, &mut found)?;
+        self.note_all(found)
+    }
+
+    /// Notes some evidence.
+    fn note_all(&mut self, found: Vec<Evidence<S, D>>) -> Result<(), AllocError>
+        ensures { OnOk result (NotesAll (map evidence_value found.items) self.old self.new) }
+    {
+        'found: for evidence in found {
+            self.note_evidence(evidence)?;
+        }
+        Ok(())
+    }
+
+    /// Notes an evidence, unless it arose before.
+    fn note_evidence(&mut self, evidence: Evidence<S, D>) -> Result<(), AllocError>
+        ensures { OnOk result (NotesAll (evidence_value evidence ∷ []) self.old self.new) }
+    {
+        if self.accused.insert(evidence.accusation())? {
+            self.untold.push(evidence)?;
+        }
+        Ok(())
+    }
+
+    /// Takes the evidence that was not told yet, in the order in which it arose. None of it is taken again.
+    pub fn take(&mut self) -> Vec<Evidence<S, D>>
+        ensures { TellsUntold (map evidence_value result.items) self.old self.new }
+    {
+        let alloc = *self.untold.allocator();
+        mem::replace(&mut self.untold, Vec::new(alloc))
+    }
+
+    /// Forgets the evidence of rounds below a floor, told or not.
+    pub fn prune(&mut self, floor: Round)
+        ensures { (rules : Rules S D S.Certificate S.PublicKey S.Signature) →
+            TellsFrom rules floor self.old self.new }
+    {
+        let judged = |accusation: &Accusation| -> bool
+            ensures { result ≡ is_from floor accusation.now.accused.round }
+        { is_at_least(accusation.accused.round, floor) };
+        self.accused.retain(judged);
+        let untold = |evidence: &Evidence<S, D>| -> bool
+            ensures { result ≡ is_from floor (accused_by (evidence_value evidence.now)).round }
+        { is_at_least(evidence.round(), floor) };
+        self.untold.retain(untold);
+    }
+}
