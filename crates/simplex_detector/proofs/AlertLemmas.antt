@@ -1,5 +1,5 @@
 -- Evidence as it arises is noted once, message by message.
-use Rattle.simplex_detector.proofs.Prelude.{Accusation, Activity, All, All-contains, All-filter, All-push, AllByRecursion, Bool, Contains, Contains-append_cases, Contains-append_left, Contains-append_right, Detector, Equal, Greater, Less, Ordering, tied_itself, in_rounds, is_from, filter_map, and_left, same_Some, Equivocation, IsEquivalence, Judging, List, None, Option, Recalls, Round, Rules, Schedule, SignedVote, Some, [], accused_by, accused_cmp, activity_round, and_parts, ap, append-nil, append_assoc, arith, cond, contains, contradicts, evidence_of, false, false_from_ne_true, false≢true, filter, filter-append, inl, inr, is_accused, is_eq, is_of, is_some, is_valid, length, length-append, map, map-append, or_right, or_left, refl, round_of, subst, sym, true, valid_votes, votes_in, ℕ, ⊎_elim, ◌++◌, ◌+◌, ◌&&◌, ◌∙◌, ◌∷◌, ◌≡◌, ◌⊎◌}
+use Rattle.simplex_detector.proofs.Prelude.{Accusation, Activity, All, All-contains, All-filter, All-push, AllByRecursion, Bool, Contains, Contains-append_cases, Contains-append_left, Contains-append_right, Detector, Equal, Greater, Less, Ordering, tied_itself, in_rounds, is_from, filter_map, and_left, same_Some, Equivocation, IsEquivalence, Judging, List, None, Option, Recalls, Round, Rules, Schedule, SignedVote, Some, [], accused_by, accused_cmp, activity_round, and_parts, ap, append-nil, append_assoc, arith, cond, contains, contradicts, evidence_from, evidence_of, message_is_news, false, false_from_ne_true, false≢true, filter, filter-append, inl, inr, is_accused, is_eq, is_of, is_some, is_valid, length, length-append, map, map-append, or_right, or_left, refl, round_of, subst, sym, true, valid_votes, votes_in, ℕ, ⊎_elim, ◌++◌, ◌+◌, ◌&&◌, ◌∙◌, ◌∷◌, ◌≡◌, ◌⊎◌}
 use Rattle.std.specs.Int.{from_bool}
 use Rattle.simplex_detector.proofs.EvidenceLemmas.{accused-from_evidence, accused_from_votes, evidence-from_accused, evidence_is, valid_votes-push, votes_from_accused}
 use Rattle.simplex_detector.proofs.Filters.{filter_none}
@@ -7,6 +7,8 @@ use Rattle.simplex_detector.proofs.CountLemmas.{filter_filtered}
 use Rattle.simplex_detector.proofs.IndependenceLemmas.{accused-from_within, is_vote_of, same_evidence-within, votes_in_rounds}
 use Rattle.simplex_detector.proofs.Lists.{Contains-cons_cases, Contains-filter_map, Contains-first, Contains-from_filter, Contains-none, each, made_sound, same_bool, some_from_is_some}
 use Rattle.simplex_detector.proofs.ReportLemmas.{accuses_own, own_name}
+use Rattle.simplex_detector.proofs.NewsLemmas.{news_changes_state}
+use Rattle.simplex_detector.proofs.RecordedLemmas.{evidence_of-slots}
 use Rattle.simplex_detector.proofs.Places.{accused_cmp_total, exact_accused, is_of-true, is_of-from}
 use Rattle.simplex_detector.proofs.StayLemmas.{evidence_of-stays}
 use Rattle.simplex_detector.specs.Accusation.{accusations_of}
@@ -144,53 +146,53 @@ notes_more es fs a b c one next = record {
 -- ---- the evidence against a signer, and against several
 
 module _ {S D C P G : Type 0} (rules : Judging → Schedule S → Rules S D C P G) (detector : Detector S D P G) (round : Round)
-    where
-  -- what a detector has against a signer is noted
-  pub notes_signer : (signer : ℕ) (found : List (Equivocation D G)) (old new : Alerts S D P G) →
-      ((judging : Judging) (schedule : Schedule S) (messages : List (Activity S D C P G)) →
-      Recalls (rules judging schedule) messages detector →
-      found ≡ evidence_against (rules judging schedule).eq (valid_votes (rules judging schedule) messages) round signer) →
-      NotesAll found old new → NotesSigners rules detector round (signer ∷ []) old new
-  notes_signer signer found old new is notes = record {
-    added = λ judging schedule messages told holds.
-        let eq = (rules judging schedule).eq in
-        let vs = valid_votes (rules judging schedule) messages in
-        notes.added eq vs told (subst (All (λ e. evidence_of eq vs (accused_by e) ≡ Some e))
-        (sym (is judging schedule messages holds)) (made_sound accused_by accused_cmp (evidence_of eq vs) (accuses_own eq vs)
-        (accusations_of round signer)));
-    stay = notes.stay;
-    noted = λ judging schedule messages holds n here by h.
-        let eq = (rules judging schedule).eq in
-        let vs = valid_votes (rules judging schedule) messages in
-        let (e, e_is) = some_from_is_some (evidence_of eq vs n) h in
-        let is_signer : signer ≡ n.signer = ⊎_elim (λ same. same) (λ none. absurd (Contains-none n.signer none))
-        (Contains-cons_cases signer [] n.signer by) in
-        let among = subst (λ q. Contains (accusations_of q signer) n) here
-        (subst (λ q. Contains (accusations_of n.round q) n) (sym is_signer) (own_name n)) in
-        subst (λ m. has_arisen new m ≡ true) (accuses_own eq vs n e e_is)
-        (notes.noted e (subst (λ es. Contains es e) (sym (is judging schedule messages holds))
-        (Contains-filter_map (evidence_of eq vs) (accusations_of round signer) n e among e_is)));
-  }
+  where
+    -- what a detector has against a signer is noted
+    pub notes_signer : (signer : ℕ) (found : List (Equivocation D G)) (old new : Alerts S D P G) →
+        ((judging : Judging) (schedule : Schedule S) (messages : List (Activity S D C P G)) →
+        Recalls (rules judging schedule) messages detector →
+        found ≡ evidence_against (rules judging schedule).eq (valid_votes (rules judging schedule) messages) round signer) →
+        NotesAll found old new → NotesSigners rules detector round (signer ∷ []) old new
+    notes_signer signer found old new is notes = record {
+      added = λ judging schedule messages told holds.
+          let eq = (rules judging schedule).eq in
+          let vs = valid_votes (rules judging schedule) messages in
+          notes.added eq vs told (subst (All (λ e. evidence_of eq vs (accused_by e) ≡ Some e))
+          (sym (is judging schedule messages holds)) (made_sound accused_by accused_cmp (evidence_of eq vs) (accuses_own eq vs)
+          (accusations_of round signer)));
+      stay = notes.stay;
+      noted = λ judging schedule messages holds n here by h.
+          let eq = (rules judging schedule).eq in
+          let vs = valid_votes (rules judging schedule) messages in
+          let (e, e_is) = some_from_is_some (evidence_of eq vs n) h in
+          let is_signer : signer ≡ n.signer = ⊎_elim (λ same. same) (λ none. absurd (Contains-none n.signer none))
+          (Contains-cons_cases signer [] n.signer by) in
+          let among = subst (λ q. Contains (accusations_of q signer) n) here
+          (subst (λ q. Contains (accusations_of n.round q) n) (sym is_signer) (own_name n)) in
+          subst (λ m. has_arisen new m ≡ true) (accuses_own eq vs n e e_is)
+          (notes.noted e (subst (λ es. Contains es e) (sym (is judging schedule messages holds))
+          (Contains-filter_map (evidence_of eq vs) (accusations_of round signer) n e among e_is)));
+    }
 
-  -- nobody is looked at
-  pub signers_none : (alerts : Alerts S D P G) → NotesSigners rules detector round [] alerts alerts
-  signers_none alerts = record {
-    added = λ judging schedule messages told holds some. some;
-    stay = λ n h. h;
-    noted = λ judging schedule messages holds n here by h. absurd (Contains-none n.signer by);
-  }
+    -- nobody is looked at
+    pub signers_none : (alerts : Alerts S D P G) → NotesSigners rules detector round [] alerts alerts
+    signers_none alerts = record {
+      added = λ judging schedule messages told holds some. some;
+      stay = λ n h. h;
+      noted = λ judging schedule messages holds n here by h. absurd (Contains-none n.signer by);
+    }
 
-  -- some signers and more
-  pub signers_more : (xs ys : List ℕ) (a b c : Alerts S D P G) → NotesSigners rules detector round xs a b →
-      NotesSigners rules detector round ys b c → NotesSigners rules detector round (xs ++ ys) a c
-  signers_more xs ys a b c one next = record {
-    added = λ judging schedule messages told holds some.
-        next.added judging schedule messages told holds (one.added judging schedule messages told holds some);
-    stay = λ n h. next.stay n (one.stay n h);
-    noted = λ judging schedule messages holds n here by h.
-        ⊎_elim (λ k. next.stay n (one.noted judging schedule messages holds n here k h))
-        (λ k. next.noted judging schedule messages holds n here k h) (Contains-append_cases xs ys n.signer by);
-  }
+    -- some signers and more
+    pub signers_more : (xs ys : List ℕ) (a b c : Alerts S D P G) → NotesSigners rules detector round xs a b →
+        NotesSigners rules detector round ys b c → NotesSigners rules detector round (xs ++ ys) a c
+    signers_more xs ys a b c one next = record {
+      added = λ judging schedule messages told holds some.
+          next.added judging schedule messages told holds (one.added judging schedule messages told holds some);
+      stay = λ n h. next.stay n (one.stay n h);
+      noted = λ judging schedule messages holds n here by h.
+          ⊎_elim (λ k. next.stay n (one.noted judging schedule messages holds n here k h))
+          (λ k. next.noted judging schedule messages holds n here k h) (Contains-append_cases xs ys n.signer by);
+    }
 
 -- ---- one message more
 
@@ -253,6 +255,29 @@ module _ {S D C P G : Type 0} (rules : Rules S D C P G) (l : IsEquivalence rules
         arisen = arisen;
         all = record { sound = some.sound; once = λ n. some.once n ∙ ap from_bool (arisen n) };
       }
+
+-- a message that is no news completes no evidence
+pub tells_same : {S D C P G : Type 0} (rules : Rules S D C P G) → IsEquivalence rules.eq →
+    (messages : List (Activity S D C P G)) (m : Activity S D C P G) → message_is_news rules messages m ≡ false →
+    (told : List (Equivocation D G)) (alerts : Alerts S D P G) →
+    Tells rules.eq (valid_votes rules messages) told alerts →
+    Tells rules.eq (valid_votes rules (messages ++ m ∷ [])) told alerts
+tells_same rules l messages m none told alerts tells =
+    let state = (news_changes_state rules l messages m).0 none in
+    let same : (n : Accusation) → evidence_of rules.eq (valid_votes rules messages) n
+    ≡ evidence_of rules.eq (valid_votes rules (messages ++ m ∷ [])) n =
+    λ n. evidence_of-slots rules.eq (valid_votes rules messages) n
+    ∙ (λ i. evidence_from (λ kind. sym (state.votes kind n.round n.signer) i) n.kind)
+    ∙ sym (evidence_of-slots rules.eq (valid_votes rules (messages ++ m ∷ [])) n) in
+    record {
+      arisen = λ n. tells.arisen n ∙ ap is_some (same n);
+      all = record {
+        sound = each _ (told ++ untold alerts) (λ e e_in. sym (same (accused_by e))
+            ∙ All-contains (λ e. evidence_of rules.eq (valid_votes rules messages) (accused_by e) ≡ Some e) (told ++ untold alerts)
+            e tells.all.sound e_in);
+        once = λ n. tells.all.once n ∙ ap (λ o. from_bool (is_some o)) (same n);
+      };
+    }
 
 -- ---- a floor
 

@@ -53,12 +53,13 @@ module _ {S D C P G : Type 0} (rules : Judging → Schedule S → Rules S D C P 
   TellsNone alerts = (judging : Judging) (schedule : Schedule S) → Tells (rules judging schedule).eq
       (valid_votes (rules judging schedule) []) [] alerts
 
-  -- one message more, which the detector has observed
-  abbrev pub NotesMessage : Detector S D P G → Activity S D C P G → Alerts S D P G → Alerts S D P G → Type 0
-  NotesMessage detector message old new = (judging : Judging) (schedule : Schedule S) (messages : List (Activity S D C P G))
-      (told : List (Equivocation D G)) → Recalls (rules judging schedule) (messages ++ message ∷ []) detector →
-      Tells (rules judging schedule).eq (valid_votes (rules judging schedule) messages) told old →
-      Tells (rules judging schedule).eq (valid_votes (rules judging schedule) (messages ++ message ∷ [])) told new
+-- one message more is observed by a detector in this state
+abbrev pub TellsMore : {S D C P G : Type 0} → Rules S D C P G → Activity S D C P G → Detector S D P G → Alerts S D P G →
+    Alerts S D P G → Type 0
+TellsMore {S} {D} {C} {P} {G} rules message detector old new =
+    (messages : List (Activity S D C P G)) (told : List (Equivocation D G)) → Recalls rules messages detector →
+    Tells rules.eq (valid_votes rules messages) told old →
+    Tells rules.eq (valid_votes rules (messages ++ message ∷ [])) told new
 
 -- the untold evidence is told, and none is left
 pub record TellsUntold {S D P G : Type 0} (taken : List (Equivocation D G)) (old new : Alerts S D P G) : Type 0 where
@@ -102,3 +103,12 @@ pub record NotesSigners {S D C P G : Type 0} (rules : Judging → Schedule S →
       Recalls (rules judging schedule) messages detector → (n : Accusation) → n.round ≡ round → Contains signers n.signer →
       is_some (evidence_of (rules judging schedule).eq (valid_votes (rules judging schedule) messages) n) ≡ true →
       has_arisen new n ≡ true
+
+-- one message more, which the detector has observed, for every way to judge and every schedule
+abbrev pub NotesMessage : {S D C P G : Type 0} → (Judging → Schedule S → Rules S D C P G) → Detector S D P G →
+    Activity S D C P G → Alerts S D P G → Alerts S D P G → Type 0
+NotesMessage {S} {D} {C} {P} {G} rules detector message old new =
+    (judging : Judging) (schedule : Schedule S) (messages : List (Activity S D C P G))
+    (told : List (Equivocation D G)) → Recalls (rules judging schedule) (messages ++ message ∷ []) detector →
+    Tells (rules judging schedule).eq (valid_votes (rules judging schedule) messages) told old →
+    Tells (rules judging schedule).eq (valid_votes (rules judging schedule) (messages ++ message ∷ [])) told new

@@ -1,19 +1,21 @@
 //! Evidence as it arises: each is told once.
 
-ghost use Rattle.std.specs.Prelude.{◌≡◌, [], ◌∷◌, map, OnOk};
+ghost use Rattle.std.specs.Prelude.{◌≡◌, [], ◌∷◌, map, IfOk, OnOk};
 ghost use Rattle.simplex_scheme.specs.declared.scheme.Attestation as attestations;
 ghost use Rattle.simplex_detector.specs.Accusation.{accused_by};
-ghost use Rattle.simplex_detector.specs.Alerts.{NotesAll, NotesMessage, NotesSigners, TellsFrom, TellsNone, TellsUntold};
+ghost use Rattle.simplex_detector.specs.Alerts.{NotesAll, NotesMessage, NotesSigners, TellsFrom, TellsMore, TellsNone, TellsUntold};
+ghost use Rattle.simplex_detector.specs.Detector.{RecallsMore, TellsNews};
 ghost use Rattle.simplex_detector.specs.Independence.{is_from};
 ghost use Rattle.simplex_detector.specs.Rules.{Rules};
 ghost use Rattle.simplex_detector.specs.Values.{evidence_value};
 
 use crate::detector::Detector;
 use crate::evidence::{Accusation, Evidence, SignerInRound};
-use crate::judging::is_at_least;
+use crate::judging::{Judging, is_at_least};
 use crate::rules::Judges;
 use simplex_base::positions::Round;
 use simplex_evidence::types::{Activity, Contents};
+use simplex_scheme::committees::Committees;
 use simplex_scheme::scheme::{Attestation, Digest, Listing, SchemeTypes};
 use std::alloc::{AllocError, Global};
 use std::collections::BTreeSet;
@@ -40,10 +42,35 @@ impl<S: Listing<D>, D: Digest> Alerts<S, D> {
         }
     }
 
-    /// Notes the evidence that one message adds, after a detector observed it. Of a message that is no news nothing has to be
-    /// noted. It looks only for evidence against the signers of the message. `AllocError` only where an allocation failed: some
-    /// of the evidence may then be noted.
-    pub fn note(
+    /// Has a detector observe one message, and notes the evidence that the message completes. It returns whether the message is
+    /// news, as [`Detector::observe`] does; if it is, it looks for evidence against the message's signers and no others.
+    /// `AllocError` only where an allocation failed: nothing is stated of the detector and of the alerts then, so drop both.
+    pub fn observe(
+        &mut self,
+        alloc: Global,
+        detector: &mut Detector<S, D>,
+        committees: &Committees<S>,
+        judging: &Judging,
+        message: &Activity<S, D>,
+    ) -> Result<bool, AllocError>
+        ensures records { OnOk result (RecallsMore
+            (⟦<S as Judges<D>>⟧.rules_under judging.now committees.now)
+            (message.now ∷ []) detector.old detector.new) }
+        ensures news { IfOk result (λ news. TellsNews
+            (⟦<S as Judges<D>>⟧.rules_under judging.now committees.now) message.now detector.old news) }
+        ensures tells { OnOk result (TellsMore
+            (⟦<S as Judges<D>>⟧.rules_under judging.now committees.now) message.now detector.old
+            self.old self.new) }
+    {
+        if !detector.observe(alloc, committees, judging, message)? {
+            return Ok(false);
+        }
+        self.note(alloc, detector, message)?;
+        Ok(true)
+    }
+
+    /// Notes the evidence against the signers of a message that a detector observed.
+    fn note(
         &mut self,
         alloc: Global,
         detector: &Detector<S, D>,
