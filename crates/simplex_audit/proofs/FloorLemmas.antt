@@ -1,17 +1,15 @@
 -- What an auditor stands for from a floor on, and what its report has of the report of the whole stream.
-use Rattle.std.proofs.Common.{◌≡◌, ℕ, Bool, Option, List, length, sym, ap, subst, ◌∙◌}
+use Rattle.std.proofs.Common.{◌≡◌, ℕ, Bool, List, length, sym, ap, subst, ◌∙◌}
 use Rattle.std.specs.Ordering.{ord_max}
-use Rattle.simplex_base.specs.Format.{Format, IsLawful}
+use Rattle.simplex_base.specs.Format.{IsLawful}
 use Rattle.simplex_base.specs.Positions.{Round}
-use Rattle.simplex_base.specs.declared.codec.error.Error.{Error}
 use Rattle.simplex_evidence.specs.declared.types.activity.Activity.{Activity}
 use Rattle.simplex_detector.specs.Accusation.{round_cmp}
 use Rattle.simplex_scheme.specs.Committees.{Schedule}
-use Rattle.simplex_detector.specs.Detector.{Recalls, RecallsMore}
+use Rattle.simplex_detector.specs.Detector.{Recalls}
 use Rattle.simplex_detector.specs.Independence.{FloorsRise, RoundsAreIndependent, evidence_within, first_round, in_rounds, is_from, splits_within}
 use Rattle.simplex_detector.specs.Rules.{Rules, valid_votes}
 use Rattle.simplex_detector.specs.declared.detector.Detector.{Detector}
-use Rattle.simplex_stream.specs.Progress.{IsProgress}
 use Rattle.simplex_stream.specs.StreamLaws.{messages_once}
 use Rattle.simplex_audit.specs.Auditor.{StandsFrom}
 use Rattle.simplex_audit.specs.Basis.{Basis, basis_from}
@@ -24,14 +22,6 @@ use Rattle.simplex_audit.proofs.AccusedLemmas.{report_evidence, report_splits}
 -- from the first round on all is judged
 pub from_first : {S D C P G : Type 0} (basis : Basis S D C P G) → FloorsRise basis.rules → basis_from first_round basis ≡ basis
 from_first basis floors = λ i. record { bound = basis.bound; format = basis.format; rules = floors.first i }
-
--- what was read and recorded under some rules was under rules that are the same
-pub same_progress : {S D C P G : Type 0} (format : Format (Activity S D C P G)) (rules judged : Rules S D C P G)
-    (old new : Detector S D P G) (bytes rest : List ℕ) (read : ℕ) (stop : Option Error) → rules ≡ judged →
-    IsProgress format (λ ms. RecallsMore rules ms old new) bytes rest read stop →
-    IsProgress format (λ ms. RecallsMore judged ms old new) bytes rest read stop
-same_progress format rules judged old new bytes rest read stop same =
-    subst (λ r. IsProgress format (λ ms. RecallsMore r ms old new) bytes rest read stop) same
 
 -- a report from a floor on is the report of the whole stream, less what is below the floor
 pub part_of_whole : {S D C P G : Type 0} (basis : Basis S D C P G) (floor : Round) (stream : List ℕ)
@@ -67,19 +57,12 @@ stands_pruned basis old floor highest detector top rise prunes low committees st
     let rules = (basis committees).rules in
     record {
       floor_is = top ∙ ap (λ f. ord_max round_cmp f floor) h.floor_is;
-      fed = record {
-        committees_are = h.fed.committees_are;
-        bound_is = h.fed.bound_is;
-        readable = h.fed.readable;
-        lawful = h.fed.lawful;
-        fed_is = h.fed.fed_is;
-      };
-      decoded = record {
-        messages = h.decoded.messages;
-        are_messages = h.decoded.are_messages;
-        read_is = h.decoded.read_is;
-        recorded = subst (λ r. Recalls r h.decoded.messages detector) ((rise rules).higher low floor)
-            (prunes (in_rounds (is_from low) rules) h.decoded.messages h.decoded.recorded);
-      };
-      awaits = h.awaits;
+      committees_are = h.committees_are;
+      bound_is = h.bound_is;
+      readable = h.readable;
+      lawful = h.lawful;
+      messages = h.messages;
+      decoded = h.decoded;
+      recorded = subst (λ r. Recalls r h.messages detector) ((rise rules).higher low floor)
+          (prunes (in_rounds (is_from low) rules) h.messages h.recorded);
     }

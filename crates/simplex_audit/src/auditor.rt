@@ -7,7 +7,6 @@ ghost use Rattle.simplex_audit.specs.Guarantees.{EvidenceIsDetermined, HasOneRea
 ghost use Rattle.simplex_audit.specs.Report.{IsReport, IsPartFrom};
 ghost use Rattle.simplex_audit.specs.declared.audit.Report as reports;
 ghost use Rattle.simplex_stream.specs.Messages.{AreMessages};
-ghost use Rattle.simplex_stream.specs.Tail.{bytes_held};
 ghost use Rattle.simplex_evidence.specs.declared.types.activity.Activity.{Activity};
 ghost use Rattle.std.specs.Ordering.{ord_max};
 ghost use Rattle.simplex_detector.specs.Accusation.{round_cmp};
@@ -19,18 +18,19 @@ ghost use Rattle.simplex_detector.specs.Rules.{valid_votes};
 use crate::audit::Report;
 use crate::basis::Audited;
 use crate::laws::message_laws;
-use crate::reading::{read_from, reading_bound};
+use crate::reading::{Recorder, reading_bound};
 use crate::reporting::make_report;
 use simplex_base::positions::{Epoch, Round, View};
 use simplex_detector::detector::Detector;
+use simplex_detector::judging::Judging;
 use simplex_detector::laws::{
     few_votes_are_recorded, floors_rise, recorded_votes_have_room, rounds_are_independent,
 };
 use simplex_evidence::types::Activity;
 use simplex_scheme::committees::Committees;
 use simplex_scheme::scheme::{Digest, Listing, SchemeTypes};
+use simplex_stream::decoder::Decoder;
 use simplex_stream::messages::stop_of;
-use simplex_stream::tail::Tail;
 use std::alloc::{AllocError, Global};
 
 /// Audits a stream that comes in pieces. It holds the bytes after the last whole message, at most five votes of each signer in
@@ -43,19 +43,7 @@ pub struct Auditor<'a, S: SchemeTypes, D: Digest> {
     /// The first round that is judged.
     floor: Round,
     detector: Detector<S, D>,
-    taken: Taken,
-}
-
-/// What was taken of a stream.
-#[derive(Drop)]
-struct Taken {
-    /// The bytes after its last whole message.
-    tail: Tail,
-    /// The number of the stream's bytes.
-    fed: usize,
-    /// The number of the stream's messages.
-    read: usize,
-    ghost room: { read + length (bytes_held tail) ≤ fed },
+    decoder: Decoder,
 }
 
 impl<'a, S: Listing<D>, D: Digest> Auditor<'a, S, D> {
@@ -72,11 +60,7 @@ impl<'a, S: Listing<D>, D: Digest> Auditor<'a, S, D> {
             bound: reading_bound::<S, D>(committees),
             floor: lowest_round(),
             detector: Detector::new(alloc),
-            taken: Taken {
-                tail: Tail::new(alloc),
-                fed: 0,
-                read: 0,
-            },
+            decoder: Decoder::new::<Activity<S, D>>(alloc),
         }
     }
 
@@ -95,127 +79,24 @@ impl<'a, S: Listing<D>, D: Digest> Auditor<'a, S, D> {
             StandsFrom floor ⟦<S as Audited<D>>⟧.basis committees self.entry stream →
             StandsFrom floor ⟦<S as Audited<D>>⟧.basis committees next (stream ++ piece.now)) }
     {
-        if self.taken.tail.bytes().is_empty() {
-            return self.read_piece(piece);
-        }
-        if self.taken.tail.is_due(piece.len()) {
-            return self.read_tail(piece);
-        }
-        self.hold(piece)
-    }
-
-    /// Reads the messages of the piece in place, and holds a copy of the bytes after the last.
-    fn read_piece(self, piece: &[u8]) -> Result<Self, AllocError>
-        requires empty { bytes_held self.taken.tail ≡ [] }
-        requires fits { fed_of self + length piece.now < 2 ^ 64 }
-        ensures fed { IfOk result (λ next. fed_of next ≡ fed_of self.entry + length piece.now) }
-        ensures stands { IfOk result (λ next.
-            (floor : positions.Round) (committees : Schedule S) (stream : List ℕ) →
-            StandsFrom floor ⟦<S as Audited<D>>⟧.basis committees self.entry stream →
-            StandsFrom floor ⟦<S as Audited<D>>⟧.basis committees next (stream ++ piece.now)) }
-    {
+        floors_rise::<S, D>();
         let Auditor {
             committees,
             bound,
             floor,
             detector,
-            taken,
+            mut decoder,
         } = self;
-        let Taken {
-            mut tail,
-            fed,
-            read,
-        } = taken;
-        let alloc = tail.allocator();
-        let (detector, progress) = read_from(alloc, committees, floor, bound, piece, detector)?;
-        tail.push(progress.rest)?;
-        tail.advance::<Activity<S, D>>(0, &bound);
+        let judging = Judging::From(floor);
+        let mut recorder = Recorder { judging, detector };
+        decoder.feed::<Activity<S, D>, Recorder<S, D>>(committees, bound, piece, &mut recorder)?;
+        let Recorder { detector, .. } = recorder;
         Ok(Auditor {
             committees,
             bound,
             floor,
             detector,
-            taken: Taken {
-                tail,
-                fed: fed + piece.len(),
-                read: read + progress.read,
-            },
-        })
-    }
-
-    /// Appends the piece to the undecoded tail, reads the messages there, and drops their bytes.
-    fn read_tail(self, piece: &[u8]) -> Result<Self, AllocError>
-        requires { fed_of self + length piece.now < 2 ^ 64 }
-        ensures fed { IfOk result (λ next. fed_of next ≡ fed_of self.entry + length piece.now) }
-        ensures stands { IfOk result (λ next.
-            (floor : positions.Round) (committees : Schedule S) (stream : List ℕ) →
-            StandsFrom floor ⟦<S as Audited<D>>⟧.basis committees self.entry stream →
-            StandsFrom floor ⟦<S as Audited<D>>⟧.basis committees next (stream ++ piece.now)) }
-    {
-        let Auditor {
-            committees,
-            bound,
-            floor,
-            detector,
-            taken,
-        } = self;
-        let Taken {
-            mut tail,
-            fed,
-            read,
-        } = taken;
-        let alloc = tail.allocator();
-        tail.push(piece)?;
-        let bytes = tail.bytes();
-        let (detector, progress) = read_from(alloc, committees, floor, bound, bytes, detector)?;
-        let (more, count) = (progress.read, bytes.len() - progress.rest.len());
-        tail.advance::<Activity<S, D>>(count, &bound);
-        Ok(Auditor {
-            committees,
-            bound,
-            floor,
-            detector,
-            taken: Taken {
-                tail,
-                fed: fed + piece.len(),
-                read: read + more,
-            },
-        })
-    }
-
-    /// Appends the piece to the undecoded tail, where it completes no message.
-    fn hold(self, piece: &[u8]) -> Result<Self, AllocError>
-        requires fits { fed_of self + length piece.now < 2 ^ 64 }
-        requires few { length (bytes_held self.taken.tail) + length piece.now < self.taken.tail.due }
-        ensures fed { IfOk result (λ next. fed_of next ≡ fed_of self.entry + length piece.now) }
-        ensures stands { IfOk result (λ next.
-            (floor : positions.Round) (committees : Schedule S) (stream : List ℕ) →
-            StandsFrom floor ⟦<S as Audited<D>>⟧.basis committees self.entry stream →
-            StandsFrom floor ⟦<S as Audited<D>>⟧.basis committees next (stream ++ piece.now)) }
-    {
-        let Auditor {
-            committees,
-            bound,
-            floor,
-            detector,
-            taken,
-        } = self;
-        let Taken {
-            mut tail,
-            fed,
-            read,
-        } = taken;
-        tail.push(piece)?;
-        Ok(Auditor {
-            committees,
-            bound,
-            floor,
-            detector,
-            taken: Taken {
-                tail,
-                fed: fed + piece.len(),
-                read,
-            },
+            decoder,
         })
     }
 
@@ -290,15 +171,14 @@ impl<'a, S: Listing<D>, D: Digest> Auditor<'a, S, D> {
         message_laws::<S, D>();
         rounds_are_independent::<S, D>();
         floors_rise::<S, D>();
-        let alloc = self.taken.tail.allocator();
-        let rest = self.taken.tail.bytes();
-        let place = self.taken.fed - rest.len();
-        let stop = stop_of::<Activity<S, D>>(alloc, self.bound, rest)?;
+        let alloc = self.decoder.allocator();
+        let place = self.decoder.place();
+        let stop = stop_of::<Activity<S, D>>(alloc, self.bound, self.decoder.rest())?;
         make_report(
             alloc,
             self.committees,
             &self.detector,
-            self.taken.read,
+            self.decoder.read(),
             place,
             stop,
         )
@@ -311,7 +191,7 @@ impl<'a, S: Listing<D>, D: Digest> Auditor<'a, S, D> {
             StandsFrom floor ⟦<S as Audited<D>>⟧.basis committees self.now stream →
             result ≡ length stream }
     {
-        self.taken.fed
+        self.decoder.fed()
     }
 
     /// The bytes after the last whole message.
@@ -322,7 +202,7 @@ impl<'a, S: Listing<D>, D: Digest> Auditor<'a, S, D> {
             AreMessages (⟦<S as Audited<D>>⟧.basis committees).format stream messages rest →
             result.now ≡ rest }
     {
-        self.taken.tail.bytes()
+        self.decoder.rest()
     }
 
     /// How many valid votes of the stream's messages are recorded: for each signer and round the earliest of each kind, and of
@@ -374,7 +254,7 @@ impl<'a, S: Listing<D>, D: Digest> Auditor<'a, S, D> {
         few_votes_are_recorded::<S, D>();
         recorded_votes_have_room::<S, D>();
         floors_rise::<S, D>();
-        counts_are_few(self.taken.fed);
+        counts_are_few(self.decoder.fed());
         self.detector.votes()
     }
 }

@@ -1,7 +1,6 @@
 -- What was written of an input that comes in pieces.
-use Rattle.std.proofs.Common.{◌≡◌, ℕ, ◌+◌, List, [], ◌++◌, length, take, drop, Option, Some, None, inl, sym, ap, subst, ◌∙◌, arith, append_assoc, append-nil, length-append}
+use Rattle.std.proofs.Common.{◌≡◌, ℕ, ◌+◌, List, [], ◌++◌, length, take, Option, Some, None, inl, sym, ap, subst, ◌∙◌, arith, append_assoc, append-nil, length-append}
 use Rattle.std.specs.List.{flat_map}
-use Rattle.std.proofs.Math.Seq.{drop-append_seam}
 use Rattle.std.proofs.lemmas.List.Elements.{All-nil}
 use Rattle.std.specs.Io.KnownBytes.{Consumes, IsAtEnd}
 use Rattle.std.proofs.KnownBytes.{Appends-nil, Consumes-trans}
@@ -83,10 +82,3 @@ pub consumed_nothing : (a b c : Option (List ℕ)) (input piece : List ℕ) (n :
 consumed_nothing a b c input piece n none before next =
     subst (Consumes a c) (ap (λ (k : ℕ). input ++ take k piece) none ∙ append-nil input)
     (Consumes-trans a b c input (take n piece) before next)
-
--- the bytes behind those that were taken
-pub front_dropped : (front rest whole : List ℕ) (count : ℕ) → whole ≡ front ++ rest → count + length rest ≡ length whole →
-    drop count whole ≡ rest
-front_dropped front rest whole count is len =
-    let size : count ≡ length front = let l = ap length is in omega (arith, l, len, length-append front rest) in
-    ap (drop count) is ∙ (ap (λ (n : ℕ). drop n (front ++ rest)) size ∙ drop-append_seam front rest)

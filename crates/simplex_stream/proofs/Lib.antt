@@ -1,1 +1,2 @@
 mod StreamLemmas
+mod DecoderLemmas

@@ -6,6 +6,6 @@ pub mod PlaceLaws
 pub mod Watched
 pub mod DeviceLaws
 pub mod Tail
-pub mod TailLaws
+pub mod Decoder
 pub mod Text
 pub mod RunError

@@ -4,14 +4,6 @@ use Rattle.simplex_base.specs.Format.{Format}
 use Rattle.simplex_base.specs.declared.codec.error.Error.{Error}
 use Rattle.simplex_stream.specs.Messages.{AreMessages, IsStop}
 
--- the stream's messages, `read` of them, were read up to the undecoded tail `rest`, and the messages are recorded
-pub record IsDecoded {M : Type 0} (format : Format M) (Recorded : List M → Type 0) (stream rest : List ℕ)
-    (read : ℕ) : Type 0 where
-  pub messages : List M
-  pub are_messages : AreMessages format stream messages rest
-  pub read_is : read ≡ length messages
-  pub recorded : Recorded messages
-
 -- the stream's messages, `read` of them, were read up to the undecoded tail `rest`, `stop` says why none follows, and the
 -- messages are recorded
 pub record IsProgress {M : Type 0} (format : Format M) (Recorded : List M → Type 0)

@@ -1,15 +1,15 @@
 -- What holds of the messages of streams, of streams with more behind them, and of streams that come in pieces.
-use Rattle.std.proofs.Common.{◌≡◌, ℕ, ◌+◌, ◌<◌, Option, Some, None, List, [], ◌∷◌, ◌++◌, length, refl, sym, ap, subst, ◌∙◌, arith, append_assoc, append-nil, length-append}
+use Rattle.std.proofs.Common.{◌≡◌, ℕ, ◌+◌, ◌<◌, Option, Some, None, List, [], ◌∷◌, ◌++◌, length, drop, refl, sym, ap, subst, ◌∙◌, arith, append_assoc, append-nil, length-append}
 use Rattle.std.specs.Prelude.{All}
 use Rattle.std.specs.List.{flat_map}
 use Rattle.std.proofs.lemmas.Grind.{flat_map-append}
 use Rattle.std.proofs.lemmas.List.Elements.{All-head, All-tail, All-append}
+use Rattle.std.proofs.Math.Seq.{drop-append_seam}
 use Rattle.simplex_base.specs.Reading.{Reading}
 use Rattle.simplex_base.specs.Format.{Format, IsLawful}
 use Rattle.simplex_base.specs.FormatLaws.{one_encoding}
 use Rattle.simplex_base.specs.declared.codec.error.Error.{Error}
 use Rattle.simplex_stream.specs.Messages.{AreMessages, IsStuck, IsStop}
-use Rattle.simplex_stream.specs.Progress.{IsProgress, IsDecoded}
 use Rattle.simplex_stream.specs.Fault.{IsFault, fault_of}
 use Rattle.simplex_stream.specs.declared.fault.Fault.{Fault}
 
@@ -110,18 +110,12 @@ messages_of_pieces {M} format stream piece rest left messages further are are' =
       stuck = are'.stuck;
     }
 
--- what was decoded of a stream, and then of its undecoded tail with a piece appended, was decoded of the stream with the piece
-pub decoded_of_pieces : {M : Type 0} (format : Format M) (Recorded Recorded' Recorded'' : List M → Type 0)
-    (stream piece rest left : List ℕ) (read more : ℕ) (stop : Option Error) →
-    IsDecoded format Recorded stream rest read → IsProgress format Recorded' (rest ++ piece) left more stop →
-    ((ms ks : List M) → Recorded ms → Recorded' ks → Recorded'' (ms ++ ks)) →
-    IsDecoded format Recorded'' (stream ++ piece) left (read + more)
-decoded_of_pieces format Recorded Recorded' Recorded'' stream piece rest left read more stop p q keep = record {
-  messages = p.messages ++ q.messages;
-  are_messages = messages_of_pieces format stream piece rest left p.messages q.messages p.are_messages q.are_messages;
-  read_is = let a = p.read_is in let b = q.read_is in omega (arith, length-append p.messages q.messages);
-  recorded = keep p.messages q.messages p.recorded q.recorded;
-}
+-- what is left of bytes behind a prefix of them
+pub front_dropped : (front rest whole : List ℕ) (count : ℕ) → whole ≡ front ++ rest → count + length rest ≡ length whole →
+    drop count whole ≡ rest
+front_dropped front rest whole count is len =
+    let size : count ≡ length front = let l = ap length is in omega (arith, l, len, length-append front rest) in
+    ap (drop count) is ∙ (ap (λ (n : ℕ). drop n (front ++ rest)) size ∙ drop-append_seam front rest)
 
 -- ---- the fault of a stream
 

@@ -1,6 +1,6 @@
 //! The undecoded tail of a stream that comes in pieces.
 
-ghost use Rattle.std.specs.Prelude.{◌≡◌, ◌↔◌, ◌++◌, ◌+◌, ◌<◌, ◌≤◌, ◌^◌, [], IsTrue, OnOk, length, drop};
+ghost use Rattle.std.specs.Prelude.{◌≡◌, ◌↔◌, ◌++◌, ◌+◌, ◌<◌, ◌≤◌, ◌^◌, [], IsTrue, OnOk, OnErr, length, drop};
 ghost use Rattle.simplex_base.specs.Format.{format_under};
 ghost use Rattle.simplex_stream.specs.Tail.{bytes_held, due_of, Awaits};
 
@@ -35,9 +35,10 @@ impl Tail {
         self.held.as_slice()
     }
 
-    /// Appends a piece. `AllocError` only where an allocation failed.
+    /// Appends a piece. `AllocError` only where an allocation failed; its bytes are then as before.
     pub fn push(&mut self, piece: &[u8]) -> Result<(), AllocError>
         ensures held { OnOk result (bytes_held self.new ≡ bytes_held self.old ++ piece.now) }
+        ensures kept { OnErr result (bytes_held self.new ≡ bytes_held self.old) }
         ensures due { due_of self.new ≡ due_of self.old }
     {
         self.held.extend_from_slice(piece)

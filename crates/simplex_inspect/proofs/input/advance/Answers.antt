@@ -6,6 +6,7 @@ use Rattle.simplex_scheme.specs.Committees.{Schedule}
 use Rattle.simplex_detector.specs.Scheme.{scheme_of}
 use Rattle.std.specs.List.{flat_map}
 use Rattle.std.specs.Io.KnownBytes.{Appends}
+use Rattle.simplex_stream.specs.StreamLaws.{front_dropped}
 use Rattle.simplex_stream.specs.Text.{AppendsBeginning}
 use Rattle.simplex_stream.specs.Watched.{inner_of}
 use Rattle.simplex_stream.specs.Tail.{bytes_held}
@@ -13,7 +14,6 @@ use Rattle.simplex_inspect.specs.Inspected.{Lines, AreShown, IsWritten, bound_un
 use Rattle.simplex_inspect.specs.Line.{line_json}
 use Rattle.simplex_inspect.specs.Shown.{shown_of}
 use Rattle.simplex_inspect.proofs.InspectedLemmas.{if_err, begun_now, begun_more, advanced}
-use Rattle.simplex_inspect.proofs.InputLemmas.{front_dropped}
 use Rattle.simplex_inspect.proofs.input.advance.Given as given
 use Rattle.simplex_inspect.proofs.input.advance.Goals as goal
 

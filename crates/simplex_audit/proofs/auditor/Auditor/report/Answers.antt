@@ -29,7 +29,7 @@ basis g schedule = record {
 pub returns-clause-part : goal.returns-clause-part
 returns-clause-part g c =
     if_ok _ _ (λ report audit floor committees stream stands whole is.
-    part_of_whole (basis g committees) floor stream report whole stands.fed.readable (c.message_laws.ensures _ refl)
+    part_of_whole (basis g committees) floor stream report whole stands.readable (c.message_laws.ensures _ refl)
     c.rounds_are_independent.ensures.part (audit floor committees stream stands).report_is is)
     c.report_from.result c.report_from.ensures
 
@@ -44,7 +44,7 @@ returns-clause-audit g c =
 
 pub returns-clause-single : goal.returns-clause-single
 returns-clause-single g c floor committees stream other stands = λ messages others rest left are are'.
-    messages_once _ stands.fed.readable other rest left messages others are are'
+    messages_once _ stands.readable other rest left messages others are are'
 
 pub returns-clause-determined : goal.returns-clause-determined
 returns-clause-determined g c committees =

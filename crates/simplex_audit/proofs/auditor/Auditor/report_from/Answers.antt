@@ -1,4 +1,4 @@
-use Rattle.std.proofs.Common.{◌-◌, ℕ, List, length, refl, ap, subst, arith}
+use Rattle.std.proofs.Common.{ℕ, List, refl, subst, arith}
 use Rattle.simplex_base.specs.Format.{Format, fixed}
 use Rattle.simplex_evidence.specs.Activity.{activity_format}
 use Rattle.simplex_evidence.specs.declared.types.activity.Activity.{Activity}
@@ -25,15 +25,12 @@ pub returns : goal.returns
 returns g c =
     let auditor = c.args.self.now in
     let here = format g (bound_of g.S.CertificateScheme.keys auditor.committees.now) in
-    let room = auditor.taken.room in
-    let same = ap length c.bytes-rest.ensures in
-    let place = auditor.taken.fed - length c.bytes-rest.result.now in
     if_both _ _ _ (λ report is each. stands_audited _ auditor report (λ committees m. omega arith)
     (λ floor committees. c.message_laws.ensures _ refl) c.rounds_are_independent.ensures.lawful
-    (stands_reported _ auditor place c.in_ok-stop.stop report (omega arith)
-    (λ same. subst (λ (xs : List ℕ). IsStuck here xs → IsStop here.reading xs c.in_ok-stop.stop) c.bytes-rest.ensures
-    (subst (λ (n : ℕ). IsStuck (format g n) c.bytes-rest.result.now →
-    IsStop (format g n).reading c.bytes-rest.result.now c.in_ok-stop.stop) same c.in_ok-stop.ensures))
-    (makes_same _ _ _ _ auditor.detector place auditor.taken.read c.in_ok-stop.stop report
+    (stands_reported _ auditor c.place-place.result c.read.result c.in_ok-stop.stop report c.place-place.ensures c.read.ensures
+    (λ same. subst (λ (xs : List ℕ). IsStuck here xs → IsStop here.reading xs c.in_ok-stop.stop) c.rest.ensures
+    (subst (λ (n : ℕ). IsStuck (format g n) c.rest.result.now →
+    IsStop (format g n).reading c.rest.result.now c.in_ok-stop.stop) same c.in_ok-stop.ensures))
+    (makes_same _ _ _ _ auditor.detector c.place-place.result c.read.result c.in_ok-stop.stop report
     (c.floors_rise.ensures.judged auditor.committees.now auditor.floor) (is (From auditor.floor)))) each)
     c.make_report.result c.make_report.ensures.report c.make_report.ensures.encoded

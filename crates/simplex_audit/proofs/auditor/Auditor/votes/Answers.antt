@@ -1,4 +1,4 @@
-use Rattle.std.proofs.Common.{Bool, ◌≡◌, ℕ, ◌<◌, ◌≤◌, ◌-◌, ◌^◌, List, ◌++◌, length, ap, subst, arith, length-append}
+use Rattle.std.proofs.Common.{Bool, ◌≡◌, ℕ, ◌<◌, ◌≤◌, ◌-◌, ◌^◌, List, ◌++◌, length, ap, subst, ◌∙◌, arith, length-append}
 use Rattle.std.specs.Prelude.{min}
 use Rattle.simplex_base.specs.Positions.{Round}
 use Rattle.simplex_evidence.specs.declared.types.activity.Activity.{Activity}
@@ -13,7 +13,7 @@ use Rattle.simplex_detector.specs.declared.judging.Judging.TheVariants.{From}
 use Rattle.simplex_audit.specs.Auditor.{StandsFrom}
 use Rattle.simplex_audit.specs.Basis.{Basis, basis_from}
 use Rattle.simplex_stream.specs.Messages.{AreMessages}
-use Rattle.simplex_stream.specs.Tail.{bytes_held}
+use Rattle.simplex_stream.specs.Decoder.{undecoded}
 use Rattle.simplex_audit.specs.declared.auditor.Auditor.{Auditor}
 use Rattle.simplex_stream.specs.StreamLaws.{messages_once}
 use Rattle.simplex_audit.proofs.auditor.Auditor.votes.Given as given
@@ -26,9 +26,9 @@ stands_recalls : {S D C P G : Type 0} (floor : Round) (basis : Schedule S → Ba
     Recalls (basis_from floor (basis committees)).rules messages auditor.detector
 stands_recalls floor basis committees auditor stream rest messages stands are =
     subst (λ ms. Recalls (basis_from floor (basis committees)).rules ms auditor.detector)
-    (messages_once (basis committees).format stands.fed.readable stream (bytes_held auditor.taken.tail) rest
-    stands.decoded.messages messages stands.decoded.are_messages are).0
-    stands.decoded.recorded
+    (messages_once (basis committees).format stands.readable stream (undecoded auditor.decoder) rest
+    stands.messages messages stands.decoded.are_messages are).0
+    stands.recorded
 
 -- a number that stops at 2^64 - 1 does not stop where it is at most a number of bytes
 not_stopped : (number recorded fed : ℕ) (stream front rest : List ℕ) → stream ≡ front ++ rest → fed ≡ length stream →
@@ -67,7 +67,8 @@ returns-clause-number_from g c = λ floor committees stream messages rest stands
 
 pub returns-clause-exact_from : goal.returns-clause-exact_from
 returns-clause-exact_from g c = λ room floor committees stream messages rest stands are.
-    not_stopped _ _ _ stream _ rest are.whole stands.fed.fed_is c.counts_are_few.ensures
+    not_stopped _ _ _ stream _ rest are.whole (c.fed.ensures ∙ stands.decoded.fed_is)
+    c.counts_are_few.ensures
     (c.recorded_votes_have_room.ensures (in_rounds (is_from floor) (rules g committees)) room messages)
     (returns-clause-number_from g c floor committees stream messages rest stands are)
 

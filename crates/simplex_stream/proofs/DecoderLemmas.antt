@@ -1,0 +1,68 @@
+-- A decoder from piece to piece.
+use Rattle.std.proofs.Common.{◌≡◌, ℕ, ◌+◌, ◌<◌, ◌≤◌, List, [], ◌++◌, length, drop, inl, inr, refl, sym, ap, subst, ◌∙◌, arith, append_assoc, length-append}
+use Rattle.std.proofs.lemmas.Bool.{cases_lt}
+use Rattle.std.proofs.lemmas.List.Elements.{All-nil}
+use Rattle.simplex_base.specs.Format.{Format}
+use Rattle.simplex_base.specs.LeastSize.{NoneShorter}
+use Rattle.simplex_base.specs.LeastSizeLaws.{front_in}
+use Rattle.simplex_stream.specs.Decoder.{DecodesMore, bytes_fed, messages_read, tail_of, undecoded}
+use Rattle.simplex_stream.specs.Messages.{AreMessages, IsStuck}
+use Rattle.simplex_stream.specs.StreamLaws.{messages_of_pieces}
+use Rattle.simplex_stream.specs.Tail.{Awaits, due_of}
+use Rattle.simplex_stream.specs.declared.decoder.Decoder.{Decoder}
+
+module _ {M : Type 0} (format : Format M) where
+  -- where no message is as short, a tail that is stuck stays so
+  still_stuck : (rest piece : List ℕ) (due : ℕ) → IsStuck format rest → NoneShorter format.is_value format.encoding rest due →
+      length (rest ++ piece) < due → IsStuck format (rest ++ piece)
+  still_stuck rest piece due stuck none few m more v p =
+      elim (cases_lt (length (format.encoding m)) (length rest)) [
+        | inl lt ↦
+            let begins : length (format.encoding m) ≤ length rest = omega arith in
+            stuck m (drop (length (format.encoding m)) rest) v (front_in (format.encoding m) more rest piece (sym p) begins)
+        | inr le ↦
+            let behind = drop (length rest) (format.encoding m) in
+            let least = none m behind v (front_in rest piece (format.encoding m) more p le) in
+            let len = ap length p in
+            absurd (omega (arith, len, least, length-append (format.encoding m) more))
+      ]
+
+  -- a bound of the messages that begin with some bytes bounds those that begin with more
+  still_awaits : (rest piece : List ℕ) (due : ℕ) → NoneShorter format.is_value format.encoding rest due →
+      NoneShorter format.is_value format.encoding (rest ++ piece) due
+  still_awaits rest piece due none m more v p = none m (piece ++ more) v (p ∙ append_assoc rest piece more)
+
+  -- a decoder that read its tail with a piece appended has decoded the stream with the piece appended
+  pub decodes_more : (Recorded : List M → Type 0) (old new : Decoder) (piece bytes left : List ℕ) (further : List M) (n : ℕ) →
+      bytes_fed new ≡ bytes_fed old + length piece → messages_read new ≡ messages_read old + n → n ≡ length further →
+      undecoded new ≡ left → bytes ≡ undecoded old ++ piece → AreMessages format bytes further left →
+      Awaits format (tail_of new) → Recorded further → DecodesMore format Recorded piece old new
+  decodes_more Recorded old new piece bytes left further n fed read count rest parts are awaits recorded stream messages h = (
+    further,
+    record {
+      are_messages = messages_of_pieces format stream piece (undecoded old) (undecoded new) messages further h.are_messages
+          (subst (λ (xs : List ℕ). AreMessages format xs further (undecoded new)) parts
+          (subst (AreMessages format bytes further) (sym rest) are));
+      read_is = let before = h.read_is in omega (arith, before, length-append messages further);
+      fed_is = let before = h.fed_is in omega (arith, before, length-append stream piece);
+      awaits = awaits;
+    },
+    recorded,
+  )
+
+  -- so has a decoder that appended a piece to its tail, where the piece completes no message
+  pub decodes_none : (Recorded : List M → Type 0) (old new : Decoder) (piece : List ℕ) →
+      bytes_fed new ≡ bytes_fed old + length piece → messages_read new ≡ messages_read old →
+      undecoded new ≡ undecoded old ++ piece → due_of (tail_of new) ≡ due_of (tail_of old) →
+      length (undecoded old) + length piece < due_of (tail_of old) → Recorded [] → DecodesMore format Recorded piece old new
+  decodes_none Recorded old new piece fed read rest due few recorded stream messages h =
+      let bytes = undecoded old ++ piece in
+      let none = still_awaits (undecoded old) piece (due_of (tail_of old)) h.awaits in
+      decodes_more Recorded old new piece bytes bytes [] 0 fed (omega (arith, read)) refl rest refl (record {
+        whole = refl;
+        each = All-nil format.is_value;
+        stuck = still_stuck (undecoded old) piece (due_of (tail_of old)) h.are_messages.stuck h.awaits
+            (omega (arith, few, length-append (undecoded old) piece));
+      }) (subst (NoneShorter format.is_value format.encoding (undecoded new)) (sym due)
+      (subst (λ (xs : List ℕ). NoneShorter format.is_value format.encoding xs (due_of (tail_of old))) (sym rest) none))
+      recorded stream messages h

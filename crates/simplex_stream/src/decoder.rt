@@ -1,0 +1,112 @@
+//! Decodes a stream that comes in pieces.
+
+ghost use Rattle.std.specs.Prelude.{◌≡◌, ◌+◌, ◌<◌, ◌≤◌, ◌^◌, ℕ, [], OnOk, length};
+ghost use Rattle.simplex_base.specs.Format.{format_under};
+ghost use Rattle.simplex_stream.specs.Tail.{bytes_held};
+
+use crate::messages::{Message, Visitor, for_each_message};
+use crate::tail::Tail;
+use simplex_base::codec::Read;
+use std::alloc::{AllocError, Global};
+
+/// Decodes a stream that comes in pieces. It holds the bytes after the last whole message, and not the stream.
+#[derive(Drop)]
+pub struct Decoder {
+    /// The bytes after the last whole message.
+    tail: Tail,
+    /// The number of the stream's bytes.
+    fed: usize,
+    /// The number of the stream's messages.
+    read: usize,
+    ghost room: { read + length (bytes_held tail) ≤ fed },
+}
+
+impl Decoder {
+    ghost use Rattle.simplex_stream.specs.Decoder.{HasDecoded, DecodesMore, bytes_fed, messages_read, undecoded};
+
+    /// A decoder of a stream of such messages, of which no byte has come.
+    pub fn new<M: Message>(alloc: Global) -> Decoder
+        ensures fed { bytes_fed result ≡ 0 }
+        ensures decoded { (bound : ℕ) → HasDecoded (format_under ⟦<M as Read>⟧ bound) [] [] result }
+    {
+        Decoder {
+            tail: Tail::new(alloc),
+            fed: 0,
+            read: 0,
+        }
+    }
+
+    /// Appends a piece to the stream, reads the messages that it completes under the bound, and shows each to the visitor.
+    /// `AllocError` only where an allocation failed; the visitor may then have taken some of these messages, and the decoder
+    /// stands for no stream.
+    ///
+    /// Messages are read in place if no tail is left before the piece. A piece that completes no message is appended to the
+    /// tail, and no byte of the tail is read again before there are as many as `least_size` finds of the message there.
+    pub fn feed<M: Message + Drop, V: Visitor<M>>(
+        &mut self,
+        context: &V::Context,
+        bound: u32,
+        piece: &[u8],
+        visitor: &mut V,
+    ) -> Result<(), AllocError>
+        requires fits { bytes_fed self.old + length piece.now < 2 ^ 64 }
+        requires room { V.has_room visitor.old (length (undecoded self.old) + length piece.now) }
+        ensures fed { OnOk result (bytes_fed self.new ≡ bytes_fed self.old + length piece.now) }
+        ensures decoded { OnOk result (DecodesMore (format_under ⟦<M as Read>⟧ bound)
+            (λ more. V.follows context.now more visitor.old visitor.new) piece.now self.old self.new) }
+    {
+        let alloc = self.tail.allocator();
+        if self.tail.bytes().is_empty() {
+            let progress = for_each_message::<M, V>(alloc, context, bound, piece, visitor)?;
+            self.tail.push(progress.rest)?;
+            self.tail.advance::<M>(0, &bound);
+            self.read += progress.read;
+            self.fed += piece.len();
+            return Ok(());
+        }
+        let is_due = self.tail.is_due(piece.len());
+        self.tail.push(piece)?;
+        self.fed += piece.len();
+        if is_due {
+            let bytes = self.tail.bytes();
+            let progress = for_each_message::<M, V>(alloc, context, bound, bytes, visitor)?;
+            let (more, count) = (progress.read, bytes.len() - progress.rest.len());
+            self.tail.advance::<M>(count, &bound);
+            self.read += more;
+        }
+        Ok(())
+    }
+
+    /// How many bytes it was fed.
+    pub fn fed(&self) -> usize
+        ensures { result ≡ bytes_fed self.now }
+    {
+        self.fed
+    }
+
+    /// How many messages it has decoded.
+    pub fn read(&self) -> usize
+        ensures { result ≡ messages_read self.now }
+    {
+        self.read
+    }
+
+    /// The bytes after the last whole message.
+    pub fn rest(&self) -> &[u8]
+        ensures { result.now ≡ undecoded self.now }
+    {
+        self.tail.bytes()
+    }
+
+    /// The 0-based offset of the first of these bytes in the stream.
+    pub fn place(&self) -> usize
+        ensures { result + length (undecoded self.now) ≡ bytes_fed self.now }
+    {
+        self.fed - self.tail.bytes().len()
+    }
+
+    /// The allocator of these bytes.
+    pub fn allocator(&self) -> Global {
+        self.tail.allocator()
+    }
+}
