@@ -1,28 +1,76 @@
 -- Evidence as it arises is noted once, message by message.
-use Rattle.simplex_detector.proofs.Prelude.{Accusation, Activity, All, All-contains, All-filter, All-push, AllByRecursion, Bool, Contains, Contains-append_cases, Contains-append_left, Contains-append_right, Detector, Equal, Greater, Less, Ordering, tied_itself, in_rounds, is_from, filter_map, and_left, same_Some, Equivocation, IsEquivalence, Judging, List, None, Option, Recalls, Round, Rules, Schedule, SignedVote, Some, [], accused_by, accused_cmp, activity_round, and_parts, ap, append-nil, append_assoc, arith, cond, contains, contradicts, evidence_from, evidence_of, message_is_news, false, false_from_ne_true, false≢true, filter, filter-append, inl, inr, is_accused, is_eq, is_of, is_some, is_valid, length, length-append, map, map-append, or_right, or_left, refl, round_of, subst, sym, true, valid_votes, votes_in, ℕ, ⊎_elim, ◌++◌, ◌+◌, ◌&&◌, ◌∙◌, ◌∷◌, ◌≡◌, ◌⊎◌}
+use Rattle.simplex_detector.proofs.Prelude.{Accusation, Activity, SignerInRound, exact_pairs, exact_unsigned, list_any, ◌||◌, All, All-contains, All-filter, All-push, AllByRecursion, Attestation, Bool, Contains, Scheme, rules_under, vote_on, Contains-append_cases, Contains-append_left, Contains-append_right, BTreeSet, Conflicting_finalize, Conflicting_notarize, Detector, Equal, EquivocationKind, Nullify_finalize, Ordering, kind_rank, nat_cmp, not, ordering_then, signer_cmp, signer_in, tied_itself, in_rounds, is_from, filter_map, and_left, same_Some, Equivocation, IsEquivalence, Judging, List, None, Option, Recalls, Round, Rules, Schedule, SignedVote, Some, [], accused_by, accused_cmp, activity_round, and_parts, ap, append-nil, append_assoc, arith, cond, contains, contradicts, evidence_from, evidence_of, message_is_news, false, false_from_ne_true, false≢true, filter, filter-append, inl, inr, is_accused, is_eq, is_of, is_some, is_valid, length, length-append, map, map-append, or_right, or_left, refl, round_of, subst, sym, true, valid_votes, votes_in, ℕ, ⊎_elim, ◌++◌, ◌+◌, ◌&&◌, ◌∙◌, ◌∷◌, ◌≡◌, ◌⊎◌}
 use Rattle.std.specs.Int.{from_bool}
 use Rattle.simplex_detector.proofs.EvidenceLemmas.{accused-from_evidence, accused_from_votes, evidence-from_accused, evidence_is, valid_votes-push, votes_from_accused}
 use Rattle.simplex_detector.proofs.Filters.{filter_none}
 use Rattle.simplex_detector.proofs.CountLemmas.{filter_filtered}
 use Rattle.simplex_detector.proofs.IndependenceLemmas.{accused-from_within, is_vote_of, same_evidence-within, votes_in_rounds}
-use Rattle.simplex_detector.proofs.Lists.{Contains-cons_cases, Contains-filter_map, Contains-first, Contains-from_filter, Contains-none, each, made_sound, same_bool, some_from_is_some}
+use Rattle.simplex_detector.proofs.Lists.{Contains-cons_cases, Contains-filter_map, Contains-first, Contains-from_filter, Contains-from_map, Contains-map, Contains-none, each, made_sound, same_bool, some_from_is_some}
 use Rattle.simplex_detector.proofs.ReportLemmas.{accuses_own, own_name}
 use Rattle.simplex_detector.proofs.NewsLemmas.{news_changes_state}
 use Rattle.simplex_detector.proofs.RecordedLemmas.{evidence_of-slots}
-use Rattle.simplex_detector.proofs.Places.{accused_cmp_total, exact_accused, is_of-true, is_of-from}
+use Rattle.simplex_detector.proofs.Places.{accused_cmp_total, exact_accused, exact_signers, is_of-true, is_of-from}
 use Rattle.simplex_detector.proofs.StayLemmas.{evidence_of-stays}
-use Rattle.simplex_detector.specs.Accusation.{accusations_of}
+use Rattle.simplex_detector.specs.Accusation.{accusations_of, key_cmp, key_of, way_of, way_rank}
 use Rattle.simplex_detector.specs.Evidence.{evidence_against}
-use Rattle.simplex_detector.specs.Alerts.{NotesAll, NotesSigners, Tells, TellsSome, has_arisen, times_accused, untold}
+use Rattle.simplex_detector.specs.Alerts.{IsEachOnce, NotesAll, NotesMessage, NotesSigners, Tells, TellsSome, TellsUntold, has_arisen, times_accused, untold}
+use Rattle.simplex_evidence.specs.Activity.{contents_of}
+use Rattle.simplex_evidence.specs.Contents.{AreInConflict, ContentsValue, OneCertificate, OneVote, TwoVotes, contents_round, contents_votes}
 use Rattle.simplex_detector.specs.declared.alerts.Alerts.{Alerts}
+use Rattle.simplex_detector.specs.declared.evidence.Accusation as declared
+use Rattle.simplex_detector.specs.declared.evidence.EquivocationKind as declared_kind
+use Rattle.simplex_detector.specs.declared.evidence.EquivocationKind.TheVariants as ways
+use Rattle.simplex_detector.specs.contracts.evidence.AccusationOrd.TheImpl as ord
+use Rattle.simplex_detector.specs.contracts.evidence.EquivocationKindOrd.TheImpl as kind_ord
+
+equal_from : (o : Ordering) → is_eq o ≡ true → o ≡ Equal
+equal_from Equal h = refl
+equal_from _ h = absurd (false≢true h)
 
 -- accusations that the order ties are equal
 accused_same : (m n : Accusation) → is_eq (accused_cmp m n) ≡ true → m ≡ n
-accused_same m n at = exact_accused m n (tied (accused_cmp m n) at)
+accused_same m n at = exact_accused m n (equal_from (accused_cmp m n) at)
+
+-- what is not so is false
+pub not-false : (b : Bool) → not b ≡ false → b ≡ true
+not-false true h = refl
+not-false false h = absurd (false≢true (sym h))
+
+-- the code's accusations are ordered as accusations are
+same_order : (m n : Accusation) → key_cmp (key_of m) (key_of n) ≡ accused_cmp m n
+same_order m n = λ i. ordering_then (signer_cmp (signer_in m.round m.signer) (signer_in n.round n.signer))
+    (nat_cmp (same_rank m.kind i) (same_rank n.kind i))
   where
-    tied : (o : Ordering) → is_eq o ≡ true → o ≡ Equal
-    tied Equal h = refl
-    tied _ h = absurd (false≢true h)
+    same_rank : (k : EquivocationKind) → way_rank (way_of k) ≡ kind_rank k
+    same_rank Conflicting_notarize = refl
+    same_rank Conflicting_finalize = refl
+    same_rank Nullify_finalize = refl
+
+-- which accusations arose, after one more
+pub arises_by : (cmp : declared.Accusation → declared.Accusation → Ordering) → cmp ≡ key_cmp →
+    (old new : BTreeSet declared.Accusation) (m : Accusation) (key : declared.Accusation) → key ≡ key_of m →
+    ((q : declared.Accusation) → contains cmp new q ≡ cond (is_eq (cmp key q)) true (contains cmp old q)) →
+    (n : Accusation) →
+    contains key_cmp new (key_of n) ≡ cond (is_eq (accused_cmp m n)) true (contains key_cmp old (key_of n))
+arises_by cmp order old new m key is updates n =
+    subst (λ (by : _ → _ → Ordering). contains by new (key_of n) ≡ cond (is_eq (by key (key_of n))) true (contains by old (key_of n)))
+    order (updates (key_of n)) ∙ (λ i. cond (is_eq (key_cmp (is i) (key_of n))) true (contains key_cmp old (key_of n)))
+    ∙ (λ i. cond (is_eq (same_order m n i)) true (contains key_cmp old (key_of n)))
+
+-- how the code orders them is how they are ordered
+pub by_key : ord.cmp-value.it ≡ key_cmp
+by_key = λ i a b. ordering_then (signer_cmp a.accused b.accused) (of_kinds a.kind b.kind i)
+  where
+    of_kinds : (k l : declared_kind.EquivocationKind) → kind_ord.cmp-value.it k l ≡ nat_cmp (way_rank k) (way_rank l)
+    of_kinds ways.ConflictingNotarize ways.ConflictingNotarize = refl
+    of_kinds ways.ConflictingNotarize ways.ConflictingFinalize = refl
+    of_kinds ways.ConflictingNotarize ways.NullifyFinalize = refl
+    of_kinds ways.ConflictingFinalize ways.ConflictingNotarize = refl
+    of_kinds ways.ConflictingFinalize ways.ConflictingFinalize = refl
+    of_kinds ways.ConflictingFinalize ways.NullifyFinalize = refl
+    of_kinds ways.NullifyFinalize ways.ConflictingNotarize = refl
+    of_kinds ways.NullifyFinalize ways.ConflictingFinalize = refl
+    of_kinds ways.NullifyFinalize ways.NullifyFinalize = refl
 
 -- ---- one evidence
 
@@ -76,12 +124,9 @@ module _ {S D P G : Type 0} (old new : Alerts S D P G) (e : Equivocation D G)
       arises_now eq vs told some own n h =
           (elim (is_eq (accused_cmp (accused_by e) n)) as (λ b. is_eq (accused_cmp (accused_by e) n) ≡ b →
           cond b true (has_arisen old n) ≡ true → is_some (evidence_of eq vs n) ≡ true) [
-            | true ↦ λ at k. subst (λ m. is_some (evidence_of eq vs m) ≡ true) (same_accused n at) (ap is_some own)
+            | true ↦ λ at k. subst (λ m. is_some (evidence_of eq vs m) ≡ true) (accused_same (accused_by e) n at) (ap is_some own)
             | false ↦ λ away k. some.arisen n k
           ]) refl (sym (arises n) ∙ h)
-
-      same_accused : (n : Accusation) → is_eq (accused_cmp (accused_by e) n) ≡ true → accused_by e ≡ n
-      same_accused n at = accused_same (accused_by e) n at
 
       again : (eq : D → D → Bool) (vs : List (SignedVote D G)) (told : List (Equivocation D G)) → TellsSome eq vs told old →
           evidence_of eq vs (accused_by e) ≡ Some e → has_arisen old (accused_by e) ≡ true → untold new ≡ untold old →
@@ -92,7 +137,7 @@ module _ {S D P G : Type 0} (old new : Alerts S D P G) (e : Equivocation D G)
         once = λ n. ap (λ us. times_accused (told ++ us) n) is ∙ some.once n ∙ ap from_bool (sym (arises n
             ∙ (elim (is_eq (accused_cmp (accused_by e) n)) as (λ b. is_eq (accused_cmp (accused_by e) n) ≡ b →
             cond b true (has_arisen old n) ≡ has_arisen old n) [
-              | true ↦ λ at. sym (subst (λ m. has_arisen old m ≡ true) (same_accused n at) known)
+              | true ↦ λ at. sym (subst (λ m. has_arisen old m ≡ true) (accused_same (accused_by e) n at) known)
               | false ↦ λ away. refl
             ]) refl));
       }
@@ -117,11 +162,16 @@ module _ {S D P G : Type 0} (old new : Alerts S D P G) (e : Equivocation D G)
               (elim (is_eq (accused_cmp (accused_by e) n)) as (λ b. is_eq (accused_cmp (accused_by e) n) ≡ b →
               from_bool (has_arisen old n) + from_bool b ≡ from_bool (cond b true (has_arisen old n))) [
                 | true ↦ λ at. ap (λ b. from_bool b + 1)
-                    (subst (λ m. has_arisen old m ≡ false) (same_accused n at) fresh)
+                    (subst (λ m. has_arisen old m ≡ false) (accused_same (accused_by e) n at) fresh)
                 | false ↦ λ away. omega arith
               ]) refl
 
 -- ---- some evidence
+
+-- a list of no elements
+pub no_items : {X : Type 0} (xs : List X) → length xs ≡ 0 → xs ≡ []
+no_items [] h = refl
+no_items (x ∷ xs) h = absurd (omega (arith, h))
 
 -- nothing is noted
 pub notes_none : {S D P G : Type 0} (alerts : Alerts S D P G) → NotesAll [] alerts alerts
@@ -141,6 +191,18 @@ notes_more es fs a b c one next = record {
       (one.added eq vs told (each P es (λ e e_in. All-contains P (es ++ fs) e sound (Contains-append_left es fs e e_in))) some);
   stay = λ n h. next.stay n (one.stay n h);
   noted = λ e e_in. ⊎_elim (λ k. next.stay (accused_by e) (one.noted e k)) (next.noted e) (Contains-append_cases es fs e e_in);
+}
+
+-- what was not told is told, and nothing else arises
+pub tells_untold : {S D P G : Type 0} (taken : List (Equivocation D G)) (old new : Alerts S D P G) → taken ≡ untold old →
+    untold new ≡ [] → ((n : Accusation) → has_arisen new n ≡ has_arisen old n) → TellsUntold taken old new
+tells_untold taken old new is none same = record {
+  taken_is = is;
+  none_left = none;
+  tells = λ eq vs told tells.
+      let all : told ++ untold old ≡ (told ++ taken) ++ untold new =
+      ap (λ us. told ++ us) (sym is) ∙ sym (append-nil (told ++ taken)) ∙ ap (λ us. (told ++ taken) ++ us) (sym none) in
+      record { arisen = λ n. same n ∙ tells.arisen n; all = subst (IsEachOnce eq vs) all tells.all };
 }
 
 -- ---- the evidence against a signer, and against several
@@ -201,10 +263,10 @@ module _ {S D C P G : Type 0} (rules : Rules S D C P G) (l : IsEquivalence rules
     (covers : (w : SignedVote D G) → Contains (votes_in rules.listed m) w →
     (round_of w.subject ≡ round) × Contains signers w.signer) (told : List (Equivocation D G)) (old new : Alerts S D P G)
     (tells : Tells rules.eq (valid_votes rules messages) told old) where
-  before : List (SignedVote D G)
+  abbrev before : List (SignedVote D G)
   before = valid_votes rules messages
 
-  more : List (SignedVote D G)
+  abbrev more : List (SignedVote D G)
   more = filter (is_valid rules) (votes_in rules.listed m)
 
   -- what was told before the message is evidence after it, too
@@ -256,6 +318,49 @@ module _ {S D C P G : Type 0} (rules : Rules S D C P G) (l : IsEquivalence rules
         all = record { sound = some.sound; once = λ n. some.once n ∙ ap from_bool (arisen n) };
       }
 
+-- the signers of what a message holds
+abbrev pub signers_of_held : {S D C P G : Type 0} → (C → List (Attestation S P G)) → ContentsValue D C G → List ℕ
+signers_of_held listed (OneVote v) = v.signer ∷ []
+signers_of_held listed (OneCertificate x c) = map (λ a. a.signer) (listed c)
+signers_of_held listed (TwoVotes v w) = v.signer ∷ []
+
+-- its votes are of its round, and by its signers
+held_covers : {S D C P G : Type 0} (eq : D → D → Bool) (listed : C → List (Attestation S P G)) (held : ContentsValue D C G) →
+    AreInConflict eq held → (w : SignedVote D G) → Contains (contents_votes listed held) w →
+    (round_of w.subject ≡ contents_round held) × Contains (signers_of_held listed held) w.signer
+held_covers eq listed (OneVote v) conflict w w_in =
+    ⊎_elim (λ is. (ap (λ (u : SignedVote _ _). round_of u.subject) (sym is),
+    subst (Contains (v.signer ∷ [])) (ap (λ (u : SignedVote _ _). u.signer) is) (Contains-first v.signer [])))
+    (λ none. absurd (Contains-none w none)) (Contains-cons_cases v [] w w_in)
+held_covers eq listed (OneCertificate x c) conflict w w_in =
+    let (a, a_in, is) = Contains-from_map (vote_on x) (listed c) w w_in in
+    (ap (λ (u : SignedVote _ _). round_of u.subject) (sym is),
+    subst (Contains (map (λ a. a.signer) (listed c))) (ap (λ (u : SignedVote _ _). u.signer) is)
+    (Contains-map (λ (a : Attestation _ _ _). a.signer) (listed c) a a_in))
+held_covers eq listed (TwoVotes v u) (kind, clashes) w w_in =
+    let beside = is_of-true (round_of v.subject) v.signer u (and_parts (is_of (round_of v.subject) v.signer u) _ clashes).0 in
+    ⊎_elim
+    (λ is. (ap (λ (t : SignedVote _ _). round_of t.subject) (sym is),
+    subst (Contains (v.signer ∷ [])) (ap (λ (t : SignedVote _ _). t.signer) is) (Contains-first v.signer [])))
+    (λ rest. ⊎_elim
+    (λ is. (ap (λ (t : SignedVote _ _). round_of t.subject) (sym is) ∙ beside.0,
+    subst (Contains (v.signer ∷ [])) (sym beside.1 ∙ ap (λ (t : SignedVote _ _). t.signer) is) (Contains-first v.signer [])))
+    (λ none. absurd (Contains-none w none)) (Contains-cons_cases u [] w rest))
+    (Contains-cons_cases v (u ∷ []) w w_in)
+
+-- a message whose signers are looked at is noted
+pub notes_message : {S D C P G : Type 0} (scheme : Scheme S D C P G) → IsEquivalence scheme.eq →
+    (detector : Detector S D P G) (m : Activity S D C P G) → AreInConflict scheme.eq (contents_of m) → (round : Round) →
+    round ≡ activity_round m → (signers : List ℕ) → signers ≡ signers_of_held scheme.listed (contents_of m) →
+    (old new : Alerts S D P G) → NotesSigners (rules_under scheme) detector round signers old new →
+    NotesMessage (rules_under scheme) detector m old new
+notes_message scheme l detector m conflict round at signers are old new notes judging schedule messages told holds tells =
+    tells_next (rules_under scheme judging schedule) l messages m round signers
+    (λ w w_in. let own = held_covers scheme.eq scheme.listed (contents_of m) conflict w w_in in
+    (own.0 ∙ sym at, subst (λ qs. Contains qs w.signer) (sym are) own.1)) told old new tells
+    (notes.added judging schedule (messages ++ m ∷ []) told holds) notes.stay
+    (notes.noted judging schedule (messages ++ m ∷ []) holds)
+
 -- a message that is no news completes no evidence
 pub tells_same : {S D C P G : Type 0} (rules : Rules S D C P G) → IsEquivalence rules.eq →
     (messages : List (Activity S D C P G)) (m : Activity S D C P G) → message_is_news rules messages m ≡ false →
@@ -281,9 +386,8 @@ tells_same rules l messages m none told alerts tells =
 
 -- ---- a floor
 
-module _ {S D C P G : Type 0} (rules : Rules S D C P G) (l : IsEquivalence rules.eq) (part : Round → Bool)
-    (messages : List (Activity S D C P G)) where
-  here : Equivocation D G → Bool
+module _ {S D C P G : Type 0} (rules : Rules S D C P G) (part : Round → Bool) (messages : List (Activity S D C P G)) where
+  abbrev pub here : Equivocation D G → Bool
   here e = part (accused_by e).round
 
   -- the evidence of an accusation in the part
@@ -344,3 +448,35 @@ module _ {S D C P G : Type 0} (rules : Rules S D C P G) (l : IsEquivalence rules
       sum : (a b : Bool) → cond a (from_bool b) 0 ≡ from_bool (a && b)
       sum true b = refl
       sum false b = refl
+
+-- ---- the set of accusations
+
+-- a test of the first elements of a filtered list
+any_filtered : {X : Type 0} (p q : X → Bool) (b : Bool) → ((x : X) → p x ≡ true → q x ≡ b) → (xs : List X) →
+    list_any p (filter q xs) ≡ (b && list_any p xs)
+any_filtered p q true same [] = refl
+any_filtered p q false same [] = refl
+any_filtered p q b same (x ∷ xs) =
+    (elim (p x) as (λ k. p x ≡ k → list_any p (cond (q x) (x ∷ filter q xs) (filter q xs)) ≡ (b && (k || list_any p xs))) [
+      | true ↦ λ at. (elim b as (λ c. q x ≡ c → list_any p (filter q xs) ≡ (c && list_any p xs) →
+          list_any p (cond (q x) (x ∷ filter q xs) (filter q xs)) ≡ (c && true)) [
+            | true ↦ λ is rest. (λ i. list_any p (cond (is i) (x ∷ filter q xs) (filter q xs)))
+                ∙ (λ i. at i || list_any p (filter q xs))
+            | false ↦ λ is rest. (λ i. list_any p (cond (is i) (x ∷ filter q xs) (filter q xs))) ∙ rest
+          ]) (same x at) (any_filtered p q b same xs)
+      | false ↦ λ at. (elim (q x) as (λ c. list_any p (cond c (x ∷ filter q xs) (filter q xs)) ≡ list_any p (filter q xs)) [
+            | true ↦ λ i. at i || list_any p (filter q xs)
+            | false ↦ refl
+          ]) ∙ any_filtered p q b same xs
+    ]) refl
+
+-- the accusations of a part of the rounds
+pub arisen_in_part : (part : Round → Bool) (old new : BTreeSet declared.Accusation) →
+    new.keys ≡ filter (λ q. part q.accused.round) old.keys → (n : Accusation) →
+    contains key_cmp new (key_of n) ≡ (part n.round && contains key_cmp old (key_of n))
+arisen_in_part part old new are n =
+    ap (list_any (λ q. is_eq (key_cmp (key_of n) q))) are
+    ∙ any_filtered (λ q. is_eq (key_cmp (key_of n) q)) (λ q. part q.accused.round) (part n.round)
+    (λ q at. ap (λ (s : SignerInRound). part s.round) (sym (ap (λ (p : _). p.0)
+    (exact_pairs signer_cmp nat_cmp exact_signers exact_unsigned ((key_of n).accused, way_rank (key_of n).kind)
+    (q.accused, way_rank q.kind) (equal_from (key_cmp (key_of n) q) at))))) old.keys

@@ -1,5 +1,5 @@
 -- How many votes are recorded, how many are accused in a round, and the split that this gives.
-use Rattle.simplex_detector.proofs.Prelude.{Accusation, Activity, AllByRecursion, AreSplits, Bool, Conflicting_finalize, Conflicting_notarize, Contains, Detector, Equal, EquivocationKind, HaveCommittees, HoldsRound, IsEquivalence, IsOrdered, Less, List, None, Nullify_finalize, Option, Recalls, RecallsRound, Round, RoundState, RoundVotes, Rules, SignedVote, Some, [], accused_count, accuses, ap, append_assoc, arith, cond, cond-false, cond-true, cons_option, count_by, eqb-true, evidence_from, false, false_from_ne_true, false≢true, faults_of, filter, filter_map, get_or-range_with_len, is_accused, is_accused_in, is_some, is_split, length, length-filter, length-filter_both, length-range_with_len, map, nat_eq, not, not-true, option_to_list, range_with_len, recorded_of, recursion_from_All, refl, round_cmp, round_count, round_of, slots, split_of, subst, suc, sum_by-cons, sym, tied_itself, true, valid_votes, votes_recorded, zero, ℕ, ⊎_elim, ◌++◌, ◌+◌, ◌-◌, ◌<◌, ◌||◌, ◌∙◌, ◌∷◌, ◌≡◌, ◌≤◌}
+use Rattle.simplex_detector.proofs.Prelude.{CertifiedSubjects, RecordsFirsts, VoteKind, certified_subjects, first_certified, firsts_of, nothing_certified, Accusation, Activity, AllByRecursion, AreSplits, Bool, Conflicting_finalize, Conflicting_notarize, Contains, Detector, Equal, EquivocationKind, HaveCommittees, HoldsRound, IsEquivalence, IsOrdered, Less, List, None, Nullify_finalize, Option, Recalls, RecallsRound, Round, RoundState, RoundVotes, Rules, SignedVote, Some, [], accused_count, accuses, ap, append_assoc, arith, cond, cond-false, cond-true, cons_option, count_by, eqb-true, evidence_from, false, false_from_ne_true, false≢true, faults_of, filter, filter_map, get_or-range_with_len, is_accused, is_accused_in, is_some, is_split, length, length-filter, length-filter_both, length-range_with_len, map, nat_eq, not, not-true, option_to_list, range_with_len, recorded_of, recursion_from_All, refl, round_cmp, round_count, round_of, slots, split_of, subst, suc, sum_by-cons, sym, tied_itself, true, valid_votes, votes_recorded, zero, ℕ, ⊎_elim, ◌++◌, ◌+◌, ◌-◌, ◌<◌, ◌||◌, ◌∙◌, ◌∷◌, ◌≡◌, ◌≤◌}
 use Rattle.std.specs.Int.{from_bool}
 use Rattle.std.specs.List.{IsDistinct}
 use Rattle.std.specs.List.Sorted.{IsStrictlySortedBy}
@@ -197,3 +197,27 @@ counted_next test number end count next all lt is so_far =
 pub at_most_one : (b : Bool) → from_bool b ≤ 1
 at_most_one true = omega arith
 at_most_one false = omega arith
+
+-- ---- one round
+
+-- nothing of one round
+pub no_split_recorded : {S D C P G : Type 0} (rules : Rules S D C P G) (messages : List (Activity S D C P G)) (round : Round) →
+    RecordsFirsts rules.eq (certified_subjects rules messages) round nothing_certified → None ≡ split_of rules messages round
+no_split_recorded rules messages round firsts =
+    sym (cond-false (is_split rules messages round) _ None (from_subjects rules messages round ∙ sym firsts.split))
+
+-- what is recorded of the certified subjects tells whether one of a kind is certified
+pub certified_told : {S D C P G : Type 0} (rules : Rules S D C P G) (messages : List (Activity S D C P G)) (round : Round)
+    (kind : VoteKind) (recorded : CertifiedSubjects D) →
+    RecordsFirsts rules.eq (certified_subjects rules messages) round recorded →
+    cond recorded.split None (Some (is_some (firsts_of recorded kind))) ≡ cond (is_split rules messages round) None
+    (Some (is_some (first_certified (certified_subjects rules messages) round kind)))
+certified_told rules messages round kind recorded firsts =
+    let whole = firsts.split ∙ sym (from_subjects rules messages round) in
+    let none : Option Bool = None in
+    (elim recorded.split as (λ b. recorded.split ≡ b → cond b none (Some (is_some (firsts_of recorded kind)))
+    ≡ cond b none (Some (is_some (first_certified (certified_subjects rules messages) round kind)))) [
+      | true ↦ λ split. refl
+      | false ↦ λ one i. Some (is_some (firsts.firsts one kind i))
+    ]) refl
+    ∙ (λ i. cond (whole i) none (Some (is_some (first_certified (certified_subjects rules messages) round kind))))

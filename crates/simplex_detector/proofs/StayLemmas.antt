@@ -10,7 +10,7 @@ find_stays p xs ys x is = find-append p xs ys ∙ ap (λ o. option_or o (find p 
 
 module _ {D G : Type 0} (eq : D → D → Bool) (vs ws : List (SignedVote D G)) where
   -- the evidence of an accusation stays when votes follow
-  evidence_of-stays : (n : Accusation) (e : Equivocation D G) → evidence_of eq vs n ≡ Some e →
+  pub evidence_of-stays : (n : Accusation) (e : Equivocation D G) → evidence_of eq vs n ≡ Some e →
       evidence_of eq (vs ++ ws) n ≡ Some e
   evidence_of-stays n e h =
       let is = evidence_is eq vs n e h in

@@ -1,7 +1,6 @@
 //! Evidence as it arises: each is told once.
 
 ghost use Rattle.std.specs.Prelude.{◌≡◌, [], ◌∷◌, map, IfOk, OnOk};
-ghost use Rattle.simplex_scheme.specs.declared.scheme.Attestation as attestations;
 ghost use Rattle.simplex_detector.specs.Accusation.{accused_by};
 ghost use Rattle.simplex_detector.specs.Alerts.{NotesAll, NotesMessage, NotesSigners, TellsFrom, TellsMore, TellsNone, TellsUntold};
 ghost use Rattle.simplex_detector.specs.Detector.{RecallsMore, TellsNews};
@@ -105,7 +104,7 @@ impl<S: Listing<D>, D: Digest> Alerts<S, D> {
         attestations: &[Attestation<S>],
     ) -> Result<(), AllocError>
         ensures { OnOk result (NotesSigners ⟦<S as Judges<D>>⟧.rules_under detector.now round
-            (map (λ (a : attestations.Attestation S S.PublicKey S.Signature). a.signer) attestations.now)
+            (map (λ a. a.signer) attestations.now)
             self.old self.new) }
     {
         'listed: for attestation in attestations {
