@@ -329,22 +329,29 @@ held_covers : {S D C P G : Type 0} (eq : D → D → Bool) (listed : C → List 
     AreInConflict eq held → (w : SignedVote D G) → Contains (contents_votes listed held) w →
     (round_of w.subject ≡ contents_round held) × Contains (signers_of_held listed held) w.signer
 held_covers eq listed (OneVote v) conflict w w_in =
-    ⊎_elim (λ is. (ap (λ (u : SignedVote _ _). round_of u.subject) (sym is),
-    subst (Contains (v.signer ∷ [])) (ap (λ (u : SignedVote _ _). u.signer) is) (Contains-first v.signer [])))
+    ⊎_elim (λ is. (
+      ap (λ (u : SignedVote _ _). round_of u.subject) (sym is),
+      subst (Contains (v.signer ∷ [])) (ap (λ (u : SignedVote _ _). u.signer) is) (Contains-first v.signer []),
+    ))
     (λ none. absurd (Contains-none w none)) (Contains-cons_cases v [] w w_in)
 held_covers eq listed (OneCertificate x c) conflict w w_in =
-    let (a, a_in, is) = Contains-from_map (vote_on x) (listed c) w w_in in
-    (ap (λ (u : SignedVote _ _). round_of u.subject) (sym is),
-    subst (Contains (map (λ a. a.signer) (listed c))) (ap (λ (u : SignedVote _ _). u.signer) is)
-    (Contains-map (λ (a : Attestation _ _ _). a.signer) (listed c) a a_in))
+    let (a, a_in, is) = Contains-from_map (vote_on x) (listed c) w w_in in (
+      ap (λ (u : SignedVote _ _). round_of u.subject) (sym is),
+      subst (Contains (map (λ a. a.signer) (listed c))) (ap (λ (u : SignedVote _ _). u.signer) is)
+          (Contains-map (λ (a : Attestation _ _ _). a.signer) (listed c) a a_in),
+    )
 held_covers eq listed (TwoVotes v u) (kind, clashes) w w_in =
     let beside = is_of-true (round_of v.subject) v.signer u (and_parts (is_of (round_of v.subject) v.signer u) _ clashes).0 in
     ⊎_elim
-    (λ is. (ap (λ (t : SignedVote _ _). round_of t.subject) (sym is),
-    subst (Contains (v.signer ∷ [])) (ap (λ (t : SignedVote _ _). t.signer) is) (Contains-first v.signer [])))
+    (λ is. (
+      ap (λ (t : SignedVote _ _). round_of t.subject) (sym is),
+      subst (Contains (v.signer ∷ [])) (ap (λ (t : SignedVote _ _). t.signer) is) (Contains-first v.signer []),
+    ))
     (λ rest. ⊎_elim
-    (λ is. (ap (λ (t : SignedVote _ _). round_of t.subject) (sym is) ∙ beside.0,
-    subst (Contains (v.signer ∷ [])) (sym beside.1 ∙ ap (λ (t : SignedVote _ _). t.signer) is) (Contains-first v.signer [])))
+    (λ is. (
+      ap (λ (t : SignedVote _ _). round_of t.subject) (sym is) ∙ beside.0,
+      subst (Contains (v.signer ∷ [])) (sym beside.1 ∙ ap (λ (t : SignedVote _ _). t.signer) is) (Contains-first v.signer []),
+    ))
     (λ none. absurd (Contains-none w none)) (Contains-cons_cases u [] w rest))
     (Contains-cons_cases v (u ∷ []) w w_in)
 
@@ -465,9 +472,9 @@ any_filtered p q b same (x ∷ xs) =
             | false ↦ λ is rest. (λ i. list_any p (cond (is i) (x ∷ filter q xs) (filter q xs))) ∙ rest
           ]) (same x at) (any_filtered p q b same xs)
       | false ↦ λ at. (elim (q x) as (λ c. list_any p (cond c (x ∷ filter q xs) (filter q xs)) ≡ list_any p (filter q xs)) [
-            | true ↦ λ i. at i || list_any p (filter q xs)
-            | false ↦ refl
-          ]) ∙ any_filtered p q b same xs
+        | true ↦ λ i. at i || list_any p (filter q xs)
+        | false ↦ refl
+      ]) ∙ any_filtered p q b same xs
     ]) refl
 
 -- the accusations of a part of the rounds
