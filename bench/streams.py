@@ -6,6 +6,12 @@ round), `fork` (two of them, which contradict) or `all` (messages of every kind:
 and a notarization, a certification, a nullify and a finalize of some and a finalization of all). In each tenth round, but for
 `fork`, participant 0 votes for a second payload too, and where all kinds are there the round has a nullification and evidence
 of each kind. `honest` is as `votes` without the second votes, and `forged` has one in each round, with a signature of zeros.
+`descending` and `unordered` are as `honest`, with the signers of a round from the last to the first, or in a random order.
+
+`network` is what three nodes send on, one after the other in each round. Each has in an order of its own a notarize of each
+participant, the notarization by the first quorum of these, then a finalize of each and the finalization. `shuffled` has these
+messages of all rounds in a random order, and a liar: in each round one participant notarizes a second payload too.
+
 The base of the namespaces is `bench`, and participant i has the key whose 32 bytes are the number i, the highest byte first,
 unless a NAMESPACE and a KEY for each participant are given, of 64 hexadecimal digits: these are numbered in ascending order, as
 `audit` does. With `keys` as the SHAPE the program's arguments are written instead, one a line.
@@ -19,8 +25,9 @@ import os
 import random
 import sys
 
-SHAPES = ("votes", "honest", "forged", "certificates", "fork", "all")
+SHAPES = ("votes", "honest", "descending", "unordered", "forged", "certificates", "fork", "all", "network", "shuffled")
 FLOODS = ("member", "two", "five", "unsigned", "again", "zeros", "random")
+NODES = 3
 BASE, KEYS = b"bench", []
 NOTARIZE, NULLIFY, FINALIZE = (BASE + suffix for suffix in (b"_NOTARIZE", b"_NULLIFY", b"_FINALIZE"))
 
@@ -62,43 +69,72 @@ def vote(name, participant, message):
     return message + attestation(name, participant, message)
 
 
-def certificate(name, participants, message):
-    return message + number(participants) + b"".join(attestation(name, i, message) for i in range(participants))
+def certificate(name, signers, message):
+    return message + number(len(signers)) + b"".join(attestation(name, i, message) for i in signers)
 
 
 def every_kind(participants, view):
     proposed, other, here = proposal(view, b"first"), proposal(view, b"second"), round_of(view)
-    for i in range(participants):
+    everybody = range(participants)
+    for i in everybody:
         yield b"\x00" + vote(NOTARIZE, i, proposed)
-    notarization = certificate(NOTARIZE, participants, proposed)
+    notarization = certificate(NOTARIZE, everybody, proposed)
     yield b"\x01" + notarization
     yield b"\x02" + notarization
     yield b"\x03" + vote(NULLIFY, view % participants, here)
-    for i in range(0, participants, 4):
+    for i in everybody[::4]:
         yield b"\x05" + vote(FINALIZE, i, proposed)
-    yield b"\x06" + certificate(FINALIZE, participants, proposed)
+    yield b"\x06" + certificate(FINALIZE, everybody, proposed)
     if view % 10 == 0:
-        yield b"\x04" + certificate(NULLIFY, participants, here)
+        yield b"\x04" + certificate(NULLIFY, everybody, here)
         yield b"\x07" + vote(NOTARIZE, 0, proposed) + vote(NOTARIZE, 0, other)
         yield b"\x08" + vote(FINALIZE, 1, proposed) + vote(FINALIZE, 1, other)
         yield b"\x09" + vote(NULLIFY, 2, here) + vote(FINALIZE, 2, proposed)
+
+
+def any_order(items, seed):
+    """The items in a random order, the same for the same seed."""
+    items = list(items)
+    random.Random(seed).shuffle(items)
+    return items
+
+
+def sent_on(participants, view):
+    """What a node has of a round, for each of them: votes in the order in which it heard them, and certificates of these."""
+    proposed, quorum = proposal(view, b"first"), participants - (participants - 1) // 3
+    for node in range(NODES):
+        order = any_order(range(participants), NODES * view + node)
+        for tag, name in ((0, NOTARIZE), (5, FINALIZE)):
+            yield from (bytes([tag]) + vote(name, i, proposed) for i in order)
+            yield bytes([tag + 1]) + certificate(name, sorted(order[:quorum]), proposed)
+
+
+def signers(shape, participants, view):
+    """Who votes in a round, in order."""
+    if shape == "unordered":
+        return any_order(range(participants), view)
+    return range(participants)[:: -1 if shape == "descending" else 1]
 
 
 def messages(shape, participants, view):
     if shape == "all":
         yield from every_kind(participants, view)
         return
-    proposed = proposal(view, b"first")
-    if shape in ("votes", "honest", "forged"):
-        yield from (b"\x00" + vote(NOTARIZE, i, proposed) for i in range(participants))
+    proposed, second = proposal(view, b"first"), proposal(view, b"second")
+    if shape in ("network", "shuffled"):
+        yield from sent_on(participants, view)
+    elif shape in ("certificates", "fork"):
+        yield b"\x01" + certificate(NOTARIZE, range(participants), proposed)
     else:
-        yield b"\x01" + certificate(NOTARIZE, participants, proposed)
+        yield from (b"\x00" + vote(NOTARIZE, i, proposed) for i in signers(shape, participants, view))
     if shape == "fork":
-        yield b"\x01" + certificate(NOTARIZE, participants, proposal(view, b"second"))
+        yield b"\x01" + certificate(NOTARIZE, range(participants), second)
     elif shape == "forged":
-        yield b"\x00" + proposal(view, b"second") + number(0) + bytes(32)
-    elif shape != "honest" and view % 10 == 0:
-        yield b"\x00" + vote(NOTARIZE, 0, proposal(view, b"second"))
+        yield b"\x00" + second + number(0) + bytes(32)
+    elif shape == "shuffled":
+        yield b"\x00" + vote(NOTARIZE, view % participants, second)
+    elif shape in ("votes", "certificates") and view % 10 == 0:
+        yield b"\x00" + vote(NOTARIZE, 0, second)
 
 
 def flood(shape, view):
@@ -121,6 +157,15 @@ def flood(shape, view):
     return first + b"\x03" + vote(NULLIFY, 0, here) + finalizes
 
 
+def stream(shape, participants, rounds):
+    """The pieces of a stream in order: its messages, or what a flood has of each round."""
+    views = range(1, rounds + 1)
+    if shape in FLOODS:
+        return (flood(shape, view) for view in views)
+    made = (message for view in views for message in messages(shape, participants, view))
+    return any_order(made, rounds) if shape == "shuffled" else made
+
+
 def main():
     if "--help" in sys.argv:
         print(__doc__)
@@ -134,12 +179,8 @@ def main():
     if shape == "keys":
         print(BASE.decode(), *(key(participant).hex() for participant in range(participants)), sep="\n")
         return
-    for view in range(1, rounds + 1):
-        if shape in FLOODS:
-            sys.stdout.buffer.write(flood(shape, view))
-            continue
-        for message in messages(shape, participants, view):
-            sys.stdout.buffer.write(message)
+    for piece in stream(shape, participants, rounds):
+        sys.stdout.buffer.write(piece)
 
 
 if __name__ == "__main__":
