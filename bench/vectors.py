@@ -1,13 +1,14 @@
 #!/usr/bin/env python3
 """vectors.py VECTORS ANSWERS [WORKED]: writes vectors of `sign`, `assemble`, `many`, `subject`, `derive`, `decode`, `cut`, plain `verify`,
-`batch`, `resolve`, `hear`, `follow`, `store` and `audit`, and their answers, as docs/CONFORMANCE.md has them. With WORKED, a file of
-vectors, there are also vectors of `cut` of the messages in those, and of `feed` of their streams in pieces. It is a model of its own: it
-reads and signs by what docs/FORMAT.md says.
+`batch`, `resolve`, `hear`, `follow`, `store`, `prune`, `compact` and `audit`, and their answers, as docs/CONFORMANCE.md has them. With
+WORKED, a file of vectors, there are also vectors of `cut` of the messages in those, and of `feed` of their streams in pieces. It is a
+model of its own: it reads and signs by what docs/FORMAT.md says.
 """
 import hashlib
 import sys
 
 KINDS = ("notarize", "nullify", "finalize")
+FIRST_ROUND = (0, 0)
 
 
 class Refused(Exception):
@@ -357,18 +358,32 @@ def round_of(kind, subject):
     return subject if kind == "nullify" else subject[0]
 
 
+def record(kept, who, votes, base=None):
+    """Keeps of some votes each good one that is the earliest of its round, signer and kind or the earliest there with another
+    proposal. Returns whether there is one."""
+    is_news = False
+    for kind, (subject, one) in votes:
+        at = round_of(kind, subject)
+        if not is_good(base, members(who)(at[0]), kind, subject, one):
+            continue
+        found = kept.setdefault((at, one[0]), {}).setdefault(kind, [])
+        if len(found) < 2 and all(subject != other for other, _ in found):
+            found.append((subject, one))
+            is_news = True
+    return is_news
+
+
 def keep(who, messages):
     """Of each round, signer and kind the earliest good vote and the earliest with another proposal."""
     kept = {}
     for votes, _ in messages:
-        for kind, (subject, one) in votes:
-            at = round_of(kind, subject)
-            if not is_good(None, members(who)(at[0]), kind, subject, one):
-                continue
-            found = kept.setdefault((at, one[0]), {}).setdefault(kind, [])
-            if len(found) < 2 and all(subject != other for other, _ in found):
-                found.append((subject, one))
+        record(kept, who, votes)
     return kept
+
+
+def count_from(floor, kept):
+    """How many votes are kept of the rounds from a floor on."""
+    return sum(len(found) for (at, _), kinds in kept.items() for found in kinds.values() if at >= floor)
 
 
 def evidence_of(kept):
@@ -388,32 +403,77 @@ def evidence_lines(evidence):
     return [line(kind, *(one for _, one in votes)) for _, _, kind, votes in evidence]
 
 
-def split_lines(who, messages, evidence):
-    certified = set()
-    for _, certificate in messages:
-        if certificate:
-            kind, subject, listed = certificate
-            if is_certified(None, members(who)(round_of(kind, subject)[0]), kind, subject, listed):
-                certified.add((kind, subject))
-    rounds = set()
-    for kind, subject in certified:
-        for other, another in certified:
-            of_one_kind = kind == other != "nullify" and subject != another
-            if round_of(kind, subject) == round_of(other, another) and (of_one_kind or {kind, other} == {"nullify", "finalize"}):
-                rounds.add(round_of(kind, subject))
-    for at in sorted(rounds):
+def certified_by(who, certificate, base=None):
+    """The kind and the subject that a certificate certifies, if it does."""
+    if certificate is None:
+        return None
+    kind, subject, listed = certificate
+    n = members(who)(round_of(kind, subject)[0])
+    return (kind, subject) if is_certified(base, n, kind, subject, listed) else None
+
+
+def contradict(one, other):
+    """Whether two certified subjects do, each with its kind."""
+    kinds = {one[0], other[0]}
+    of_one_kind = len(kinds) == 1 and kinds != {"nullify"} and one[1] != other[1]
+    return round_of(*one) == round_of(*other) and (of_one_kind or kinds == {"nullify", "finalize"})
+
+
+def split_lines(who, messages, evidence, floor):
+    certified = {certified_by(who, certificate) for _, certificate in messages} - {None}
+    rounds = {round_of(*one) for one in certified for other in certified if contradict(one, other)}
+    for at in sorted(at for at in rounds if at >= floor):
         named = {votes[0][1][1][0] for place, _, _, votes in evidence if place == at}
         n = members(who)(at[0])
         yield f"{at[0]} {at[1]} split {len(named)} {n - quorum(n) + 1}"
 
 
-def audit(who, stream):
+def fault_words(stream, rest, fault):
+    return [f"fault at {len(stream) - len(rest)}: {fault}"] if fault else []
+
+
+def audit(who, stream, floor=FIRST_ROUND):
     messages, rest, fault = read_messages(who, stream)
-    evidence = list(evidence_of(keep(who, messages)))
-    said = [f"read {len(messages)}", *evidence_lines(evidence), *split_lines(who, messages, evidence)]
-    if fault:
-        said.append(f"fault at {len(stream) - len(rest)}: {fault}")
-    return "; ".join(said)
+    evidence = [one for one in evidence_of(keep(who, messages)) if one[0] >= floor]
+    lines = [*evidence_lines(evidence), *split_lines(who, messages, evidence, floor)]
+    return "; ".join([f"read {len(messages)}", *lines, *fault_words(stream, rest, fault)])
+
+
+def prune(who, floor, pieces):
+    """The report of what is from the floor on, and how many votes are kept of that."""
+    stream = b"".join(pieces)
+    kept = keep(who, read_messages(who, stream)[0])
+    return f"votes {count_from(floor, kept)}; {audit(who, stream, floor)}"
+
+
+def certify(certified, who, certificate, base=None):
+    """Whether what a certificate certifies is the first of its kind in its round or splits the round, where none did before."""
+    one = certified_by(who, certificate, base)
+    if one is None:
+        return False
+    before = certified.setdefault(round_of(*one), [])
+    is_split = any(contradict(first, second) for first in before for second in before)
+    is_first = all(kind != one[0] for kind, _ in before)
+    before.append(one)
+    return not is_split and (is_first or any(contradict(one, other) for other in before))
+
+
+def news(who, messages, base=None):
+    """Of each message whether it is news when it comes: whether one of its votes is kept, or what it certifies is new."""
+    kept, certified = {}, {}
+    for votes, certificate in messages:
+        has_news = record(kept, who, votes, base)
+        yield certify(certified, who, certificate, base) or has_news
+
+
+def compact(who, floor, stream):
+    """The messages of a stream that are news, of the rounds from a floor on."""
+    messages, rest, fault = read_messages(who, stream)
+    left = b""
+    for data, (votes, certificate), is_news in zip(messages_in(bound_of(who), stream), messages, news(who, messages)):
+        kind, (subject, _) = votes[0]
+        left += data if is_news and round_of(kind, subject) >= floor else b""
+    return "; ".join([left.hex(), f"read {len(messages)}", *fault_words(stream, rest, fault)])
 
 
 def feed(who, pieces):
@@ -421,7 +481,7 @@ def feed(who, pieces):
     for last in range(1, len(pieces) + 1):
         front = b"".join(pieces[:last])
         messages, rest, _ = read_messages(who, front)
-        votes = sum(len(found) for kinds in keep(who, messages).values() for found in kinds.values())
+        votes = count_from(FIRST_ROUND, keep(who, messages))
         said.append(f"fed {len(front)}, rest {len(rest)}, votes {votes}")
     return " | ".join([*said, audit(who, b"".join(pieces))])
 
@@ -777,6 +837,67 @@ def vectors_of_storing():
         yield f"store {n} {' '.join(data.hex() for data in pieces)}".strip(), store(str(n), pieces)
 
 
+def round_messages(epoch, view):
+    """Messages of a round: votes of the first three of four, a certificate of each kind by them or by the last three, and by name
+    those that change something or nothing of a report."""
+    at = number(epoch) + number(view)
+    here, there, third = (at + b"\x05" + payload for payload in (b"\x06", b"\x07", b"\x08"))
+    first, last = (0, 1, 2), (1, 2, 3)
+    return {
+        "votes": b"".join(b"\x00" + vote(None, i, "notarize", here) for i in first),
+        "bad": b"\x00" + vote(None, 3, "notarize", here)[:-1] + b"\xbb",
+        "outside": b"\x00" + vote(None, 9, "notarize", here),
+        "second": b"\x00" + vote(None, 2, "notarize", there),
+        "third": b"\x00" + vote(None, 2, "notarize", third),
+        "nullify": b"\x03" + vote(None, 1, "nullify", at),
+        "finalize": b"\x05" + vote(None, 1, "finalize", here),
+        "evidence": b"\x08" + vote(None, 3, "finalize", here) + vote(None, 3, "finalize", there),
+        "notarization": b"\x01" + certificate(None, first, "notarize", here),
+        "certification": b"\x02" + certificate(None, last, "notarize", here),
+        "other": b"\x01" + certificate(None, last, "notarize", there),
+        "few": b"\x01" + certificate(None, (0, 3), "notarize", here),
+        "junk": b"\x06" + here + b"\x04\x00\xbb\x01\xbb\x02\xaa\x03\xbb",
+        "nullification": b"\x04" + certificate(None, last, "nullify", at),
+        "finalization": b"\x06" + certificate(None, first, "finalize", here),
+    }
+
+
+def streams_of_rounds():
+    """Streams of several rounds in pieces, each with its committees and with floors around its rounds."""
+    low, high, far = round_messages(0, 9), round_messages(0, 300), round_messages(1, 2)
+    names = ("votes", "bad", "notarization", "second", "third", "certification", "nullify", "finalize", "junk", "other", "evidence")
+    all_of = [[low[name], high[name], far[name]] for name in (*names, "outside", "few", "nullification", "finalization")]
+    floors = [(0, 0), (0, 9), (0, 10), (0, 300), (0, 301), (1, 0), (1, 2), (1, 3), (2, 0), (2**64 - 1, 2**64 - 1)]
+    for who in ("4", "0:4,1:4", "1:4", "0:4,1:7"):
+        yield who, floors, [b"".join(of_name) for of_name in all_of]
+    for one, other in (("notarization", "other"), ("other", "certification"), ("nullification", "finalization")):
+        for messages in ([low[one], low[other]], [low[other], high[other], low[one], high[one], low["votes"]]):
+            yield "4", floors[:5], messages
+    for name in ("few", "junk", "bad", "outside", "third", "evidence"):
+        yield "4", floors[1:3], [low[name] + low[name], low["notarization"], low[name]]
+    for end in (b"\x00", b"\x0a", high["votes"][:5]):
+        yield "4", floors[:3], [low["votes"], low["second"] + end]
+    yield "4", floors[:2], []
+    whole = low["votes"] + high["second"]
+    yield "4", floors[2:3], [whole[:4], whole[4:11], whole[11:]]
+
+
+def vectors_of_floors():
+    """Reports and compactions from a floor of rounds on. What a compaction leaves is compacted again."""
+    for who, floors, pieces in streams_of_rounds():
+        for floor in floors:
+            words = f"{who} {floor[0]} {floor[1]}"
+            yield f"prune {words} {' '.join(data.hex() for data in pieces)}".strip(), prune(who, floor, pieces)
+            stream = b"".join(pieces)
+            for _ in range(2):
+                answer = compact(who, floor, stream)
+                yield f"compact {words} {stream.hex()}".strip(), answer
+                stream = bytes.fromhex(answer.split(";")[0])
+    for words in ("4 0", "4 0 -1", "4 0 18446744073709551616", "0 0 0", "1:4,0:4 0 0", "4 0 0 0"):
+        yield f"prune {words}", "no row"
+        yield f"compact {words}", "no row"
+
+
 def vectors_of_hearing():
     numbers = [
         (8, 10, 2, length, ahead, certified, view)
@@ -867,6 +988,7 @@ def vectors():
     yield from vectors_of_resolving()
     yield from vectors_of_following()
     yield from vectors_of_storing()
+    yield from vectors_of_floors()
     yield from vectors_of_hearing()
     yield from vectors_of_streams()
     if len(sys.argv) > 3:
@@ -886,4 +1008,5 @@ def main():
                 answers.write(answer + "\n")
 
 
-main()
+if __name__ == "__main__":
+    main()
