@@ -2,6 +2,7 @@
 
 use crate::audits::{audit_vector, committees, feed_vector};
 use crate::clients::{follow, store};
+use crate::floors::{compact_vector, floor, prune_vector};
 use conformance_messages::answers::message_vector;
 use conformance_messages::vectors::{Unanswered, bytes};
 use simplex_schemes::marked::MarkedDigest;
@@ -32,6 +33,18 @@ fn answered(alloc: Global, words: &[&str]) -> Result<String, Unanswered> {
             alloc,
             &committees(alloc, *who)?,
             pieces,
+        ),
+        ["prune", who, at, place, pieces @ ..] => prune_vector::<_, MarkedDigest>(
+            alloc,
+            &committees(alloc, *who)?,
+            floor(*at, *place)?,
+            pieces,
+        ),
+        ["compact", who, at, place, stream @ ..] => compact_vector::<_, MarkedDigest>(
+            alloc,
+            &committees(alloc, *who)?,
+            floor(*at, *place)?,
+            bytes(alloc, stream)?.as_slice(),
         ),
         ["follow", who, encodings @ ..] => {
             follow::<_, MarkedDigest>(alloc, &committees(alloc, *who)?, encodings)

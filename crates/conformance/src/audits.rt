@@ -99,7 +99,7 @@ pub(crate) fn feed_vector<S: Listing<D>, D: Digest>(
 }
 
 /// Feeds a piece. A stream that is longer than can be counted is no test vector.
-fn fed_on<'a, S: Listing<D>, D: Digest>(
+pub(crate) fn fed_on<'a, S: Listing<D>, D: Digest>(
     auditor: Auditor<'a, S, D>,
     piece: &[u8],
 ) -> Result<Auditor<'a, S, D>, Unanswered> {
@@ -120,7 +120,7 @@ fn standing<S: Listing<D>, D: Digest>(
 }
 
 /// The answer of a report: how many messages were read, the lines of the evidence and of the splits, and the fault.
-fn text_of<S: Listing<D>, D: Digest>(
+pub(crate) fn text_of<S: Listing<D>, D: Digest>(
     alloc: Global,
     report: &Report<S, D>,
 ) -> Result<String, AllocError> {
@@ -134,7 +134,11 @@ fn text_of<S: Listing<D>, D: Digest>(
 }
 
 /// Appends the fault, if there is one, as a part of an answer.
-fn push_fault(alloc: Global, text: &mut String, fault: Option<Fault>) -> Result<(), AllocError> {
+pub(crate) fn push_fault(
+    alloc: Global,
+    text: &mut String,
+    fault: Option<Fault>,
+) -> Result<(), AllocError> {
     if let Some(fault) = fault {
         let error = name(alloc, fault.error)?;
         let said = format!(in alloc; "fault at {}: {error}", fault.place)?;
@@ -156,7 +160,7 @@ pub(crate) fn lines<S: SchemeTypes, D: Digest>(
 }
 
 /// Appends a part of an answer.
-fn push_part(text: &mut String, part: &str) -> Result<(), AllocError> {
+pub(crate) fn push_part(text: &mut String, part: &str) -> Result<(), AllocError> {
     text.push_str("; ")?;
     text.push_str(part)
 }

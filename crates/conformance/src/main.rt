@@ -4,6 +4,7 @@
 mod answers;
 mod audits;
 mod clients;
+mod floors;
 
 use std::io;
 

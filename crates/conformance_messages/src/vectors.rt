@@ -62,8 +62,10 @@ pub fn epoch(word: &str) -> Result<Epoch, Unanswered>
     Ok(Epoch::new(number(word)?))
 }
 
-/// A view.
-pub(crate) fn view(word: &str) -> Result<View, Unanswered> {
+/// A view, in decimal digits and nothing else. `NoVector` where the word is no such number of at most 2^64 - 1.
+pub fn view(word: &str) -> Result<View, Unanswered>
+    ensures { IfOk result (λ view. IsDecimal word.now view) }
+{
     Ok(View::new(number(word)?))
 }
 
