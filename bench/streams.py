@@ -99,14 +99,13 @@ def any_order(items, seed):
     return items
 
 
-def sent_on(participants, view):
-    """What a node has of a round, for each of them: votes in the order in which it heard them, and certificates of these."""
+def sent_on(node, participants, view):
+    """What a node has of a round: votes in the order in which it heard them, and certificates of these."""
     proposed, quorum = proposal(view, b"first"), participants - (participants - 1) // 3
-    for node in range(NODES):
-        order = any_order(range(participants), NODES * view + node)
-        for tag, name in ((0, NOTARIZE), (5, FINALIZE)):
-            yield from (bytes([tag]) + vote(name, i, proposed) for i in order)
-            yield bytes([tag + 1]) + certificate(name, sorted(order[:quorum]), proposed)
+    order = any_order(range(participants), NODES * view + node)
+    for tag, name in ((0, NOTARIZE), (5, FINALIZE)):
+        yield from (bytes([tag]) + vote(name, i, proposed) for i in order)
+        yield bytes([tag + 1]) + certificate(name, sorted(order[:quorum]), proposed)
 
 
 def signers(shape, participants, view):
@@ -122,7 +121,8 @@ def messages(shape, participants, view):
         return
     proposed, second = proposal(view, b"first"), proposal(view, b"second")
     if shape in ("network", "shuffled"):
-        yield from sent_on(participants, view)
+        for node in range(NODES):
+            yield from sent_on(node, participants, view)
     elif shape in ("certificates", "fork"):
         yield b"\x01" + certificate(NOTARIZE, range(participants), proposed)
     else:
