@@ -342,16 +342,29 @@ def bound_of(who):
     return max(int(one.split(":")[-1]) for one in who.split(","))
 
 
-def read_messages(who, stream):
-    """The messages of a stream, the bytes behind them, and why those are no message, if there are any."""
-    reader, messages = Reader(stream, False, bound_of(who)), []
+def read_encoded(bound, stream):
+    """The messages of a stream, each with its bytes before it, the bytes behind them, and why those are no message, if there are
+    any."""
+    reader, found = Reader(stream, False, bound), []
     while reader.data:
         rest = reader.data
         try:
-            messages.append(message_of(reader))
+            message = message_of(reader)
         except Refused as refused:
-            return messages, rest, str(refused)
-    return messages, b"", None
+            return found, rest, str(refused)
+        found.append((rest[: len(rest) - len(reader.data)], message))
+    return found, b"", None
+
+
+def read_messages(who, stream):
+    """The same without their bytes."""
+    found, rest, fault = read_encoded(bound_of(who), stream)
+    return [message for _, message in found], rest, fault
+
+
+def messages_in(bound, stream):
+    """The messages at the front of a stream, as bytes."""
+    return [data for data, _ in read_encoded(bound, stream)[0]]
 
 
 def round_of(kind, subject):
@@ -432,18 +445,22 @@ def fault_words(stream, rest, fault):
     return [f"fault at {len(stream) - len(rest)}: {fault}"] if fault else []
 
 
-def audit(who, stream, floor=FIRST_ROUND):
+def audited(who, stream, floor):
+    """How many votes are kept of the rounds from a floor on, and the report of these rounds."""
     messages, rest, fault = read_messages(who, stream)
-    evidence = [one for one in evidence_of(keep(who, messages)) if one[0] >= floor]
+    kept = keep(who, messages)
+    evidence = [one for one in evidence_of(kept) if one[0] >= floor]
     lines = [*evidence_lines(evidence), *split_lines(who, messages, evidence, floor)]
-    return "; ".join([f"read {len(messages)}", *lines, *fault_words(stream, rest, fault)])
+    report = "; ".join([f"read {len(messages)}", *lines, *fault_words(stream, rest, fault)])
+    return count_from(floor, kept), report
+
+
+def audit(who, stream):
+    return audited(who, stream, FIRST_ROUND)[1]
 
 
 def prune(who, floor, pieces):
-    """The report of what is from the floor on, and how many votes are kept of that."""
-    stream = b"".join(pieces)
-    kept = keep(who, read_messages(who, stream)[0])
-    return f"votes {count_from(floor, kept)}; {audit(who, stream, floor)}"
+    return "votes {}; {}".format(*audited(who, b"".join(pieces), floor))
 
 
 def certify(certified, who, certificate, base=None):
@@ -468,12 +485,12 @@ def news(who, messages, base=None):
 
 def compact(who, floor, stream):
     """The messages of a stream that are news, of the rounds from a floor on."""
-    messages, rest, fault = read_messages(who, stream)
+    found, rest, fault = read_encoded(bound_of(who), stream)
     left = b""
-    for data, (votes, certificate), is_news in zip(messages_in(bound_of(who), stream), messages, news(who, messages)):
+    for (data, (votes, _)), is_news in zip(found, news(who, (message for _, message in found))):
         kind, (subject, _) = votes[0]
         left += data if is_news and round_of(kind, subject) >= floor else b""
-    return "; ".join([left.hex(), f"read {len(messages)}", *fault_words(stream, rest, fault)])
+    return "; ".join([left.hex(), f"read {len(found)}", *fault_words(stream, rest, fault)])
 
 
 def feed(who, pieces):
@@ -916,19 +933,6 @@ def vectors_of_hearing():
     ]
     for one in numbers:
         yield f"hear {' '.join(map(str, one))}", hear(*one)
-
-
-def messages_in(n, stream):
-    """The messages at the front of a stream, as bytes."""
-    reader, found = Reader(stream, False, n), []
-    try:
-        while reader.data:
-            before = reader.data
-            reader.kind("activity")
-            found.append(before[: len(before) - len(reader.data)])
-    except Refused:
-        pass
-    return found
 
 
 def vectors_of_cuts(worked):
