@@ -29,6 +29,14 @@ use simplex_scheme::scheme::{
 };
 use std::alloc::{AllocError, Global};
 
+/// Bytes to reserve for a message's line, beside [`ROOM_A_BYTE`] for each of the message's bytes. A line takes no more outside its
+/// digits and the signatures of a certificate.
+const LEAST_ROOM: usize = 512;
+
+/// Bytes to reserve for each byte of a message: two digits, and three for the text around a signature, which is below 90 bytes.
+/// No line takes more if signatures have 29 bytes or more.
+const ROOM_A_BYTE: usize = 5;
+
 /// How many participants a committee has, 0 where there is none.
 fn size_of<S: CertificateScheme>(committee: Option<&S>) -> u32
     ensures { result ≡ size_by S.keys (option_copied committee.entry) }
@@ -326,7 +334,10 @@ pub fn line<S: Listing<D>, D: Digest>(
     ensures json { IfOk result (λ text. IsJsonLine (string_bytes text)
         (message_json (⟦<S as Inspected<D>>⟧.shown committees.now) offset length message.now)) }
 {
-    let mut writer = Writer::new(Vec::new(alloc));
+    let room = length
+        .saturating_mul(ROOM_A_BYTE)
+        .saturating_add(LEAST_ROOM);
+    let mut writer = Writer::new(Vec::with_capacity(alloc, room)?);
     write_message(alloc, &mut writer, committees, offset, length, message)?;
     end_line(writer)
 }
