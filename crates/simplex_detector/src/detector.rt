@@ -145,8 +145,10 @@ impl<S: Listing<D>, D: Digest> Detector<S, D> {
     pub fn split_of(&self, committees: &Committees<S>, round: Round) -> Option<Split>
         ensures { GivesSplitOf ⟦<S as Judges<D>>⟧.rules_under committees.now round self.now result }
     {
-        let round_state = self.rounds.get(&round)?;
-        round_state.split(committees, round)
+        match self.rounds.get(&round) {
+            None => None,
+            Some(round_state) => round_state.split(committees, round),
+        }
     }
 
     /// Whether a message so far certifies a subject of this kind in a round; `None` if the round is split, since no more is

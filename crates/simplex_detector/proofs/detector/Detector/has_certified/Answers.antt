@@ -13,15 +13,15 @@ rules g =
     g.S.CertificateVerifier.certified g.S.Listing.listed)
 
 -- nothing is certified of a kind
-none_of_kind : {D : Type 0} (kind : VoteKind) → false ≡ is_some (firsts_of {D = D} nothing_certified kind)
-none_of_kind kinds.Notarize = refl
-none_of_kind kinds.Nullify = refl
-none_of_kind kinds.Finalize = refl
+none_of_kind : (D : Type 0) (kind : VoteKind) → false ≡ is_some (firsts_of {D = D} nothing_certified kind)
+none_of_kind D kinds.Notarize = refl
+none_of_kind D kinds.Nullify = refl
+none_of_kind D kinds.Finalize = refl
 
 -- nothing is recorded of the round
 pub returns-in-None : goal.returns-in-None
 returns-in-None g c judging schedule messages holds =
-    (λ i. Some (none_of_kind {D = g.row.D.Denot} c.args.kind i))
+    (λ i. Some (none_of_kind g.row.D.Denot c.args.kind i))
     ∙ certified_told (rules g judging schedule) messages c.args.round c.args.kind nothing_certified
     (subst (RecallsAt (rules g judging schedule) messages c.args.round) (sym c.in-None.ensures.value)
     (holds c.args.round)).subjects

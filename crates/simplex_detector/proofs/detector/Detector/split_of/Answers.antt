@@ -10,14 +10,14 @@ rules g =
     g.S.CertificateVerifier.certified g.S.Listing.listed)
 
 -- nothing is recorded of the round
-pub returns-in_err-round_state : goal.returns-in_err-round_state
-returns-in_err-round_state g c judging messages l holds =
+pub returns-in-None : goal.returns-in-None
+returns-in-None g c judging messages l holds =
     no_split_recorded (rules g judging c.args.committees.now) messages c.args.round
-    (subst (RecallsAt (rules g judging c.args.committees.now) messages c.args.round) (sym c.in_err-round_state.ensures.value)
+    (subst (RecallsAt (rules g judging c.args.committees.now) messages c.args.round) (sym c.in-None.ensures.value)
     (holds c.args.round)).subjects
 
-pub returns : goal.returns
-returns g c judging messages l holds =
+pub returns-in-Some : goal.returns-in-Some
+returns-in-Some g c judging messages l holds =
     c.split.ensures judging messages l
-    (subst (RecallsAt (rules g judging c.args.committees.now) messages c.args.round) (sym c.in_ok-round_state.ensures.value)
+    (subst (RecallsAt (rules g judging c.args.committees.now) messages c.args.round) (sym c.in-Some.ensures.value)
     (holds c.args.round))
