@@ -1,1 +1,3 @@
 pub mod News
+pub mod Heads
+pub mod Window

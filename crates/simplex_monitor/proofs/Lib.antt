@@ -1,0 +1,2 @@
+mod RoundOrder
+mod WindowLemmas
