@@ -1,16 +1,16 @@
 -- The order of rounds, and the greatest of some.
-use Rattle.std.proofs.Common.{◌≡◌, ℕ, Bool, true, false, List, [], ◌∷◌, ◌++◌, Less, Equal, Greater, inl, inr, ⊎_elim, refl, sym, ap, subst, ◌∙◌, ◌<◌, ◌≤◌, ◌⊎◌, cond, arith}
+use Rattle.std.proofs.Common.{◌≡◌, Bool, true, false, List, [], ◌∷◌, ◌++◌, Less, Equal, Greater, inl, inr, ⊎_elim, refl, sym, ap, subst, ◌∙◌, ◌<◌, ◌≤◌, ◌⊎◌, cond, arith}
 use Rattle.std.proofs.lemmas.Bool.{false≢true}
 use Rattle.std.proofs.lemmas.Bool.Decides.{nat_tests}
 use Rattle.std.proofs.lemmas.Cmp.{nat_cmp_total, on_total, then_total, tied_itself}
-use Rattle.std.proofs.lemmas.List.Elements.{All-contains, All-contains_itself, All-filter, All-from_recursion, Contains-append_cases, Contains-append_left, Contains-append_right, filter-append}
+use Rattle.std.proofs.lemmas.List.Elements.{All-contains, All-contains_itself, All-filter, All-from_recursion, Contains-append_cases, Contains-append_right}
 use Rattle.std.proofs.lemmas.Map.Lookups.{CmpEqualImpliesEq, exact_pairs, exact_unsigned}
 use Rattle.std.specs.Cmp.{IsTotalOrder}
-use Rattle.std.specs.Ordering.{is_le, is_lt, nat_cmp, ord_max, ordering_reverse, ordering_then}
-use Rattle.std.specs.Prelude.{Contains, IsTrue, filter, nat_lt}
+use Rattle.std.specs.Ordering.{is_le, is_lt, nat_cmp, ord_max, ordering_reverse}
+use Rattle.std.specs.Prelude.{Contains, filter}
 use Rattle.simplex_base.specs.Positions.{Round}
 use Rattle.simplex_detector.specs.Accusation.{round_cmp}
-use Rattle.simplex_monitor.specs.Heads.{greatest, of_earlier_epochs}
+use Rattle.simplex_monitor.specs.Heads.{greatest}
 
 pub round_total : IsTotalOrder round_cmp
 round_total = then_total (on_total (λ (r : Round). r.epoch) nat_cmp_total) (on_total (λ (r : Round). r.view) nat_cmp_total)

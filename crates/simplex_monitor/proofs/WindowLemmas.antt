@@ -1,14 +1,14 @@
 -- What certificates move.
-use Rattle.std.proofs.Common.{◌≡◌, ℕ, ◌-◌, ◌⊎◌, Bool, true, false, List, [], ◌∷◌, ◌++◌, Less, Equal, Greater, inl, inr, refl, sym, ap, subst, ◌∙◌, ◌<◌, ◌≤◌, cond, arith, append-nil}
-use Rattle.std.proofs.lemmas.Bool.{false≢true, le-ltb, lt-ltb}
-use Rattle.std.proofs.lemmas.Bool.Decides.{nat_tests}
+use Rattle.std.proofs.Common.{◌≡◌, ℕ, ◌+◌, ◌-◌, ◌⊎◌, ◌↔◌, Bool, true, false, List, [], ◌∷◌, ◌++◌, inl, inr, refl, sym, ap, subst, ◌∙◌, ◌<◌, ◌≤◌, cond, arith, append-nil}
+use Rattle.std.proofs.lemmas.Bool.{cases_lt, le-ltb, lt-ltb}
 use Rattle.std.proofs.lemmas.List.Elements.{Contains-append_right, filter-append}
 use Rattle.std.specs.Ordering.{is_le, ord_max}
 use Rattle.std.specs.Prelude.{Contains, filter, nat_lt}
 use Rattle.simplex_base.specs.Positions.{Round}
 use Rattle.simplex_detector.specs.Accusation.{round_cmp}
+use Rattle.simplex_lead.specs.Windows.{FitsWindow, IsAdmitted, IsRetained}
 use Rattle.simplex_monitor.specs.Heads.{greatest, of_earlier_epochs}
-use Rattle.simplex_monitor.specs.Window.{IsInOrder, floor_of, window_after}
+use Rattle.simplex_monitor.specs.Window.{AdmitsCertificate, AdmitsVote, IsInOrder, IsNear, floor_of, window_after}
 use Rattle.simplex_monitor.specs.declared.window.Window.{Window}
 use Rattle.simplex_monitor.proofs.RoundOrder.{AtMost, Contains-filter, Contains-from_filter, at_most_epoch, at_most_from_numbers, at_most_numbers, at_most_trans, greatest_above, greatest_least, max_above_left, max_above_right, max_least, at_most_from_not, earlier_at_most, filter_all, greatest_above_all, greatest_above_first, greatest_more, max_higher, max_lower}
 
@@ -225,3 +225,52 @@ floor_rises a b up later same =
         (f.epoch < g.epoch) ⊎ ((f.epoch ≡ g.epoch) × (0 ≤ 0))
     begins f g h = elim h as (λ _. (f.epoch < g.epoch) ⊎ ((f.epoch ≡ g.epoch) × (0 ≤ 0)))
         [ inl lt ↦ inl lt | inr both ↦ inr (both.0, omega arith) ]
+
+-- in the finalized epoch the floor is that of the viewport
+pub from_floor_retained : (w : Window) (round : Round) → round.epoch ≡ w.finalized.epoch → w.ended.epoch ≤ round.epoch →
+    AtMost (floor_of w) round → w.finalized.view ≤ round.view + w.view_retention
+from_floor_retained w round same before from =
+    let p : Round = record { epoch = w.finalized.epoch; view = w.finalized.view - w.view_retention } in
+    let q : Round = record { epoch = w.ended.epoch; view = 0 } in
+    elim (at_most_numbers p round (at_most_trans p (floor_of w) round (max_above_left p q)
+    from)) as (λ _. w.finalized.view ≤ round.view + w.view_retention)
+    [ inl lt ↦ absurd (omega (arith, lt, same)) | inr both ↦ omega (arith, both.1) ]
+
+pub retained_from_floor : (w : Window) (round : Round) → round.epoch ≡ w.finalized.epoch → w.ended.epoch ≤ round.epoch →
+    w.finalized.view ≤ round.view + w.view_retention → AtMost (floor_of w) round
+retained_from_floor w round same before retained =
+    let p : Round = record { epoch = w.finalized.epoch; view = w.finalized.view - w.view_retention } in
+    let q : Round = record { epoch = w.ended.epoch; view = 0 } in
+    max_least p q round (at_most_from_numbers p round (inr (sym same, omega (arith, retained))))
+    (at_most_from_numbers q round (begins w.ended.epoch round (cases_lt w.ended.epoch round.epoch) before))
+  where
+    begins : (e : ℕ) (r : Round) → (e < r.epoch) ⊎ (r.epoch ≤ e) → e ≤ r.epoch →
+        (e < r.epoch) ⊎ ((e ≡ r.epoch) × (0 ≤ r.view))
+    begins e r h le = elim h as (λ _. (e < r.epoch) ⊎ ((e ≡ r.epoch) × (0 ≤ r.view)))
+        [ inl lt ↦ inl lt | inr ge ↦ inr (omega (arith, ge, le), omega arith) ]
+
+pub retained : (w : Window) (round : Round) → round.epoch ≡ w.finalized.epoch → w.ended.epoch ≤ round.epoch →
+    AdmitsCertificate w round ↔ IsRetained w.finalized.view w.view_retention round.view
+retained w round same before = (
+  (λ at. (at.0, from_floor_retained w round same before at.1)),
+  (λ is. (is.0, retained_from_floor w round same before is.1)),
+)
+
+pub admitted : (w : Window) (round : Round) → round.epoch ≡ w.finalized.epoch → round.epoch ≡ w.current.epoch →
+    w.ended.epoch ≤ round.epoch → FitsWindow w.lookahead.term_length w.current.view →
+    AdmitsVote w round ↔ (IsRetained w.finalized.view w.view_retention round.view
+    × IsAdmitted w.lookahead.term_length w.lookahead.optimistic_views w.current.view round.view)
+admitted w round same here before fits = (
+  (λ taken. ((retained w round same before).0 taken.0, near taken.1)),
+  (λ is. ((retained w round same before).1 is.0, inl (here, inr (fits, is.1)))),
+)
+  where
+    near : ((round.epoch ≡ w.current.epoch) × IsNear w.lookahead w.current.view round.view)
+        ⊎ ((round.epoch ≡ w.current.epoch + 1) × IsNear w.lookahead 0 round.view)
+        ⊎ ((round.epoch ≡ w.ended.epoch) × (round.epoch < w.current.epoch)
+        × IsNear w.lookahead w.ended.view round.view) →
+        IsAdmitted w.lookahead.term_length w.lookahead.optimistic_views w.current.view round.view
+    near (inl (e, inl low)) = inl low
+    near (inl (e, inr (fit, is))) = is
+    near (inr (inl (next, is))) = absurd (omega (arith, here, next))
+    near (inr (inr (e, lt, is))) = absurd (omega (arith, here, lt))

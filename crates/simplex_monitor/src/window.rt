@@ -1,6 +1,6 @@
 //! Which rounds an auditor that listens takes messages of, and what moves it.
 
-ghost use Rattle.std.specs.Prelude.{◌≡◌, ◌↔◌, ◌+◌, ◌<◌, ◌++◌, ◌∷◌, [], IsTrue, List, Contains, Option, Some, None};
+ghost use Rattle.std.specs.Prelude.{◌≡◌, ◌↔◌, ◌+◌, ◌<◌, ◌≤◌, ◌++◌, ◌∷◌, [], IsTrue, List, Contains, Option, Some, None};
 ghost use Rattle.std.specs.Ordering.{ord_max};
 ghost use Rattle.simplex_base.specs.Positions as positions;
 ghost use Rattle.simplex_detector.specs.Accusation.{round_cmp};
@@ -70,6 +70,17 @@ impl Window {
 
     /// Whether certificates of a round are taken: it is at the floor or above it, however late it is, and its view is not view 0.
     pub fn admits_certificate(&self, round: Round) -> bool
+        ensures admitted { IsTrue result ↔ AdmitsCertificate self.now round }
+        // In the finalized epoch they are those that its viewport admits.
+        ensures viewport { round.epoch ≡ self.now.finalized.epoch →
+            self.now.ended.epoch ≤ round.epoch →
+            (IsTrue result ↔ IsRetained self.now.finalized.view self.now.view_retention round.view) }
+    {
+        self.retains(round)
+    }
+
+    /// Whether a round is at the floor or above it, and its view is not view 0.
+    fn retains(&self, round: Round) -> bool
         ensures { IsTrue result ↔ AdmitsCertificate self.now round }
     {
         !round.view().is_zero() && is_at_least(round, self.floor())
@@ -78,9 +89,24 @@ impl Window {
     /// Whether votes of a round are taken: it is retained, and near the last certificate of its epoch, if that is the current
     /// epoch, the next or the last that ended. If the views after `current` can't be counted in 64 bits, no later vote is taken.
     pub fn admits_vote(&self, round: Round) -> bool
+        ensures admitted { IsTrue result ↔ AdmitsVote self.now round }
+        // In the epoch that is finalized and current they are the votes that its viewport admits.
+        ensures viewport { round.epoch ≡ self.now.finalized.epoch →
+            round.epoch ≡ self.now.current.epoch → self.now.ended.epoch ≤ round.epoch →
+            FitsWindow self.now.lookahead.term_length self.now.current.view →
+            (IsTrue result ↔
+            (IsRetained self.now.finalized.view self.now.view_retention round.view ×
+            IsAdmitted self.now.lookahead.term_length self.now.lookahead.optimistic_views
+            self.now.current.view round.view)) }
+    {
+        self.takes_vote(round)
+    }
+
+    /// Whether a round is retained, and near the last certificate of its epoch.
+    fn takes_vote(&self, round: Round) -> bool
         ensures { IsTrue result ↔ AdmitsVote self.now round }
     {
-        self.admits_certificate(round) && self.is_near(round)
+        self.retains(round) && self.is_near(round)
     }
 
     /// Whether a round is near the last certificate of its epoch.

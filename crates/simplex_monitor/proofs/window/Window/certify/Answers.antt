@@ -1,4 +1,4 @@
-use Rattle.std.proofs.Common.{◌≡◌, ◌<◌, refl, rules, arith}
+use Rattle.std.proofs.Common.{◌≡◌, ◌<◌, refl, rules}
 use Rattle.simplex_monitor.proofs.RoundOrder.{at_most_itself}
 use Rattle.simplex_monitor.proofs.WindowLemmas.{again_earlier, again_here, answer_earlier, answer_here, answer_later, ended_at_most, floor_rises, never_later}
 use Rattle.simplex_monitor.proofs.window.Window.certify.Goals as goal
@@ -25,7 +25,9 @@ returns-then-gt-clause-again c start certified finalized is among =
 
 pub returns-then-gt-clause-rises : goal.returns-then-gt-clause-rises
 returns-then-gt-clause-rises c start certified finalized ordered is =
-    floor_rises c.args.self.now (record c.args.self.now { ended = c.args.self.now.current; current = c.args.round }) (at_most_itself c.args.self.now.finalized)
+    floor_rises c.args.self.now
+    (record c.args.self.now { ended = c.args.self.now.current; current = c.args.round })
+    (at_most_itself c.args.self.now.finalized)
     (ended_at_most start certified finalized c.args.round c.args.self.now ordered is) refl
 
 pub returns-clause-moves : goal.returns-clause-moves

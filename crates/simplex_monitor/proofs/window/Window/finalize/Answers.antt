@@ -1,6 +1,4 @@
-use Rattle.std.proofs.Common.{refl}
-use Rattle.simplex_monitor.proofs.RoundOrder.{at_most_itself, max_above_left}
-use Rattle.simplex_monitor.proofs.WindowLemmas.{again_finalized, answer_finalized, floor_rises}
+use Rattle.simplex_monitor.proofs.WindowLemmas.{again_finalized, answer_finalized}
 use Rattle.simplex_monitor.proofs.window.Window.finalize.Goals as goal
 
 pub returns-clause-moves : goal.returns-clause-moves
