@@ -1,2 +1,3 @@
 mod RoundOrder
 mod WindowLemmas
+mod AdmittedLemmas
