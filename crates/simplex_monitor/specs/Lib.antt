@@ -1,3 +1,2 @@
-pub mod News
 pub mod Heads
 pub mod Window

@@ -1,1 +1,0 @@
--- What was told of the evidence, and what is to be told.

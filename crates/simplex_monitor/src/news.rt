@@ -1,1 +1,0 @@
-//! What is to be told of the evidence, and what was told.
