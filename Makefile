@@ -22,13 +22,18 @@ inspect:
 library:
 	@.ci/library
 
-# Copies to PREFIX/bin what is built of the programs, by a target above or by `make test`, and says which.
+# Copies to PREFIX/bin what is built of the programs, by a target above or by `make test`, as simplex-audit, simplex-audit-stored
+# and simplex-inspect, and says which. The short names are links to them, if no other program has the name.
 install:
-	@some=; for it in audit audit_stored inspect; do \
+	@some=; bin="$(DESTDIR)$(PREFIX)/bin"; for it in audit audit_stored inspect; do \
 	    test -x crates/$$it/out/$$it || continue; \
-	    install -D -m 755 crates/$$it/out/$$it "$(DESTDIR)$(PREFIX)/bin/$$it" || exit 1; \
-	    echo "$(DESTDIR)$(PREFIX)/bin/$$it"; \
+	    name=simplex-$$(echo $$it | tr _ -); \
+	    install -D -m 755 crates/$$it/out/$$it "$$bin/$$name" || exit 1; \
+	    echo "$$bin/$$name"; \
 	    some=1; \
+	    if test -e "$$bin/$$it" || command -v $$it >/dev/null 2>&1; then continue; fi; \
+	    ln -s $$name "$$bin/$$it" || exit 1; \
+	    echo "$$bin/$$it -> $$name"; \
 	done; \
 	test -n "$$some" || { echo 'No program is built yet: make audit, make audit_stored or make inspect' >&2; exit 1; }
 
