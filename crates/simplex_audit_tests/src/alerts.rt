@@ -28,17 +28,17 @@ const MESSAGES: &[&[u8]] = &[
     &[5, 0, 9, 5, 7, 2, 0xaa],
 ];
 
-/// An evidence that was told: behind how many messages, whom it accuses, and how.
+/// An evidence that was told: behind which message, whom it accuses, and how.
 type Told = (usize, u32, EquivocationKind);
 
-/// Adds what is told behind some messages.
+/// Adds what is told behind a message.
 fn add(
     told: &mut Vec<Told>,
-    messages: usize,
+    place: usize,
     evidence: &[Evidence<Marked, MarkedDigest>],
 ) -> Result<(), AllocError> {
     for item in evidence {
-        told.push((messages, item.signer().get(), item.kind()))?;
+        told.push((place, item.signer().get(), item.kind()))?;
     }
     Ok(())
 }
@@ -64,17 +64,21 @@ fn tell(rt: &impl Abort, alloc: Global, committees: &Committees<Marked>) -> Resu
     let mut detector = Detector::new(alloc);
     let mut alerts = Alerts::new(alloc);
     let mut told = Vec::new(alloc);
-    let mut count = 0;
-    for bytes in MESSAGES {
-        observe(alloc, committees, &mut detector, &mut alerts, bytes)?;
-        count += 1;
-        add(&mut told, count, &alerts.take())?;
+    for place in 0..MESSAGES.len() {
+        observe(
+            alloc,
+            committees,
+            &mut detector,
+            &mut alerts,
+            MESSAGES[place],
+        )?;
+        add(&mut told, place, &alerts.take())?;
     }
     let expected: &[Told] = &[
-        (2, 1, EquivocationKind::ConflictingNotarize),
-        (5, 2, EquivocationKind::NullifyFinalize),
-        (7, 3, EquivocationKind::ConflictingNotarize),
-        (8, 2, EquivocationKind::ConflictingFinalize),
+        (1, 1, EquivocationKind::ConflictingNotarize),
+        (4, 2, EquivocationKind::NullifyFinalize),
+        (6, 3, EquivocationKind::ConflictingNotarize),
+        (7, 2, EquivocationKind::ConflictingFinalize),
     ];
     assert_eq!(rt; told.as_slice(), expected);
     Ok(())
@@ -94,7 +98,9 @@ fn prune(rt: &impl Abort, alloc: Global, committees: &Committees<Marked>) -> Res
     }
     assert_eq!(rt; alerts.take().len(), 0);
     alerts.prune(Round::new(Epoch::new(0), View::new(10)));
-    observe(alloc, committees, &mut detector, &mut alerts, MESSAGES[7])?;
+    for bytes in MESSAGES {
+        observe(alloc, committees, &mut detector, &mut alerts, bytes)?;
+    }
     assert_eq!(rt; alerts.take().len(), 0);
     Ok(())
 }
