@@ -53,7 +53,8 @@ pub arises_by : (cmp : declared.Accusation → declared.Accusation → Ordering)
     (n : Accusation) →
     contains key_cmp new (key_of n) ≡ cond (is_eq (accused_cmp m n)) true (contains key_cmp old (key_of n))
 arises_by cmp order old new m key is updates n =
-    subst (λ (by : _ → _ → Ordering). contains by new (key_of n) ≡ cond (is_eq (by key (key_of n))) true (contains by old (key_of n)))
+    subst (λ (by : _ → _ → Ordering). contains by new (key_of n)
+    ≡ cond (is_eq (by key (key_of n))) true (contains by old (key_of n)))
     order (updates (key_of n)) ∙ (λ i. cond (is_eq (key_cmp (is i) (key_of n))) true (contains key_cmp old (key_of n)))
     ∙ (λ i. cond (is_eq (same_order m n i)) true (contains key_cmp old (key_of n)))
 
@@ -124,7 +125,8 @@ module _ {S D P G : Type 0} (old new : Alerts S D P G) (e : Equivocation D G)
       arises_now eq vs told some own n h =
           (elim (is_eq (accused_cmp (accused_by e) n)) as (λ b. is_eq (accused_cmp (accused_by e) n) ≡ b →
           cond b true (has_arisen old n) ≡ true → is_some (evidence_of eq vs n) ≡ true) [
-            | true ↦ λ at k. subst (λ m. is_some (evidence_of eq vs m) ≡ true) (accused_same (accused_by e) n at) (ap is_some own)
+            | true ↦ λ at k. subst (λ m. is_some (evidence_of eq vs m) ≡ true) (accused_same (accused_by e) n at)
+                (ap is_some own)
             | false ↦ λ away k. some.arisen n k
           ]) refl (sym (arises n) ∙ h)
 
@@ -153,7 +155,8 @@ module _ {S D P G : Type 0} (old new : Alerts S D P G) (e : Equivocation D G)
             sound = subst (All (λ f. evidence_of eq vs (accused_by f) ≡ Some f)) (sym all)
                 (All-push (λ f. evidence_of eq vs (accused_by f) ≡ Some f) (told ++ untold old) e some.sound own);
             once = λ n. ap (λ es. times_accused es n) all ∙ times_push (told ++ untold old) e n
-                ∙ ap (λ k. k + from_bool (is_eq (accused_cmp (accused_by e) n))) (some.once n) ∙ sum n ∙ ap from_bool (sym (arises n));
+                ∙ ap (λ k. k + from_bool (is_eq (accused_cmp (accused_by e) n))) (some.once n) ∙ sum n
+                ∙ ap from_bool (sym (arises n));
           }
         where
           sum : (n : Accusation) → from_bool (has_arisen old n) + from_bool (is_eq (accused_cmp (accused_by e) n))
@@ -385,7 +388,8 @@ tells_same rules l messages m none told alerts tells =
       arisen = λ n. tells.arisen n ∙ ap is_some (same n);
       all = record {
         sound = each _ (told ++ untold alerts) (λ e e_in. sym (same (accused_by e))
-            ∙ All-contains (λ e. evidence_of rules.eq (valid_votes rules messages) (accused_by e) ≡ Some e) (told ++ untold alerts)
+            ∙ All-contains (λ e. evidence_of rules.eq (valid_votes rules messages) (accused_by e) ≡ Some e)
+            (told ++ untold alerts)
             e tells.all.sound e_in);
         once = λ n. tells.all.once n ∙ ap (λ o. from_bool (is_some o)) (same n);
       };

@@ -39,7 +39,8 @@ module _ {D G : Type 0} (eq : D → D → Bool) (part : Round → Bool) (vs : Li
       (Contains-filter (is_vote_of part) vs w w_in w_here) of_v against
 
   -- they accuse nobody else
-  pub accused-from_within : (n : Accusation) → is_accused eq within n ≡ true → (part n.round ≡ true) × (is_accused eq vs n ≡ true)
+  pub accused-from_within : (n : Accusation) → is_accused eq within n ≡ true →
+      (part n.round ≡ true) × (is_accused eq vs n ≡ true)
   accused-from_within n h =
       let (v, w, v_in, w_in, of_v, against) = votes_from_accused eq within n h in (
         sym (ap part (is_of-true n.round n.signer v of_v).0) ∙ (Contains-from_filter (is_vote_of part) vs v v_in).1,

@@ -50,7 +50,8 @@ in_name round signers n h =
 -- each accusation is among those of its own signer and round
 pub own_name : (n : Accusation) → Contains (accusations_of n.round n.signer) n
 own_name n =
-    elim n.kind as (λ kind. Contains (accusations_of n.round n.signer) (record { round = n.round; signer = n.signer; kind = kind })) [
+    elim n.kind as (λ kind. Contains (accusations_of n.round n.signer)
+    (record { round = n.round; signer = n.signer; kind = kind })) [
       | Conflicting_notarize ↦ (0, omega arith, refl)
       | Conflicting_finalize ↦ (1, omega arith, refl)
       | Nullify_finalize ↦ (2, omega arith, refl)

@@ -15,7 +15,8 @@ returns-in_ok-push g c =
     (ap (map evidence_value) c.in_ok-push.ensures.items ∙ map-append evidence_value old.untold.items (c.args.evidence ∷ [])
     ∙ ap (λ b. untold old ++ cond b [] (e ∷ []))
     (sym (ap (contains key_cmp old.accused) (sym c.accusation.ensures)
-    ∙ (λ i. contains (sym by_key i) old.accused c.accusation.result) ∙ not-true _ (sym c.in_ok-insert.ensures.added ∙ c.if-branch.true))))
+    ∙ (λ i. contains (sym by_key i) old.accused c.accusation.result)
+    ∙ not-true _ (sym c.in_ok-insert.ensures.added ∙ c.if-branch.true))))
 
 -- it arose before
 pub returns-else-branch : goal.returns-else-branch
@@ -27,4 +28,5 @@ returns-else-branch g c =
     c.in_ok-insert.ensures.updates.0)
     (sym (append-nil (untold old)) ∙ ap (λ b. untold old ++ cond b [] (e ∷ []))
     (sym (ap (contains key_cmp old.accused) (sym c.accusation.ensures)
-    ∙ (λ i. contains (sym by_key i) old.accused c.accusation.result) ∙ not-false _ (sym c.in_ok-insert.ensures.added ∙ c.if-branch.false))))
+    ∙ (λ i. contains (sym by_key i) old.accused c.accusation.result)
+    ∙ not-false _ (sym c.in_ok-insert.ensures.added ∙ c.if-branch.false))))
