@@ -60,17 +60,22 @@ fn observe(
 }
 
 /// Panics unless each evidence is told once, behind the message that completes it.
-fn tell(rt: &impl Abort, alloc: Global, committees: &Committees<Marked>) -> Result<(), Fail> {
+fn tell(
+    rt: &impl Abort,
+    alloc: Global,
+    committees: &Committees<Marked>,
+    messages: &[&[u8]],
+) -> Result<(), Fail> {
     let mut detector = Detector::new(alloc);
     let mut alerts = Alerts::new(alloc);
     let mut told = Vec::new(alloc);
-    for place in 0..MESSAGES.len() {
+    for place in 0..messages.len() {
         observe(
             alloc,
             committees,
             &mut detector,
             &mut alerts,
-            MESSAGES[place],
+            messages[place],
         )?;
         add(&mut told, place, &alerts.take())?;
     }
@@ -108,7 +113,7 @@ fn prune(rt: &impl Abort, alloc: Global, committees: &Committees<Marked>) -> Res
 #[test]
 fn ample_evidence_is_told_once(rt: HostRuntime) -> Result<(), Fail> {
     let committees = marked(rt.alloc(), 4)?;
-    tell(&rt, rt.alloc(), &committees)
+    tell(&rt, rt.alloc(), &committees, MESSAGES)
 }
 
 #[test]
