@@ -29,12 +29,12 @@ use simplex_scheme::scheme::{
 };
 use std::alloc::{AllocError, Global};
 
-/// Bytes to reserve for a message's line, beside [`ROOM_A_BYTE`] for each of the message's bytes. A line takes no more outside its
-/// digits and the signatures of a certificate.
+/// Bytes to reserve for a message's line, beside [`ROOM_A_BYTE`] for each of the message's bytes. A longer line is written too,
+/// with further allocations.
 const LEAST_ROOM: usize = 512;
 
-/// Bytes to reserve for each byte of a message: two digits, and three for the text around a signature, which is below 90 bytes.
-/// No line takes more if signatures have 29 bytes or more.
+/// Bytes to reserve for each byte of a message: two digits, and three for the text around a signature, which is spread over the
+/// signature's bytes.
 const ROOM_A_BYTE: usize = 5;
 
 /// How many participants a committee has, 0 where there is none.

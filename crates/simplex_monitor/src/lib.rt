@@ -1,4 +1,5 @@
-//! Which rounds an auditor that listens looks at, and what moves them: it follows a network by valid certificates alone.
+//! Which rounds an auditor that listens looks at, and what moves them: the rounds of the certificates that its caller found
+//! valid.
 //!
 //! [`window`] has the rounds whose votes and certificates are taken, [`laws`] that views stay admitted.
 #![tactic(auto)]

@@ -12,7 +12,7 @@ ghost use Rattle.simplex_monitor.specs.declared.window.Window as windows;
 use simplex_base::positions::{Epoch, Round, View, ViewDelta};
 use simplex_lead::{Lookahead, Viewport};
 
-/// The rounds that an auditor looks at. It is moved by certificates alone.
+/// The rounds that an auditor looks at. It is moved by the rounds of certificates; that these are valid is its caller's task.
 #[derive(Clone, Copy, Debug)]
 pub struct Window {
     /// The last round that was finalized.
