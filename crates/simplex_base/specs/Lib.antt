@@ -7,6 +7,8 @@ pub mod Varint
 pub mod VarintLaws
 pub mod Sizes
 pub mod SizeLaws
+pub mod Finality
+pub mod FinalityLaws
 pub mod LeastSize
 pub mod LeastSizeLaws
 pub mod Positions

@@ -1,6 +1,6 @@
 -- The union of all messages: how they are encoded, the votes that one holds, and what makes one valid.
-use Rattle.std.proofs.Common.{◌≡◌, ℕ, Bool, true, false, List, ◌∷◌}
-use Rattle.std.specs.Prelude.{codes, Option, ⊤}
+use Rattle.std.proofs.Common.{◌≡◌, ℕ, ◌+◌, ◌*◌, Bool, true, false, List, ◌∷◌}
+use Rattle.std.specs.Prelude.{codes, max, Option, ⊤}
 use Rattle.simplex_base.specs.Reading.{Refusal, invalid, Reading}
 use Rattle.simplex_base.specs.Format.{Format}
 use Rattle.simplex_base.specs.Union.{union_at, branch_at, no_branch}
@@ -180,6 +180,11 @@ activity_branches eq payload certificate signature =
     branch_at 8 (λ c. activity.ConflictingFinalize c) (conflicting_finalize_format eq payload signature).reading (
     branch_at 9 (λ c. activity.NullifyFinalize c) (nullify_finalize_format eq payload signature).reading (
     no_branch unknown_activity))))))))))
+
+-- With payloads, certificates and signatures of at most as many bytes, the longest message has a certificate, or is evidence
+-- with two proposals.
+abbrev pub activity_longest : ℕ → ℕ → ℕ → ℕ
+activity_longest payload certificate signature = 1 + max (30 + payload + certificate) (2 * (35 + payload + signature))
 
 -- a tag, and then the parts of the member with that tag; `certificate` is the format of certificates under a bound
 abbrev pub activity_format : {S D C P G : Type 0} → (D → D → Bool) → Format D → Format C → Format G →

@@ -3,6 +3,8 @@
 use Rattle.std.proofs.Common.{ℕ, ◌+◌, refl}
 use Rattle.simplex_base.specs.Format.{Format, IsLawful, both}
 use Rattle.simplex_base.specs.FormatLaws.{both_lawful, made_lawful}
+use Rattle.simplex_base.specs.Finality.{IsFinal}
+use Rattle.simplex_base.specs.FinalityLaws.{both_final, made_final, number_32_final}
 use Rattle.simplex_base.specs.Sizes.{IsWithin, Longest}
 use Rattle.simplex_base.specs.SizeLaws.{both_within, both_longest, made_longest, number_32_within, number_32_longest}
 use Rattle.simplex_base.specs.Varint.{number_32}
@@ -23,3 +25,7 @@ pub attestation_longest : {S P G : Type 0} (signature : Format G) (n : ℕ) → 
     Longest (attestation_format {S = S} {P = P} signature) (5 + n)
 attestation_longest signature n longest =
     made_longest (both number_32 signature) _ _ (λ p. refl) (both_longest number_32 signature number_32_longest longest)
+
+pub attestation_final : {S P G : Type 0} (signature : Format G) {n : ℕ} → IsFinal signature.reading n →
+    IsFinal (attestation_format {S = S} {P = P} signature).reading (5 + n)
+attestation_final signature final = made_final _ (both_final number_32_final final)

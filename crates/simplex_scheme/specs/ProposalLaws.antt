@@ -3,12 +3,14 @@
 use Rattle.std.proofs.Common.{ℕ, ◌+◌, refl, arith}
 use Rattle.simplex_base.specs.Format.{Format, IsLawful, both}
 use Rattle.simplex_base.specs.FormatLaws.{both_lawful, made_lawful}
+use Rattle.simplex_base.specs.Finality.{IsFinal}
+use Rattle.simplex_base.specs.FinalityLaws.{both_final, made_final, final_within, number_64_final}
 use Rattle.simplex_base.specs.Sizes.{IsWithin, Longest}
 use Rattle.simplex_base.specs.SizeLaws.{both_within, both_longest, made_longest, same_longest, number_64_within, number_64_longest}
 use Rattle.simplex_base.specs.Varint.{number_64}
 use Rattle.simplex_base.specs.VarintLaws.{number_64_lawful}
 use Rattle.simplex_base.specs.Positions.{round_format}
-use Rattle.simplex_base.specs.PositionLaws.{round_lawful, round_within, longest_round}
+use Rattle.simplex_base.specs.PositionLaws.{round_lawful, round_within, longest_round, round_final}
 use Rattle.simplex_scheme.specs.Proposal.{proposal_format}
 
 pub proposal_lawful : {D : Type 0} (payload : Format D) → IsLawful payload → IsLawful (proposal_format payload)
@@ -32,3 +34,8 @@ proposal_longest payload n longest =
     (made_longest (both round_format (both number_64 payload)) _ _ (λ p. refl)
     (both_longest round_format (both number_64 payload) longest_round
     (both_longest number_64 payload number_64_longest longest)))
+
+pub proposal_final : {D : Type 0} (payload : Format D) {n : ℕ} → IsFinal payload.reading n →
+    IsFinal (proposal_format payload).reading (30 + n)
+proposal_final payload final =
+    final_within (omega arith) (made_final _ (both_final round_final (both_final number_64_final final)))

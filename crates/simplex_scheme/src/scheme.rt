@@ -1,8 +1,9 @@
 //! The traits of schemes that sign and verify, with the laws that each scheme proves.
 
-ghost use Rattle.std.specs.Prelude.{◌≡◌, ⊤, ◌+◌, ℕ, Bool, true, false, List, Option, Some, None, Ok, IfOk, IfSome, MatchOption, All, length, nat_eq, ◌<◌, ◌≤◌, ◌^◌};
+ghost use Rattle.std.specs.Prelude.{◌≡◌, ⊤, ◌+◌, ℕ, Bool, true, false, List, Option, Some, None, Ok, IfOk, IfSome, IsTrue, MatchOption, All, length, nat_eq, ◌<◌, ◌≤◌, ◌^◌};
 ghost use Rattle.std.specs.List.{IsDistinct, list_all};
 ghost use Rattle.simplex_base.specs.Format.{format_of};
+ghost use Rattle.simplex_base.specs.Finality.{IsFinal};
 ghost use Rattle.simplex_scheme.specs.Subject.{SubjectValue, subject_value};
 ghost use Rattle.simplex_scheme.specs.Committee.{IsQuorum, IsInOrder, signers_of, RefusesFew, AssemblesQuorum};
 
@@ -131,6 +132,16 @@ pub trait CertificateScheme: SchemeTypes {
     /// Whether a certificate states who signed it.
     fn is_attributable() -> bool
         ensures { result ≡ attributable };
+
+    /// Whether the refusals of certificates are final: a refusal other than `EndOfBuffer` is the refusal of every longer
+    /// input too, and bytes refused by `EndOfBuffer` are fewer than the greatest certificate has. Unless a scheme says so,
+    /// they are not known to be.
+    fn refusals_are_final() -> bool
+        ensures settled { IsTrue result → (bound : ℕ) →
+            IsFinal (Self.Certificate.reading bound) (max_size bound) }
+    {
+        false
+    }
 
     /// No certificate has more than 2^50 bytes,
     ghost certificates_limited: { Self.Certificate.limit ≤ 2 ^ 50 };

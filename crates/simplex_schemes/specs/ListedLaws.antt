@@ -7,14 +7,16 @@ use Rattle.std.proofs.lemmas.Bool.{ltb-false, leb-false, le-ltb, lt-leb, eqb-fal
 use Rattle.std.proofs.lemmas.List.Elements.{All-cons, All-head, All-tail, All-nil}
 use Rattle.std.proofs.lemmas.List.Kept.{AllPairs-cons}
 use Rattle.std.proofs.Math.Dec.{eqb-suc-zero}
-use Rattle.std.proofs.Math.Nat.{mul-le-mul_left}
+use Rattle.std.proofs.Math.Nat.{mul-le-mul_left, suc-mul}
+use Rattle.simplex_base.specs.Finality.{IsFinal}
+use Rattle.simplex_base.specs.FinalityLaws.{then_final, final_within, value_final, refusal_final, number_32_final}
 use Rattle.simplex_base.specs.Format.{Format, IsLawful, Lawful, Encoded}
 use Rattle.simplex_base.specs.FormatLaws.{bind_ok, IsBytes-after}
 use Rattle.simplex_base.specs.Reading.{◌>>=◌, IsBytes}
 use Rattle.simplex_base.specs.Varint.{number_32}
 use Rattle.simplex_base.specs.VarintLaws.{number_32_lawful, groups_len_32}
 use Rattle.simplex_scheme.specs.Attestation.{attestation_format}
-use Rattle.simplex_scheme.specs.AttestationLaws.{attestation_lawful}
+use Rattle.simplex_scheme.specs.AttestationLaws.{attestation_lawful, attestation_final}
 use Rattle.simplex_schemes.specs.Listed.{SignersAscend, ListedFits, listed_encoding, bad_count, bad_signer, attestation_at, attestations_at, listed_at}
 use Rattle.simplex_scheme.specs.declared.scheme.Attestation.{Attestation}
 
@@ -233,3 +235,47 @@ listed_within {S} {P} {G} signature size bound small xs v =
           signature size small xs v.each,
       mul-le-mul_left (5 + size) v.count,
     )
+
+-- ---- which refusals are final, with a signature of at most `size` bytes
+
+attestation_at_final : {S P G : Type 0} (signature : Format G) (bound least : ℕ) {size : ℕ} → IsFinal signature.reading size →
+    IsFinal (attestation_at {S = S} {P = P} signature bound least) (5 + size)
+attestation_at_final {S} {P} {G} signature bound least final =
+    final_within (omega arith)
+    (then_final (attestation_format {S = S} {P = P} signature).reading
+    (λ a rest. cond (nat_lt a.signer least || nat_le bound a.signer) (Err bad_signer) (Ok (a, rest)))
+    (attestation_final signature final) (λ a. tested (nat_lt a.signer least || nat_le bound a.signer) a))
+  where
+    tested : (b : Bool) (a : Attestation S P G) → IsFinal (λ rest. cond b (Err bad_signer) (Ok (a, rest))) 0
+    tested true a = refusal_final bad_signer
+    tested false a = value_final a
+
+attestations_final : {S P G : Type 0} (signature : Format G) (bound least count : ℕ) {size : ℕ} →
+    IsFinal signature.reading size →
+    IsFinal (attestations_at {S = S} {P = P} signature bound least count) (count * (5 + size))
+unfolding attestations_at
+attestations_final signature bound least zero final = final_within (omega arith) (value_final [])
+attestations_final {S} {P} {G} signature bound least (suc count) {size} final =
+    final_within (omega (arith, suc-mul count (5 + size)))
+    (then_final (attestation_at {S = S} {P = P} signature bound least)
+    (λ a rest. attestations_at signature bound (a.signer + 1) count rest >>= λ others. Ok (a ∷ others.0, others.1))
+    {n = count * (5 + size)} (attestation_at_final signature bound least final)
+    (λ a. final_within (omega arith) (then_final (attestations_at signature bound (a.signer + 1) count)
+    (λ others rest. Ok (a ∷ others, rest)) (attestations_final signature bound (a.signer + 1) count final)
+    (λ others. value_final (a ∷ others)))))
+
+pub listed_final : {S P G : Type 0} (signature : Format G) (bound : ℕ) {size : ℕ} → IsFinal signature.reading size →
+    IsFinal (listed_at {S = S} {P = P} signature bound) (5 + bound * (5 + size))
+listed_final {S} {P} {G} signature bound {size} final =
+    then_final number_32.reading
+    (λ count rest. cond (count == 0 || nat_lt bound count) (Err bad_count) (attestations_at signature bound 0 count rest))
+    number_32_final (λ count. counted count (count == 0 || nat_lt bound count) refl)
+  where
+    counted : (count : ℕ) (b : Bool) → (count == 0 || nat_lt bound count) ≡ b →
+        IsFinal (λ rest. cond b (Err bad_count) (attestations_at {S = S} {P = P} signature bound 0 count rest))
+        (bound * (5 + size))
+    counted count true h = final_within (omega arith) (refusal_final bad_count)
+    counted count false h =
+        let within : count ≤ bound = ltb-false bound count (neither (count == 0) (nat_lt bound count) h).1 in
+        let shorter : count * (5 + size) ≤ bound * (5 + size) = omega (arith, mul-le-mul_left (5 + size) within) in
+        final_within shorter (attestations_final signature bound 0 count final)

@@ -1,12 +1,13 @@
 //! Certificates that list their attestations.
 
-ghost use Rattle.std.specs.Prelude.{◌≡◌, ◌+◌, ◌/◌, min, ◌<◌, ◌≤◌, ◌^◌, [], List, IfOk, length, true, false};
+ghost use Rattle.std.specs.Prelude.{◌≡◌, ◌+◌, ◌*◌, ◌/◌, ℕ, min, ◌<◌, ◌≤◌, ◌^◌, [], List, IfOk, length, true, false};
 ghost use Rattle.std.specs.Hash as fed;
 ghost use Rattle.std.specs.Vec.{vec_capacity};
 ghost use Rattle.std.specs.Cmp.Lexicographic.{pointwise, lists_per};
 ghost use Rattle.std.specs.Cmp.Rules.{comparing, hashing};
 ghost use Rattle.std.proofs.Common.{rules};
 ghost use Rattle.std.proofs.lemmas.Cmp.{lists_equiv};
+ghost use Rattle.simplex_base.specs.Finality.{IsFinal};
 ghost use Rattle.simplex_base.specs.Format.{format_of};
 ghost use Rattle.simplex_base.specs.Reading.{Gives};
 ghost use Rattle.simplex_scheme.specs.declared.scheme.Attestation.{Attestation};
@@ -122,6 +123,13 @@ pub fn lists_within<S: SchemeTypes>()
     ensures { (certificate : List (Attestation S S.PublicKey S.Signature)) →
         length certificate ≤ length
         (listed_encoding (format_of ⟦<S::Signature as Read>⟧) certificate) }
+{}
+
+/// A refusal but `EndOfBuffer` is the refusal of every longer input too, and bytes that `EndOfBuffer` refuses are fewer than
+/// the greatest certificate has.
+pub fn listed_refusals_are_final<S: SchemeTypes>()
+    ensures { (bound : ℕ) → IsFinal (⟦<Listed<S> as Read>⟧.reading bound)
+        (5 + bound * (5 + S.Signature.SIZE)) }
 {}
 
 /// A certificate is read under a bound, the number of participants. `Invalid` where the count is 0 or above the

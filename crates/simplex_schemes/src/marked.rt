@@ -12,7 +12,7 @@ ghost use Rattle.simplex_schemes.specs.Marked.{numbered, marked_good};
 ghost use Rattle.simplex_schemes.specs.MarkedLaws.{marked_members};
 
 use crate::certificates::{AttestationVerifier, are_certified, assembled, is_certified};
-use crate::listed::Listed;
+use crate::listed::{Listed, listed_refusals_are_final};
 use simplex_base::codec::Fixed;
 use simplex_base::codec::fixed_bytes::{FixedBytes, Role};
 use simplex_base::positions::Participant;
@@ -154,6 +154,11 @@ impl CertificateScheme for Marked {
     }
 
     fn is_attributable() -> bool {
+        true
+    }
+
+    fn refusals_are_final() -> bool {
+        listed_refusals_are_final::<Self>();
         true
     }
 

@@ -20,7 +20,7 @@ ghost use Rattle.sha2.specs.Sha256.{sha256};
 
 use crate::certificates::{AttestationVerifier, are_certified, assembled, is_certified};
 use crate::hashed::{Hashers, hash_of_proposal, hash_of_round};
-use crate::listed::Listed;
+use crate::listed::{Listed, listed_refusals_are_final};
 use simplex_base::codec::fixed_bytes::{FixedBytes, Role};
 use simplex_base::codec::{Fixed, Read};
 use simplex_base::positions::{Participant, Round};
@@ -244,6 +244,11 @@ impl CertificateScheme for Plain {
     }
 
     fn is_attributable() -> bool {
+        true
+    }
+
+    fn refusals_are_final() -> bool {
+        listed_refusals_are_final::<Self>();
         true
     }
 

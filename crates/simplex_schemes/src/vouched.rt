@@ -16,7 +16,7 @@ ghost use Rattle.simplex_schemes.specs.Vouched.{nobody, is_vouched, vouched_vali
 ghost use Rattle.simplex_schemes.specs.VouchedLaws.{vouched_members};
 
 use crate::certificates::{AttestationVerifier, are_certified, assembled, is_certified};
-use crate::listed::Listed;
+use crate::listed::{Listed, listed_refusals_are_final};
 use crate::marked::{Marked, MarkedKey, MarkedKeyRole};
 use simplex_base::codec::Fixed;
 use simplex_base::codec::fixed_bytes::{FixedBytes, Role};
@@ -105,6 +105,11 @@ impl<R: Role<N>, const N: usize> CertificateScheme for Vouched<R, N> {
     }
 
     fn is_attributable() -> bool {
+        true
+    }
+
+    fn refusals_are_final() -> bool {
+        listed_refusals_are_final::<Self>();
         true
     }
 

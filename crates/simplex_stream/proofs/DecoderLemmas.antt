@@ -1,13 +1,17 @@
 -- A decoder from piece to piece.
-use Rattle.std.proofs.Common.{◌≡◌, ℕ, ◌+◌, ◌<◌, ◌≤◌, List, [], ◌++◌, length, drop, inl, inr, refl, sym, ap, subst, ◌∙◌, arith, append_assoc, length-append}
+use Rattle.std.proofs.Common.{◌≡◌, ◌≢◌, Err, false, ℕ, ◌+◌, ◌<◌, ◌≤◌, List, [], ◌++◌, length, drop, inl, inr, ◌⊎◌, IsTrue, refl, sym, ap, subst, ◌∙◌, arith, append_assoc, length-append}
 use Rattle.std.proofs.lemmas.Bool.{cases_lt}
 use Rattle.std.proofs.lemmas.List.Elements.{All-nil}
-use Rattle.simplex_base.specs.Format.{Format}
+use Rattle.simplex_base.specs.Finality.{IsFinal, before}
+use Rattle.simplex_base.specs.Reading.{Reading, Refusal, Fails, end_of_buffer, invalid_varint, invalid_bool, invalid, extra_data, same_error}
+use Rattle.simplex_base.specs.declared.codec.error.Error.{Error}
+use Rattle.simplex_base.specs.declared.codec.error.Error.TheVariants as errors
+use Rattle.simplex_base.specs.Format.{Format, IsLawful}
 use Rattle.simplex_base.specs.LeastSize.{NoneShorter}
 use Rattle.simplex_base.specs.LeastSizeLaws.{front_in}
-use Rattle.simplex_stream.specs.Decoder.{DecodesMore, bytes_fed, messages_read, tail_of, undecoded}
-use Rattle.simplex_stream.specs.Messages.{AreMessages, IsStuck}
-use Rattle.simplex_stream.specs.StreamLaws.{messages_of_pieces}
+use Rattle.simplex_stream.specs.Decoder.{DecodesMore, bytes_fed, decoding_over, messages_read, tail_of, undecoded}
+use Rattle.simplex_stream.specs.Messages.{AreMessages, IsStuck, IsOver}
+use Rattle.simplex_stream.specs.StreamLaws.{messages_of_pieces, over_stuck, over_behind}
 use Rattle.simplex_stream.specs.Tail.{Awaits, due_of}
 use Rattle.simplex_stream.specs.declared.decoder.Decoder.{Decoder}
 
@@ -36,33 +40,62 @@ module _ {M : Type 0} (format : Format M) where
   pub decodes_more : (Recorded : List M → Type 0) (old new : Decoder) (piece bytes left : List ℕ) (further : List M) (n : ℕ) →
       bytes_fed new ≡ bytes_fed old + length piece → messages_read new ≡ messages_read old + n → n ≡ length further →
       undecoded new ≡ left → bytes ≡ undecoded old ++ piece → AreMessages format bytes further left →
-      Awaits format (tail_of new) → Recorded further → DecodesMore format Recorded piece old new
-  decodes_more Recorded old new piece bytes left further n fed read count rest parts are awaits recorded stream messages h = (
-    further,
-    record {
-      are_messages = messages_of_pieces format stream piece (undecoded old) (undecoded new) messages further h.are_messages
-          (subst (λ (xs : List ℕ). AreMessages format xs further (undecoded new)) parts
-          (subst (AreMessages format bytes further) (sym rest) are));
-      read_is = let before = h.read_is in omega (arith, before, length-append messages further);
-      fed_is = let before = h.fed_is in omega (arith, before, length-append stream piece);
-      awaits = awaits;
-    },
-    recorded,
-  )
+      Awaits format (tail_of new) → (IsTrue (decoding_over new) → IsOver format.reading left) → Recorded further →
+      DecodesMore format Recorded piece old new
+  decodes_more Recorded old new piece bytes left further n fed read count rest parts are awaits over recorded stream messages
+      h = (
+        further,
+        record {
+          are_messages = messages_of_pieces format stream piece (undecoded old) (undecoded new) messages further h.are_messages
+              (subst (λ (xs : List ℕ). AreMessages format xs further (undecoded new)) parts
+              (subst (AreMessages format bytes further) (sym rest) are));
+          read_is = let before = h.read_is in omega (arith, before, length-append messages further);
+          fed_is = let before = h.fed_is in omega (arith, before, length-append stream piece);
+          awaits = awaits;
+          over = λ t. subst (IsOver format.reading) (sym rest) (over t);
+        },
+        recorded,
+      )
 
   -- so has a decoder that appended a piece to its tail, where the piece completes no message
-  pub decodes_none : (Recorded : List M → Type 0) (old new : Decoder) (piece : List ℕ) →
+  pub decodes_none : IsLawful format → (Recorded : List M → Type 0) (old new : Decoder) (piece : List ℕ) →
       bytes_fed new ≡ bytes_fed old + length piece → messages_read new ≡ messages_read old →
+      decoding_over new ≡ decoding_over old →
       undecoded new ≡ undecoded old ++ piece → due_of (tail_of new) ≡ due_of (tail_of old) →
-      length (undecoded old) + length piece < due_of (tail_of old) → Recorded [] → DecodesMore format Recorded piece old new
-  decodes_none Recorded old new piece fed read rest due few recorded stream messages h =
+      IsTrue (decoding_over old) ⊎ (length (undecoded old) + length piece < due_of (tail_of old)) → Recorded [] →
+      DecodesMore format Recorded piece old new
+  decodes_none law Recorded old new piece fed read is_over rest due waits recorded stream messages h =
       let bytes = undecoded old ++ piece in
       let none = still_awaits (undecoded old) piece (due_of (tail_of old)) h.awaits in
       decodes_more Recorded old new piece bytes bytes [] 0 fed (omega (arith, read)) refl rest refl (record {
         whole = refl;
         each = All-nil format.is_value;
-        stuck = still_stuck (undecoded old) piece (due_of (tail_of old)) h.are_messages.stuck h.awaits
-            (omega (arith, few, length-append (undecoded old) piece));
+        stuck = elim waits [
+          | inl t ↦ over_stuck format law bytes (over_behind format.reading (undecoded old) piece (h.over t))
+          | inr few ↦ still_stuck (undecoded old) piece (due_of (tail_of old)) h.are_messages.stuck h.awaits
+              (omega (arith, few, length-append (undecoded old) piece))
+        ];
       }) (subst (NoneShorter format.is_value format.encoding (undecoded new)) (sym due)
       (subst (λ (xs : List ℕ). NoneShorter format.is_value format.encoding xs (due_of (tail_of old))) (sym rest) none))
-      recorded stream messages h
+      (λ t. over_behind format.reading (undecoded old) piece (h.over (rw is_over at t))) recorded stream messages h
+
+-- ---- refusals that stay
+
+module _ {M : Type 0} (reading : List ℕ → Reading M) {longest : ℕ} (final : IsFinal reading longest) (rest : List ℕ)
+    (some : rest ≢ []) where
+  -- a refusal but `end_of_buffer` stays
+  stays : (refusal : Refusal) → refusal ≢ end_of_buffer → reading rest ≡ Err refusal → IsOver reading rest
+  stays refusal other h = elim (final rest) [
+    | inl e ↦ absurd (other (let r = e.refused in cc))
+    | inr s ↦ record { some = some; refusal = refusal; refused = λ more. s.same more ∙ ap (before more) h }
+  ]
+
+  -- so does an error but `EndOfBuffer`
+  pub refused_for_good : (error : Error) → same_error error errors.EndOfBuffer ≡ false → Fails false error (reading rest) →
+      IsOver reading rest
+  refused_for_good errors.EndOfBuffer other h = absurd cc
+  refused_for_good errors.InvalidVarint other h = stays invalid_varint (λ e. absurd cc) h
+  refused_for_good errors.InvalidBool other h = stays invalid_bool (λ e. absurd cc) h
+  refused_for_good (errors.Invalid subject reason) other h = stays (invalid subject.now reason.now) (λ e. absurd cc) h
+  refused_for_good errors.ExtraData other h = stays extra_data (λ e. absurd cc) h
+  refused_for_good errors.OutOfMemory other h = absurd cc

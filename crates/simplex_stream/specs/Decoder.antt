@@ -1,7 +1,7 @@
 -- What a decoder has decoded of a stream that comes in pieces.
-use Rattle.std.specs.Prelude.{◌≡◌, ℕ, List, ◌++◌, length}
+use Rattle.std.specs.Prelude.{◌≡◌, ℕ, Bool, IsTrue, List, ◌++◌, length}
 use Rattle.simplex_base.specs.Format.{Format}
-use Rattle.simplex_stream.specs.Messages.{AreMessages}
+use Rattle.simplex_stream.specs.Messages.{AreMessages, IsOver}
 use Rattle.simplex_stream.specs.Tail.{Awaits, bytes_held}
 use Rattle.simplex_stream.specs.declared.decoder.Decoder.{Decoder}
 use Rattle.simplex_stream.specs.declared.tail.Tail.{Tail}
@@ -22,12 +22,17 @@ tail_of decoder = decoder.tail
 abbrev pub undecoded : Decoder → List ℕ
 undecoded decoder = bytes_held (tail_of decoder)
 
+-- whether nothing that follows can be decoded
+abbrev pub decoding_over : Decoder → Bool
+decoding_over decoder = decoder.over
+
 -- The decoder was fed exactly the stream and has decoded its messages. Its tail awaits the next.
 pub record HasDecoded {M : Type 0} (format : Format M) (stream : List ℕ) (messages : List M) (decoder : Decoder) : Type 0 where
   pub are_messages : AreMessages format stream messages (undecoded decoder)
   pub read_is : messages_read decoder ≡ length messages
   pub fed_is : bytes_fed decoder ≡ length stream
   pub awaits : Awaits format (tail_of decoder)
+  pub over : IsTrue (decoding_over decoder) → IsOver format.reading (undecoded decoder)
 
 -- the decoder of a stream becomes that of the stream with a piece appended, and the messages that the piece completes are
 -- recorded

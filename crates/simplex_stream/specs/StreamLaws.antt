@@ -1,15 +1,15 @@
 -- What holds of the messages of streams, of streams with more behind them, and of streams that come in pieces.
-use Rattle.std.proofs.Common.{◌≡◌, ℕ, ◌+◌, ◌<◌, Option, Some, None, List, [], ◌∷◌, ◌++◌, length, drop, refl, sym, ap, subst, ◌∙◌, arith, append_assoc, append-nil, length-append}
+use Rattle.std.proofs.Common.{◌≡◌, ℕ, ◌+◌, ◌<◌, false, Err, Option, Some, None, List, [], ◌∷◌, ◌++◌, length, drop, refl, sym, ap, subst, ◌∙◌, arith, append_assoc, append-nil, length-append}
 use Rattle.std.specs.Prelude.{All}
 use Rattle.std.specs.List.{flat_map}
 use Rattle.std.proofs.lemmas.Grind.{flat_map-append}
 use Rattle.std.proofs.lemmas.List.Elements.{All-head, All-tail, All-append}
 use Rattle.std.proofs.Math.Seq.{drop-append_seam}
-use Rattle.simplex_base.specs.Reading.{Reading}
+use Rattle.simplex_base.specs.Reading.{Reading, Fails}
 use Rattle.simplex_base.specs.Format.{Format, IsLawful}
 use Rattle.simplex_base.specs.FormatLaws.{one_encoding}
 use Rattle.simplex_base.specs.declared.codec.error.Error.{Error}
-use Rattle.simplex_stream.specs.Messages.{AreMessages, IsStuck, IsStop}
+use Rattle.simplex_stream.specs.Messages.{AreMessages, IsStuck, IsOver, IsStop}
 use Rattle.simplex_stream.specs.Fault.{IsFault, fault_of}
 use Rattle.simplex_stream.specs.declared.fault.Fault.{Fault}
 
@@ -109,6 +109,52 @@ messages_of_pieces {M} format stream piece rest left messages further are are' =
       each = All-append format.is_value messages further are.each are'.each;
       stuck = are'.stuck;
     }
+
+-- ---- the messages of a stream whose tail is over
+
+-- a front of no bytes is empty
+pub front_empty : (front rest : List ℕ) → front ++ rest ≡ [] → front ≡ []
+front_empty [] rest e = refl
+front_empty (b ∷ front) rest e = absurd cc
+
+-- a tail that is over stays so
+pub over_behind : {M : Type 0} (reading : List ℕ → Reading M) (rest more : List ℕ) → IsOver reading rest →
+    IsOver reading (rest ++ more)
+over_behind reading rest more over = record {
+  some = λ e. over.some (front_empty rest more e);
+  refusal = over.refusal;
+  refused = λ further. ap reading (append_assoc rest more further) ∙ over.refused (more ++ further);
+}
+
+-- no message begins it
+pub over_stuck : {M : Type 0} (format : Format M) → IsLawful format → (rest : List ℕ) → IsOver format.reading rest →
+    IsStuck format rest
+over_stuck format law rest over m more v p =
+    let refused = over.refused [] in
+    let read = law.again m more v in
+    let same = ap format.reading (append-nil rest ∙ p) in
+    absurd cc
+
+-- the longer streams have the same messages,
+pub over_messages : {M : Type 0} (format : Format M) → IsLawful format → (stream rest more : List ℕ) (messages : List M) →
+    AreMessages format stream messages rest → IsOver format.reading rest →
+    AreMessages format (stream ++ more) messages (rest ++ more)
+over_messages format law stream rest more messages are over = record {
+  whole = ap (λ (t : List ℕ). t ++ more) are.whole ∙ append_assoc (flat_map format.encoding messages) rest more;
+  each = are.each;
+  stuck = over_stuck format law (rest ++ more) (over_behind format.reading rest more over);
+}
+
+-- and the same fault
+pub over_fault : {M : Type 0} (reading : List ℕ → Reading M) (place : ℕ) (rest more : List ℕ) (fault : Option Fault) →
+    IsFault reading place rest fault → IsOver reading rest → IsFault reading place (rest ++ more) fault
+over_fault reading place rest more None h over = absurd (over.some h)
+over_fault {M} reading place rest more (Some fault) h over =
+    let here : reading rest ≡ Err over.refusal = ap reading (sym (append-nil rest)) ∙ over.refused [] in (
+      λ e. over.some (front_empty rest more e),
+      h.1,
+      subst (λ (r : Reading M). Fails false fault.error r) (here ∙ sym (over.refused more)) h.2,
+    )
 
 -- what is left of bytes behind a prefix of them
 pub front_dropped : (front rest whole : List ℕ) (count : ℕ) → whole ≡ front ++ rest → count + length rest ≡ length whole →

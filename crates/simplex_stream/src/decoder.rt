@@ -1,10 +1,10 @@
 //! Decodes a stream that comes in pieces.
 
-ghost use Rattle.std.specs.Prelude.{◌≡◌, ◌+◌, ◌<◌, ◌≤◌, ◌^◌, ℕ, [], OnOk, length};
+ghost use Rattle.std.specs.Prelude.{◌≡◌, ◌⊎◌, ◌+◌, ◌<◌, ◌≤◌, ◌^◌, ℕ, [], IsTrue, OnOk, length};
 ghost use Rattle.simplex_base.specs.Format.{format_under};
-ghost use Rattle.simplex_stream.specs.Tail.{bytes_held};
+ghost use Rattle.simplex_stream.specs.Tail.{bytes_held, due_of};
 
-use crate::messages::{Message, Visitor, for_each_message};
+use crate::messages::{Message, Visitor, for_each_message, is_over};
 use crate::tail::Tail;
 use simplex_base::codec::Read;
 use std::alloc::{AllocError, Global};
@@ -18,11 +18,13 @@ pub struct Decoder {
     fed: usize,
     /// The number of the stream's messages.
     read: usize,
+    /// Whether the tail was refused, and for good.
+    over: bool,
     ghost room: { read + length (bytes_held tail) ≤ fed },
 }
 
 impl Decoder {
-    ghost use Rattle.simplex_stream.specs.Decoder.{HasDecoded, DecodesMore, bytes_fed, messages_read, undecoded};
+    ghost use Rattle.simplex_stream.specs.Decoder.{HasDecoded, DecodesMore, bytes_fed, decoding_over, messages_read, tail_of, undecoded};
 
     /// A decoder of a stream of such messages, of which no byte has come.
     pub fn new<M: Message>(alloc: Global) -> Decoder
@@ -33,6 +35,7 @@ impl Decoder {
             tail: Tail::new(alloc),
             fed: 0,
             read: 0,
+            over: false,
         }
     }
 
@@ -60,21 +63,40 @@ impl Decoder {
             let progress = for_each_message::<M, V>(alloc, context, bound, piece, visitor)?;
             self.tail.push(progress.rest)?;
             self.tail.advance::<M>(0, &bound);
+            self.over = is_over::<M>(&progress.stop);
             self.read += progress.read;
             self.fed += piece.len();
             return Ok(());
         }
-        let is_due = self.tail.is_due(piece.len());
+        let waits = self.waits(piece.len());
         self.tail.push(piece)?;
         self.fed += piece.len();
-        if is_due {
+        if !waits {
             let bytes = self.tail.bytes();
             let progress = for_each_message::<M, V>(alloc, context, bound, bytes, visitor)?;
             let (more, count) = (progress.read, bytes.len() - progress.rest.len());
+            self.over = is_over::<M>(&progress.stop);
             self.tail.advance::<M>(count, &bound);
             self.read += more;
         }
         Ok(())
+    }
+
+    /// Whether no message can be read at the start of the tail after a piece of this many bytes, whichever it is.
+    fn waits(&self, more: usize) -> bool
+        requires { length (undecoded self.now) + more < 2 ^ 64 }
+        ensures { IsTrue result → IsTrue (decoding_over self.now) ⊎
+            (length (undecoded self.now) + more < due_of (tail_of self.now)) }
+    {
+        self.over || !self.tail.is_due(more)
+    }
+
+    /// Whether decoding is over: reading the bytes after the last whole message is refused, and stays so whatever follows. So
+    /// they are the undecoded tail of each longer stream too, with what follows, and nothing more needs to be fed.
+    pub fn is_over(&self) -> bool
+        ensures { result ≡ decoding_over self.now }
+    {
+        self.over
     }
 
     /// How many bytes it was fed.

@@ -1,8 +1,11 @@
 //! Reads the messages of a stream one after another.
 
-ghost use Rattle.std.specs.Prelude.{◌≡◌, ◌+◌, ◌<◌, ◌≤◌, ℕ, List, [], ◌∷◌, ◌++◌, length, IfOk, OnOk};
+ghost use Rattle.std.specs.Prelude.{◌≡◌, ◌+◌, ◌<◌, ◌≤◌, ℕ, List, [], ◌∷◌, ◌++◌, length, IfOk, IsTrue, OnOk};
 ghost use Rattle.simplex_base.specs.Format.{format_under};
-ghost use Rattle.simplex_stream.specs.Messages.{IsStuck, IsStop};
+ghost use Rattle.simplex_base.specs.Finality.{IsFinal};
+ghost use Rattle.simplex_base.specs.Reading.{same_error};
+ghost use Rattle.simplex_base.specs.declared.codec.error.Error.TheVariants as errors;
+ghost use Rattle.simplex_stream.specs.Messages.{IsOver, IsStuck, IsStop};
 ghost use Rattle.simplex_stream.specs.Progress.{IsProgress};
 
 use crate::fault::refusal;
@@ -12,6 +15,17 @@ use std::alloc::{AllocError, Global};
 
 /// A type whose values stand one after another in a stream. Each is read under the bound of the greatest committee.
 pub trait Message: Read<Cfg = u32> {
+    /// The greatest length of a message that is read under a bound.
+    ghost longest: { ℕ → ℕ };
+
+    /// Whether refusals are final: a refusal other than `EndOfBuffer` is the refusal of every longer input too, and bytes
+    /// refused by `EndOfBuffer` are fewer than the longest message has. Unless a type says so, they are not known to be.
+    fn refusals_are_final() -> bool
+        ensures settled { IsTrue result → (bound : ℕ) → IsFinal (Self.reading bound) (longest bound) }
+    {
+        false
+    }
+
     /// No encoding is empty.
     ghost never_empty: { (m : Self) → 0 < length (Self.encoding m) };
 }
@@ -84,6 +98,31 @@ pub fn stop_of<M: Message + Drop>(
         return Ok(None);
     };
     Ok(Some(refusal(error)?))
+}
+
+/// Whether reading is over where it stopped: some bytes are left there and refused, and stay so whatever follows them.
+pub fn is_over<M: Message>(stop: &Option<Error>) -> bool
+    ensures { IsTrue result → (bound : ℕ) (rest : List ℕ) →
+        IsStop (⟦<M as Read>⟧.reading bound) rest stop.now → IsOver (⟦<M as Read>⟧.reading bound) rest }
+{
+    let Some(error) = stop else {
+        return false;
+    };
+    !ends_early(error) && M::refusals_are_final()
+}
+
+/// Whether the bytes ended too early.
+fn ends_early(error: &Error) -> bool
+    ensures { result ≡ same_error error.now errors.EndOfBuffer }
+{
+    match error {
+        Error::EndOfBuffer => true,
+        Error::InvalidVarint => false,
+        Error::InvalidBool => false,
+        Error::Invalid(_, _) => false,
+        Error::ExtraData => false,
+        Error::OutOfMemory => false,
+    }
 }
 
 /// Reads the messages of some bytes under a bound, as many as there are, and shows each to the visitor. `AllocError` only where

@@ -4,13 +4,15 @@ use Rattle.std.proofs.Common.{ℕ, ◌+◌, refl, arith}
 use Rattle.simplex_base.specs.Format.{Format, IsLawful, both}
 use Rattle.simplex_base.specs.FormatLaws.{both_lawful, made_lawful}
 use Rattle.simplex_base.specs.Positions.{round_format}
-use Rattle.simplex_base.specs.PositionLaws.{round_lawful, round_within, longest_round}
+use Rattle.simplex_base.specs.PositionLaws.{round_lawful, round_within, longest_round, round_final}
+use Rattle.simplex_base.specs.Finality.{IsFinal}
+use Rattle.simplex_base.specs.FinalityLaws.{both_final, made_final, final_within}
 use Rattle.simplex_base.specs.Sizes.{IsWithin, Longest}
 use Rattle.simplex_base.specs.SizeLaws.{both_within, both_longest, made_longest, same_longest}
 use Rattle.simplex_scheme.specs.Proposal.{proposal_format}
-use Rattle.simplex_scheme.specs.ProposalLaws.{proposal_lawful, proposal_within, proposal_longest}
+use Rattle.simplex_scheme.specs.ProposalLaws.{proposal_lawful, proposal_within, proposal_longest, proposal_final}
 use Rattle.simplex_scheme.specs.Attestation.{attestation_format}
-use Rattle.simplex_scheme.specs.AttestationLaws.{attestation_lawful, attestation_within, attestation_longest}
+use Rattle.simplex_scheme.specs.AttestationLaws.{attestation_lawful, attestation_within, attestation_longest, attestation_final}
 use Rattle.simplex_votes.specs.Encodings.{notarize_format, nullify_format, finalize_format, notarization_format, nullification_format, finalization_format}
 
 -- ---- laws of the formats
@@ -105,3 +107,38 @@ pub finalize_longest : {S D P G : Type 0} (payload : Format D) (signature : Form
 finalize_longest {S} {D} {P} payload signature m n payloads signatures =
     made_longest (both (proposal_format payload) (attestation_format {S = S} {P = P} signature)) _ _ (λ p. refl)
     (signed_longest payload signature m n payloads signatures)
+
+-- ---- which refusals are final
+
+pub notarize_final : {S D P G : Type 0} (payload : Format D) (signature : Format G) {m n : ℕ} → IsFinal payload.reading m →
+    IsFinal signature.reading n → IsFinal (notarize_format {S = S} {P = P} payload signature).reading (35 + m + n)
+notarize_final payload signature payloads signatures =
+    final_within (omega arith)
+    (made_final _ (both_final (proposal_final payload payloads) (attestation_final signature signatures)))
+
+pub nullify_final : {S P G : Type 0} (signature : Format G) {n : ℕ} → IsFinal signature.reading n →
+    IsFinal (nullify_format {S = S} {P = P} signature).reading (25 + n)
+nullify_final signature signatures =
+    final_within (omega arith) (made_final _ (both_final round_final (attestation_final signature signatures)))
+
+pub finalize_final : {S D P G : Type 0} (payload : Format D) (signature : Format G) {m n : ℕ} → IsFinal payload.reading m →
+    IsFinal signature.reading n → IsFinal (finalize_format {S = S} {P = P} payload signature).reading (35 + m + n)
+finalize_final payload signature payloads signatures =
+    final_within (omega arith)
+    (made_final _ (both_final (proposal_final payload payloads) (attestation_final signature signatures)))
+
+pub notarization_final : {S D C P G : Type 0} (payload : Format D) (certificate : Format C) {m n : ℕ} →
+    IsFinal payload.reading m → IsFinal certificate.reading n →
+    IsFinal (notarization_format {S = S} {P = P} {G = G} payload certificate).reading (30 + m + n)
+notarization_final payload certificate payloads certificates =
+    made_final _ (both_final (proposal_final payload payloads) certificates)
+
+pub nullification_final : {S C P G : Type 0} (certificate : Format C) {n : ℕ} → IsFinal certificate.reading n →
+    IsFinal (nullification_format {S = S} {P = P} {G = G} certificate).reading (20 + n)
+nullification_final certificate certificates = made_final _ (both_final round_final certificates)
+
+pub finalization_final : {S D C P G : Type 0} (payload : Format D) (certificate : Format C) {m n : ℕ} →
+    IsFinal payload.reading m → IsFinal certificate.reading n →
+    IsFinal (finalization_format {S = S} {P = P} {G = G} payload certificate).reading (30 + m + n)
+finalization_final payload certificate payloads certificates =
+    made_final _ (both_final (proposal_final payload payloads) certificates)

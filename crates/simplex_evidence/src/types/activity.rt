@@ -302,6 +302,14 @@ impl<S: CertificateScheme, D: Digest> Tagged for Activity<S, D> {
 
 impl<S: CertificateScheme, D: Digest> Message for Activity<S, D> {
     ghost use Rattle.std.proofs.Common.{arith};
+    ghost use Rattle.simplex_evidence.specs.Activity.{activity_longest};
 
     ghost never_empty = { λ message. Prim.omega arith };
+
+    ghost longest = { λ bound. activity_longest D.SIZE (S.max_size bound) S.Signature.SIZE };
+
+    /// They are if those of certificates are.
+    fn refusals_are_final() -> bool {
+        S::refusals_are_final()
+    }
 }

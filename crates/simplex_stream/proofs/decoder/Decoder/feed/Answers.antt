@@ -25,12 +25,13 @@ returns-then-is_empty-clause-decoded g c =
     let left = c.advance.ensures.held ∙ (c.in_ok-push.ensures.held ∙ ap (λ (xs : List ℕ). xs ++ p.rest.now) none) in
     decodes_more (format g c.args.bound) _ c.args.self.now _ c.args.piece.now c.args.piece.now p.rest.now done.messages p.read
     refl refl done.read_is left (sym (ap (λ (xs : List ℕ). xs ++ c.args.piece.now) none)) done.are_messages
-    c.advance.ensures.awaits done.recorded
+    c.advance.ensures.awaits (λ t. c.is_over-self.ensures t c.args.bound p.rest.now done.stop_is) done.recorded
 
-pub returns-else-is_due-clause-decoded : goal.returns-else-is_due-clause-decoded
-returns-else-is_due-clause-decoded g c =
-    decodes_none (format g c.args.bound) _ c.args.self.now _ c.args.piece.now refl refl c.in_ok-push-2.ensures.held
-    c.in_ok-push-2.ensures.due (grind (arith, common_steps)) (g.met.V.Visitor.none c.args.context.now c.args.visitor.now)
+pub returns-else-not-waits-clause-decoded : goal.returns-else-not-waits-clause-decoded
+returns-else-not-waits-clause-decoded g c =
+    decodes_none (format g c.args.bound) (g.met.M.Read.lawful c.args.bound) _ c.args.self.now _ c.args.piece.now refl refl refl
+    c.in_ok-push-2.ensures.held c.in_ok-push-2.ensures.due (c.waits-waits.ensures c.if-not-waits.false)
+    (g.met.V.Visitor.none c.args.context.now c.args.visitor.now)
 
 pub returns-in_ok-progress-2-clause-decoded : goal.returns-in_ok-progress-2-clause-decoded
 returns-in_ok-progress-2-clause-decoded g c =
@@ -39,8 +40,9 @@ returns-in_ok-progress-2-clause-decoded g c =
     let room = c.in_ok-progress-2.ensures.room in
     let bytes = c.bytes-bytes.result.now in
     let same = ap length c.bytes-bytes.ensures in
-    let left = c.advance-then-is_due.ensures.held ∙ front_dropped _ p.rest.now _ _
+    let left = c.advance-then-not-waits.ensures.held ∙ front_dropped _ p.rest.now _ _
     (sym c.bytes-bytes.ensures ∙ done.are_messages.whole) (omega arith) in
     decodes_more (format g c.args.bound) _ c.args.self.now _ c.args.piece.now bytes p.rest.now done.messages p.read
     refl refl done.read_is left (c.bytes-bytes.ensures ∙ c.in_ok-push-2.ensures.held) done.are_messages
-    c.advance-then-is_due.ensures.awaits done.recorded
+    c.advance-then-not-waits.ensures.awaits (λ t. c.is_over-self-then-not-waits.ensures t c.args.bound p.rest.now done.stop_is)
+    done.recorded
