@@ -23,7 +23,7 @@ use Rattle.simplex_detector.specs.declared.evidence.EquivocationKind.TheVariants
 use Rattle.simplex_detector.specs.contracts.evidence.AccusationOrd.TheImpl as ord
 use Rattle.simplex_detector.specs.contracts.evidence.EquivocationKindOrd.TheImpl as kind_ord
 
-equal_from : (o : Ordering) → is_eq o ≡ true → o ≡ Equal
+pub equal_from : (o : Ordering) → is_eq o ≡ true → o ≡ Equal
 equal_from Equal h = refl
 equal_from _ h = absurd (false≢true h)
 

@@ -1,14 +1,16 @@
--- How many messages of a round are news: at most five for each participant, and three for certified subjects.
-use Rattle.simplex_detector.proofs.Prelude.{Activity, All, All-contains, Bool, Contains, Finalizes, HaveCommittees, IsEquivalence, List, None, Nullifies, Option, Round, Rules, SignedVote, Some, VoteKind, SubjectValue, [], activity_round, and-false, and_parts, ap, append-nil, append_assoc, are_split, arith, certified_in, certified_subjects, cond, eqb, eqb-false, excludes, excludes_some, false, false≢true, filter, filter-append, first_certified, flat_map, inl, inr, is_news, is_none, is_valid, length, length-append, length-filter_both, news_after, not, not-true, option_or, option_to_list, recorded_of, refl, round_of, same_round, same_kind, kind_of, subst, suc, sym, true, valid_votes, votes_in, zero, ℕ, ◌&&◌, ◌++◌, ◌+◌, ◌<◌, ◌||◌, ◌∙◌, ◌∷◌, ◌≡◌, ◌≤◌}
+-- How many messages of a round are kept: at most five without a certificate for each participant, and three with one.
+use Rattle.simplex_detector.proofs.Prelude.{Activity, All, All-contains, Bool, Contains, Finalizes, HaveCommittees, IsEquivalence, List, None, Nullifies, Option, Round, Rules, SignedVote, Some, VoteKind, SubjectValue, [], activity_round, and-false, and-true, and_parts, and_right, ap, append-nil, append_assoc, are_split, arith, certified_in, certified_subjects, cond, cond-false, eqb, eqb-false, excludes, excludes_some, false, false≢true, filter, filter-append, first_certified, flat_map, inl, inr, is_news, is_none, is_valid, length, length-append, length-filter_both, map, news_after, not, not-true, option_or, option_to_list, recorded_of, refl, round_of, same_round, same_kind, kind_of, subst, suc, sym, true, valid_votes, votes_in, zero, ℕ, ◌&&◌, ◌++◌, ◌+◌, ◌<◌, ◌||◌, ◌∙◌, ◌∷◌, ◌≡◌, ◌≤◌}
 use Rattle.std.proofs.lemmas.List.Elements.{All-head, All-tail}
 use Rattle.std.specs.Prelude.{◌*◌}
 use Rattle.simplex_scheme.specs.declared.kind.VoteKind.TheVariants as kinds
 use Rattle.simplex_detector.specs.Independence.{IsOfOneRound}
-use Rattle.simplex_detector.specs.News.{FewAreNews, certifies_news, have_news, if_news, messages_with_news, subject_is_news, valid_votes_in}
+use Rattle.simplex_detector.specs.News.{FewAreKept, certifies_news, have_news, if_news, kept_of, messages_kept, subject_is_news, valid_votes_in, vote_message, votes_alone}
+use Rattle.simplex_evidence.specs.Activity.{has_certificate}
+use Rattle.simplex_evidence.specs.declared.types.activity.Activity.TheVariants as activity
 use Rattle.simplex_detector.proofs.EvidenceLemmas.{valid_votes-push}
 use Rattle.simplex_detector.proofs.Filters.{filter_both, filter_swap}
 use Rattle.simplex_detector.proofs.Lists.{Contains-cons, Contains-cons_cases, Contains-filter, Contains-first, Contains-from_filter, Contains-none, found}
-use Rattle.simplex_detector.proofs.NewsLemmas.{news_here, one_is_news, split_now}
+use Rattle.simplex_detector.proofs.NewsLemmas.{alone_round, attested, is_alone, news_after-append, news_from, news_here, one_is_news, split_now}
 use Rattle.simplex_detector.proofs.Places.{same_round-true, same_kind-true}
 use Rattle.simplex_detector.proofs.RecordedLemmas.{few_are_recorded}
 use Rattle.simplex_detector.proofs.SplitLemmas.{certified_round, first_after, split_by, subjects_push}
@@ -40,30 +42,6 @@ few_by_key {X} key (suc n) xs few below =
 -- ---- votes that are news
 
 module _ {D G : Type 0} (eq : D → D → Bool) where
-  -- the news of votes are some of them
-  news_from : (before vs : List (SignedVote D G)) (v : SignedVote D G) → Contains (news_after eq before vs) v → Contains vs v
-  news_from before [] v h = absurd (Contains-none v h)
-  news_from before (w ∷ vs) v h =
-      let rest = news_after eq (before ++ w ∷ []) vs in
-      (elim (is_news eq before w) as (λ b. Contains (cond b (w ∷ []) [] ++ rest) v → Contains (w ∷ vs) v) [
-        | true ↦ λ k. elim (Contains-cons_cases w rest v k) [
-          | inl e ↦ subst (Contains (w ∷ vs)) e (Contains-first w vs)
-          | inr l ↦ Contains-cons w vs v (news_from (before ++ w ∷ []) vs v l)
-        ]
-        | false ↦ λ k. Contains-cons w vs v (news_from (before ++ w ∷ []) vs v k)
-      ]) h
-
-  -- the news of two lists of votes, one after the other
-  news_after-append : (before vs ws : List (SignedVote D G)) →
-      news_after eq before (vs ++ ws) ≡ news_after eq before vs ++ news_after eq (before ++ vs) ws
-  news_after-append before [] ws = ap (λ us. news_after eq us ws) (sym (append-nil before))
-  news_after-append before (v ∷ vs) ws =
-      let first = cond (is_news eq before v) (v ∷ []) [] in
-      let rest = news_after eq (before ++ v ∷ []) vs in
-      ap (λ us. first ++ us) (news_after-append (before ++ v ∷ []) vs ws
-      ∙ ap (λ us. rest ++ news_after eq us ws) (append_assoc before (v ∷ []) vs))
-      ∙ sym (append_assoc first rest (news_after eq (before ++ v ∷ vs) ws))
-
   -- whether a vote is of a round
   abbrev in_round : Round → SignedVote D G → Bool
   in_round round v = same_round (round_of v.subject) round
@@ -74,7 +52,8 @@ module _ {D G : Type 0} (eq : D → D → Bool) where
       1 ≤ length (filter (in_round round) (news_after eq before vs))
   some_news l round before vs here h =
       let (v, v_in) = one_is_news eq l before vs h in
-      omega (arith, (Contains-filter (in_round round) (news_after eq before vs) v v_in (here v (news_from before vs v v_in))).1)
+      let v_here = here v (news_from eq before vs v v_in) in
+      omega (arith, (Contains-filter (in_round round) (news_after eq before vs) v v_in v_here).1)
 
 -- ---- certified subjects that are news
 
@@ -210,17 +189,47 @@ module _ {S D C P G : Type 0} (rules : Rules S D C P G) (l : IsEquivalence rules
   abbrev news_votes : List (SignedVote D G) → List (SignedVote D G) → ℕ
   news_votes before vs = length (filter (in_round rules.eq round) (news_after rules.eq before vs))
 
-  -- a message of the round that is news has a vote that is news, or certifies news
-  message_counts : (m : Activity S D C P G) (votes subject : Bool) →
-      length (filter is_here (cond (votes || subject) (m ∷ []) []))
-      ≤ cond (is_here m && votes) 1 0 + cond (is_here m && subject) 1 0
-  message_counts m true subject =
-      elim (is_here m) as (λ b. length (cond b (m ∷ []) []) ≤ cond (b && true) 1 0 + cond (b && subject) 1 0)
-      [ true ↦ omega arith | false ↦ omega arith ]
-  message_counts m false true =
-      elim (is_here m) as (λ b. length (cond b (m ∷ []) []) ≤ cond (b && false) 1 0 + cond (b && true) 1 0)
-      [ true ↦ omega arith | false ↦ omega arith ]
-  message_counts m false false = omega arith
+  -- whether a message is of the round and has a certificate
+  abbrev is_certificate : Activity S D C P G → Bool
+  is_certificate m = is_here m && has_certificate m
+
+  -- whether it is of the round and has none
+  abbrev is_plain : Activity S D C P G → Bool
+  is_plain m = is_here m && not (has_certificate m)
+
+  -- votes as messages of their own have no certificate
+  no_certificates : (vs : List (SignedVote D G)) → filter is_certificate (map vote_message vs) ≡ []
+  no_certificates [] = refl
+  no_certificates (v ∷ vs) =
+      cond-false (is_certificate (vote_message v)) (vote_message v ∷ filter is_certificate (map vote_message vs))
+      (filter is_certificate (map vote_message vs))
+      (and_right (is_here (vote_message v)) _ (is_alone rules v.subject (attested rules v))) ∙ no_certificates vs
+
+  -- those of the round are as many as the votes of the round
+  as_many : (vs : List (SignedVote D G)) →
+      length (filter is_plain (map vote_message vs)) ≡ length (filter (in_round rules.eq round) vs)
+  as_many [] = refl
+  as_many (v ∷ vs) =
+      let here : is_plain (vote_message v) ≡ in_round rules.eq round v =
+      (λ i. same_round (alone_round rules v.subject (attested rules v) i) round
+      && not (is_alone rules v.subject (attested rules v) i)) ∙ and-true (in_round rules.eq round v) in
+      ap (λ b. length (cond b (vote_message v ∷ filter is_plain (map vote_message vs)) (filter is_plain (map vote_message vs))))
+      here
+      ∙ (elim (in_round rules.eq round v) as (λ b.
+      length (cond b (vote_message v ∷ filter is_plain (map vote_message vs)) (filter is_plain (map vote_message vs)))
+      ≡ length (cond b (v ∷ filter (in_round rules.eq round) vs) (filter (in_round rules.eq round) vs)))
+      [ true ↦ ap suc (as_many vs) | false ↦ as_many vs ])
+
+  -- a message without a certificate certifies no news
+  none_certifies : (before : List (Activity S D C P G)) (m : Activity S D C P G) → has_certificate m ≡ false →
+      certifies_news rules before m ≡ false
+  none_certifies before (activity.Notarize v) none = refl
+  none_certifies before (activity.Nullify v) none = refl
+  none_certifies before (activity.Finalize v) none = refl
+  none_certifies before (activity.ConflictingNotarize c) none = refl
+  none_certifies before (activity.ConflictingFinalize c) none = refl
+  none_certifies before (activity.NullifyFinalize c) none = refl
+  none_certifies before _ none = absurd (false≢true (sym none))
 
   module _ (before : List (Activity S D C P G)) (m : Activity S D C P G) (whole : IsOfOneRound rules.listed m) where
     abbrev votes_are_news : Bool
@@ -245,18 +254,86 @@ module _ {S D C P G : Type 0} (rules : Rules S D C P G) (l : IsEquivalence rules
           | false ↦ λ away. omega arith
         ]) refl
 
-    -- it adds to the news votes or to the weight
-    one_message : length (filter is_here (if_news rules before m)) + heft before
-        ≤ news_votes (valid_votes rules before) (valid_votes_in rules m) + heft (before ++ m ∷ [])
-    one_message =
+    -- a certificate is kept only if its subject is news, and adds to the weight then
+    one_certificate : length (filter is_certificate (kept_of rules before m)) + heft before ≤ heft (before ++ m ∷ [])
+    one_certificate =
+        let a = is_here m in
+        let news = certifies_news rules before m in
+        let kept : length (filter is_certificate (kept_of rules before m)) ≤ cond (a && news) 1 0 =
+        (elim (has_certificate m) as (λ h. has_certificate m ≡ h → length (filter is_certificate
+        (cond (h && not news) (votes_alone rules before m) (if_news rules before m))) ≤ cond (a && news) 1 0) [
+          | true ↦ λ has. elim news as (λ n. length (filter is_certificate (cond (not n) (votes_alone rules before m)
+              (cond (votes_are_news || n) (m ∷ []) []))) ≤ cond (a && n) 1 0) [
+                | true ↦ none_or_one votes_are_news
+                | false ↦ omega (
+                  arith,
+                  ap length (no_certificates (news_after rules.eq (valid_votes rules before)
+                      (valid_votes_in rules m))),
+                )
+              ]
+          | false ↦ λ has. elim (votes_are_news || news) as (λ n. length (filter is_certificate (cond n (m ∷ []) []))
+              ≤ cond (a && news) 1 0) [
+                | true ↦
+                    let none = and_right a (has_certificate m) has in
+                    omega (arith, ap length (cond-false (is_certificate m) (m ∷ []) [] none))
+                | false ↦ omega arith
+              ]
+        ]) refl in
         omega (
           arith,
-          message_counts m votes_are_news (certifies_news rules before m),
-          votes_count,
+          kept,
           weight_with rules.eq l round (certified_subjects rules before) (activity_round m) (certified_in rules m)
               (λ x is. certified_round rules m x is),
           ap (weight rules.eq l round) (subjects_push rules before m),
         )
+      where
+        at_most : (b : Bool) → length (cond b (m ∷ []) []) ≤ 1
+        at_most true = omega arith
+        at_most false = omega arith
+
+        by_round : length (filter is_certificate (m ∷ [])) ≤ cond (is_here m && true) 1 0
+        by_round =
+            elim (is_here m) as (λ b. length (cond (b && has_certificate m) (m ∷ []) []) ≤ cond (b && true) 1 0)
+            [ true ↦ at_most (has_certificate m) | false ↦ omega arith ]
+
+        none_or_one : (votes : Bool) →
+            length (filter is_certificate (cond (votes || true) (m ∷ []) [])) ≤ cond (is_here m && true) 1 0
+        none_or_one true = by_round
+        none_or_one false = by_round
+
+    -- a message without a certificate is kept only for a vote that is news
+    one_plain : length (filter is_plain (kept_of rules before m))
+        ≤ news_votes (valid_votes rules before) (valid_votes_in rules m)
+    one_plain =
+        let a = is_here m in
+        let news = certifies_news rules before m in
+        let count = news_votes (valid_votes rules before) (valid_votes_in rules m) in
+        (elim (has_certificate m) as (λ h. has_certificate m ≡ h → length (filter is_plain
+        (cond (h && not news) (votes_alone rules before m) (if_news rules before m))) ≤ count) [
+          | true ↦ λ has.
+              let none : filter is_plain (m ∷ []) ≡ [] =
+              cond-false (is_plain m) (m ∷ []) [] (and_right a (not (has_certificate m)) (ap not has)) in
+              elim (not news) as (λ n. length (filter is_plain (cond n (votes_alone rules before m) (if_news rules before m)))
+              ≤ count) [
+                | true ↦ omega (arith, as_many (news_after rules.eq (valid_votes rules before) (valid_votes_in rules m)))
+                | false ↦ elim (votes_are_news || news) as (λ n. length (filter is_plain (cond n (m ∷ []) [])) ≤ count)
+                    [ true ↦ omega (arith, ap length none) | false ↦ omega arith ]
+              ]
+          | false ↦ λ has. plain_counts votes_are_news news (none_certifies before m has) votes_count
+        ]) refl
+      where
+        plain_counts : (votes subject : Bool) → subject ≡ false →
+            cond (is_here m && votes) 1 0 ≤ news_votes (valid_votes rules before) (valid_votes_in rules m) →
+            length (filter is_plain (cond (votes || subject) (m ∷ []) []))
+            ≤ news_votes (valid_votes rules before) (valid_votes_in rules m)
+        plain_counts true subject none count = omega (arith, count, here_or_not (is_here m) (not (has_certificate m)))
+          where
+            here_or_not : (a b : Bool) → length (cond (a && b) (m ∷ []) []) ≤ cond (a && true) 1 0
+            here_or_not true true = omega arith
+            here_or_not true false = omega arith
+            here_or_not false b = omega arith
+        plain_counts false true none count = absurd (false≢true (sym none))
+        plain_counts false false none count = omega arith
 
     -- the news votes of a message and of those behind it
     votes_add_up : (ms : List (Activity S D C P G)) → news_votes (valid_votes rules before) (valid_votes rules (m ∷ ms))
@@ -274,25 +351,41 @@ module _ {S D C P G : Type 0} (rules : Rules S D C P G) (l : IsEquivalence rules
         ∙ ap length (filter-append here first (news_after rules.eq (valid_votes rules (before ++ m ∷ [])) ws))
         ∙ length-append (filter here first) (filter here (news_after rules.eq (valid_votes rules (before ++ m ∷ [])) ws))
 
-  counted : (ms before : List (Activity S D C P G)) → All (IsOfOneRound rules.listed) ms →
-      length (filter is_here (messages_with_news rules before ms)) + heft before
-      ≤ news_votes (valid_votes rules before) (valid_votes rules ms) + heft (before ++ ms)
-  counted [] before whole = omega (arith, ap heft (append-nil before))
-  counted (m ∷ ms) before whole =
-      let own = All-head (IsOfOneRound rules.listed) m ms whole in
-      let more = messages_with_news rules (before ++ m ∷ []) ms in
+  certificates_counted : (ms before : List (Activity S D C P G)) →
+      All (IsOfOneRound rules.listed) ms →
+      length (filter is_certificate (messages_kept rules before ms)) + heft before ≤ heft (before ++ ms)
+  certificates_counted [] before whole = omega (arith, ap heft (append-nil before))
+  certificates_counted (m ∷ ms) before whole =
+      let kept = kept_of rules before m in
+      let more = messages_kept rules (before ++ m ∷ []) ms in
       omega (
         arith,
-        one_message before m own,
-        counted ms (before ++ m ∷ []) (All-tail (IsOfOneRound rules.listed) m ms whole),
-        ap length (filter-append is_here (if_news rules before m) more),
-        length-append (filter is_here (if_news rules before m)) (filter is_here more),
-        votes_add_up before m own ms,
+        one_certificate before m (All-head (IsOfOneRound rules.listed) m ms whole),
+        certificates_counted ms (before ++ m ∷ []) (All-tail (IsOfOneRound rules.listed) m ms whole),
+        ap length (filter-append is_certificate kept more),
+        length-append (filter is_certificate kept) (filter is_certificate more),
         ap heft (append_assoc before (m ∷ []) ms),
       )
 
+  plain_counted : (ms before : List (Activity S D C P G)) → All (IsOfOneRound rules.listed) ms →
+      length (filter is_plain (messages_kept rules before ms))
+      ≤ news_votes (valid_votes rules before) (valid_votes rules ms)
+  plain_counted [] before whole = omega arith
+  plain_counted (m ∷ ms) before whole =
+      let own = All-head (IsOfOneRound rules.listed) m ms whole in
+      let kept = kept_of rules before m in
+      let more = messages_kept rules (before ++ m ∷ []) ms in
+      omega (
+        arith,
+        one_plain before m own,
+        plain_counted ms (before ++ m ∷ []) (All-tail (IsOfOneRound rules.listed) m ms whole),
+        ap length (filter-append is_plain kept more),
+        length-append (filter is_plain kept) (filter is_plain more),
+        votes_add_up before m own ms,
+      )
+
   -- the recorded votes of the round are at most five for each participant
-  few_votes : HaveCommittees rules → (messages : List (Activity S D C P G)) →
+  pub few_votes : HaveCommittees rules → (messages : List (Activity S D C P G)) →
       news_votes [] (valid_votes rules messages) ≤ 5 * rules.size round.epoch
   few_votes committees messages =
       let vs = valid_votes rules messages in
@@ -311,12 +404,17 @@ module _ {S D C P G : Type 0} (rules : Rules S D C P G) (l : IsEquivalence rules
       subst (λ (r : Round). v.signer < rules.size r.epoch) (same_round-true (round_of v.subject) round v_here)
       (committees.members v.subject v.signer v.signature v_valid))
 
-pub few_are_news : {S D C P G : Type 0} (rules : Rules S D C P G) → IsEquivalence rules.eq → HaveCommittees rules →
-    (messages : List (Activity S D C P G)) → All (IsOfOneRound rules.listed) messages → FewAreNews rules messages
-few_are_news rules l committees messages whole round =
-    omega (
-      arith,
-      counted rules l round messages [] whole,
-      few_votes rules l round committees messages,
-      weight_at_most rules.eq l round (certified_subjects rules messages),
-    )
+pub few_are_kept : {S D C P G : Type 0} (rules : Rules S D C P G) → IsEquivalence rules.eq → HaveCommittees rules →
+    (messages : List (Activity S D C P G)) → All (IsOfOneRound rules.listed) messages → FewAreKept rules messages
+few_are_kept rules l committees messages whole = record {
+  votes = λ round. omega (
+    arith,
+    plain_counted rules l round messages [] whole,
+    few_votes rules l round committees messages,
+  );
+  certificates = λ round. omega (
+    arith,
+    certificates_counted rules l round messages [] whole,
+    weight_at_most rules.eq l round (certified_subjects rules messages),
+  );
+}

@@ -118,7 +118,7 @@ module _ {S D C P G : Type 0} (rules : Rules S D C P G) (l : IsEquivalence rules
 
 module _ {S D C P G : Type 0} (scheme : Scheme S D C P G) where
   -- the rules by which messages are judged
-  abbrev judges : Schedule S → Rules S D C P G
+  abbrev pub judges : Schedule S → Rules S D C P G
   judges = rules_of scheme
 
   -- what a committee records of the valid ones among votes on a subject
@@ -128,7 +128,7 @@ module _ {S D C P G : Type 0} (scheme : Scheme S D C P G) where
       RecordsMore scheme.eq (length (scheme.keys s)) (scheme.good s) x given news before after
 
   -- the votes on a subject that are valid under a committee are valid under any committees of which it is the epoch's
-  same_valid : (s : S) (x : SubjectValue D) (schedule : Schedule S) → committee_of schedule (round_of x).epoch ≡ Some s →
+  pub same_valid : (s : S) (x : SubjectValue D) (schedule : Schedule S) → committee_of schedule (round_of x).epoch ≡ Some s →
       (given : List (Attestation S P G)) → filter (λ v. scheme.good s v.subject v.signer v.signature) (map (vote_on x) given)
       ≡ filter (is_valid (judges schedule)) (map (vote_on x) given)
   same_valid s x schedule is [] = refl
@@ -170,6 +170,26 @@ module _ {S D C P G : Type 0} (scheme : Scheme S D C P G) where
         ∙ sym (or-false (have_news scheme.eq vs (filter (is_valid (judges schedule)) (vote_on x a ∷ []))));
   }
 
+  -- whether the subject of a certificate is news is told
+  pub subject_told : (s : S) (x : SubjectValue D) (c : C) (certifies : Bool) (old : RoundState S D P G) →
+      certifies ≡ (changes_firsts scheme.eq (firsts_of old.certified) old.certified.split x && scheme.certified s x c) →
+      (schedule : Schedule S) → committee_of schedule (round_of x).epoch ≡ Some s → (xs : List (SubjectValue D)) →
+      RecordsFirsts scheme.eq xs (round_of x) old.certified →
+      certifies ≡ subject_is_news scheme.eq xs (if_certified (judges schedule) (Some (x, c)))
+  subject_told s x c certifies old told schedule is xs firsts =
+      told
+      ∙ ap (λ b. b && scheme.certified s x c) (news_recorded scheme.eq xs (round_of x) old.certified firsts x)
+      ∙ if_certifies (scheme.certified s x c)
+      ∙ ap (λ o. subject_is_news scheme.eq xs (cond (certified_by scheme.certified o x c) (Some x) None)) (sym is)
+    where
+      if_certifies : (b : Bool) →
+          (changes_firsts scheme.eq (first_certified xs (round_of x)) (are_split scheme.eq xs (round_of x)) x && b)
+          ≡ subject_is_news scheme.eq xs (cond b (Some x) None)
+      if_certifies true =
+          and-true (changes_firsts scheme.eq (first_certified xs (round_of x)) (are_split scheme.eq xs (round_of x)) x)
+      if_certifies false =
+          and-false (changes_firsts scheme.eq (first_certified xs (round_of x)) (are_split scheme.eq xs (round_of x)) x)
+
   -- a certificate of a subject, with the votes that it lists
   pub takes_certificate : (s : S) (x : SubjectValue D) (c : C) (given : List (Attestation S P G)) → given ≡ scheme.listed c →
       (news certifies : Bool) (old new : RoundState S D P G) →
@@ -189,20 +209,9 @@ module _ {S D C P G : Type 0} (scheme : Scheme S D C P G) where
             (alone ∙ ap (λ o. option_to_list (cond (certified_by scheme.certified o x c) (Some x) None)) (sym is))
             (subjects xs holds);
         tells = λ schedule is vs xs holds firsts.
-            let subject = told
-            ∙ ap (λ b. b && scheme.certified s x c) (news_recorded scheme.eq xs (round_of x) old.certified firsts x)
-            ∙ if_certifies (scheme.certified s x c) xs x
-            ∙ ap (λ o. subject_is_news scheme.eq xs (cond (certified_by scheme.certified o x c) (Some x) None)) (sym is) in
+            let subject = subject_told s x c certifies old told schedule is xs firsts in
             λ i. told_by s x (scheme.listed c) news old.votes new.votes listed schedule is vs holds i || subject i;
       }
-    where
-      if_certifies : (b : Bool) (xs : List (SubjectValue D)) (y : SubjectValue D) →
-          (changes_firsts scheme.eq (first_certified xs (round_of y)) (are_split scheme.eq xs (round_of y)) y && b)
-          ≡ subject_is_news scheme.eq xs (cond b (Some y) None)
-      if_certifies true xs y =
-          and-true (changes_firsts scheme.eq (first_certified xs (round_of y)) (are_split scheme.eq xs (round_of y)) y)
-      if_certifies false xs y =
-          and-false (changes_firsts scheme.eq (first_certified xs (round_of y)) (are_split scheme.eq xs (round_of y)) y)
 
   module _ (schedule : Schedule S) (messages : List (Activity S D C P G)) (m : Activity S D C P G) where
     -- what is recorded of the message's round, after it
@@ -232,7 +241,7 @@ module _ {S D C P G : Type 0} (scheme : Scheme S D C P G) where
     -- without a committee nothing more is valid or certified
     module _ (here : All (IsHere (activity_round m)) (votes_in scheme.listed m))
         (none : None ≡ committee_of schedule (activity_round m).epoch) where
-      no_vote : filter (is_valid (judges schedule)) (votes_in scheme.listed m) ≡ []
+      pub no_vote : filter (is_valid (judges schedule)) (votes_in scheme.listed m) ≡ []
       no_vote = each (votes_in scheme.listed m) (recursion_from_All _ (votes_in scheme.listed m) here)
         where
           each : (vs : List (SignedVote D G)) → AllByRecursion (IsHere (activity_round m)) vs →
@@ -286,21 +295,18 @@ module _ {S D C P G : Type 0} (scheme : Scheme S D C P G) where
           have_news scheme.eq (valid_votes (judges schedule) messages) (no_vote i)
           || subject_is_news scheme.eq (certified_subjects (judges schedule) messages) (no_subject i)
 
-  -- what is recorded of the message's round, and whether the message is news, where the detector has no state of the round yet
-  pub recalls_first : (schedule : Schedule S) (m : Activity S D C P G) (s : S) →
+  -- an empty state is that of the message's round, where the detector has none
+  pub recalls_fresh : (schedule : Schedule S) (m : Activity S D C P G) (s : S) →
       committee_of schedule (activity_round m).epoch ≡ Some s → IsEquivalence scheme.eq →
-      (rounds : BTreeMap Round (RoundState S D P G)) (news : Bool) (fresh new : RoundState S D P G) →
+      (rounds : BTreeMap Round (RoundState S D P G)) (fresh : RoundState S D P G) →
       None ≡ get round_cmp rounds (activity_round m) → IsSized (length (scheme.keys s)) fresh.votes →
       ((signer : ℕ) (kind : VoteKind) → slots fresh.votes signer kind ≡ no_slot) → round_count fresh.votes ≡ 0 →
-      fresh.certified ≡ nothing_certified → TakesContents judges s scheme.listed (contents_of m) news fresh new →
-      (messages : List (Activity S D C P G)) →
+      fresh.certified ≡ nothing_certified → (messages : List (Activity S D C P G)) →
       Recalls (judges schedule) messages (let detector : Detector S D P G = record { rounds = rounds } in detector) →
-      RecallsRound (judges schedule) (messages ++ m ∷ []) (activity_round m) new
-      × (news ≡ message_is_news (judges schedule) messages m)
-  recalls_first schedule m s is l rounds news fresh new none sized empty no_votes nothing takes messages holds =
+      RecallsRound (judges schedule) messages (activity_round m) fresh
+  recalls_fresh schedule m s is l rounds fresh none sized empty no_votes nothing messages holds =
       let at : RecallsNothing (judges schedule) messages (activity_round m) =
-      subst (RecallsAt (judges schedule) messages (activity_round m)) (sym none) (holds (activity_round m)) in
-      let before : RecallsRound (judges schedule) messages (activity_round m) fresh = record {
+      subst (RecallsAt (judges schedule) messages (activity_round m)) (sym none) (holds (activity_round m)) in record {
         votes = record {
           sized = subst (λ n. IsSized n fresh.votes) (ap (size_by scheme.keys) (sym is)) sized;
           held = λ signer kind. empty signer kind ∙ at.votes signer kind;
@@ -309,10 +315,7 @@ module _ {S D C P G : Type 0} (scheme : Scheme S D C P G) where
         };
         subjects = subst (RecordsFirsts scheme.eq (certified_subjects (judges schedule) messages) (activity_round m))
             (sym nothing) at.subjects;
-      } in (
-        recalls_taken schedule messages m s is news fresh new takes before,
-        news_taken schedule messages m s is news fresh new takes before,
-      )
+      }
 
 -- two votes of one round, one after the other
 pub takes_two : {S D C P G : Type 0} (rules : Schedule S → Rules S D C P G) (s : S) (v w : SignedVote D G) (one two : Bool)

@@ -242,12 +242,12 @@ module _ {S D C P G : Type 0} (rules : Rules S D C P G) (part : Round → Bool) 
     splits_of_others : (splits : List Split) → AreSplits rules messages splits → AreSplits others ks (splits_within part splits)
     splits_of_others splits are = splits_of_part rules others part messages ks same_of_part only_of_part splits are
 
-  split_in_rounds : (round : Round) → part round ≡ true →
+  pub split_in_rounds : (round : Round) → part round ≡ true →
       split_of (in_rounds part rules) messages round ≡ split_of rules messages round
   split_in_rounds = same_of_part (in_rounds part rules) messages refl refl (votes_in_rounds rules part messages)
       (subjects_in_rounds rules part messages)
 
-  split_from_rounds : (round : Round) → is_split (in_rounds part rules) messages round ≡ true → part round ≡ true
+  pub split_from_rounds : (round : Round) → is_split (in_rounds part rules) messages round ≡ true → part round ≡ true
   split_from_rounds = only_of_part (in_rounds part rules) messages refl refl (votes_in_rounds rules part messages)
       (subjects_in_rounds rules part messages)
 
@@ -469,6 +469,13 @@ module _ {S D C P G : Type 0} (rules : Rules S D C P G) (part : Round → Bool) 
         same_split judged judged (messages ++ more) messages round
         (ap (λ xs. are_split rules.eq xs round) (sym same_subjects))
         (ap (λ vs. accused_count rules.eq vs round) (sym same_votes)) refl
+
+    -- so the split of a round of the part stays
+    pub split_of_others : (round : Round) → part round ≡ true →
+        split_of rules (messages ++ more) round ≡ split_of rules messages round
+    split_of_others round at =
+        sym (split_in_rounds rules part (messages ++ more) round at) ∙ sym (same_split_of round)
+        ∙ split_in_rounds rules part messages round at
 
     part_stays : PartStays rules part messages more
     part_stays = record {

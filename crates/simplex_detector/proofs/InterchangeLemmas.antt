@@ -322,7 +322,7 @@ module _ {S D C P G : Type 0} (rules : Rules S D C P G) where
           (recorded_of rules.eq (valid_votes rules ms)) (recorded_of rules.eq (valid_votes rules ns))
           (λ v. same_recorded (spot v))
 
-      same_split_of : (round : Round) → split_of rules ms round ≡ split_of rules ns round
+      pub same_split_of : (round : Round) → split_of rules ms round ≡ split_of rules ns round
       same_split_of round =
           same_split rules rules ns ms round (h.splits round)
           (same_count rules.eq (valid_votes rules ns) (valid_votes rules ms) same_accused_at round) refl

@@ -6,6 +6,7 @@ pub mod RecordedLemmas
 pub mod ReportLemmas
 pub mod CommitteeLemmas
 pub mod AccountLemmas
+pub mod SplitAlertLemmas
 pub mod SplitLemmas
 pub mod DetectorLemmas
 pub mod CountLemmas
@@ -21,3 +22,4 @@ pub mod NewsLemmas
 pub mod StayLemmas
 pub mod BoundLemmas
 pub mod AlertLemmas
+pub mod GatherLemmas

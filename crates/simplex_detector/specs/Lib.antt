@@ -22,5 +22,8 @@ pub mod Independence
 pub mod Interchange
 pub mod News
 pub mod NewsLaws
+pub mod Kept
 pub mod Stays
 pub mod Alerts
+pub mod SplitAlerts
+pub mod Alarm

@@ -7,12 +7,15 @@ ghost use Rattle.simplex_detector.specs.Detector.{RecallsNone, RecallsMore, Tell
 ghost use Rattle.simplex_evidence.specs.declared.types.activity.Activity.{Activity};
 ghost use Rattle.simplex_detector.specs.EncodedEvidence.{IsEncoded, StayEncoded};
 ghost use Rattle.simplex_detector.specs.Independence.{in_rounds, is_from};
+ghost use Rattle.simplex_detector.specs.Kept.{GathersMessage, TellsKept};
 ghost use Rattle.simplex_detector.specs.Rules.{Rules};
 ghost use Rattle.simplex_detector.specs.Values.{evidence_value};
 
+use crate::apart::Apart;
 use crate::evidence::{Evidence, SignerInRound};
 use crate::judge::Judge;
 use crate::judging::{Judging, is_at_least};
+use crate::kept::Kept;
 use crate::round_state::RoundState;
 use crate::rules::Judges;
 use crate::split::Split;
@@ -56,6 +59,50 @@ impl<S: Listing<D>, D: Digest> Detector<S, D> {
         ensures news { IfOk result (λ news. TellsNews
             (⟦<S as Judges<D>>⟧.rules_under judging.now committees.now) message.now self.old news) }
     {
+        let mut apart = Apart::new(alloc, false);
+        self.record(alloc, committees, judging, message, &mut apart)
+    }
+
+    /// Records one message, as `observe` does, and returns what can be kept in its place: of a certificate whose subject is no
+    /// news its votes that are, in the certificate's order, and any other message as a whole, if it is news. No signature is
+    /// verified for that. `AllocError` only if an allocation failed, with no more stated than by `observe`.
+    pub fn observe_apart(
+        &mut self,
+        alloc: Global,
+        committees: &Committees<S>,
+        judging: &Judging,
+        message: &Activity<S, D>,
+    ) -> Result<Kept<S, D>, AllocError>
+        ensures records { OnOk result (RecallsMore
+            (⟦<S as Judges<D>>⟧.rules_under judging.now committees.now)
+            (message.now ∷ []) self.old self.new) }
+        ensures kept { IfOk result (λ news. TellsKept
+            (⟦<S as Judges<D>>⟧.rules_under judging.now committees.now) message.now self.old news) }
+    {
+        let mut apart = Apart::new(alloc, true);
+        let is_news = self.record(alloc, committees, judging, message, &mut apart)?;
+        Ok(apart.news(is_news))
+    }
+
+    /// Records one message, returns whether it is news, and gathers its votes that are, if they are wanted and the message is a
+    /// certificate whose subject is no news.
+    fn record(
+        &mut self,
+        alloc: Global,
+        committees: &Committees<S>,
+        judging: &Judging,
+        message: &Activity<S, D>,
+        apart: &mut Apart<S, D>,
+    ) -> Result<bool, AllocError>
+        ensures records { OnOk result (RecallsMore
+            (⟦<S as Judges<D>>⟧.rules_under judging.now committees.now)
+            (message.now ∷ []) self.old self.new) }
+        ensures news { IfOk result (λ news. TellsNews
+            (⟦<S as Judges<D>>⟧.rules_under judging.now committees.now) message.now self.old news) }
+        ensures gathers { OnOk result (GathersMessage
+            (⟦<S as Judges<D>>⟧.rules_under judging.now committees.now) message.now self.old
+            apart.old apart.new) }
+    {
         let contents = message.contents();
         let round = contents.round();
         let Some(committee) = committees.get(round.epoch()) else {
@@ -63,10 +110,10 @@ impl<S: Listing<D>, D: Digest> Detector<S, D> {
         };
         let judge = Judge { committee, judging };
         if let Some(round_state) = self.rounds.get_mut(&round) {
-            return round_state.observe(&judge, &contents);
+            return round_state.observe(&judge, &contents, apart);
         }
         let mut round_state = RoundState::new(alloc, committee.participants().len());
-        let news = round_state.observe(&judge, &contents)?;
+        let news = round_state.observe(&judge, &contents, apart)?;
         if !round_state.is_empty() {
             self.rounds.insert(round, round_state)?;
         }

@@ -2,7 +2,7 @@
 //! what the clauses state.
 
 ghost use Rattle.std.specs.Cmp.{IsEquivalence};
-ghost use Rattle.std.specs.Prelude.{◌≡◌, ◌≤◌, ◌↔◌, ℕ, Bool, List, Some, All, Contains, length, map, IsTrue};
+ghost use Rattle.std.specs.Prelude.{◌≡◌, ◌≤◌, ◌*◌, ◌↔◌, ℕ, Bool, List, Some, All, Contains, length, map, IsTrue};
 ghost use Rattle.std.specs.List.{flat_map};
 ghost use Rattle.simplex_base.specs.Positions.{Round};
 ghost use Rattle.simplex_base.specs.Format.{format_of};
@@ -16,12 +16,13 @@ ghost use Rattle.simplex_scheme.specs.Committees.{Schedule, committee_of};
 ghost use Rattle.simplex_detector.specs.declared.judging.Judging.{Judging};
 ghost use Rattle.simplex_detector.specs.declared.judging.Judging.TheVariants.{Claimed, From};
 ghost use Rattle.simplex_detector.specs.Evidence.{IsEvidence, IsEquivocation};
-ghost use Rattle.simplex_detector.specs.Independence.{FloorParts, FloorsRise, IsOfOneRound, OthersStay, PartsAddUp, RoundsAreIndependent, in_rounds, is_from};
+ghost use Rattle.simplex_detector.specs.Independence.{FloorParts, FloorsRise, IsOfOneRound, OthersStay, PartsAddUp, RoundsAreIndependent, in_rounds, is_from, splits_within};
 ghost use Rattle.simplex_detector.specs.Interchange.{AreInterchangeable, HaveSameState, SameStateAmong, SameStateJoined};
-ghost use Rattle.simplex_detector.specs.News.{CompactsNext, FewAreNews, IsCompaction, LogsCompact, NewsChangesState, VotesCanStandAlone};
-ghost use Rattle.simplex_detector.specs.Recorded.{RecordedAreSlots, FewAreRecorded, votes_recorded};
+ghost use Rattle.simplex_detector.specs.News.{CompactsNext, FewAreKept, IsCompaction, LogsCompact, NewsChangesState, VotesCanStandAlone};
+ghost use Rattle.simplex_detector.specs.Recorded.{RecordedAreSlots, FewAreRecorded, recorded_in, votes_recorded};
 ghost use Rattle.simplex_detector.specs.Laws.{EvidenceIsUnique, AccusesExactly, ReorderingAccusesSame, AccusedStay, IsEvidenceAgain};
 ghost use Rattle.simplex_detector.specs.Rules.{Rules, AreLawful, HaveCommittees, valid_votes};
+ghost use Rattle.simplex_detector.specs.SplitAlerts.{splits_arising};
 ghost use Rattle.simplex_detector.specs.Splits.{AreSplits};
 ghost use Rattle.simplex_detector.specs.Agreement.{SuspectsDecide};
 ghost use Rattle.simplex_detector.specs.Stays.{EvidenceStays};
@@ -107,6 +108,11 @@ pub fn splits_are_determined<S: CertificateScheme, D: Digest>()
 pub fn few_votes_are_recorded<S: CertificateScheme, D: Digest>()
     ensures slots { (vs : List (SignedVote D S.Signature)) → RecordedAreSlots D.eq vs }
     ensures few { (vs : List (SignedVote D S.Signature)) → FewAreRecorded D.eq vs }
+    // So of a round at most five for each participant are.
+    ensures round { (rules : Rules S D S.Certificate S.PublicKey S.Signature)
+        (messages : List (Activity S D S.Certificate S.PublicKey S.Signature)) →
+        IsEquivalence rules.eq → HaveCommittees rules → (round : Round) →
+        recorded_in rules.eq (valid_votes rules messages) round ≤ 5 * rules.size round.epoch }
 {}
 
 /// No more votes of messages are recorded than their encodings have bytes, if no certificate lists more attestations
@@ -188,6 +194,11 @@ pub fn rounds_are_independent<S: CertificateScheme, D: Digest>()
         AreLawful rules → AreLawful (in_rounds part rules) }
     ensures committees { (rules : Rules S D S.Certificate S.PublicKey S.Signature)
         (part : Round → Bool) → HaveCommittees rules → HaveCommittees (in_rounds part rules) }
+    // The splits that arise in a part of the rounds are those that arise in all rounds and are of the part.
+    ensures arising { (rules : Rules S D S.Certificate S.PublicKey S.Signature) (part : Round → Bool)
+        (before messages : List (Activity S D S.Certificate S.PublicKey S.Signature)) →
+        splits_arising (in_rounds part rules) before messages ≡
+        splits_within part (splits_arising rules before messages) }
     // The votes of a message are of one round, as two votes that contradict are.
     ensures whole { (rules : Rules S D S.Certificate S.PublicKey S.Signature)
         (message : Activity S D S.Certificate S.PublicKey S.Signature) →
@@ -216,8 +227,9 @@ pub fn same_state_suffices<S: CertificateScheme, D: Digest>()
         AreInterchangeable rules messages others }
 {}
 
-/// Messages that change nothing when they come can go: those that are left, the compaction, can stand for all, and compacting
-/// them again changes nothing. Of a round with n participants at most 5n + 3 are left, however many came, and each of several
+/// What changes nothing when it comes can go: messages, and of a certificate whose subject is no news all but its votes that
+/// are news. What is left, the compaction, can stand for all messages, and compacting it again changes nothing. Of a round with
+/// n participants at most 5n messages without a certificate and 3 certificates are left, however many came, and each of several
 /// logs can be compacted before they are joined.
 pub fn news_suffices<S: CertificateScheme, D: Digest>()
     ensures changes { (rules : Rules S D S.Certificate S.PublicKey S.Signature) →
@@ -232,7 +244,7 @@ pub fn news_suffices<S: CertificateScheme, D: Digest>()
     ensures few { (rules : Rules S D S.Certificate S.PublicKey S.Signature)
         (messages : List (Activity S D S.Certificate S.PublicKey S.Signature)) →
         IsEquivalence rules.eq → HaveCommittees rules →
-        All (IsOfOneRound rules.listed) messages → FewAreNews rules messages }
+        All (IsOfOneRound rules.listed) messages → FewAreKept rules messages }
     ensures logs { (rules : Rules S D S.Certificate S.PublicKey S.Signature)
         (logs : List (List (Activity S D S.Certificate S.PublicKey S.Signature))) →
         IsEquivalence rules.eq → LogsCompact rules logs }

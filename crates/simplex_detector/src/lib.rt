@@ -7,7 +7,9 @@
 //! contracts the rules by which messages are judged.
 #![tactic(auto)]
 
+pub mod alarm;
 pub mod alerts;
+mod apart;
 mod boxed_map;
 mod certified_subjects;
 mod derived;
@@ -15,9 +17,11 @@ pub mod detector;
 pub mod evidence;
 pub mod judge;
 pub mod judging;
+pub mod kept;
 pub mod laws;
 mod round_state;
 mod round_votes;
 pub mod rules;
 pub mod split;
+pub mod split_alerts;
 mod vote_pairs;

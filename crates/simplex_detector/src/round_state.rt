@@ -1,15 +1,17 @@
 //! The state of one round: its votes and its certified subjects.
 
-ghost use Rattle.std.specs.Prelude.{◌≡◌, ◌↔◌, [], ◌∷◌, None, Some, ℕ, map, IfOk, IsTrue, if◌then◌else◌};
+ghost use Rattle.std.specs.Prelude.{◌≡◌, ◌↔◌, [], ◌∷◌, None, Some, ℕ, map, IfOk, OnOk, IsTrue, if◌then◌else◌};
 ghost use Rattle.std.specs.Option.{is_some};
 ghost use Rattle.simplex_scheme.specs.declared.kind.VoteKind as kinds;
 ghost use Rattle.simplex_scheme.specs.Subject.{subject_value, round_of};
 ghost use Rattle.simplex_votes.specs.Votes.{vote_on};
-ghost use Rattle.simplex_evidence.specs.Contents.{AreInConflict, contents_value, signed_value};
+ghost use Rattle.simplex_evidence.specs.Contents.{AreInConflict, OneCertificate, contents_value, signed_value};
 ghost use Rattle.simplex_detector.specs.Rounds.{round_count, IsSized, slots, no_slot};
 ghost use Rattle.simplex_detector.specs.FirstCertified.{firsts_of, nothing_certified};
 ghost use Rattle.simplex_detector.specs.Detector.{TakesIn, TakesContents, GivesSplit};
+ghost use Rattle.simplex_detector.specs.Kept.{GathersContents};
 
+use crate::apart::Apart;
 use crate::certified_subjects::CertifiedSubjects;
 use crate::judge::{Judge, Signatures};
 use crate::round_votes::{RoundVotes, either};
@@ -70,21 +72,26 @@ impl<S: SchemeTypes, D: Digest> RoundState<S, D> {
 }
 
 impl<S: Listing<D>, D: Digest> RoundState<S, D> {
-    /// Takes in what a message of the round holds, judged by the committee of its epoch, and returns whether it is news.
+    /// Takes in what a message of the round holds, judged by the committee of its epoch, and returns whether it is news. The
+    /// votes of a certificate whose subject is no news are gathered, if they are wanted and news.
     pub fn observe(
         &mut self,
         judge: &Judge<'_, S>,
         contents: &Contents<'_, S, D>,
+        apart: &mut Apart<S, D>,
     ) -> Result<bool, AllocError>
-        ensures { AreInConflict D.eq (contents_value contents.now) → IfOk result (λ news.
+        ensures takes { AreInConflict D.eq (contents_value contents.now) → IfOk result (λ news.
             TakesContents (⟦<S as Judges<D>>⟧.rules_under judge.now.judging.now)
             judge.now.committee.now S.listed (contents_value contents.now) news
             self.old self.new) }
+        ensures gathers { OnOk result (GathersContents
+            (⟦<S as Judges<D>>⟧.rules_under judge.now.judging.now)
+            judge.now.committee.now (contents_value contents.now) self.old apart.old apart.new) }
     {
         match contents {
             Contents::Vote(vote) => self.observe_vote(judge, vote),
             Contents::Certificate(subject, certificate) => {
-                self.observe_certificate(judge, subject, certificate)
+                self.observe_certificate(judge, subject, certificate, apart)
             }
             Contents::Evidence(first, second) => {
                 let one = self.observe_vote(judge, first)?;
@@ -118,18 +125,23 @@ impl<S: Listing<D>, D: Digest> RoundState<S, D> {
         judge: &Judge<'_, S>,
         subject: &Subject<'_, D>,
         certificate: &S::Certificate,
+        apart: &mut Apart<S, D>,
     ) -> Result<bool, AllocError>
-        ensures { IfOk result (λ news. TakesIn
+        ensures takes { IfOk result (λ news. TakesIn
             (⟦<S as Judges<D>>⟧.rules_under judge.now.judging.now) judge.now.committee.now
             (round_of (subject_value subject.now))
             (map (vote_on (subject_value subject.now)) (S.listed certificate.now))
             (Some (subject_value subject.now, certificate.now)) news self.old self.new) }
+        ensures gathers { OnOk result (GathersContents
+            (⟦<S as Judges<D>>⟧.rules_under judge.now.judging.now)
+            judge.now.committee.now (OneCertificate (subject_value subject.now) certificate.now)
+            self.old apart.old apart.new) }
     {
         let signatures = self.certified.observe(judge, subject, certificate);
         let attestations = S::attestations(certificate);
         let news = self
             .votes
-            .observe_all(judge, subject, attestations, signatures)?;
+            .observe_all(judge, subject, attestations, signatures, apart)?;
         Ok(either(news, signatures.are_known()))
     }
 

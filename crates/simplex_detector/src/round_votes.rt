@@ -10,11 +10,13 @@ ghost use Rattle.simplex_scheme.specs.Subject.{subject_value, round_of};
 ghost use Rattle.simplex_votes.specs.Votes.{vote_on};
 ghost use Rattle.simplex_evidence.specs.Contradiction.{Conflicting_notarize, Conflicting_finalize, Nullify_finalize};
 ghost use Rattle.simplex_detector.specs.EncodedEvidence.{StayEncoded};
-ghost use Rattle.simplex_detector.specs.Judging.{valid_under};
+ghost use Rattle.simplex_detector.specs.Judging.{are_known, valid_under};
+ghost use Rattle.simplex_detector.specs.Kept.{GathersVotes};
 ghost use Rattle.simplex_detector.specs.Recorded.{changes};
 ghost use Rattle.simplex_detector.specs.Rounds.{round_count, slots, no_slot, IsSized, TakesVote, RecordsVotes, found_of_kind, found_at, accuses, ListsSigners};
 ghost use Rattle.simplex_detector.specs.Values.{evidence_value};
 
+use crate::apart::Apart;
 use crate::boxed_map::BoxedMap;
 use crate::evidence::Evidence;
 use crate::judge::{Judge, Signatures};
@@ -147,29 +149,37 @@ impl<S: SchemeTypes, D: Digest> RoundVotes<S, D> {
         Ok(true)
     }
 
-    /// Records, of some votes on one subject, each that is valid and news, as `observe` does, and returns whether one is.
-    /// `signatures` is of all of them.
+    /// Records, of some votes on one subject, each that is valid and news, as `observe` does, and returns whether one is. Those
+    /// that are recorded are gathered, if they are wanted. `signatures` is of all of them.
     pub fn observe_all(
         &mut self,
         judge: &Judge<'_, S>,
         subject: &Subject<'_, D>,
         attestations: &[Attestation<S>],
         signatures: Signatures,
+        apart: &mut Apart<S, D>,
     ) -> Result<bool, AllocError>
     where
         S: Scheme<D>,
         requires { signatures ≡ Signatures.Verified → All (λ a. S.good judge.now.committee.now
             (subject_value subject.now) a.signer a.signature ≡ true) attestations.now }
-        ensures { IfOk result (λ news.
+        ensures records { IfOk result (λ news.
             RecordsVotes D.eq (length (S.keys judge.now.committee.now))
             (round_of (subject_value subject.now))
             (filter (λ v. valid_under S.keys S.good judge.now.judging.now
             judge.now.committee.now v.subject v.signer v.signature)
             (map (vote_on (subject_value subject.now)) attestations.now)) news self.old self.new) }
+        ensures gathers { OnOk result (GathersVotes D.eq (length (S.keys judge.now.committee.now))
+            (round_of (subject_value subject.now))
+            (filter (λ v. valid_under S.keys S.good judge.now.judging.now
+            judge.now.committee.now v.subject v.signer v.signature)
+            (map (vote_on (subject_value subject.now)) attestations.now)) (are_known signatures)
+            self.old apart.old apart.new) }
     {
         let mut news = false;
         'listed: for attestation in attestations {
             let recorded = self.observe(judge, subject, attestation, signatures)?;
+            apart.add_if(recorded, signatures, subject, attestation)?;
             news = either(news, recorded);
         }
         Ok(news)

@@ -1,4 +1,5 @@
 use Rattle.simplex_detector.proofs.RecordedLemmas.{recorded_are_slots, few_are_recorded}
+use Rattle.simplex_detector.proofs.BoundLemmas.{few_votes}
 use Rattle.simplex_detector.proofs.laws.few_votes_are_recorded.Goals as goal
 
 pub returns-clause-slots : goal.returns-clause-slots
@@ -6,3 +7,6 @@ returns-clause-slots g c vs = recorded_are_slots g.D.PartialEq.eq g.met.D.Eq.law
 
 pub returns-clause-few : goal.returns-clause-few
 returns-clause-few g c vs = few_are_recorded g.D.PartialEq.eq g.met.D.Eq.laws vs
+
+pub returns-clause-round : goal.returns-clause-round
+returns-clause-round g c rules messages l committees round = few_votes rules l round committees messages

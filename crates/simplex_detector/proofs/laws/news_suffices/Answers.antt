@@ -1,6 +1,6 @@
 use Rattle.simplex_detector.proofs.Prelude.{[]}
-use Rattle.simplex_detector.specs.NewsLaws.{news_next}
-use Rattle.simplex_detector.proofs.BoundLemmas.{few_are_news}
+use Rattle.simplex_detector.specs.NewsLaws.{kept_next}
+use Rattle.simplex_detector.proofs.BoundLemmas.{few_are_kept}
 use Rattle.simplex_detector.proofs.NewsLemmas.{is_compaction, logs_are_compact, news_changes_state}
 use Rattle.simplex_detector.proofs.laws.news_suffices.Goals as goal
 
@@ -11,10 +11,10 @@ pub returns-clause-compaction : goal.returns-clause-compaction
 returns-clause-compaction g c rules messages l = is_compaction rules l messages
 
 pub returns-clause-next : goal.returns-clause-next
-returns-clause-next g c rules messages message = news_next rules [] messages message
+returns-clause-next g c rules messages message = kept_next rules [] messages message
 
 pub returns-clause-few : goal.returns-clause-few
-returns-clause-few g c rules messages l committees whole = few_are_news rules l committees messages whole
+returns-clause-few g c rules messages l committees whole = few_are_kept rules l committees messages whole
 
 pub returns-clause-logs : goal.returns-clause-logs
 returns-clause-logs g c rules logs l = logs_are_compact rules l logs

@@ -1,6 +1,7 @@
 use Rattle.simplex_detector.proofs.IndependenceLemmas.{committees_in_rounds, floor_parts, independent, lawful_in_rounds, others_stay, parts_add_up}
 use Rattle.simplex_evidence.specs.Activity.{contents_of}
 use Rattle.simplex_detector.proofs.DetectorLemmas.{votes_here}
+use Rattle.simplex_detector.proofs.SplitAlertLemmas.{arising_part}
 use Rattle.simplex_detector.proofs.laws.rounds_are_independent.Goals as goal
 
 pub returns-clause-part : goal.returns-clause-part
@@ -20,6 +21,9 @@ returns-clause-lawful g c rules part l = lawful_in_rounds rules part l
 
 pub returns-clause-committees : goal.returns-clause-committees
 returns-clause-committees g c rules part l = committees_in_rounds rules part l
+
+pub returns-clause-arising : goal.returns-clause-arising
+returns-clause-arising g c rules part before messages = arising_part rules part before messages
 
 pub returns-clause-whole : goal.returns-clause-whole
 returns-clause-whole g c rules message conflict = votes_here rules.eq rules.listed (contents_of message) conflict

@@ -1,9 +1,13 @@
 use Rattle.simplex_detector.proofs.Prelude.{append-nil, refl, subject_value, subst, sym, take_all, take_more, true, valid_under, ◌≡◌}
+use Rattle.simplex_detector.proofs.GatherLemmas.{gathers_nothing, gathers_one_more}
 use Rattle.simplex_detector.proofs.RecordedLemmas.{records_one_more}
 use Rattle.simplex_detector.proofs.round_votes.RoundVotes.observe_all.Goals as goal
 
 pub listed-init : goal.listed-init
-listed-init g c = record { held = λ vs holds. rw (append-nil vs) holds; tells = λ vs holds. refl }
+listed-init g c = (
+  record { held = λ vs holds. rw (append-nil vs) holds; tells = λ vs holds. refl },
+  record { wanted = refl; gathered = λ vs holds. gathers_nothing c.args.apart.now.votes.items _ },
+)
 
 -- the signature of each is known to be valid where all are
 pub observe-requires : goal.observe-requires
@@ -14,14 +18,22 @@ observe-requires g c = λ known.
 
 pub listed-preserved : goal.listed-preserved
 listed-preserved g c =
+    let good = valid_under g.S.CertificateScheme.keys g.S.Scheme.good c.args.judge.now.judging.now
+    c.args.judge.now.committee.now in
     rw (
       c.either-news.ensures,
       take_more c.args.attestations.now c.listed.attestation-index c.attestation-item.result c.listed-test.true,
       sym c.attestation-item.is,
+    ) (
+      records_one_more g.D.PartialEq.eq _ good (subject_value c.args.subject.now) _ c.attestation-item.result c.listed.news _
+          c.args.self.now c.listed.self c.observe.new.self c.listed.invariant.0 c.in_ok-recorded.ensures,
+      gathers_one_more g.D.PartialEq.eq _ good (subject_value c.args.subject.now) _ c.attestation-item.result _ c.listed.news _
+          c.args.self.now c.listed.self c.observe.new.self c.args.apart.now c.listed.apart c.add_if.new.self
+          c.listed.invariant.0 c.in_ok-recorded.ensures c.listed.invariant.1 c.in_ok-add_if.ensures.wanted
+          c.in_ok-add_if.ensures.votes,
     )
-    (records_one_more g.D.PartialEq.eq _ (valid_under g.S.CertificateScheme.keys g.S.Scheme.good c.args.judge.now.judging.now
-    c.args.judge.now.committee.now) (subject_value c.args.subject.now) _ c.attestation-item.result c.listed.news _
-    c.args.self.now c.listed.self c.observe.new.self c.listed.invariant c.in_ok-recorded.ensures)
 
 pub returns : goal.returns
-returns g c = rw (take_all c.listed.attestation-index c.args.attestations.now c.listed-test.false) at c.listed.invariant
+returns g c =
+    let all = rw (take_all c.listed.attestation-index c.args.attestations.now c.listed-test.false) at c.listed.invariant in
+    record { records = all.0; gathers = all.1 }

@@ -1,9 +1,10 @@
-use Rattle.simplex_detector.proofs.Prelude.{IfOk-weaker, IsSized, IsSome, Judging, RecallsAt, Round, Some, [], activity_round, ap, committee_of, cond, get, is_key, length, refl, round_cmp, subst, sym, ◌++◌, ◌∙◌, ◌∷◌, ◌≡◌, Scheme, scheme_of, scheme_under, rules_of}
+use Rattle.simplex_detector.proofs.Prelude.{IfOk-weaker, on_ok_weaker, IsSized, IsSome, Judging, RecallsAt, Round, Some, [], activity_round, ap, committee_of, cond, get, is_key, length, refl, round_cmp, subst, sym, ◌++◌, ◌∙◌, ◌∷◌, ◌≡◌, Scheme, scheme_of, scheme_under, rules_of}
 use Rattle.simplex_evidence.specs.Activity.{contents_of}
 use Rattle.simplex_evidence.specs.Contents.{contents_round}
-use Rattle.simplex_detector.proofs.DetectorLemmas.{news_taken, no_news_no_committee, votes_here, recalls_changed, recalls_still_none, recalls_first, recalls_taken, recalls_no_committee}
-use Rattle.simplex_detector.proofs.detector.Detector.observe.Given as given
-use Rattle.simplex_detector.proofs.detector.Detector.observe.Goals as goal
+use Rattle.simplex_detector.proofs.DetectorLemmas.{news_taken, no_news_no_committee, votes_here, recalls_changed, recalls_still_none, recalls_fresh, recalls_taken, recalls_no_committee}
+use Rattle.simplex_detector.proofs.GatherLemmas.{gathered_taken, none_gathered}
+use Rattle.simplex_detector.proofs.detector.Detector.record.Given as given
+use Rattle.simplex_detector.proofs.detector.Detector.record.Goals as goal
 
 abbrev scheme : (g : given.Over) → Judging →
     Scheme g.row.S.Denot g.row.D.Denot g.row.S-Certificate.Denot g.row.S-PublicKey.Denot g.row.S-Signature.Denot
@@ -23,6 +24,8 @@ returns-in_default g c =
           c.args.message.now here none round (get round_cmp c.args.self.now.rounds round) (holds round);
       news = λ messages holds. sym (no_news_no_committee (scheme g c.args.judging.now) c.args.committees.now messages
           c.args.message.now here none);
+      gathers = λ messages holds. none_gathered (scheme g c.args.judging.now) c.args.committees.now messages
+          c.args.message.now here none c.args.apart.now;
     }
 
 -- something was recorded of its round
@@ -35,7 +38,7 @@ returns-in-Some-get_mut g c =
     let found = c.in-Some-get_mut.ensures.value in
     let after = c.observe.new.self in
     let updates = c.get_mut.follows.holds after in
-    let takes = (rw c.contents-contents.ensures.value at c.observe.ensures) c.contents-contents.ensures.conflict in
+    let takes = (rw c.contents-contents.ensures.value at c.observe.ensures.takes) c.contents-contents.ensures.conflict in
     record {
       records = IfOk-weaker c.observe.result _ _ (λ news taken messages holds.
           let before = subst (RecallsAt all messages (activity_round m))
@@ -50,6 +53,12 @@ returns-in-Some-get_mut g c =
           (sym (found ∙ ap (get round_cmp c.args.self.now.rounds) at)) (holds (activity_round m)) in
           news_taken (scheme g c.args.judging.now) c.args.committees.now messages m c.in-Some.committee.now judge
           news c.in-Some-get_mut.round_state.now after taken before) takes;
+      gathers = on_ok_weaker c.observe.result (λ gathers messages holds.
+          let before = subst (RecallsAt all messages (activity_round m))
+          (sym (found ∙ ap (get round_cmp c.args.self.now.rounds) at)) (holds (activity_round m)) in
+          gathered_taken (scheme g c.args.judging.now) c.args.committees.now messages m c.in-Some.committee.now judge
+          c.in-Some-get_mut.round_state.now c.args.apart.now c.observe.new.apart gathers before)
+          (rw c.contents-contents.ensures.value at c.observe.ensures.gathers);
     }
 
 -- nothing was recorded of its round
@@ -63,20 +72,24 @@ returns-in_ok-insert g c =
     let sized = subst (λ n. IsSized n c.new-round_state.result.votes) (c.len.ensures ∙ ap length c.participants.ensures.keys)
     c.new-round_state.ensures.sized in
     let after = c.observe-2.new.self in
-    let first =
-    recalls_first (scheme g c.args.judging.now) c.args.committees.now m c.in-Some.committee.now judge g.met.D.Eq.laws
-    c.args.self.now.rounds c.in_ok-news.news c.new-round_state.result after
-    (none ∙ ap (get round_cmp c.args.self.now.rounds) at) sized c.new-round_state.ensures.empty c.new-round_state.ensures.none
-    c.new-round_state.ensures.certified
-    ((rw c.contents-contents.ensures.value at c.in_ok-news.ensures) c.contents-contents.ensures.conflict) in
+    let fresh = recalls_fresh (scheme g c.args.judging.now) c.args.committees.now m c.in-Some.committee.now judge
+    g.met.D.Eq.laws c.args.self.now.rounds c.new-round_state.result (none ∙ ap (get round_cmp c.args.self.now.rounds) at) sized
+    c.new-round_state.ensures.empty c.new-round_state.ensures.none c.new-round_state.ensures.certified in
+    let takes = (rw c.contents-contents.ensures.value at c.in_ok-news.ensures.takes) c.contents-contents.ensures.conflict in
+    let gathers = rw c.contents-contents.ensures.value at c.in_ok-news.ensures.gathers in
     record {
       records = λ messages holds. recalls_changed all g.met.D.Eq.laws messages m
           (votes_here g.D.PartialEq.eq g.S.Listing.listed (contents_of c.args.message.now) c.contents-contents.ensures.conflict)
           c.round-round.result at (Some after) c.args.self.now.rounds c.insert.new.self
           (subst (λ rounds. (q : Round) → get round_cmp c.insert.new.self q ≡ cond (is_key (round_cmp c.round-round.result) q)
           (Some after) (get round_cmp rounds q)) c.get_mut.follows.holds-at-none c.in_ok-insert.ensures.updates.0)
-          (first messages holds).0 holds;
-      news = λ messages holds. (first messages holds).1;
+          (recalls_taken (scheme g c.args.judging.now) c.args.committees.now messages m c.in-Some.committee.now judge
+          c.in_ok-news.news c.new-round_state.result after takes (fresh messages holds)) holds;
+      news = λ messages holds. news_taken (scheme g c.args.judging.now) c.args.committees.now messages m
+          c.in-Some.committee.now judge c.in_ok-news.news c.new-round_state.result after takes (fresh messages holds);
+      gathers = λ messages holds. gathered_taken (scheme g c.args.judging.now) c.args.committees.now messages m
+          c.in-Some.committee.now judge c.new-round_state.result c.args.apart.now c.observe-2.new.apart gathers
+          (fresh messages holds);
     }
 
 -- nothing is recorded of its round now either
@@ -91,12 +104,11 @@ returns-else-not-is_empty g c =
     c.new-round_state.ensures.sized in
     let after = c.observe-2.new.self in
     let empty = c.if-not-is_empty.false in
-    let first =
-    recalls_first (scheme g c.args.judging.now) c.args.committees.now m c.in-Some.committee.now judge g.met.D.Eq.laws
-    c.args.self.now.rounds c.in_ok-news.news c.new-round_state.result after
-    (none ∙ ap (get round_cmp c.args.self.now.rounds) at) sized c.new-round_state.ensures.empty c.new-round_state.ensures.none
-    c.new-round_state.ensures.certified
-    ((rw c.contents-contents.ensures.value at c.in_ok-news.ensures) c.contents-contents.ensures.conflict) in
+    let fresh = recalls_fresh (scheme g c.args.judging.now) c.args.committees.now m c.in-Some.committee.now judge
+    g.met.D.Eq.laws c.args.self.now.rounds c.new-round_state.result (none ∙ ap (get round_cmp c.args.self.now.rounds) at) sized
+    c.new-round_state.ensures.empty c.new-round_state.ensures.none c.new-round_state.ensures.certified in
+    let takes = (rw c.contents-contents.ensures.value at c.in_ok-news.ensures.takes) c.contents-contents.ensures.conflict in
+    let gathers = rw c.contents-contents.ensures.value at c.in_ok-news.ensures.gathers in
     record {
       records = λ messages holds.
           subst (λ rounds. (round : Round) → RecallsAt all (messages ++ m ∷ []) round (get round_cmp rounds round))
@@ -104,6 +116,11 @@ returns-else-not-is_empty g c =
           (recalls_still_none all g.met.D.Eq.laws messages m (votes_here g.D.PartialEq.eq g.S.Listing.listed
           (contents_of c.args.message.now) c.contents-contents.ensures.conflict) c.round-round.result at after
           c.args.self.now.rounds (sym none) (c.is_empty.ensures.votes empty) (c.is_empty.ensures.certified empty)
-          (first messages holds).0 holds);
-      news = λ messages holds. (first messages holds).1;
+          (recalls_taken (scheme g c.args.judging.now) c.args.committees.now messages m c.in-Some.committee.now judge
+          c.in_ok-news.news c.new-round_state.result after takes (fresh messages holds)) holds);
+      news = λ messages holds. news_taken (scheme g c.args.judging.now) c.args.committees.now messages m
+          c.in-Some.committee.now judge c.in_ok-news.news c.new-round_state.result after takes (fresh messages holds);
+      gathers = λ messages holds. gathered_taken (scheme g c.args.judging.now) c.args.committees.now messages m
+          c.in-Some.committee.now judge c.new-round_state.result c.args.apart.now c.observe-2.new.apart gathers
+          (fresh messages holds);
     }

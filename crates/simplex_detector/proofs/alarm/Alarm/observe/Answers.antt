@@ -1,0 +1,28 @@
+use Rattle.simplex_detector.proofs.Prelude.{rules_under, scheme_of, sym, ◌∙◌}
+use Rattle.simplex_detector.proofs.SplitAlertLemmas.{splits_same}
+use Rattle.simplex_detector.proofs.alarm.Alarm.observe.Goals as goal
+
+-- the message is no news
+pub returns-then-not-branch : goal.returns-then-not-branch
+returns-then-not-branch g c =
+    let scheme = scheme_of g.D.PartialEq.eq g.S.CertificateScheme.keys g.S.Scheme.good g.S.CertificateVerifier.certified
+    g.S.Listing.listed in
+    let old = c.if-not-branch.true in
+    record {
+      records = c.in_ok-observe.ensures.records;
+      news = λ messages holds. sym old ∙ c.in_ok-observe.ensures.news messages holds;
+      sounds = λ messages told l holds sounds. record {
+        evidence = c.in_ok-observe.ensures.tells messages told.evidence holds sounds.evidence;
+        splits = splits_same (rules_under scheme c.args.judging.now c.args.committees.now) messages c.args.message.now
+            g.met.D.Eq.laws (sym (c.in_ok-observe.ensures.news messages holds) ∙ old) told.splits c.args.self.now.splits
+            sounds.splits;
+      };
+    }
+
+-- it is news
+pub returns-clause-sounds : goal.returns-clause-sounds
+returns-clause-sounds g c messages told l holds sounds = record {
+  evidence = c.in_ok-observe.ensures.tells messages told.evidence holds sounds.evidence;
+  splits = c.in_ok-note.ensures c.args.judging.now messages told.splits l
+      (c.in_ok-observe.ensures.records messages holds) sounds.splits;
+}

@@ -1,0 +1,15 @@
+//! What is kept of a message when it comes.
+
+use simplex_evidence::types::Activity;
+use simplex_scheme::scheme::{CertificateScheme, Digest};
+
+/// What is kept of a message, since it is news. It can stand for the message.
+#[derive(Drop)]
+pub enum Kept<S: CertificateScheme, D: Digest> {
+    /// Nothing.
+    Nothing,
+    /// The whole message.
+    Whole,
+    /// Of a certificate whose subject is no news, its votes that are, each as a message of its own.
+    Votes(Vec<Activity<S, D>>),
+}
