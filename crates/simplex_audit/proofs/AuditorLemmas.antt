@@ -1,7 +1,7 @@
 -- What an auditor stands for from piece to piece.
-use Rattle.std.proofs.Common.{Bool, ◌≡◌, ℕ, ◌+◌, List, [], ◌++◌, length, Option, sym, ap, subst, ◌∙◌}
+use Rattle.std.proofs.Common.{Bool, false, IsTrue, ◌≡◌, ◌⊎◌, inl, inr, ℕ, ◌+◌, List, [], ◌++◌, length, Option, refl, sym, ap, subst, ◌∙◌, append_assoc, append-nil}
 use Rattle.std.specs.Prelude.{All}
-use Rattle.simplex_base.specs.Format.{Format}
+use Rattle.simplex_base.specs.Format.{Format, IsLawful}
 use Rattle.simplex_base.specs.Positions.{Round}
 use Rattle.simplex_base.specs.declared.codec.error.Error.{Error}
 use Rattle.simplex_evidence.specs.declared.types.activity.Activity.{Activity}
@@ -11,10 +11,10 @@ use Rattle.simplex_detector.specs.Rules.{AreLawful, Rules, HaveCommittees}
 use Rattle.simplex_detector.specs.Detector.{Recalls, RecallsMore}
 use Rattle.simplex_detector.specs.declared.detector.Detector.{Detector}
 use Rattle.simplex_detector.specs.declared.judging.Judging.{Judging}
-use Rattle.simplex_audit.specs.Auditor.{StandsFrom}
+use Rattle.simplex_audit.specs.Auditor.{AnswersFrom, StandsFrom, auditing_over}
 use Rattle.simplex_audit.specs.Basis.{Basis, basis_from}
 use Rattle.simplex_stream.specs.Decoder.{HasDecoded, DecodesMore, bytes_fed, undecoded, messages_read}
-use Rattle.simplex_stream.specs.Messages.{IsStuck, IsStop}
+use Rattle.simplex_stream.specs.Messages.{AreMessages, IsStuck, IsOver, IsStop}
 use Rattle.simplex_stream.specs.Progress.{IsProgress}
 use Rattle.simplex_stream.specs.declared.decoder.Decoder.{Decoder}
 use Rattle.simplex_audit.specs.Guarantees.{IsAudit}
@@ -25,7 +25,7 @@ use Rattle.simplex_audit.specs.declared.auditor.Auditor.{Auditor}
 use Rattle.simplex_audit.specs.declared.reading.Recorder.{Recorder}
 use Rattle.simplex_audit.proofs.AccusedLemmas.{audited}
 use Rattle.simplex_audit.specs.MessageLaws.{MessageLaws}
-use Rattle.simplex_stream.specs.StreamLaws.{IsNeverEmpty}
+use Rattle.simplex_stream.specs.StreamLaws.{IsNeverEmpty, messages_once, over_messages, over_fault}
 
 -- what a recorder recorded, its detector recalls
 pub recorded_recalls : {S D C P G : Type 0} (format : Format (Activity S D C P G)) (rules : Judging → Rules S D C P G)
@@ -127,8 +127,67 @@ stands_reported {S} basis auditor place read stop report at count why is floor c
       recorded = h.recorded;
     })
 
--- and all that an audit states holds of it, where its evidence can be encoded
-pub stands_audited : {S D C P G : Type 0} (basis : Schedule S → Basis S D C P G) (auditor : Auditor S D P G)
+-- ---- an auditor that answers for a stream
+
+-- it does if it stands for it,
+pub stands_answers : {S D C P G : Type 0} (basis : Schedule S → Basis S D C P G) (auditor : Auditor S D P G) (floor : Round)
+    (committees : Schedule S) (stream : List ℕ) → StandsFrom floor basis committees auditor stream →
+    AnswersFrom floor basis committees auditor stream
+stands_answers basis auditor floor committees stream h =
+    record { front = stream; behind = []; parts = sym (append-nil stream); stands = h; unread = inl refl }
+
+-- it stands for the stream with a piece appended, if it is not over and was fed the piece,
+pub answers_fed : {S D C P G : Type 0} (basis : Schedule S → Basis S D C P G) (auditor next : Auditor S D P G)
+    (piece : List ℕ) →
+    ((floor : Round) (committees : Schedule S) (stream : List ℕ) → StandsFrom floor basis committees auditor stream →
+    StandsFrom floor basis committees next (stream ++ piece)) → auditing_over auditor ≡ false →
+    (floor : Round) (committees : Schedule S) (stream : List ℕ) → AnswersFrom floor basis committees auditor stream →
+    AnswersFrom floor basis committees next (stream ++ piece)
+answers_fed basis auditor next piece fed on floor committees stream h = go h.unread
+  where
+    go : (h.behind ≡ []) ⊎ IsTrue (auditing_over auditor) → AnswersFrom floor basis committees next (stream ++ piece)
+    go (inl none) =
+        let same : stream ≡ h.front = h.parts ∙ (ap (λ (t : List ℕ). h.front ++ t) none ∙ append-nil h.front) in
+        stands_answers basis next floor committees (stream ++ piece)
+        (fed floor committees stream (subst (StandsFrom floor basis committees auditor) (sym same) h.stands))
+    go (inr over) = absurd (let no = on in cc)
+
+-- and a piece that is dropped changes nothing if it is over
+pub answers_over : {S D C P G : Type 0} (basis : Schedule S → Basis S D C P G) (auditor : Auditor S D P G)
+    (piece : List ℕ) → IsTrue (auditing_over auditor) →
+    (floor : Round) (committees : Schedule S) (stream : List ℕ) → AnswersFrom floor basis committees auditor stream →
+    AnswersFrom floor basis committees auditor (stream ++ piece)
+answers_over basis auditor piece over floor committees stream h = record {
+  front = h.front;
+  behind = h.behind ++ piece;
+  parts = ap (λ (t : List ℕ). t ++ piece) h.parts ∙ append_assoc h.front h.behind piece;
+  stands = h.stands;
+  unread = inr over;
+}
+
+-- the report of a front is that of the stream if nothing can be read behind it
+reported_behind : {S D C P G : Type 0} (basis : Basis S D C P G) (front behind rest : List ℕ)
+    (messages : List (Activity S D C P G)) (report : Report S D P G) → IsLawful basis.format →
+    AreMessages basis.format front messages rest → (behind ≡ []) ⊎ IsOver basis.format.reading rest →
+    IsReport basis front report → IsReport basis (front ++ behind) report
+reported_behind basis front behind rest messages report law are (inl none) r =
+    subst (λ (s : List ℕ). IsReport basis s report)
+    (sym (append-nil front) ∙ ap (λ (t : List ℕ). front ++ t) (sym none)) r
+reported_behind basis front behind rest messages report law are (inr over) r =
+    let same = (messages_once basis.format law front r.rest rest r.messages messages r.are_messages are).1 in
+    let here = subst (IsOver basis.format.reading) (sym same) over in
+    record {
+      messages = r.messages;
+      rest = r.rest ++ behind;
+      are_messages = over_messages basis.format law front r.rest behind r.messages r.are_messages here;
+      read_is = r.read_is;
+      fault_is = over_fault basis.format.reading _ r.rest behind report.fault r.fault_is here;
+      evidence_is = r.evidence_is;
+      splits_are = r.splits_are;
+    }
+
+-- all that an audit states holds of the report, where its evidence can be encoded
+pub answers_audited : {S D C P G : Type 0} (basis : Schedule S → Basis S D C P G) (auditor : Auditor S D P G)
     (report : Report S D P G) →
     ((committees : Schedule S) → IsNeverEmpty (basis committees).format) →
     ((floor : Round) (committees : Schedule S) → MessageLaws (basis_from floor (basis committees)).rules) →
@@ -136,11 +195,18 @@ pub stands_audited : {S D C P G : Type 0} (basis : Schedule S → Basis S D C P 
     ((floor : Round) (committees : Schedule S) (stream : List ℕ) → StandsFrom floor basis committees auditor stream →
     AreLawful (basis_from floor (basis committees)).rules → IsReport (basis_from floor (basis committees)) stream report) →
     All (basis auditor.committees.now).format.is_value (as_messages report) →
-    (floor : Round) (committees : Schedule S) (stream : List ℕ) → StandsFrom floor basis committees auditor stream →
+    (floor : Round) (committees : Schedule S) (stream : List ℕ) → AnswersFrom floor basis committees auditor stream →
     IsAudit (basis_from floor (basis committees)) stream report
-stands_audited {S} basis auditor report some laws parts is each floor committees stream h =
+answers_audited {S} basis auditor report some laws parts is each floor committees stream h =
     let judged = basis_from floor (basis committees) in
-    let lawful = parts (basis committees).rules (is_from floor) h.lawful in
-    audited judged h.readable (some committees) lawful (laws floor committees) stream report
-    (is floor committees stream h lawful)
-    (subst (λ (s : Schedule S). All (basis s).format.is_value (as_messages report)) h.committees_are each)
+    let decoded = h.stands.decoded in
+    let lawful = parts (basis committees).rules (is_from floor) h.stands.lawful in
+    let over : (h.behind ≡ []) ⊎ IsOver judged.format.reading (undecoded auditor.decoder) = elim h.unread [
+      | inl none ↦ inl none
+      | inr t ↦ inr (decoded.over t)
+    ] in
+    let longer = reported_behind judged h.front h.behind (undecoded auditor.decoder) h.stands.messages report h.stands.readable
+    decoded.are_messages over (is floor committees h.front h.stands lawful) in
+    audited judged h.stands.readable (some committees) lawful (laws floor committees) stream report
+    (subst (λ (s : List ℕ). IsReport judged s report) (sym h.parts) longer)
+    (subst (λ (s : Schedule S). All (basis s).format.is_value (as_messages report)) h.stands.committees_are each)

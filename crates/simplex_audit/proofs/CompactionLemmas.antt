@@ -1,8 +1,8 @@
 -- What is kept of a stream that is compacted, and that it can stand for the stream's messages.
-use Rattle.std.proofs.Common.{◌≡◌, ℕ, ◌+◌, Bool, true, false, Option, List, [], ◌∷◌, ◌++◌, length, cond, refl, sym, ap, subst, ◌∙◌, append-nil}
-use Rattle.std.specs.Prelude.{All, Contains}
+use Rattle.std.proofs.Common.{◌≡◌, ℕ, ◌+◌, Bool, Err, Ok, Option, Result, List, [], ◌∷◌, ◌++◌, get_or, inl, inr, length, refl, sym, ap, subst, ◌∙◌, append-nil}
+use Rattle.std.specs.Prelude.{All, Contains, OnOk}
 use Rattle.std.specs.List.{flat_map}
-use Rattle.std.proofs.lemmas.List.Elements.{All-append, All-contains, All-contains_itself, All-cons, All-head, All-nil, All-tail, All-weaker, Contains-append_right}
+use Rattle.std.proofs.lemmas.List.Elements.{All-contains, All-contains_itself, All-weaker, Contains-append_right}
 use Rattle.simplex_base.specs.Format.{Format, IsLawful}
 use Rattle.simplex_base.specs.declared.codec.error.Error.{Error}
 use Rattle.simplex_evidence.specs.Activity.{IsActivity, contents_of}
@@ -10,26 +10,29 @@ use Rattle.simplex_evidence.specs.Contents.{AreInConflict}
 use Rattle.simplex_evidence.specs.Contradiction.{Conflicting_finalize, Conflicting_notarize, Equivocation, Nullify_finalize}
 use Rattle.simplex_evidence.specs.declared.types.activity.Activity.{Activity}
 use Rattle.simplex_evidence.specs.declared.types.activity.Activity.TheVariants as activity
-use Rattle.simplex_detector.specs.Detector.{Recalls, TellsNews}
+use Rattle.simplex_detector.specs.Detector.{Recalls}
 use Rattle.simplex_detector.specs.Evidence.{IsEvidence}
 use Rattle.simplex_detector.specs.Interchange.{AreInterchangeable}
+use Rattle.simplex_detector.specs.Kept.{TellsKept, kept_by}
 use Rattle.simplex_detector.specs.Laws.{EvidenceIsUnique}
-use Rattle.simplex_detector.specs.News.{FewAreNews, IsCompaction, compacted, if_news, message_is_news, messages_with_news}
+use Rattle.simplex_detector.specs.News.{FewAreKept, IsCompaction, IsTheirs, compacted, kept_of, message_on}
 use Rattle.simplex_detector.specs.Rules.{Rules, valid_votes}
 use Rattle.simplex_detector.specs.SplitLaws.{SplitsAreUnique}
 use Rattle.simplex_detector.specs.Splits.{AreSplits}
 use Rattle.simplex_detector.specs.declared.judging.Judging.{Judging}
+use Rattle.simplex_detector.specs.declared.kept.Kept.{Kept}
 use Rattle.simplex_detector.specs.declared.split.Split.{Split}
+use Rattle.simplex_scheme.specs.Subject.{Finalizes, Notarizes, Nullifies, SubjectValue}
+use Rattle.simplex_scheme.specs.declared.scheme.Attestation.{Attestation}
 use Rattle.simplex_stream.specs.Fault.{fault_of}
 use Rattle.simplex_stream.specs.Messages.{AreMessages}
 use Rattle.simplex_stream.specs.Progress.{IsProgress}
 use Rattle.simplex_stream.specs.StreamLaws.{IsNeverEmpty, are_joined, fault_is, messages_continue, messages_once}
 use Rattle.simplex_audit.specs.Basis.{Basis}
-use Rattle.simplex_audit.specs.Compacting.{CompactsMore}
+use Rattle.simplex_audit.specs.Compacting.{CompactsMore, KeepsCompaction}
 use Rattle.simplex_audit.specs.Compaction.{HaveSameReports, IsCompacted}
 use Rattle.simplex_audit.specs.Recording.{RecordsMore}
 use Rattle.simplex_audit.specs.Report.{evidence_in}
-use Rattle.simplex_audit.specs.declared.compaction.Compaction.{Compaction}
 use Rattle.simplex_audit.specs.declared.compaction.Compactor.{Compactor}
 
 -- the votes of evidence that can be encoded contradict
@@ -41,48 +44,89 @@ in_conflict eq payload is_certificate signature (activity.ConflictingFinalize c)
 in_conflict eq payload is_certificate signature (activity.NullifyFinalize c) is = (Nullify_finalize, is.1)
 in_conflict eq payload is_certificate signature _ is = tt
 
--- what holds of all messages holds of those that are news
-news_each : {S D C P G : Type 0} (rules : Rules S D C P G) (Holds : Activity S D C P G → Type 0)
-    (before ms : List (Activity S D C P G)) → All Holds ms → All Holds (messages_with_news rules before ms)
-news_each rules Holds before [] each = each
-news_each rules Holds before (m ∷ ms) each =
-    All-append Holds (if_news rules before m) (messages_with_news rules (before ++ m ∷ []) ms)
-    (elim (message_is_news rules before m) as (λ b. All Holds (cond b (m ∷ []) []))
-    [ true ↦ All-cons Holds m [] (All-head Holds m ms each) (All-nil Holds) | false ↦ All-nil Holds ])
-    (news_each rules Holds (before ++ m ∷ []) ms (All-tail Holds m ms each))
+-- a vote as a message is a value of the format under any bound, since it has no certificate
+alone_is_value : {S D C P G : Type 0} (eq : D → D → Bool) (payload : Format D) (is_certificate fits : C → Type 0)
+    (signature : Format G) (x : SubjectValue D) (a : Attestation S P G) →
+    IsActivity eq payload is_certificate signature (message_on x a) → IsActivity eq payload fits signature (message_on x a)
+alone_is_value eq payload is_certificate fits signature (Notarizes p) a is = is
+alone_is_value eq payload is_certificate fits signature (Nullifies r) a is = is
+alone_is_value eq payload is_certificate fits signature (Finalizes p) a is = is
 
--- one message is recorded, and kept if it is news
-pub compacts_one : {S D C P G : Type 0} (encoding : Activity S D C P G → List ℕ) (rules : Judging → Rules S D C P G)
-    (m : Activity S D C P G) (news : Bool) (old new : Compactor S D P G) →
+-- what is kept of values are values
+pub kept_are_values : {S D C P G : Type 0} (eq : D → D → Bool) (payload : Format D) (is_certificate fits : C → Type 0)
+    (signature : Format G) (rules : Rules S D C P G) (ms ks : List (Activity S D C P G)) →
+    All (IsActivity eq payload fits signature) ms → All (IsTheirs rules ms) ks →
+    All (IsActivity eq payload is_certificate signature) ks → All (IsActivity eq payload fits signature) ks
+kept_are_values {S} {D} {C} {P} {G} eq payload is_certificate fits signature rules ms ks each theirs values =
+    λ k d lt. by (get_or ks k d) (theirs k d lt) (values k d lt)
+  where
+    by : (m : Activity S D C P G) → IsTheirs rules ms m → IsActivity eq payload is_certificate signature m →
+        IsActivity eq payload fits signature m
+    by m (inl m_in) is = All-contains (IsActivity eq payload fits signature) ms m each m_in
+    by m (inr (v, v_in, same)) is =
+        subst (IsActivity eq payload fits signature) (sym same) (alone_is_value eq payload is_certificate fits signature
+        v.subject (record { signer = v.signer; signature = v.signature })
+        (subst (IsActivity eq payload is_certificate signature) same is))
+
+-- one message is recorded, and what is news of it is kept
+pub compacts_one : {S D C P G : Type 0} (is_value : Activity S D C P G → Type 0) (encoding : Activity S D C P G → List ℕ)
+    (rules : Judging → Rules S D C P G) (m : Activity S D C P G) (news : Kept S D C P G) (old new : Compactor S D P G) →
     RecordsMore rules (m ∷ []) old.recorder new.recorder →
-    TellsNews (rules old.recorder.judging) m old.recorder.detector news →
-    new.kept.items ≡ old.kept.items ++ cond news (encoding m) [] → CompactsMore encoding rules (m ∷ []) old new
-compacts_one encoding rules m news old new records tells kept = record {
+    TellsKept (rules old.recorder.judging) m old.recorder.detector news →
+    new.kept.items ≡ old.kept.items ++ flat_map encoding (kept_by m news) → All is_value (kept_by m news) →
+    CompactsMore is_value encoding rules (m ∷ []) old new
+compacts_one is_value encoding rules m news old new records tells kept values = record {
   records = records;
   kept = λ before held.
-      kept ∙ (λ i. old.kept.items ++ cond (tells before held i) (encoding m) [])
-      ∙ ap (λ xs. old.kept.items ++ xs) (one (message_is_news (rules old.recorder.judging) before m));
+      kept ∙ (λ i. old.kept.items ++ flat_map encoding ((tells before held
+      ∙ sym (append-nil (kept_of (rules old.recorder.judging) before m))) i));
+  values = λ before held. subst (All is_value)
+      (tells before held ∙ sym (append-nil (kept_of (rules old.recorder.judging) before m))) values;
 }
-  where
-    one : (b : Bool) → cond b (encoding m) [] ≡ flat_map encoding (cond b (m ∷ []) [] ++ [])
-    one true = sym (append-nil (encoding m))
-    one false = refl
+
+-- two facts of a result that is no error, together
+pub when_both : {T E A B X : Type 0} (r : Result T E) → (A → B → X) → OnOk r A → OnOk r B → OnOk r X
+when_both (Ok t) both a b = both a b
+when_both (Err e) both a b = a
+
+-- some bytes are the compaction of messages, whose messages can be encoded
+pub record AreKept {S D C P G : Type 0} (is_value : Activity S D C P G → Type 0) (encoding : Activity S D C P G → List ℕ)
+    (rules : Rules S D C P G) (bytes : List ℕ) (messages : List (Activity S D C P G)) : Type 0 where
+  pub kept : bytes ≡ flat_map encoding (compacted rules messages)
+  pub values : All is_value (compacted rules messages)
 
 -- what an empty compactor kept of messages is their compaction
-pub compactor_keeps : {S D C P G : Type 0} (format : Format (Activity S D C P G)) (rules : Judging → Rules S D C P G)
-    (old new : Compactor S D P G) (stream rest : List ℕ) (read : ℕ) (stop : Option Error) → old.kept.items ≡ [] →
-    Recalls (rules old.recorder.judging) [] old.recorder.detector →
-    IsProgress format (λ ms. CompactsMore format.encoding rules ms old new) stream rest read stop →
-    IsProgress format (λ ms. new.kept.items ≡ flat_map format.encoding (compacted (rules old.recorder.judging) ms))
-    stream rest read stop
-compactor_keeps format rules old new stream rest read stop empty nothing p = record {
-  messages = p.messages;
-  are_messages = p.are_messages;
-  read_is = p.read_is;
-  stop_is = p.stop_is;
-  recorded = p.recorded.kept [] nothing
-      ∙ ap (λ xs. xs ++ flat_map format.encoding (compacted (rules old.recorder.judging) p.messages)) empty;
-}
+pub compactor_keeps : {S D C P G : Type 0} (is_value : Activity S D C P G → Type 0) (format : Format (Activity S D C P G))
+    (rules : Judging → Rules S D C P G) (judging : Judging) (judged : Rules S D C P G) (old new : Compactor S D P G)
+    (stream rest : List ℕ) (read : ℕ) (stop : Option Error) → old.recorder.judging ≡ judging →
+    Recalls (rules judging) [] old.recorder.detector → old.kept.items ≡ [] → rules judging ≡ judged →
+    IsProgress format (λ ms. CompactsMore is_value format.encoding rules ms old new) stream rest read stop →
+    IsProgress format (AreKept is_value format.encoding judged new.kept.items) stream rest read stop
+compactor_keeps is_value format rules judging judged old new stream rest read stop strict nothing empty same p =
+    let here = subst (λ j. Recalls (rules j) [] old.recorder.detector) (sym strict) nothing in record {
+      messages = p.messages;
+      are_messages = p.are_messages;
+      read_is = p.read_is;
+      stop_is = p.stop_is;
+      recorded = subst (λ r. AreKept is_value format.encoding r new.kept.items p.messages) (ap rules strict ∙ same) (record {
+        kept = p.recorded.kept [] here
+            ∙ ap (λ xs. xs ++ flat_map format.encoding (compacted (rules old.recorder.judging) p.messages)) empty;
+        values = p.recorded.values [] here;
+      });
+    }
+
+-- the compaction of a stream, from what was read of it
+pub is_compacted : {S D C P G : Type 0} (basis : Basis S D C P G) (is_value : Activity S D C P G → Type 0) →
+    KeepsCompaction is_value basis → (stream rest bytes : List ℕ) (read place : ℕ) (stop : Option Error) →
+    IsProgress basis.format (AreKept is_value basis.format.encoding basis.rules bytes) stream rest read stop →
+    place + length rest ≡ length stream → IsCompacted basis stream bytes read (fault_of place stop)
+is_compacted basis is_value keeps stream rest bytes read place stop p at =
+    let ms = p.messages in
+    let fault = fault_of place stop in
+    subst (λ xs. IsCompacted basis stream xs read fault) (sym p.recorded.kept)
+    (subst (λ n. IsCompacted basis stream (flat_map basis.format.encoding (compacted basis.rules ms)) n fault) (sym p.read_is)
+    (keeps stream rest ms fault p.are_messages p.recorded.values
+    (fault_is basis.format stream rest ms place stop fault p.are_messages at p.stop_is refl)))
 
 -- the messages of a stream behind whole messages
 pub record Behind {M : Type 0} (format : Format M) (front all : List M) (bytes rest : List ℕ) : Type 0 where
@@ -137,30 +181,24 @@ module _ {S D C P G : Type 0} (basis : Basis S D C P G) (law : IsLawful basis.fo
             b.splits.items is_b.splits_are,
       )
 
-  -- the compaction of a stream, from what was read of it
-  pub is_compacted : IsNeverEmpty basis.format → ((ms : List (Activity S D C P G)) → IsCompaction basis.rules ms) →
-      ((ms : List (Activity S D C P G)) → All basis.format.is_value ms → FewAreNews basis.rules ms) →
-      (stream rest : List ℕ) (compaction : Compaction) (place : ℕ) (stop : Option Error) →
-      IsProgress basis.format (λ ms. compaction.messages.items ≡ flat_map basis.format.encoding (compacted basis.rules ms))
-      stream rest compaction.read stop → place + length rest ≡ length stream → compaction.fault ≡ fault_of place stop →
-      IsCompacted basis stream compaction
-  is_compacted some compacts few stream rest compaction place stop p at fault =
-      let ms = p.messages in
+  -- what is kept of a stream's messages is the stream's compaction
+  pub keeps_compaction : IsNeverEmpty basis.format → ((ms : List (Activity S D C P G)) → IsCompaction basis.rules ms) →
+      ((ms : List (Activity S D C P G)) → All basis.format.is_value ms → FewAreKept basis.rules ms) →
+      (is_value : Activity S D C P G → Type 0) →
+      ((ms ks : List (Activity S D C P G)) → All basis.format.is_value ms → All (IsTheirs basis.rules ms) ks →
+      All is_value ks → All basis.format.is_value ks) → KeepsCompaction is_value basis
+  keeps_compaction some compacts few is_value as_values stream rest ms fault are values at =
       let news = compacted basis.rules ms in
-      let theirs = news_each basis.rules (Contains ms) [] ms (All-contains_itself ms) in
-      let kept = subst (λ (xs : List ℕ). AreMessages basis.format xs news []) (sym p.recorded)
-      (are_joined basis.format some news
-      (news_each basis.rules basis.format.is_value [] ms p.are_messages.each)) in
+      let kept = are_joined basis.format some news (as_values ms news are.each (compacts ms).theirs values) in
       record {
         messages = ms;
         rest = rest;
-        are_messages = p.are_messages;
-        read_is = p.read_is;
-        fault_is = fault_is basis.format stream rest ms place stop compaction.fault p.are_messages at p.stop_is fault;
+        are_messages = are;
+        read_is = refl;
+        fault_is = at;
         kept = kept;
-        theirs = theirs;
         can_stand = compacts ms;
-        few = few ms p.are_messages.each;
-        same_reports = same_reports compaction.messages.items (flat_map basis.format.encoding ms) news ms kept
-            (are_joined basis.format some ms p.are_messages.each) (compacts ms).interchangeable;
+        few = few ms are.each;
+        same_reports = same_reports (flat_map basis.format.encoding news) (flat_map basis.format.encoding ms) news ms kept
+            (are_joined basis.format some ms are.each) (compacts ms).interchangeable;
       }

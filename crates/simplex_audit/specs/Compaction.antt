@@ -1,14 +1,14 @@
--- A stream in place of a stream: its messages without those that were no news when they came.
-use Rattle.std.specs.Prelude.{◌≡◌, ℕ, List, [], ◌++◌, length, All, Contains}
+-- A stream in place of a stream: its messages without what was no news when it came.
+use Rattle.std.specs.Prelude.{◌≡◌, ℕ, List, [], ◌++◌, length, Option}
 use Rattle.std.specs.List.{flat_map}
 use Rattle.simplex_evidence.specs.declared.types.activity.Activity.{Activity}
-use Rattle.simplex_detector.specs.News.{FewAreNews, IsCompaction, compacted}
+use Rattle.simplex_detector.specs.News.{FewAreKept, IsCompaction, compacted}
 use Rattle.simplex_audit.specs.Basis.{Basis}
 use Rattle.simplex_audit.specs.Report.{IsReport, evidence_in}
 use Rattle.simplex_audit.specs.declared.audit.Report.{Report}
-use Rattle.simplex_audit.specs.declared.compaction.Compaction.{Compaction}
 use Rattle.simplex_stream.specs.Fault.{IsFault}
 use Rattle.simplex_stream.specs.Messages.{AreMessages}
+use Rattle.simplex_stream.specs.declared.fault.Fault.{Fault}
 
 -- Some bytes can stand for others: with any whole messages before them and any bytes behind them, the reports have the same
 -- evidence and the same splits.
@@ -19,16 +19,17 @@ HaveSameReports {S} {D} {C} {P} {G} basis bytes others =
     IsReport basis (before ++ (bytes ++ more)) a → IsReport basis (before ++ (others ++ more)) b →
     (evidence_in a ≡ evidence_in b) × (a.splits.items ≡ b.splits.items)
 
--- What is kept of a stream is whole messages: of the stream's, in their order, those that were news when they came. Of each
--- round they are few, they can stand for all, and compacting them again changes nothing.
-pub record IsCompacted {S D C P G : Type 0} (basis : Basis S D C P G) (stream : List ℕ) (compaction : Compaction) : Type 0 where
+-- Some bytes are what is kept of a stream, of which so many messages were read, up to its fault. They are whole messages: the
+-- compaction of the stream's messages, which are messages of the stream and votes of them. Of each round they are few, they can
+-- stand for all, and compacting them again changes nothing.
+pub record IsCompacted {S D C P G : Type 0} (basis : Basis S D C P G) (stream bytes : List ℕ) (read : ℕ)
+    (fault : Option Fault) : Type 0 where
   pub messages : List (Activity S D C P G)
   pub rest : List ℕ
   pub are_messages : AreMessages basis.format stream messages rest
-  pub read_is : compaction.read ≡ length messages
-  pub fault_is : IsFault basis.format.reading (length (flat_map basis.format.encoding messages)) rest compaction.fault
-  pub kept : AreMessages basis.format compaction.messages.items (compacted basis.rules messages) []
-  pub theirs : All (Contains messages) (compacted basis.rules messages)
+  pub read_is : read ≡ length messages
+  pub fault_is : IsFault basis.format.reading (length (flat_map basis.format.encoding messages)) rest fault
+  pub kept : AreMessages basis.format bytes (compacted basis.rules messages) []
   pub can_stand : IsCompaction basis.rules messages
-  pub few : FewAreNews basis.rules messages
-  pub same_reports : HaveSameReports basis compaction.messages.items (flat_map basis.format.encoding messages)
+  pub few : FewAreKept basis.rules messages
+  pub same_reports : HaveSameReports basis bytes (flat_map basis.format.encoding messages)

@@ -1,6 +1,6 @@
 //! The audit of a stream that comes in pieces.
 
-ghost use Rattle.std.specs.Prelude.{◌≡◌, ◌+◌, ◌<◌, ◌≤◌, ◌^◌, ◌-◌, min, ℕ, List, [], ◌++◌, length, IfOk};
+ghost use Rattle.std.specs.Prelude.{◌≡◌, ◌+◌, ◌<◌, ◌≤◌, ◌^◌, ◌-◌, min, ℕ, List, [], ◌++◌, length, IfOk, IsTrue};
 ghost use Rattle.simplex_base.specs.Positions as positions;
 ghost use Rattle.simplex_audit.specs.Basis.{basis_from};
 ghost use Rattle.simplex_audit.specs.Guarantees.{EvidenceIsDetermined, HasOneReading, IsAudit};
@@ -38,16 +38,16 @@ use std::alloc::{AllocError, Global};
 /// contradict, each of the rounds from its floor on. It does not hold the stream.
 #[derive(Drop)]
 pub struct Auditor<'a, S: SchemeTypes, D: Digest> {
-    committees: &'a Committees<S>,
-    bound: u32,
+    pub(crate) committees: &'a Committees<S>,
+    pub(crate) bound: u32,
     /// The first round that is judged.
-    floor: Round,
-    detector: Detector<S, D>,
-    decoder: Decoder,
+    pub(crate) floor: Round,
+    pub(crate) detector: Detector<S, D>,
+    pub(crate) decoder: Decoder,
 }
 
 impl<'a, S: Listing<D>, D: Digest> Auditor<'a, S, D> {
-    ghost use Rattle.simplex_audit.specs.Auditor.{Stands, StandsFrom, fed_of, floor_of};
+    ghost use Rattle.simplex_audit.specs.Auditor.{Answers, AnswersFrom, Stands, StandsFrom, auditing_over, fed_of, floor_of};
 
     /// An auditor of these committees that was fed nothing.
     pub fn new(alloc: Global, committees: &'a Committees<S>) -> Self
@@ -145,6 +145,14 @@ impl<'a, S: Listing<D>, D: Digest> Auditor<'a, S, D> {
         ensures audit { IfOk result (λ report. (committees : Schedule S) (stream : List ℕ) →
             Stands ⟦<S as Audited<D>>⟧.basis committees self.now stream →
             IsAudit (⟦<S as Audited<D>>⟧.basis committees) stream report) }
+        // If nothing that follows can be read, both hold of each longer stream too.
+        ensures answers_from { IfOk result (λ report.
+            (floor : positions.Round) (committees : Schedule S) (stream : List ℕ) →
+            AnswersFrom floor ⟦<S as Audited<D>>⟧.basis committees self.now stream →
+            IsAudit (basis_from floor (⟦<S as Audited<D>>⟧.basis committees)) stream report) }
+        ensures answers { IfOk result (λ report. (committees : Schedule S) (stream : List ℕ) →
+            Answers ⟦<S as Audited<D>>⟧.basis committees self.now stream →
+            IsAudit (⟦<S as Audited<D>>⟧.basis committees) stream report) }
         // Each stream has exactly one list of messages.
         ensures single { (floor : positions.Round) (committees : Schedule S)
             (stream other : List ℕ) →
@@ -165,7 +173,7 @@ impl<'a, S: Listing<D>, D: Digest> Auditor<'a, S, D> {
     fn report_from(&self) -> Result<Report<S, D>, AllocError>
         ensures { IfOk result (λ report.
             (floor : positions.Round) (committees : Schedule S) (stream : List ℕ) →
-            StandsFrom floor ⟦<S as Audited<D>>⟧.basis committees self.now stream →
+            AnswersFrom floor ⟦<S as Audited<D>>⟧.basis committees self.now stream →
             IsAudit (basis_from floor (⟦<S as Audited<D>>⟧.basis committees)) stream report) }
     {
         message_laws::<S, D>();
@@ -182,6 +190,21 @@ impl<'a, S: Listing<D>, D: Digest> Auditor<'a, S, D> {
             place,
             stop,
         )
+    }
+
+    /// Whether the audit is over: the bytes after the last whole message are refused, and stay so whatever follows. No longer
+    /// stream has more messages then, and the report is that of each of them, so nothing more needs to be fed.
+    pub fn is_over(&self) -> bool
+        ensures value { result ≡ auditing_over self.now }
+        ensures same { IsTrue result →
+            (floor : positions.Round) (committees : Schedule S) (stream more : List ℕ)
+            (messages : List (Activity S D S.Certificate S.PublicKey S.Signature)) (rest : List ℕ) →
+            StandsFrom floor ⟦<S as Audited<D>>⟧.basis committees self.now stream →
+            AreMessages (⟦<S as Audited<D>>⟧.basis committees).format stream messages rest →
+            AreMessages (⟦<S as Audited<D>>⟧.basis committees).format (stream ++ more) messages
+            (rest ++ more) }
+    {
+        self.decoder.is_over()
     }
 
     /// How many bytes it was fed.

@@ -1,16 +1,22 @@
-//! A shorter stream in place of a stream: its messages without those that were no news when they came.
+//! A shorter stream in place of a stream: its messages without what was no news when it came.
 
-ghost use Rattle.std.specs.Prelude.{◌≡◌, ◌++◌, ⊤, [], IfOk, OnOk, if◌then◌else◌};
+ghost use Rattle.std.specs.Prelude.{◌≡◌, ◌++◌, ⊤, All, IfOk, OnOk};
+ghost use Rattle.std.specs.List.{flat_map};
 ghost use Rattle.simplex_audit.specs.Basis.{basis_from};
+ghost use Rattle.simplex_audit.specs.Compacting.{KeepsCompaction, StartsCompacting};
 ghost use Rattle.simplex_audit.specs.Compaction.{IsCompacted};
+ghost use Rattle.simplex_base.specs.Format.{IsLawful};
+ghost use Rattle.simplex_base.specs.Positions as positions;
 ghost use Rattle.simplex_detector.specs.Independence.{first_round};
+ghost use Rattle.simplex_detector.specs.Kept.{kept_by};
 
 use crate::basis::Audited;
 use crate::reading::{Recorder, reading_bound};
-use simplex_base::codec::{Encoding, Write};
+use simplex_base::codec::{EncodeSize, Encoding, Write};
 use simplex_base::positions::Round;
 use simplex_detector::detector::Detector;
 use simplex_detector::judging::Judging;
+use simplex_detector::kept::Kept;
 use simplex_detector::laws::{
     evidence_is_determined, floors_rise, news_suffices, rounds_are_independent,
     splits_are_determined,
@@ -26,7 +32,8 @@ use std::alloc::{AllocError, Global};
 /// What [`compact`] returns of a stream.
 #[derive(Drop)]
 pub struct Compaction {
-    /// The messages that were news when they came, in their order and as their bytes stand in the stream.
+    /// What was news when it came, in the order of the stream: messages as their bytes stand there, and votes of certificates,
+    /// each as a message of its own.
     pub messages: Vec<u8>,
     /// The number of messages read.
     pub read: usize,
@@ -34,13 +41,27 @@ pub struct Compaction {
     pub fault: Option<Fault>,
 }
 
-/// Records messages, and keeps those that are news.
+/// Records messages, and keeps what is news.
 #[derive(Drop)]
-struct Compactor<S: SchemeTypes, D: Digest> {
+pub(crate) struct Compactor<S: SchemeTypes, D: Digest> {
     /// What records them.
-    recorder: Recorder<S, D>,
-    /// The encodings of those that were news when they came.
-    kept: Vec<u8>,
+    pub(crate) recorder: Recorder<S, D>,
+    /// The encodings of what was news when it came.
+    pub(crate) kept: Vec<u8>,
+}
+
+impl<S: Listing<D>, D: Digest> Compactor<S, D> {
+    /// Nothing came yet, and nothing is judged below a floor.
+    pub(crate) fn new(alloc: Global, floor: Round) -> Self
+        ensures { StartsCompacting floor ⟦<S as Judges<D>>⟧.rules_under result }
+    {
+        let judging = Judging::From(floor);
+        let detector = Detector::new(alloc);
+        Compactor {
+            recorder: Recorder { judging, detector },
+            kept: Vec::new(alloc),
+        }
+    }
 }
 
 impl<S: Listing<D>, D: Digest> Visitor<Activity<S, D>> for Compactor<S, D> {
@@ -49,7 +70,8 @@ impl<S: Listing<D>, D: Digest> Visitor<Activity<S, D>> for Compactor<S, D> {
 
     type Context = Committees<S>;
 
-    ghost follows = { λ committees. CompactsMore ⟦<Activity<S, D> as Encoding>⟧.encoding
+    ghost follows = { λ committees. CompactsMore ⟦<Activity<S, D> as Encoding>⟧.is_value
+        ⟦<Activity<S, D> as Encoding>⟧.encoding
         (λ judging. ⟦<S as Judges<D>>⟧.rules_under judging committees) };
 
     ghost has_room = { λ _ _. ⊤ };
@@ -64,14 +86,16 @@ impl<S: Listing<D>, D: Digest> Visitor<Activity<S, D>> for Compactor<S, D> {
         let news = self
             .recorder
             .detector
-            .observe(alloc, committees, &self.recorder.judging, message)?;
-        append_if(news, message, &mut self.kept)
+            .observe_apart(alloc, committees, &self.recorder.judging, message)?;
+        append_news(&news, message, &mut self.kept)
     }
 
-    ghost none = { λ committees state. compacts_none ⟦<Activity<S, D> as Encoding>⟧.encoding
+    ghost none = { λ committees state. compacts_none ⟦<Activity<S, D> as Encoding>⟧.is_value
+        ⟦<Activity<S, D> as Encoding>⟧.encoding
         (λ judging. ⟦<S as Judges<D>>⟧.rules_under judging committees) state };
 
-    ghost more = { λ committees ms m a b c. compacts_more ⟦<Activity<S, D> as Encoding>⟧.encoding
+    ghost more = { λ committees ms m a b c. compacts_more ⟦<Activity<S, D> as Encoding>⟧.is_value
+        ⟦<Activity<S, D> as Encoding>⟧.encoding
         (λ judging. ⟦<S as Judges<D>>⟧.rules_under judging committees) ms m a b c };
 
     ghost less = { λ _ _ _ room. room };
@@ -79,25 +103,58 @@ impl<S: Listing<D>, D: Digest> Visitor<Activity<S, D>> for Compactor<S, D> {
     ghost left = { λ _ _ _ _ _ _ room. room };
 }
 
-/// Appends the encoding of a message, if it is news.
-fn append_if<M: Write>(news: bool, message: &M, kept: &mut Vec<u8>) -> Result<(), AllocError>
-    ensures { OnOk result (kept.new.items ≡ kept.old.items ++
-        (if news then M.encoding message.now else [])) }
+/// Appends the encodings of what is kept of a message. Each can be encoded.
+fn append_news<S: Listing<D>, D: Digest>(
+    news: &Kept<S, D>,
+    message: &Activity<S, D>,
+    kept: &mut Vec<u8>,
+) -> Result<(), AllocError>
+    ensures written { OnOk result (kept.new.items ≡ kept.old.items ++
+        flat_map ⟦<Activity<S, D> as Encoding>⟧.encoding (kept_by message.now news.now)) }
+    ensures values { OnOk result (All ⟦<Activity<S, D> as Encoding>⟧.is_value
+        (kept_by message.now news.now)) }
 {
-    if !news {
-        return Ok(());
+    match news {
+        Kept::Nothing => Ok(()),
+        Kept::Whole => append(message, kept),
+        Kept::Votes(votes) => append_all(votes.as_slice(), kept),
     }
+}
+
+/// Appends the encodings of some messages, which can be encoded.
+fn append_all<M: Write + EncodeSize>(messages: &[M], kept: &mut Vec<u8>) -> Result<(), AllocError>
+    ensures written { OnOk result (kept.new.items ≡ kept.old.items ++
+        flat_map M.encoding messages.now) }
+    ensures values { OnOk result (All M.is_value messages.now) }
+{
+    'messages: for message in messages {
+        append(message, kept)?;
+    }
+    Ok(())
+}
+
+/// Appends the encoding of a message, which can be encoded.
+fn append<M: Write + EncodeSize>(message: &M, kept: &mut Vec<u8>) -> Result<(), AllocError>
+    ensures written { OnOk result (kept.new.items ≡ kept.old.items ++ M.encoding message.now) }
+    ensures value { M.is_value message.now }
+{
+    // Its clause says that the message can be encoded.
+    message.encode_size();
     message.write(kept)
 }
 
-/// Leaves out of a stream the messages that are no news when they come, and those of rounds below a floor. A message is news if
-/// it changes what an audit records: if a valid vote of it is the earliest of its kind, round and signer or the earliest there
-/// with another proposal, or if its certificate certifies the first subject of its kind in its round or splits the round. What
-/// is left can stand for the stream's messages: with any messages before and any bytes behind, an audit has the same evidence
-/// and the same splits from the floor on. Compacting it again changes nothing, and the compactions of several logs can be
-/// joined and compacted again. Of a round with n participants at most 5n + 3 messages are left. All this is relative to the
-/// committees: messages of an epoch without one are no news. Votes and certificates are verified as in an audit, and none below
-/// the floor. `AllocError` is returned only after an allocation failed.
+/// Leaves out of a stream what is no news when it comes, and the messages of rounds below a floor. A vote is news if it is
+/// valid and the earliest of its kind, round and signer, or the earliest there with another proposal. A certificate is news if
+/// it certifies the first subject of its kind in its round or splits the round, and is kept as a whole then. If only votes of
+/// it are news, these are kept in its order, each as a notarize, a nullify or a finalize. Any other message is kept as its
+/// bytes stand, if a vote of it is news.
+///
+/// What is left can stand for the stream's messages: with any messages before and any bytes behind, an audit has the same
+/// evidence and the same splits from the floor on. Compacting it again changes nothing, and the compactions of several logs
+/// can be joined and compacted again. Of a round with n participants at most 5n messages without a certificate are left and
+/// three with one, so their size is linear in n. All this is relative to the committees: messages of an epoch without one are
+/// no news. Votes and certificates are verified as in an audit, and none below the floor. `AllocError` is returned only after
+/// an allocation failed.
 pub fn compact<S: Listing<D>, D: Digest>(
     alloc: Global,
     committees: &Committees<S>,
@@ -106,35 +163,16 @@ pub fn compact<S: Listing<D>, D: Digest>(
 ) -> Result<Compaction, AllocError>
     // What is kept is the compaction of the stream, of which nothing below the floor is valid.
     ensures part { IfOk result (λ compaction. IsCompacted
-        (basis_from floor (⟦<S as Audited<D>>⟧.basis committees.now)) stream.now compaction) }
+        (basis_from floor (⟦<S as Audited<D>>⟧.basis committees.now)) stream.now
+        compaction.messages.items compaction.read compaction.fault) }
     // From the first round on nothing is left out for its round.
     ensures whole { floor ≡ first_round → IfOk result (λ compaction.
-        IsCompacted (⟦<S as Audited<D>>⟧.basis committees.now) stream.now compaction) }
+        IsCompacted (⟦<S as Audited<D>>⟧.basis committees.now) stream.now compaction.messages.items
+        compaction.read compaction.fault) }
 {
     floors_rise::<S, D>();
-    compact_under(alloc, committees, Judging::From(floor), stream)
-}
-
-/// The compaction of a stream whose votes and certificates are judged as strictly as a `Judging` says.
-fn compact_under<S: Listing<D>, D: Digest>(
-    alloc: Global,
-    committees: &Committees<S>,
-    judging: Judging,
-    stream: &[u8],
-) -> Result<Compaction, AllocError>
-    ensures { IfOk result (λ compaction.
-        IsCompacted (⟦<S as Audited<D>>⟧.basis_under judging committees.now) stream.now
-        compaction) }
-{
-    news_suffices::<S, D>();
-    rounds_are_independent::<S, D>();
-    evidence_is_determined::<S, D>();
-    splits_are_determined::<S, D>();
-    let bound = reading_bound::<S, D>(committees);
-    let detector = Detector::<S, D>::new(alloc);
-    let recorder = Recorder { judging, detector };
-    let kept = Vec::new(alloc);
-    let mut compactor = Compactor { recorder, kept };
+    let bound = compacting_bound::<S, D>(committees);
+    let mut compactor = Compactor::<S, D>::new(alloc, floor);
     let progress = for_each_message::<Activity<S, D>, Compactor<S, D>>(
         alloc,
         committees,
@@ -148,4 +186,21 @@ fn compact_under<S: Listing<D>, D: Digest>(
         read: progress.read,
         fault: fault_at(place, progress.stop),
     })
+}
+
+/// The bound under which messages are read and compacted. Under it the format is lawful, and what is kept of a stream's messages
+/// is the stream's compaction.
+pub(crate) fn compacting_bound<S: Listing<D>, D: Digest>(committees: &Committees<S>) -> u32
+    ensures value { result ≡ (⟦<S as Audited<D>>⟧.basis committees.now).bound }
+    ensures readable { IsLawful (⟦<S as Audited<D>>⟧.basis committees.now).format }
+    ensures compacts { (floor : positions.Round) → KeepsCompaction
+        ⟦<Activity<S, D> as Encoding>⟧.is_value
+        (basis_from floor (⟦<S as Audited<D>>⟧.basis committees.now)) }
+{
+    news_suffices::<S, D>();
+    rounds_are_independent::<S, D>();
+    evidence_is_determined::<S, D>();
+    splits_are_determined::<S, D>();
+    floors_rise::<S, D>();
+    reading_bound::<S, D>(committees)
 }

@@ -7,6 +7,7 @@ use Rattle.simplex_detector.specs.Scheme.{rules_of, scheme_of}
 use Rattle.simplex_audit.specs.Basis.{Basis}
 use Rattle.simplex_audit.specs.Guarantees.{IsAudit}
 use Rattle.simplex_audit.proofs.AccusedLemmas.{if_ok}
+use Rattle.simplex_audit.proofs.AuditorLemmas.{stands_answers}
 use Rattle.simplex_audit.proofs.FloorLemmas.{from_first, part_of_whole}
 use Rattle.simplex_stream.specs.StreamLaws.{messages_once}
 use Rattle.simplex_audit.proofs.auditor.Auditor.report.Given as given
@@ -26,21 +27,37 @@ basis g schedule = record {
       g.S.CertificateVerifier.certified g.S.Listing.listed) schedule;
 }
 
+pub returns-clause-from_floor : goal.returns-clause-from_floor
+returns-clause-from_floor g c =
+    if_ok _ _ (λ report audit floor committees stream stands.
+    audit floor committees stream (stands_answers _ c.args.self.now floor committees stream stands))
+    c.report_from.result c.report_from.ensures
+
 pub returns-clause-part : goal.returns-clause-part
 returns-clause-part g c =
     if_ok _ _ (λ report audit floor committees stream stands whole is.
     part_of_whole (basis g committees) floor stream report whole stands.readable (c.message_laws.ensures _ refl)
-    c.rounds_are_independent.ensures.part (audit floor committees stream stands).report_is is)
+    c.rounds_are_independent.ensures.part
+    (audit floor committees stream (stands_answers _ c.args.self.now floor committees stream stands)).report_is is)
+    c.report_from.result c.report_from.ensures
+
+pub returns-clause-answers_from : goal.returns-clause-answers_from
+returns-clause-answers_from g c = c.report_from.ensures
+
+pub returns-clause-answers : goal.returns-clause-answers
+returns-clause-answers g c =
+    if_ok _ _ (λ report audit committees stream answers.
+    subst (λ (b : Basis g.row.S.Denot g.row.D.Denot g.row.S-Certificate.Denot g.row.S-PublicKey.Denot
+    g.row.S-Signature.Denot). IsAudit b stream report)
+    (from_first (basis g committees) (c.floors_rise.ensures.rise (basis g committees).rules))
+    (audit first_round committees stream answers))
     c.report_from.result c.report_from.ensures
 
 pub returns-clause-audit : goal.returns-clause-audit
 returns-clause-audit g c =
     if_ok _ _ (λ report audit committees stream stands.
-    subst (λ (b : Basis g.row.S.Denot g.row.D.Denot g.row.S-Certificate.Denot g.row.S-PublicKey.Denot
-    g.row.S-Signature.Denot). IsAudit b stream report)
-    (from_first (basis g committees) (c.floors_rise.ensures.rise (basis g committees).rules))
-    (audit first_round committees stream stands))
-    c.report_from.result c.report_from.ensures
+    audit committees stream (stands_answers _ c.args.self.now first_round committees stream stands))
+    c.report_from.result (returns-clause-answers g c)
 
 pub returns-clause-single : goal.returns-clause-single
 returns-clause-single g c floor committees stream other stands = λ messages others rest left are are'.

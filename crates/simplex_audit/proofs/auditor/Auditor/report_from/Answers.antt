@@ -5,7 +5,7 @@ use Rattle.simplex_evidence.specs.declared.types.activity.Activity.{Activity}
 use Rattle.simplex_scheme.specs.Committees.{bound_of}
 use Rattle.simplex_detector.specs.declared.judging.Judging.TheVariants.{From}
 use Rattle.simplex_stream.specs.Messages.{IsStuck, IsStop}
-use Rattle.simplex_audit.proofs.AuditorLemmas.{makes_same, stands_reported, stands_audited}
+use Rattle.simplex_audit.proofs.AuditorLemmas.{makes_same, stands_reported, answers_audited}
 use Rattle.simplex_audit.proofs.AccusedLemmas.{if_both}
 use Rattle.simplex_audit.proofs.auditor.Auditor.report_from.Given as given
 use Rattle.simplex_audit.proofs.auditor.Auditor.report_from.Goals as goal
@@ -25,7 +25,7 @@ pub returns : goal.returns
 returns g c =
     let auditor = c.args.self.now in
     let here = format g (bound_of g.S.CertificateScheme.keys auditor.committees.now) in
-    if_both _ _ _ (λ report is each. stands_audited _ auditor report (λ committees m. omega arith)
+    if_both _ _ _ (λ report is each. answers_audited _ auditor report (λ committees m. omega arith)
     (λ floor committees. c.message_laws.ensures _ refl) c.rounds_are_independent.ensures.lawful
     (stands_reported _ auditor c.place-place.result c.read.result c.in_ok-stop.stop report c.place-place.ensures c.read.ensures
     (λ same. subst (λ (xs : List ℕ). IsStuck here xs → IsStop here.reading xs c.in_ok-stop.stop) c.rest.ensures
