@@ -1,3 +1,10 @@
 mod RoundOrder
 mod WindowLemmas
 mod AdmittedLemmas
+mod TakenLemmas
+mod WatchingLemmas
+mod AdvancingLemmas
+mod NearbyLemmas
+mod BoundedLemmas
+mod RecordedLemmas
+mod MonitorLemmas

@@ -18,7 +18,7 @@ filter_more : (p : Round → Bool) (rounds : List Round) (round : Round) (b : Bo
 filter_more p rounds round b e = filter-append p rounds (round ∷ []) ∙ ap (λ c. filter p rounds ++ cond c (round ∷ []) []) e
 
 -- of rounds of one epoch the greater is of that epoch
-max_epoch : (a b : Round) → a.epoch ≡ b.epoch → (ord_max round_cmp a b).epoch ≡ a.epoch
+pub max_epoch : (a b : Round) → a.epoch ≡ b.epoch → (ord_max round_cmp a b).epoch ≡ a.epoch
 max_epoch a b same =
     elim (is_le (round_cmp b a)) as (λ t. is_le (round_cmp b a) ≡ t → (ord_max round_cmp a b).epoch ≡ a.epoch) [
       | true ↦ λ e. ap (λ (r : Round). r.epoch) (max_lower a b e)

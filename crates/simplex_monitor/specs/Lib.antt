@@ -1,2 +1,7 @@
 pub mod Heads
+pub mod Taken
+pub mod Watching
+pub mod WatchingLaws
+pub mod Monitoring
+pub mod Bounded
 pub mod Window

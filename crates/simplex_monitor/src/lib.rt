@@ -1,8 +1,11 @@
-//! Which rounds an auditor that listens looks at, and what moves them: the rounds of the certificates that its caller found
-//! valid.
+//! An auditor that listens to the network for long, and follows it by itself.
 //!
-//! [`window`] has the rounds whose votes and certificates are taken, [`laws`] that views stay admitted.
+//! [`monitor`] has it. Inside it, [`window`] says of which rounds votes and certificates are taken and what moves it, and
+//! [`watcher`] records the messages that the window takes; [`laws`] has that views stay admitted.
 #![tactic(auto)]
 
 pub mod laws;
+pub mod monitor;
+mod views;
+pub mod watcher;
 pub mod window;

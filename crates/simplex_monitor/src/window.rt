@@ -1,6 +1,6 @@
 //! Which rounds an auditor that listens takes messages of, and what moves it.
 
-ghost use Rattle.std.specs.Prelude.{◌≡◌, ◌↔◌, ◌+◌, ◌<◌, ◌≤◌, ◌++◌, ◌∷◌, [], IsTrue, List, Contains, Option, Some, None};
+ghost use Rattle.std.specs.Prelude.{◌≡◌, ◌↔◌, ◌+◌, ◌<◌, ◌≤◌, ◌++◌, ◌∷◌, [], IsTrue, List, Contains, Option, Some, None, if◌then◌else◌, true};
 ghost use Rattle.std.specs.Ordering.{ord_max};
 ghost use Rattle.simplex_base.specs.Positions as positions;
 ghost use Rattle.simplex_detector.specs.Accusation.{round_cmp};
@@ -68,7 +68,7 @@ impl Window {
         retained.max(Round::new(self.ended.epoch(), View::zero()))
     }
 
-    /// Whether certificates of a round are taken: it is at the floor or above it, however late it is, and its view is not view 0.
+    /// Whether certificates of a round are taken: it is at the floor or above it, however late it is, and not of view 0.
     pub fn admits_certificate(&self, round: Round) -> bool
         ensures admitted { IsTrue result ↔ AdmitsCertificate self.now round }
         // In the finalized epoch they are those that its viewport admits.
@@ -87,7 +87,7 @@ impl Window {
     }
 
     /// Whether votes of a round are taken: it is retained, and near the last certificate of its epoch, if that is the current
-    /// epoch, the next or the last that ended. If the views after `current` can't be counted in 64 bits, no later vote is taken.
+    /// epoch, the next or the last that ended. If the views after `current` do not fit in 64 bits, no later vote is taken.
     pub fn admits_vote(&self, round: Round) -> bool
         ensures admitted { IsTrue result ↔ AdmitsVote self.now round }
         // In the epoch that is finalized and current they are the votes that its viewport admits.
@@ -161,10 +161,30 @@ impl Window {
     {
         self.finalized = self.finalized.max(round);
     }
+
+    /// Moves the window by a certificate of a round that certifies its subject, and finalizes the round or does not.
+    pub fn advance(&mut self, round: Round, finalizes: bool)
+        ensures moves { (start : windows.Window) (certified finalized : List positions.Round) →
+            IsInOrder start → self.old ≡ window_after start certified finalized →
+            self.new ≡ window_after start (certified ++ round ∷ [])
+            (finalized ++ (if finalizes then round ∷ [] else [])) }
+        ensures again { (start : windows.Window) (certified finalized : List positions.Round) →
+            self.old ≡ window_after start certified finalized → Contains certified round →
+            (finalizes ≡ true → Contains finalized round) → self.new ≡ self.old }
+        // The floor does not fall.
+        ensures rises { (start : windows.Window) (certified finalized : List positions.Round) →
+            IsInOrder start → self.old ≡ window_after start certified finalized →
+            IsTrue (is_from (floor_of self.old) (floor_of self.new)) }
+    {
+        self.certify(round);
+        if finalizes {
+            self.finalize(round);
+        }
+    }
 }
 
 /// Whether a round is at a floor or above it.
-fn is_at_least(round: Round, floor: Round) -> bool
+pub(crate) fn is_at_least(round: Round, floor: Round) -> bool
     ensures { result ≡ is_from floor round }
 {
     floor <= round

@@ -1,0 +1,4 @@
+use Rattle.simplex_monitor.proofs.monitor.Monitor.below.Goals as goal
+
+pub returns : goal.returns
+returns g c start committees told stream listens = listens.watches.below_is
