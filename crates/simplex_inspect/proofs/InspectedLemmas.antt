@@ -24,6 +24,11 @@ pub if_ok_then : {X E : Type 0} (r : Result X E) (P Q : X → Type 0) → ((x : 
 if_ok_then (Ok x) P Q f h = f x h
 if_ok_then (Err e) P Q f h = tt
 
+pub if_ok_both : {X E : Type 0} (r : Result X E) (P O Q : X → Type 0) → ((x : X) → P x → O x → Q x) → IfOk r P → IfOk r O →
+    IfOk r Q
+if_ok_both (Ok x) P O Q f h k = f x h k
+if_ok_both (Err e) P O Q f h k = tt
+
 pub if_err_then : {X E : Type 0} (r : Result X E) (P Q : E → Type 0) → ((e : E) → P e → Q e) → IfErr r P → IfErr r Q
 if_err_then (Ok x) P Q f h = tt
 if_err_then (Err e) P Q f h = f e h

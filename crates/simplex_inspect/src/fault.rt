@@ -8,12 +8,12 @@ ghost use Rattle.simplex_inspect.specs.Values.{IsJsonLine};
 
 use crate::parts::{end_line, write_bytes, write_number, write_text};
 use json::Writer;
-use simplex_audit::audit::Fault;
 use simplex_base::codec::Error;
+use simplex_stream::fault::Fault;
 use std::alloc::{AllocError, Global};
 
 /// At most this many bytes are shown from a fault on.
-const SHOWN: usize = 16;
+pub(crate) const SHOWN: usize = 16;
 
 /// The name of a refusal, and for `Invalid` its subject and its reason.
 fn refusal_name(alloc: Global, error: &Error) -> Result<String, AllocError>

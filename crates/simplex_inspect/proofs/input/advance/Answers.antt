@@ -6,6 +6,7 @@ use Rattle.simplex_scheme.specs.Committees.{Schedule}
 use Rattle.simplex_detector.specs.Scheme.{scheme_of}
 use Rattle.std.specs.List.{flat_map}
 use Rattle.std.specs.Io.KnownBytes.{Appends}
+use Rattle.simplex_stream.specs.Messages.{IsOver}
 use Rattle.simplex_stream.specs.StreamLaws.{front_dropped}
 use Rattle.simplex_stream.specs.Text.{AppendsBeginning}
 use Rattle.simplex_stream.specs.Watched.{inner_of}
@@ -33,7 +34,7 @@ lines g committees = let bound = bound_under g.S.CertificateScheme.keys committe
 
 pub returns-in_err-reading-clause-begun : goal.returns-in_err-reading-clause-begun
 returns-in_err-reading-clause-begun g c = if_err c.from_residual.result _ (λ input start far.
-    begun_now (lines g c.args.committees.now) input c.args.left.offset (bytes_held c.args.left.tail) start _ far)
+    begun_now (lines g c.args.committees.now) input c.args.left.offset (bytes_held c.args.left.tail) start _ far.written)
 
 pub returns-in_err-write_text-clause-begun : goal.returns-in_err-write_text-clause-begun
 returns-in_err-write_text-clause-begun g c =
@@ -43,8 +44,8 @@ returns-in_err-write_text-clause-begun g c =
     let w0 = g.W.Write.contents (inner_of c.args.writer.now) in
     let w1 = g.W.Write.contents (inner_of c.write_text.new.writer) in
     if_err c.from_residual-in_err-write_text.result _ (λ input start far.
-    begun_more (lines g c.args.committees.now) input c.args.left.offset (bytes_held c.args.left.tail) start w0 far r.rest.now
-    r.offset r.stop (string_bytes r.text) shown w1
+    begun_more (lines g c.args.committees.now) input c.args.left.offset (bytes_held c.args.left.tail) start w0 far.written
+    r.rest.now r.offset r.stop (string_bytes r.text) shown w1
     (subst (AppendsBeginning w0 w1) c.as_bytes.ensures.value c.in_err-write_text.ensures.beginning))
 
 pub returns-clause-written : goal.returns-clause-written
@@ -60,9 +61,14 @@ returns-clause-written g c = λ input start far.
     let size =
     ap length parts ∙ length-append (flat_map (lines g c.args.committees.now).format.encoding shown.messages) r.rest.now in
     let whole = ap length c.bytes-bytes.ensures in
-    subst (λ (left : List ℕ). IsWritten (lines g c.args.committees.now) input r.offset left start w1)
-    (sym (c.advance.ensures.held ∙ front_dropped (flat_map (lines g c.args.committees.now).format.encoding shown.messages)
-    r.rest.now (bytes_held c.args.left.tail) _ parts (omega (arith, size, whole))))
-    (advanced (lines g c.args.committees.now) input c.args.left.offset (bytes_held c.args.left.tail) start w0 far r.rest.now
-    r.offset r.stop (string_bytes r.text) shown w1
-    (subst (Appends w0 w1) c.as_bytes.ensures.value c.in_ok-write_text.ensures.written))
+    let left : bytes_held c.advance.new.self ≡ r.rest.now =
+    c.advance.ensures.held ∙ front_dropped (flat_map (lines g c.args.committees.now).format.encoding shown.messages)
+    r.rest.now (bytes_held c.args.left.tail) _ parts (omega (arith, size, whole)) in
+    record {
+      written = subst (λ (left : List ℕ). IsWritten (lines g c.args.committees.now) input r.offset left start w1) (sym left)
+          (advanced (lines g c.args.committees.now) input c.args.left.offset (bytes_held c.args.left.tail) start w0 far.written
+          r.rest.now r.offset r.stop (string_bytes r.text) shown w1
+          (subst (Appends w0 w1) c.as_bytes.ensures.value c.in_ok-write_text.ensures.written));
+      over = λ over. subst (IsOver (lines g c.args.committees.now).format.reading) (sym left)
+          (c.is_over-over.ensures over (bound_under g.S.CertificateScheme.keys c.args.committees.now) r.rest.now shown.stop_is);
+    }

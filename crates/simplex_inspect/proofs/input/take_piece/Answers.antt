@@ -9,7 +9,7 @@ use Rattle.simplex_inspect.specs.Inspected.{Lines, bound_under}
 use Rattle.simplex_inspect.specs.Line.{line_json}
 use Rattle.simplex_inspect.specs.Shown.{shown_of}
 use Rattle.simplex_inspect.proofs.InspectedLemmas.{if_err, if_ok_then, if_err_then, begun_now}
-use Rattle.simplex_inspect.proofs.InputLemmas.{held_more, begun_of_more}
+use Rattle.simplex_inspect.proofs.InputLemmas.{left_more, begun_of_more}
 use Rattle.simplex_inspect.proofs.input.take_piece.Given as given
 use Rattle.simplex_inspect.proofs.input.take_piece.Goals as goal
 
@@ -30,18 +30,23 @@ lines g committees = let bound = bound_under g.S.CertificateScheme.keys committe
 pub returns-in_err-left-clause-begun : goal.returns-in_err-left-clause-begun
 returns-in_err-left-clause-begun g c = if_err c.from_residual.result _ (λ input start far.
     begun_of_more (lines g c.args.committees.now) input c.args.piece.now start _
-    (begun_now (lines g c.args.committees.now) input c.args.left.offset (bytes_held c.args.left.tail) start _ far))
+    (begun_now (lines g c.args.committees.now) input c.args.left.offset (bytes_held c.args.left.tail) start _ far.written))
 
 pub returns-clause-written : goal.returns-clause-written
 returns-clause-written g c =
     if_ok_then c.advance.result _ _ (λ next h input start far. h (input ++ c.args.piece.now) start
-    (held_more (lines g c.args.committees.now) input c.args.left.offset c.in_ok-left.left.offset (bytes_held c.args.left.tail)
-    start _ c.args.piece.now (bytes_held c.in_ok-left.left.tail) c.in_ok-left.ensures.offset c.in_ok-left.ensures.held far))
+    (left_more (lines g c.args.committees.now) c.args.left c.in_ok-left.left input c.args.piece.now start _
+    c.in_ok-left.ensures.offset c.in_ok-left.ensures.held c.in_ok-left.ensures.over far))
     c.advance.ensures.written
 
 pub returns-clause-begun : goal.returns-clause-begun
 returns-clause-begun g c =
     if_err_then c.advance.result _ _ (λ e h input start far. h (input ++ c.args.piece.now) start
-    (held_more (lines g c.args.committees.now) input c.args.left.offset c.in_ok-left.left.offset (bytes_held c.args.left.tail)
-    start _ c.args.piece.now (bytes_held c.in_ok-left.left.tail) c.in_ok-left.ensures.offset c.in_ok-left.ensures.held far))
+    (left_more (lines g c.args.committees.now) c.args.left c.in_ok-left.left input c.args.piece.now start _
+    c.in_ok-left.ensures.offset c.in_ok-left.ensures.held c.in_ok-left.ensures.over far))
     c.advance.ensures.begun
+
+pub returns-then-not-is_due-clause-written : goal.returns-then-not-is_due-clause-written
+returns-then-not-is_due-clause-written g c = λ input start far.
+    left_more (lines g c.args.committees.now) c.args.left c.in_ok-left.left input c.args.piece.now start _
+    c.in_ok-left.ensures.offset c.in_ok-left.ensures.held c.in_ok-left.ensures.over far
