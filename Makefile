@@ -1,4 +1,4 @@
-.PHONY: run audit audit_stored inspect library install test quick check try
+.PHONY: run audit audit_stored audit_compact inspect library install test quick check try
 
 PREFIX ?= /usr/local
 
@@ -14,6 +14,11 @@ audit:
 audit_stored:
 	@.ci/built audit_stored
 
+# Proves and builds the program that writes a shorter stream in place of a stream, crates/audit_compact/out/audit_compact, and
+# runs it on the sample stream twice over.
+audit_compact:
+	@.ci/built audit_compact
+
 # Proves and builds the program that shows what is in a stream, crates/inspect/out/inspect, and runs it on the same stream.
 inspect:
 	@.ci/built inspect
@@ -22,10 +27,10 @@ inspect:
 library:
 	@.ci/library
 
-# Copies to PREFIX/bin what is built of the programs, by a target above or by `make test`, as simplex-audit, simplex-audit-stored
-# and simplex-inspect, and says which. The short names are links to them, if no other program has the name.
+# Copies to PREFIX/bin what is built of the programs, by a target above or by `make test`, as simplex-audit, simplex-audit-stored,
+# simplex-audit-compact and simplex-inspect, and says which. The short names are links to them, if no other program has the name.
 install:
-	@some=; bin="$(DESTDIR)$(PREFIX)/bin"; for it in audit audit_stored inspect; do \
+	@some=; bin="$(DESTDIR)$(PREFIX)/bin"; for it in audit audit_stored audit_compact inspect; do \
 	    test -x crates/$$it/out/$$it || continue; \
 	    name=simplex-$$(echo $$it | tr _ -); \
 	    install -D -m 755 crates/$$it/out/$$it "$$bin/$$name" || exit 1; \
@@ -35,7 +40,7 @@ install:
 	    ln -s $$name "$$bin/$$it" || exit 1; \
 	    echo "$$bin/$$it -> $$name"; \
 	done; \
-	test -n "$$some" || { echo 'No program is built yet: make audit, make audit_stored or make inspect' >&2; exit 1; }
+	test -n "$$some" || { echo 'No program is built yet: make audit, make audit_stored, make audit_compact or make inspect' >&2; exit 1; }
 
 # The gate: proves everything, tries the mutants, runs the tests and the programs, and then tries what was
 # built as its users would, and with each of its allocations made to fail.

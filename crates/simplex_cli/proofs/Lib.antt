@@ -1,7 +1,9 @@
 mod ArgumentLemmas
 mod AuditLemmas
 mod GroupLemmas
+mod CompactLemmas
 mod InspectLemmas
 mod KeyLemmas
 mod NoGroups
 mod ProgramLemmas
+mod WritingLemmas

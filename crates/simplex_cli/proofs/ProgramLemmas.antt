@@ -4,28 +4,37 @@ use Rattle.std.specs.Io.KnownBytes.{Keeps}
 use Rattle.simplex_audit.specs.Outcome.{ReaderUse, WriterUse}
 use Rattle.simplex_cli.specs.Answer.{Bases, Ending, status_of}
 use Rattle.simplex_cli.specs.Endings.{AreRefused, EndsAs}
-use Rattle.simplex_cli.specs.Inspecting.{LinesUnder}
+use Rattle.simplex_cli.specs.Arguments.{AreNotGiven}
+use Rattle.simplex_cli.specs.Compacting.{IsCompactedInput, IsCompactionBegun, NameNoFloor}
+use Rattle.simplex_cli.specs.Inspecting.{IsBegun, IsShown, LinesUnder}
 use Rattle.simplex_cli.specs.Status.{number_of}
 use Rattle.simplex_cli.specs.declared.program.Program.{Program}
-use Rattle.simplex_cli.specs.declared.program.Program.TheVariants.{Audit, Inspect}
+use Rattle.simplex_cli.specs.declared.program.Program.TheVariants.{Audit, Compact, Inspect}
 use Rattle.simplex_cli.specs.declared.status.Status.{Status}
 use Rattle.simplex_cli.specs.declared.status.Status.TheVariants as statuses
 use Rattle.simplex_cli.specs.declared.status.Failure.TheVariants as failures
 use Rattle.simplex_cli.proofs.AuditLemmas.{ends-refused}
-use Rattle.simplex_cli.proofs.InspectLemmas.{ends_refused}
+use Rattle.simplex_cli.proofs.WritingLemmas.{ends_refused}
 
 -- arguments that are refused end in the usage or in an allocation failure
 pub refused-by : (basis : Bases) (lines : LinesUnder) (program : Program) (words : List (List ℕ)) (reader : ReaderUse)
     (writer : WriterUse) (ending : Ending) → AreRefused program words → EndsAs basis lines program words reader writer ending
     → (ending ≡ Err failures.Usage) ⊎ (ending ≡ Err failures.OutOfMemory)
-refused-by basis lines (Audit verification) words reader writer ending = ends-refused basis words reader writer ending
-refused-by basis lines Inspect words reader writer ending = ends_refused lines words reader writer ending
+refused-by basis lines (Audit verification) words reader writer ending none =
+    ends-refused basis words reader writer ending none
+refused-by basis lines Compact words reader writer ending none =
+    ends_refused (NameNoFloor words) (IsCompactedInput basis words reader writer) (IsCompactionBegun basis words reader writer)
+    reader writer ending (λ fault h. none h.floor h.committees h.named) (λ h. none h.floor h.committees h.named)
+refused-by basis lines Inspect words reader writer ending none =
+    ends_refused (AreNotGiven words) (IsShown lines words reader writer) (IsBegun lines words reader writer) reader writer
+    ending (λ fault h. none h.committees h.given) (λ h. none h.committees h.given)
 
 -- an allocation failed before anything was written
 pub unstarted : (basis : Bases) (lines : LinesUnder) (program : Program) (words : List (List ℕ)) (reader : ReaderUse)
     (writer : WriterUse) → Keeps writer.before writer.after
     → EndsAs basis lines program words reader writer (Err failures.OutOfMemory)
 unstarted basis lines (Audit verification) words reader writer keeps = keeps
+unstarted basis lines Compact words reader writer keeps = inl keeps
 unstarted basis lines Inspect words reader writer keeps = inl keeps
 
 -- the statuses of these two

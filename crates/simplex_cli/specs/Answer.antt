@@ -56,6 +56,15 @@ status_of (Ok None) = statuses.Whole
 status_of (Ok (Some fault)) = statuses.Fault
 status_of (Err failure) = status_after failure
 
+-- what holds of the reader and of the writer after an ending of a program that writes while it reads: `Refused` holds of its
+-- arguments, `Whole` of a run that read and wrote all, and `Begun` of one that wrote a front of it, perhaps nothing or all
+abbrev pub WritingEnds : Type 0 → (Option Fault → Type 0) → Type 0 → ReaderUse → WriterUse → Ending → Type 0
+WritingEnds Refused Whole Begun reader writer (Ok fault) = Whole fault
+WritingEnds Refused Whole Begun reader writer (Err Usage) = Refused × Keeps writer.before writer.after
+WritingEnds Refused Whole Begun reader writer (Err Read) = (IsTrue reader.failed ⊎ GaveTooMuch reader) × Begun
+WritingEnds Refused Whole Begun reader writer (Err OutOfMemory) = Keeps writer.before writer.after ⊎ Begun
+WritingEnds Refused Whole Begun reader writer (Err Write) = IsTrue writer.failed × Begun
+
 -- what holds of the arguments, of the reader and of the writer after an ending of an audit
 abbrev pub Ends : Bases → List (List ℕ) → ReaderUse → WriterUse → Ending → Type 0
 Ends basis words reader writer (Ok fault) =

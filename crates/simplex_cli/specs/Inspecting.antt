@@ -1,14 +1,13 @@
 -- What `inspect` makes of its arguments and its input.
-use Rattle.std.specs.Prelude.{◌⊎◌, ℕ, IsTrue, List, Option, Ok, Err}
-use Rattle.std.specs.Io.KnownBytes.{IsAtEnd, Keeps}
+use Rattle.std.specs.Prelude.{ℕ, IsTrue, List, Option}
+use Rattle.std.specs.Io.KnownBytes.{IsAtEnd}
 use Rattle.simplex_schemes.specs.Plain.{PlainScheme}
 use Rattle.simplex_evidence.specs.declared.types.activity.Activity.{Activity}
 use Rattle.simplex_scheme.specs.Committees.{Schedule}
 use Rattle.simplex_stream.specs.declared.fault.Fault.{Fault}
 use Rattle.simplex_inspect.specs.Inspected.{Lines, AppendsText, AppendsPart, IsInput}
 use Rattle.simplex_audit.specs.Outcome.{ReaderUse, WriterUse}
-use Rattle.simplex_cli.specs.Answer.{PlainCertificate, GaveTooMuch, Ending}
-use Rattle.simplex_cli.specs.declared.status.Failure.TheVariants.{Usage, Read, Write, OutOfMemory}
+use Rattle.simplex_cli.specs.Answer.{PlainCertificate, Ending, WritingEnds}
 use Rattle.simplex_cli.specs.Arguments.{AreGiven, AreNotGiven}
 
 -- how messages are read under committees or without any, and the line of each
@@ -37,9 +36,5 @@ pub record IsBegun (lines : LinesUnder) (words : List (List ℕ)) (reader : Read
 
 -- what holds of the arguments, of the reader and of the writer after an ending
 abbrev pub InspectEnds : LinesUnder → List (List ℕ) → ReaderUse → WriterUse → Ending → Type 0
-InspectEnds lines words reader writer (Ok fault) = IsShown lines words reader writer fault
-InspectEnds lines words reader writer (Err Usage) = AreNotGiven words × Keeps writer.before writer.after
-InspectEnds lines words reader writer (Err Read) =
-    (IsTrue reader.failed ⊎ GaveTooMuch reader) × IsBegun lines words reader writer
-InspectEnds lines words reader writer (Err OutOfMemory) = Keeps writer.before writer.after ⊎ IsBegun lines words reader writer
-InspectEnds lines words reader writer (Err Write) = IsTrue writer.failed × IsBegun lines words reader writer
+InspectEnds lines words reader writer =
+    WritingEnds (AreNotGiven words) (IsShown lines words reader writer) (IsBegun lines words reader writer) reader writer

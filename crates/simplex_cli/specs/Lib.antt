@@ -1,5 +1,6 @@
 pub mod Arguments
 pub mod Answer
+pub mod Compacting
 pub mod Inspecting
 pub mod Endings
 pub mod Program

@@ -8,6 +8,7 @@ ghost use Rattle.simplex_cli.specs.Complaints.{complaint_of, said_of};
 ghost use Rattle.simplex_cli.specs.Endings.{AreRefused, EndsAs};
 
 use crate::auditing::audit_input;
+use crate::compacting::keep_news;
 use crate::complaints::{complaint_at, complaint_of};
 use crate::inspecting::show_input;
 use crate::program::Program;
@@ -41,6 +42,7 @@ fn process<R: Read, W: Write>(
 {
     match program {
         Program::Audit(verification) => audit_input(alloc, verification, arguments, input, output),
+        Program::Compact => keep_news(alloc, arguments, input, output),
         Program::Inspect => show_input(alloc, arguments, input, output),
     }
 }
@@ -90,9 +92,9 @@ pub(crate) fn conclude<E: Write>(
 /// The arguments are checked before anything is read. The complaint is written whole, unless a call
 /// of `errors` fails, or had failed before; the status is the same then.
 ///
-/// An audit writes nothing before the whole input is read and all memory is allocated. `inspect`
-/// writes lines while it reads, so after a failure a prefix of the text may have been written. A
-/// message's line is written after the read that completes it.
+/// An audit writes nothing before the whole input is read and all memory is allocated. `audit_compact` and `inspect` write
+/// while they read, so after a failure a front of what they write may have been written. The line of a message is written after
+/// the read that completes it.
 pub fn command<R: Read, W: Write, E: Write>(
     alloc: Global,
     program: Program,

@@ -20,7 +20,7 @@ fn joined(before: &str, name: &str, after: &str) -> ArrayString<64>
     text
 }
 
-/// The line on standard error for a failure, with its newline. The longest has 34 bytes.
+/// The line on standard error for a failure, with its newline. The longest has 59 bytes.
 pub fn complaint_of(program: Program, failure: Failure) -> ArrayString<64>
     ensures { result.bytes ≡ complaint_of program failure }
 {
@@ -33,7 +33,7 @@ pub fn complaint_of(program: Program, failure: Failure) -> ArrayString<64>
     }
 }
 
-/// The line on standard error for a fault at a byte, with its newline. The longest, of 44 bytes, fits.
+/// The line on standard error for a fault at a byte, with its newline. The longest, of 50 bytes, fits.
 pub fn complaint_at(program: Program, place: usize) -> ArrayString<64>
     ensures { result.bytes ≡ complaint_at program place }
 {

@@ -6,8 +6,8 @@ ghost use Rattle.simplex_schemes.specs.Plain.{PlainScheme};
 ghost use Rattle.simplex_cli.specs.Arguments.{AreGroups, BeginAsGroups, BeginsGroup, StandsBeforeGroup, epoch_text};
 
 use crate::keys::parse_committee;
+use crate::numbers::parse_number;
 use crate::status::Failure;
-use itoa::Buffer;
 use simplex_base::positions::Epoch;
 use simplex_schemes::plain::Plain;
 use std::alloc::{AllocError, Global};
@@ -43,12 +43,7 @@ fn parse_epoch(text: &str) -> Result<Epoch, Failure>
     let Some(digits) = text.strip_prefix('@') else {
         return Err(Failure::Usage);
     };
-    let Ok(epoch) = digits.parse::<u64>() else {
-        return Err(Failure::Usage);
-    };
-    if Buffer::new().format(epoch) != digits {
-        return Err(Failure::Usage);
-    }
+    let epoch = parse_number(digits)?;
     Ok(Epoch::new(epoch))
 }
 

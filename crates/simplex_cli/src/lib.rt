@@ -1,6 +1,6 @@
-//! The programs `audit`, `audit_stored` and `inspect` as functions over arguments and any reader and writers. [`arguments`]
+//! The programs `audit`, `audit_stored`, `audit_compact` and `inspect` as functions over arguments and any reader and writers. [`arguments`]
 //! reads their committees: by [`keys`] one for every epoch, or by [`groups`] one for each listed epoch; `inspect` may also have
-//! none. [`auditing`] and [`inspecting`] have what they do.
+//! none, and [`floors`] reads a floor before them. [`auditing`], [`compacting`] and [`inspecting`] have what they do.
 //! [`status`] has how they end, and [`complaints`] what they say then. [`command`] runs them over arguments and streams, and
 //! [`start`] over what their process is given.
 //!
@@ -10,11 +10,14 @@
 pub mod arguments;
 mod auditing;
 pub mod command;
+mod compacting;
 pub mod complaints;
 mod derived;
+pub mod floors;
 pub mod groups;
 mod inspecting;
 pub mod keys;
+mod numbers;
 pub mod program;
 pub mod start;
 pub mod status;

@@ -2,7 +2,7 @@ use Rattle.std.proofs.Common.{ap, Err}
 use Rattle.std.proofs.lemmas.Result.{err_from_is_err_and}
 use Rattle.std.proofs.KnownBytes.{Keeps-refl}
 use Rattle.simplex_audit.specs.Outcome.{reader_use, writer_use}
-use Rattle.simplex_cli.proofs.InspectLemmas.{given_stands, ends_without, ends_given_up}
+use Rattle.simplex_cli.proofs.InspectLemmas.{given_stands, inspect_given_up, inspect_without}
 use Rattle.simplex_cli.proofs.inspecting.show_input.Goals as goal
 
 pub returns-in_err-committees-clause-ends : goal.returns-in_err-committees-clause-ends
@@ -10,7 +10,7 @@ returns-in_err-committees-clause-ends g c =
     let p = err_from_is_err_and c.from_residual.result c.from_residual.ensures.1 in
     let input = c.args.input.now in
     let output = c.args.output.now in
-    rw (p.1, p.2) (ends_without _ _
+    rw (p.1, p.2) (inspect_without _ _
     (reader_use g.R.Read.remaining input input) (writer_use g.W.Write.contents output output)
     _ (λ e. c.in_err-committees.ensures.usage (ap Err e)) c.in_err-committees.ensures.failure (Keeps-refl _))
 
@@ -20,7 +20,7 @@ returns-in_err-fault-clause-ends g c =
     let input = c.inspect_input.new.reader in
     let output = c.inspect_input.new.writer in
     let (bytes, is, begun) = c.in_err-fault.ensures.begun in
-    rw (p.1, p.2) (ends_given_up _ _
+    rw (p.1, p.2) (inspect_given_up _ _
     (reader_use g.R.Read.remaining c.args.input.now input) (writer_use g.W.Write.contents c.args.output.now output)
     c.in_err-fault.field-0.0
     (λ e. c.in_err-fault.ensures.read_failed.1 (ap Err e)) (λ e. c.in_err-fault.ensures.too_long (ap Err e))
