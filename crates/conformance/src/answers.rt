@@ -3,6 +3,7 @@
 use crate::audits::{audit_vector, committees, feed_vector};
 use crate::clients::{follow, store};
 use crate::floors::{compact_vector, floor, prune_vector};
+use crate::news::listen_vector;
 use conformance_messages::answers::message_vector;
 use conformance_messages::vectors::{Unanswered, bytes};
 use simplex_schemes::marked::MarkedDigest;
@@ -45,6 +46,12 @@ fn answered(alloc: Global, words: &[&str]) -> Result<String, Unanswered> {
             &committees(alloc, *who)?,
             floor(*at, *place)?,
             bytes(alloc, stream)?.as_slice(),
+        ),
+        ["listen", who, at, place, pieces @ ..] => listen_vector::<_, MarkedDigest>(
+            alloc,
+            &committees(alloc, *who)?,
+            floor(*at, *place)?,
+            pieces,
         ),
         ["follow", who, encodings @ ..] => {
             follow::<_, MarkedDigest>(alloc, &committees(alloc, *who)?, encodings)

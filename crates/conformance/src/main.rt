@@ -5,6 +5,7 @@ mod answers;
 mod audits;
 mod clients;
 mod floors;
+mod news;
 
 use std::io;
 

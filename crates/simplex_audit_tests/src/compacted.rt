@@ -29,17 +29,18 @@ const SECOND: &[u8] = &[
 ];
 
 /// A finalize of participant 3 that is not valid, and then the same, valid. A third notarize of 2, and evidence of the first
-/// two. The nullification by 1, 2 and 3, and the finalization again.
+/// two. The nullification by 1, 2 and 3, and the finalization again. A certificate of two votes, of which one is valid.
 const THIRD: &[u8] = &[
     5, 0, 10, 5, 6, 3, 0xbb, //
     5, 0, 10, 5, 6, 3, 0xaa, //
     0, 0, 10, 5, 8, 2, 0xaa, //
     7, 0, 10, 5, 6, 2, 0xaa, 0, 10, 5, 7, 2, 0xaa, //
     4, 0, 10, 3, 1, 0xaa, 2, 0xaa, 3, 0xaa, //
-    6, 0, 10, 5, 6, 3, 0, 0xaa, 1, 0xaa, 2, 0xaa,
+    6, 0, 10, 5, 6, 3, 0, 0xaa, 1, 0xaa, 2, 0xaa, //
+    1, 0, 10, 5, 7, 2, 0, 0xaa, 1, 0xbb,
 ];
 
-/// The messages of the logs, one after the other, that are news.
+/// What is news in the logs, one after the other. Of the last certificate it is a vote.
 const KEPT: &[u8] = &[
     0, 0, 10, 5, 6, 0, 0xaa, //
     0, 0, 10, 5, 6, 1, 0xaa, //
@@ -49,7 +50,8 @@ const KEPT: &[u8] = &[
     0, 0, 10, 5, 7, 2, 0xaa, //
     6, 0, 10, 5, 6, 3, 0, 0xaa, 1, 0xaa, 2, 0xaa, //
     5, 0, 10, 5, 6, 3, 0xaa, //
-    4, 0, 10, 3, 1, 0xaa, 2, 0xaa, 3, 0xaa,
+    4, 0, 10, 3, 1, 0xaa, 2, 0xaa, 3, 0xaa, //
+    0, 0, 10, 5, 7, 0, 0xaa,
 ];
 
 /// Some bytes, one after the other.

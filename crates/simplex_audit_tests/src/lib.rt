@@ -1,13 +1,11 @@
 //! Tests of the audit and of the calls over it: the audit beside an auditor by its definition, which is written plainly, how
 //! many attestations are verified, and how often a scheme is asked about certificates, how many votes are recorded, a large
-//! committee, a long certificate byte by byte, rounds that are given up, evidence that is told once, long payloads, who is
+//! committee, a long certificate byte by byte, rounds that are given up, evidence and splits that are told once, long payloads, who is
 //! suspect, the records of a report, what a ledger stores, what a compaction keeps, and calls that allocate nothing.
 #![tactic(auto)]
 
 #[cfg(test)]
 mod against_model;
-#[cfg(test)]
-mod alerts;
 #[cfg(test)]
 mod bisected;
 #[cfg(test)]
@@ -17,8 +15,9 @@ mod counted;
 #[cfg(test)]
 mod deferred;
 #[cfg(test)]
-mod model;
+mod listener;
 #[cfg(test)]
+mod model;
 mod outcome;
 #[cfg(test)]
 mod pieces;

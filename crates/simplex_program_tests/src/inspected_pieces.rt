@@ -135,6 +135,40 @@ fn ample_each_flush_in_turn(rt: HostRuntime) -> Result<(), Fail> {
     Ok(())
 }
 
+/// Bytes that begin with no message's tag.
+const NO_MESSAGE: [u8; 21] = [10; 21];
+
+/// What is written of them if they come in reads of five bytes.
+fn shows<S: Listing<D>, D: Digest>(
+    rt: &impl Abort,
+    alloc: Global,
+    committees: &Option<Committees<S>>,
+    reading: Trouble,
+) -> Target {
+    let mut reader = Watched::new(Source::new(&NO_MESSAGE, 5, reading));
+    let mut writer = Watched::new(Target::steady());
+    let answer = inspect_input::<S, D, Source, Target>(alloc, committees, &mut reader, &mut writer);
+    assert_eq!(rt; answer.is_err(), reader.failed());
+    writer.into_inner()
+}
+
+/// The line of a final fault is written and flushed after the read that gives the last of its 16 bytes, and before the next
+/// read: where an earlier read fails nothing is written, and where a later one fails the line is.
+#[test]
+fn ample_final_fault_is_shown_at_once(rt: HostRuntime) -> Result<(), Fail> {
+    let committees = Some(marked(rt.alloc(), 4)?);
+    let whole = shows::<_, MarkedDigest>(&rt, rt.alloc(), &committees, Trouble::Never);
+    assert!(rt; whole.is_flushed() && !whole.held().is_empty());
+    for call in 0..6 {
+        let reading = Trouble::Once(call, ErrorKind::Other);
+        let target = shows::<_, MarkedDigest>(&rt, rt.alloc(), &committees, reading);
+        let want = if call < 4 { &[] } else { whole.held() };
+        assert_eq!(rt; target.held(), want);
+        assert!(rt; call < 4 || target.is_flushed());
+    }
+    Ok(())
+}
+
 /// Where a write fails, or takes nothing, nothing more is written, flushed or read.
 #[test]
 fn ample_writers_that_fail(rt: HostRuntime) -> Result<(), Fail> {

@@ -93,7 +93,7 @@ fn reads_few_times<S: Listing<D>, D: Digest>(
     Ok(())
 }
 
-/// Messages, and then bytes after a fault, which are held. Bodies that read a few bytes a call are refused.
+/// Messages, and then bytes after a fault, which are dropped. Bodies that read a few bytes a call are refused.
 #[test]
 fn ample_a_megabyte_takes_few_reads(rt: HostRuntime) -> Result<(), Fail> {
     let alloc = rt.alloc();
