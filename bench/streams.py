@@ -9,8 +9,10 @@ of each kind. `honest` is as `votes` without the second votes, and `forged` has 
 `descending` and `unordered` are as `honest`, with the signers of a round from the last to the first, or in a random order.
 
 `network` is what three nodes send on, one after the other in each round. Each has in an order of its own a notarize of each
-participant, the notarization by the first quorum of these, then a finalize of each and the finalization. `shuffled` has these
-messages of all rounds in a random order, and a liar: in each round one participant notarizes a second payload too.
+participant, the notarization by the first quorum of these, then a finalize of each and the finalization. `node` is what one of
+them sends on. `shuffled` has the messages of `network` of all rounds in a random order, and a liar: in each round one
+participant notarizes a second payload too. `wrapped` has for each participant and round a notarization that lists its notarize,
+and zeros as the signature of every other participant.
 
 The base of the namespaces is `bench`, and participant i has the key whose 32 bytes are the number i, the highest byte first,
 unless a NAMESPACE and a KEY for each participant are given, of 64 hexadecimal digits: these are numbered in ascending order, as
@@ -18,15 +20,17 @@ unless a NAMESPACE and a KEY for each participant are given, of 64 hexadecimal d
 
 Floods are SHAPEs too: `member` (participant 0 votes once in each round), `two` (and for a second payload), `five` (and with a
 nullify and two finalizes), `unsigned` (a notarize of participant 0 in each round, whose signature is 32 zeros), `again` (the
-first vote of `member`, so many times), and `zeros` and `random` (1000 such bytes for each round).
+first vote of `member`, so many times), `zeros` and `random` (1000 such bytes for each round), and `fault` (the first vote of
+`member` and a byte that begins no message, and then the bytes of `zeros`).
 """
 import hashlib
 import os
 import random
 import sys
 
-SHAPES = ("votes", "honest", "descending", "unordered", "forged", "certificates", "fork", "all", "network", "shuffled")
-FLOODS = ("member", "two", "five", "unsigned", "again", "zeros", "random")
+SHAPES = ("votes", "honest", "descending", "unordered", "forged", "certificates", "fork", "all", "node", "network", "shuffled",
+          "wrapped")
+FLOODS = ("member", "two", "five", "unsigned", "again", "zeros", "random", "fault")
 NODES = 3
 BASE, KEYS = b"bench", []
 NOTARIZE, NULLIFY, FINALIZE = (BASE + suffix for suffix in (b"_NOTARIZE", b"_NULLIFY", b"_FINALIZE"))
@@ -108,6 +112,15 @@ def sent_on(node, participants, view):
         yield bytes([tag + 1]) + certificate(name, sorted(order[:quorum]), proposed)
 
 
+def wrapped(participants, view):
+    """Of each participant's notarize a notarization that lists it, and an invalid signature of every other participant."""
+    proposed, zeros = proposal(view, b"first"), bytes(32)
+    junk = [number(i) + zeros for i in range(participants)]
+    for i in range(participants):
+        listed = [*junk[:i], attestation(NOTARIZE, i, proposed), *junk[i + 1 :]]
+        yield b"\x01" + proposed + number(participants) + b"".join(listed)
+
+
 def signers(shape, participants, view):
     """Who votes in a round, in order."""
     if shape == "unordered":
@@ -115,9 +128,17 @@ def signers(shape, participants, view):
     return range(participants)[:: -1 if shape == "descending" else 1]
 
 
+# shapes whose rounds have a function of their own
+KINDS = {
+    "all": every_kind,
+    "node": lambda participants, view: sent_on(0, participants, view),
+    "wrapped": wrapped,
+}
+
+
 def messages(shape, participants, view):
-    if shape == "all":
-        yield from every_kind(participants, view)
+    if shape in KINDS:
+        yield from KINDS[shape](participants, view)
         return
     proposed, second = proposal(view, b"first"), proposal(view, b"second")
     if shape in ("network", "shuffled"):
@@ -138,7 +159,7 @@ def messages(shape, participants, view):
 
 
 def flood(shape, view):
-    if shape == "zeros":
+    if shape == "zeros" or shape == "fault" and view > 1:
         return bytes(1000)
     if shape == "random":
         return random.Random(view).randbytes(1000)
@@ -150,6 +171,8 @@ def flood(shape, view):
     first = b"\x00" + vote(NOTARIZE, 0, proposed)
     if shape in ("member", "again"):
         return first
+    if shape == "fault":
+        return first + b"\xff" + bytes(1000)
     first += b"\x00" + vote(NOTARIZE, 0, other)
     if shape == "two":
         return first

@@ -1,6 +1,6 @@
 #!/usr/bin/env python3
 """vectors.py VECTORS ANSWERS [WORKED]: writes vectors of `sign`, `assemble`, `many`, `subject`, `derive`, `decode`, `cut`, plain `verify`,
-`batch`, `resolve`, `hear`, `follow`, `store`, `prune`, `compact` and `audit`, and their answers, as docs/CONFORMANCE.md has them. With
+`batch`, `resolve`, `hear`, `follow`, `store`, `prune`, `listen`, `compact` and `audit`, and their answers, as docs/CONFORMANCE.md has them. With
 WORKED, a file of vectors, there are also vectors of `cut` of the messages in those, and of `feed` of their streams in pieces. It is a
 model of its own: it reads and signs by what docs/FORMAT.md says.
 """
@@ -373,8 +373,8 @@ def round_of(kind, subject):
 
 def record(kept, who, votes, base=None):
     """Keeps of some votes each good one that is the earliest of its round, signer and kind or the earliest there with another
-    proposal. Returns whether there is one."""
-    is_news = False
+    proposal. Returns these."""
+    news = []
     for kind, (subject, one) in votes:
         at = round_of(kind, subject)
         if not is_good(base, members(who)(at[0]), kind, subject, one):
@@ -382,8 +382,8 @@ def record(kept, who, votes, base=None):
         found = kept.setdefault((at, one[0]), {}).setdefault(kind, [])
         if len(found) < 2 and all(subject != other for other, _ in found):
             found.append((subject, one))
-            is_news = True
-    return is_news
+            news.append((kind, (subject, one)))
+    return news
 
 
 def keep(who, messages):
@@ -463,6 +463,29 @@ def prune(who, floor, pieces):
     return "votes {}; {}".format(*audited(who, b"".join(pieces), floor))
 
 
+def arising(who, messages, floor):
+    """The lines of the evidence and of the splits of some messages, from a floor on."""
+    evidence = [one for one in evidence_of(keep(who, messages)) if one[0] >= floor]
+    return list(evidence_lines(evidence)), list(split_lines(who, messages, evidence, floor))
+
+
+def listen(who, floor, pieces):
+    """What arises in each piece, message by message: the lines that the messages up to it have and those before it have not."""
+    said, before, read, stream = ["told"], ([], []), 0, b""
+    for piece in pieces:
+        stream += piece
+        messages = read_messages(who, stream)[0]
+        told = ([], [])
+        for count in range(read + 1, len(messages) + 1):
+            lines = arising(who, messages[:count], floor)
+            for known, now, new in zip(before, lines, told):
+                new += [line for line in now if line not in known]
+            before = lines
+        read = len(messages)
+        said.append("".join(f"; {line}" for line in (*told[0], *told[1])))
+    return " |".join(said)
+
+
 def certify(certified, who, certificate, base=None):
     """Whether what a certificate certifies is the first of its kind in its round or splits the round, where none did before."""
     one = certified_by(who, certificate, base)
@@ -475,21 +498,34 @@ def certify(certified, who, certificate, base=None):
     return not is_split and (is_first or any(contradict(one, other) for other in before))
 
 
-def news(who, messages, base=None):
-    """Of each message whether it is news when it comes: whether one of its votes is kept, or what it certifies is new."""
+def vote_alone(kind, vote):
+    """A vote as a message of its own."""
+    subject, (signer, given) = vote
+    return bytes([{"notarize": 0, "nullify": 3, "finalize": 5}[kind]]) + spelled_subject(kind, subject) + number(signer) + given
+
+
+def left_of(who, messages, base=None):
+    """Of each message, given with its bytes, the messages that are left when it comes. A certificate of which no subject is new leaves its
+    votes that are kept, each as a message of its own. Any other message is left whole, if what it certifies is new or one of
+    its votes is kept."""
     kept, certified = {}, {}
-    for votes, certificate in messages:
-        has_news = record(kept, who, votes, base)
-        yield certify(certified, who, certificate, base) or has_news
+    for data, (votes, certificate) in messages:
+        votes_kept = record(kept, who, votes, base)
+        if certify(certified, who, certificate, base):
+            yield [data]
+        elif certificate is not None:
+            yield [vote_alone(kind, vote) for kind, vote in votes_kept]
+        else:
+            yield [data] if votes_kept else []
 
 
 def compact(who, floor, stream):
-    """The messages of a stream that are news, of the rounds from a floor on."""
+    """What is left of the messages of a stream, of the rounds from a floor on."""
     found, rest, fault = read_encoded(bound_of(who), stream)
     left = b""
-    for (data, (votes, _)), is_news in zip(found, news(who, (message for _, message in found))):
+    for (_, (votes, _)), messages in zip(found, left_of(who, found)):
         kind, (subject, _) = votes[0]
-        left += data if is_news and round_of(kind, subject) >= floor else b""
+        left += b"".join(messages) if round_of(kind, subject) >= floor else b""
     return "; ".join([left.hex(), f"read {len(found)}", *fault_words(stream, rest, fault)])
 
 
@@ -905,6 +941,7 @@ def vectors_of_floors():
         for floor in floors:
             words = f"{who} {floor[0]} {floor[1]}"
             yield f"prune {words} {' '.join(data.hex() for data in pieces)}".strip(), prune(who, floor, pieces)
+            yield f"listen {words} {' '.join(data.hex() for data in pieces)}".strip(), listen(who, floor, pieces)
             stream = b"".join(pieces)
             for _ in range(2):
                 answer = compact(who, floor, stream)
@@ -912,6 +949,7 @@ def vectors_of_floors():
                 stream = bytes.fromhex(answer.split(";")[0])
     for words in ("4 0", "4 0 -1", "4 0 18446744073709551616", "0 0 0", "1:4,0:4 0 0", "4 0 0 0"):
         yield f"prune {words}", "no row"
+        yield f"listen {words}", "no row"
         yield f"compact {words}", "no row"
 
 
