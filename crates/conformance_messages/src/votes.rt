@@ -53,8 +53,8 @@ fn scheme_vector<S: Scheme<D>, D: Digest + 'static>(
     }
 }
 
-/// Whether the message that a prefix of the bytes encodes is of a kind that is verified before it is reported, and whether it is
-/// valid.
+/// Whether the message that a prefix of the bytes encodes is of a kind that is verified before it is reported, and whether it
+/// is valid.
 fn verify<S: Scheme<D>, D: Digest>(
     alloc: Global,
     scheme: &S,

@@ -121,9 +121,10 @@ impl<S: Listing<D>, D: Digest> InputCompactor<S, D> {
     }
 }
 
-/// Compacts all that a reader gives, as `compact` of the module `compaction` does, and writes what is kept. The input is read in
-/// pieces of up to 65,536 bytes. What is kept of a piece is written and flushed before the next one is read. Held are the state of
-/// the messages so far and the bytes after the last whole message. If these are refused whatever follows, the rest is dropped.
+/// Compacts all that a reader gives, as `compact` of the module `compaction` does, and writes what is kept. The input is read
+/// in pieces of up to 65,536 bytes. What is kept of a piece is written and flushed before the next one is read. Held are the
+/// state of the messages so far and the bytes after the last whole message. If these are refused whatever follows, the rest is
+/// dropped.
 ///
 /// `Read` exactly where a read failed, `Write` exactly where a write or a flush failed; an interrupted call counts as failed.
 /// `OutOfMemory` where an allocation failed, and `TooLong` where the reader gave more than 2^64 - 1 bytes. After each of them

@@ -188,8 +188,8 @@ pub fn compact<S: Listing<D>, D: Digest>(
     })
 }
 
-/// The bound under which messages are read and compacted. Under it the format is lawful, and what is kept of a stream's messages
-/// is the stream's compaction.
+/// The bound under which messages are read and compacted. Under it the format is lawful, and what is kept of a stream's
+/// messages is the stream's compaction.
 pub(crate) fn compacting_bound<S: Listing<D>, D: Digest>(committees: &Committees<S>) -> u32
     ensures value { result ≡ (⟦<S as Audited<D>>⟧.basis committees.now).bound }
     ensures readable { IsLawful (⟦<S as Audited<D>>⟧.basis committees.now).format }

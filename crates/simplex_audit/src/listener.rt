@@ -64,8 +64,8 @@ impl<S: Listing<D>, D: Digest> Visitor<Activity<S, D>> for Watcher<S, D> {
     ghost left = { λ _ _ _ _ _ _ room. room };
 }
 
-/// An auditor that tells what arises. It holds what an [`Auditor`] holds, whom the evidence so far accuses, how many are accused
-/// in each split round, and what was not told yet.
+/// An auditor that tells what arises. It holds what an [`Auditor`] holds, whom the evidence so far accuses, how many are
+/// accused in each split round, and what was not told yet.
 #[derive(Drop)]
 pub struct Listener<'a, S: SchemeTypes, D: Digest> {
     auditor: Auditor<'a, S, D>,
@@ -90,9 +90,9 @@ impl<'a, S: Listing<D>, D: Digest> Listener<'a, S, D> {
         }
     }
 
-    /// The listener of the stream with this piece appended, as [`Auditor::feed`]. What a look for news costs depends on the votes
-    /// of the piece, and not on the rounds that are held. `AllocError` is returned only after an allocation failed, and then
-    /// there is no listener.
+    /// The listener of the stream with this piece appended, as [`Auditor::feed`]. What a look for news costs depends on the
+    /// votes of the piece, and not on the rounds that are held. `AllocError` is returned only after an allocation failed, and
+    /// then there is no listener.
     pub fn feed(self, piece: &[u8]) -> Result<Self, AllocError>
         requires { fed_of (auditor_of self) + length piece.now < 2 ^ 64 }
         ensures fed { IfOk result (λ next.
@@ -130,8 +130,8 @@ impl<'a, S: Listing<D>, D: Digest> Listener<'a, S, D> {
     }
 
     /// Takes what arose and was not told yet: the evidence, and the splits, a round again when more participants are accused
-    /// there. What was taken so far is together exactly the evidence of the stream from the floor on, each once, and the splits as
-    /// often as they changed, however the stream was cut into pieces.
+    /// there. What was taken so far is together exactly the evidence of the stream from the floor on, each once, and the
+    /// splits as often as they changed, however the stream was cut into pieces.
     pub fn news(&mut self) -> News<S, D>
         ensures fed { fed_of (auditor_of self.new) ≡ fed_of (auditor_of self.old) }
         ensures tells { (floor : positions.Round) (committees : Schedule S) (stream : List ℕ)

@@ -1,7 +1,8 @@
 //! Tests of the audit and of the calls over it: the audit beside an auditor by its definition, which is written plainly, how
 //! many attestations are verified, and how often a scheme is asked about certificates, how many votes are recorded, a large
-//! committee, a long certificate byte by byte, rounds that are given up, evidence and splits that are told once, long payloads, who is
-//! suspect, the records of a report, what a ledger stores, what a compaction keeps, and calls that allocate nothing.
+//! committee, a long certificate byte by byte, rounds that are given up, evidence and splits that are told once, long
+//! payloads, who is suspect, the records of a report, what a ledger stores, what a compaction keeps, and calls that allocate
+//! nothing.
 #![tactic(auto)]
 
 #[cfg(test)]
@@ -18,6 +19,8 @@ mod deferred;
 mod listener;
 #[cfg(test)]
 mod model;
+#[cfg(test)]
+mod monitor;
 mod outcome;
 #[cfg(test)]
 mod pieces;

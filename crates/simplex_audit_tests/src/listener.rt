@@ -10,9 +10,9 @@ use std::alloc::{AllocError, Global};
 use std::process::Abort;
 use std::test::Fail;
 
-/// Messages of view 9, and what each completes: two notarizes of participant 1 and the first again; a finalize of participant 2
-/// and its nullify; a notarize of participant 3, and a certificate that lists another one of it; two finalizes of participant 2;
-/// a certificate that splits the round; and another notarize of participant 2.
+/// Messages of view 9, and what each completes: two notarizes of participant 1 and the first again; a finalize of participant
+/// 2 and its nullify; a notarize of participant 3, and a certificate that lists another one of it; two finalizes of
+/// participant 2; a certificate that splits the round; and another notarize of participant 2.
 const MESSAGES: &[&[u8]] = &[
     &[0, 0, 9, 5, 6, 1, 0xaa],
     &[0, 0, 9, 5, 7, 1, 0xaa],

@@ -199,8 +199,8 @@ fn ample_nothing_of_an_honest_stream_is_verified(rt: HostRuntime) -> Result<(), 
     // Nor where it is a stored stream.
     let counted = stored_counts(alloc, &committees, stream.as_slice())?;
     assert_eq!(rt; (counted, verified(&committees)?), ((12_500, 0), 0));
-    // An audit verifies each vote and each certificate once. A run reads 65,536 bytes at a time, and a vote lies across the first
-    // two of these pieces.
+    // An audit verifies each vote and each certificate once. A run reads 65,536 bytes at a time, and a vote lies across the
+    // first two of these pieces.
     let longer = stream_of(alloc, &[NULLIFY, stream.as_slice()])?;
     assert_eq!(rt; counts(&rt, alloc, longer.as_slice(), 12_501)?, (17_501, 0));
     // One vote that contradicts has its signer's votes and the certificate of its round verified.

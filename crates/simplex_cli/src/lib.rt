@@ -1,8 +1,8 @@
-//! The programs `audit`, `audit_stored`, `audit_compact` and `inspect` as functions over arguments and any reader and writers. [`arguments`]
-//! reads their committees: by [`keys`] one for every epoch, or by [`groups`] one for each listed epoch; `inspect` may also have
-//! none, and [`floors`] reads a floor before them. [`auditing`], [`compacting`] and [`inspecting`] have what they do.
-//! [`status`] has how they end, and [`complaints`] what they say then. [`command`] runs them over arguments and streams, and
-//! [`start`] over what their process is given.
+//! The programs `audit`, `audit_stored`, `audit_compact` and `inspect` as functions over arguments and any reader and writers.
+//! [`arguments`] reads their committees: by [`keys`] one for every epoch, or by [`groups`] one for each listed epoch;
+//! `inspect` may also have none, and [`floors`] reads a floor before them. [`auditing`], [`compacting`] and [`inspecting`]
+//! have what they do. [`status`] has how they end, and [`complaints`] what they say then. [`command`] runs them over arguments
+//! and streams, and [`start`] over what their process is given.
 //!
 //! Each program rests on [`start::start`] alone, and names itself by [`program::Program`].
 #![tactic(auto)]

@@ -1,19 +1,19 @@
 -- Evidence as it arises is noted once, message by message.
-use Rattle.simplex_detector.proofs.Prelude.{Accusation, Activity, SignerInRound, exact_pairs, exact_unsigned, list_any, ◌||◌, All, All-contains, All-filter, All-push, AllByRecursion, Attestation, Bool, Contains, Scheme, rules_under, vote_on, Contains-append_cases, Contains-append_left, Contains-append_right, BTreeSet, Conflicting_finalize, Conflicting_notarize, Detector, Equal, EquivocationKind, Nullify_finalize, Ordering, kind_rank, nat_cmp, not, ordering_then, signer_cmp, signer_in, tied_itself, in_rounds, is_from, filter_map, and_left, same_Some, Equivocation, IsEquivalence, Judging, List, None, Option, Recalls, Round, Rules, Schedule, SignedVote, Some, [], accused_by, accused_cmp, activity_round, and_parts, ap, append-nil, append_assoc, arith, cond, contains, contradicts, evidence_from, evidence_of, message_is_news, false, false_from_ne_true, false≢true, filter, filter-append, inl, inr, is_accused, is_eq, is_of, is_some, is_valid, length, length-append, map, map-append, or_right, or_left, refl, round_of, subst, sym, true, valid_votes, votes_in, ℕ, ⊎_elim, ◌++◌, ◌+◌, ◌&&◌, ◌∙◌, ◌∷◌, ◌≡◌, ◌⊎◌}
+use Rattle.simplex_detector.proofs.Prelude.{Accusation, Activity, RecallsAt, RoundState, get, round_cmp, SignerInRound, exact_pairs, exact_unsigned, list_any, ◌||◌, All, All-contains, All-filter, All-push, AllByRecursion, Attestation, Bool, Contains, Scheme, rules_under, vote_on, Contains-append_cases, Contains-append_left, Contains-append_right, BTreeSet, Conflicting_finalize, Conflicting_notarize, Detector, Equal, EquivocationKind, Nullify_finalize, Ordering, kind_rank, nat_cmp, not, ordering_then, signer_cmp, signer_in, tied_itself, in_rounds, is_from, filter_map, and_left, same_Some, Equivocation, IsEquivalence, Judging, List, None, Option, Recalls, Round, Rules, Schedule, SignedVote, Some, [], accused_by, accused_cmp, activity_round, and_parts, ap, append-nil, append_assoc, arith, cond, contains, contradicts, evidence_from, evidence_of, message_is_news, false, false_from_ne_true, false≢true, filter, filter-append, inl, inr, is_accused, is_eq, is_of, is_some, is_valid, length, length-append, map, map-append, or_right, or_left, refl, round_of, subst, sym, true, valid_votes, votes_in, ℕ, ⊎_elim, ◌++◌, ◌+◌, ◌&&◌, ◌∙◌, ◌∷◌, ◌≡◌, ◌⊎◌}
 use Rattle.std.specs.Int.{from_bool}
 use Rattle.simplex_detector.proofs.EvidenceLemmas.{accused-from_evidence, accused_from_votes, evidence-from_accused, evidence_is, valid_votes-push, votes_from_accused}
 use Rattle.simplex_detector.proofs.Filters.{filter_none}
 use Rattle.simplex_detector.proofs.CountLemmas.{filter_filtered}
 use Rattle.simplex_detector.proofs.IndependenceLemmas.{accused-from_within, is_vote_of, same_evidence-within, votes_in_rounds}
-use Rattle.simplex_detector.proofs.Lists.{Contains-cons_cases, Contains-filter_map, Contains-first, Contains-from_filter, Contains-from_map, Contains-map, Contains-none, each, made_sound, same_bool, some_from_is_some}
-use Rattle.simplex_detector.proofs.ReportLemmas.{accuses_own, own_name}
+use Rattle.simplex_detector.proofs.Lists.{Contains-cons_cases, Contains-filter_map, Contains-first, Contains-flat_map, Contains-from_filter, Contains-from_map, Contains-map, Contains-none, each, made_sound, same_bool, some_from_is_some}
+use Rattle.simplex_detector.proofs.ReportLemmas.{accuses_own, found_in_round, names_in, none_against, own_name}
 use Rattle.simplex_detector.proofs.NewsLemmas.{news_changes_state}
 use Rattle.simplex_detector.proofs.RecordedLemmas.{evidence_of-slots}
 use Rattle.simplex_detector.proofs.Places.{accused_cmp_total, exact_accused, exact_signers, is_of-true, is_of-from}
 use Rattle.simplex_detector.proofs.StayLemmas.{evidence_of-stays}
+use Rattle.simplex_detector.specs.Rounds.{found_against}
 use Rattle.simplex_detector.specs.Accusation.{accusations_of, key_cmp, key_of, way_of, way_rank}
-use Rattle.simplex_detector.specs.Evidence.{evidence_against}
-use Rattle.simplex_detector.specs.Alerts.{IsEachOnce, NotesAll, NotesMessage, NotesSigners, Tells, TellsSome, TellsUntold, has_arisen, times_accused, untold}
+use Rattle.simplex_detector.specs.Alerts.{IsEachOnce, NotesAll, NotesMessage, Tells, TellsSome, TellsUntold, has_arisen, times_accused, untold}
 use Rattle.simplex_evidence.specs.Activity.{contents_of}
 use Rattle.simplex_evidence.specs.Contents.{AreInConflict, ContentsValue, OneCertificate, OneVote, TwoVotes, contents_round, contents_votes}
 use Rattle.simplex_detector.specs.declared.alerts.Alerts.{Alerts}
@@ -208,57 +208,6 @@ tells_untold taken old new is none same = record {
       record { arisen = λ n. same n ∙ tells.arisen n; all = subst (IsEachOnce eq vs) all tells.all };
 }
 
--- ---- the evidence against a signer, and against several
-
-module _ {S D C P G : Type 0} (rules : Judging → Schedule S → Rules S D C P G) (detector : Detector S D P G) (round : Round)
-  where
-    -- what a detector has against a signer is noted
-    pub notes_signer : (signer : ℕ) (found : List (Equivocation D G)) (old new : Alerts S D P G) →
-        ((judging : Judging) (schedule : Schedule S) (messages : List (Activity S D C P G)) →
-        Recalls (rules judging schedule) messages detector →
-        found ≡ evidence_against (rules judging schedule).eq (valid_votes (rules judging schedule) messages) round signer) →
-        NotesAll found old new → NotesSigners rules detector round (signer ∷ []) old new
-    notes_signer signer found old new is notes = record {
-      added = λ judging schedule messages told holds.
-          let eq = (rules judging schedule).eq in
-          let vs = valid_votes (rules judging schedule) messages in
-          notes.added eq vs told (subst (All (λ e. evidence_of eq vs (accused_by e) ≡ Some e))
-          (sym (is judging schedule messages holds)) (made_sound accused_by accused_cmp (evidence_of eq vs) (accuses_own eq vs)
-          (accusations_of round signer)));
-      stay = notes.stay;
-      noted = λ judging schedule messages holds n here by h.
-          let eq = (rules judging schedule).eq in
-          let vs = valid_votes (rules judging schedule) messages in
-          let (e, e_is) = some_from_is_some (evidence_of eq vs n) h in
-          let is_signer : signer ≡ n.signer = ⊎_elim (λ same. same) (λ none. absurd (Contains-none n.signer none))
-          (Contains-cons_cases signer [] n.signer by) in
-          let among = subst (λ q. Contains (accusations_of q signer) n) here
-          (subst (λ q. Contains (accusations_of n.round q) n) (sym is_signer) (own_name n)) in
-          subst (λ m. has_arisen new m ≡ true) (accuses_own eq vs n e e_is)
-          (notes.noted e (subst (λ es. Contains es e) (sym (is judging schedule messages holds))
-          (Contains-filter_map (evidence_of eq vs) (accusations_of round signer) n e among e_is)));
-    }
-
-    -- nobody is looked at
-    pub signers_none : (alerts : Alerts S D P G) → NotesSigners rules detector round [] alerts alerts
-    signers_none alerts = record {
-      added = λ judging schedule messages told holds some. some;
-      stay = λ n h. h;
-      noted = λ judging schedule messages holds n here by h. absurd (Contains-none n.signer by);
-    }
-
-    -- some signers and more
-    pub signers_more : (xs ys : List ℕ) (a b c : Alerts S D P G) → NotesSigners rules detector round xs a b →
-        NotesSigners rules detector round ys b c → NotesSigners rules detector round (xs ++ ys) a c
-    signers_more xs ys a b c one next = record {
-      added = λ judging schedule messages told holds some.
-          next.added judging schedule messages told holds (one.added judging schedule messages told holds some);
-      stay = λ n h. next.stay n (one.stay n h);
-      noted = λ judging schedule messages holds n here by h.
-          ⊎_elim (λ k. next.stay n (one.noted judging schedule messages holds n here k h))
-          (λ k. next.noted judging schedule messages holds n here k h) (Contains-append_cases xs ys n.signer by);
-    }
-
 -- ---- one message more
 
 module _ {S D C P G : Type 0} (rules : Rules S D C P G) (l : IsEquivalence rules.eq) (messages : List (Activity S D C P G))
@@ -358,18 +307,69 @@ held_covers eq listed (TwoVotes v u) (kind, clashes) w w_in =
     (λ none. absurd (Contains-none w none)) (Contains-cons_cases u [] w rest))
     (Contains-cons_cases v (u ∷ []) w w_in)
 
--- a message whose signers are looked at is noted
+-- a message of which the evidence against its signers is noted
 pub notes_message : {S D C P G : Type 0} (scheme : Scheme S D C P G) → IsEquivalence scheme.eq →
     (detector : Detector S D P G) (m : Activity S D C P G) → AreInConflict scheme.eq (contents_of m) → (round : Round) →
     round ≡ activity_round m → (signers : List ℕ) → signers ≡ signers_of_held scheme.listed (contents_of m) →
-    (old new : Alerts S D P G) → NotesSigners (rules_under scheme) detector round signers old new →
-    NotesMessage (rules_under scheme) detector m old new
-notes_message scheme l detector m conflict round at signers are old new notes judging schedule messages told holds tells =
-    tells_next (rules_under scheme judging schedule) l messages m round signers
+    (found : List (Equivocation D G)) →
+    ((judging : Judging) (schedule : Schedule S) (messages : List (Activity S D C P G)) →
+    Recalls (rules_under scheme judging schedule) messages detector → found
+    ≡ filter_map (evidence_of scheme.eq (valid_votes (rules_under scheme judging schedule) messages))
+    (names_in round signers)) →
+    (old new : Alerts S D P G) → NotesAll found old new → NotesMessage (rules_under scheme) detector m old new
+notes_message {S} {D} {C} {P} {G} scheme l detector m conflict round at signers are found is old new notes judging schedule
+    messages told holds tells =
+    tells_next rules l messages m round signers
     (λ w w_in. let own = held_covers scheme.eq scheme.listed (contents_of m) conflict w w_in in
     (own.0 ∙ sym at, subst (λ qs. Contains qs w.signer) (sym are) own.1)) told old new tells
-    (notes.added judging schedule (messages ++ m ∷ []) told holds) notes.stay
-    (notes.noted judging schedule (messages ++ m ∷ []) holds)
+    (notes.added scheme.eq vs told (subst (All (λ e. evidence_of scheme.eq vs (accused_by e) ≡ Some e)) (sym found_is)
+    (made_sound accused_by accused_cmp (evidence_of scheme.eq vs) (accuses_own scheme.eq vs) (names_in round signers))))
+    notes.stay noted
+  where
+    rules : Rules S D C P G
+    rules = rules_under scheme judging schedule
+
+    vs : List (SignedVote D G)
+    vs = valid_votes rules (messages ++ m ∷ [])
+
+    found_is : found ≡ filter_map (evidence_of scheme.eq vs) (names_in round signers)
+    found_is = is judging schedule (messages ++ m ∷ []) holds
+
+    noted : (n : Accusation) → n.round ≡ round → Contains signers n.signer → is_some (evidence_of scheme.eq vs n) ≡ true →
+        has_arisen new n ≡ true
+    noted n here by h =
+        let (e, e_is) = some_from_is_some (evidence_of scheme.eq vs n) h in
+        let among = Contains-flat_map (accusations_of round) signers n.signer n by
+        (subst (λ r. Contains (accusations_of r n.signer) n) here (own_name n)) in
+        subst (λ m. has_arisen new m ≡ true) (accuses_own scheme.eq vs n e e_is)
+        (notes.noted e (subst (λ es. Contains es e) (sym found_is)
+        (Contains-filter_map (evidence_of scheme.eq vs) (names_in round signers) n e among e_is)))
+
+-- the round of a message is recorded, and the evidence in its votes against the message's signers is noted
+pub notes_recorded : {S D C P G : Type 0} (scheme : Scheme S D C P G) → IsEquivalence scheme.eq →
+    (detector : Detector S D P G) (m : Activity S D C P G) → AreInConflict scheme.eq (contents_of m) → (round : Round) →
+    round ≡ activity_round m → (signers : List ℕ) → signers ≡ signers_of_held scheme.listed (contents_of m) →
+    (round_state : RoundState S D P G) → Some round_state ≡ get round_cmp detector.rounds round →
+    (old new : Alerts S D P G) → NotesAll (found_against scheme.eq round_state.votes signers) old new →
+    NotesMessage (rules_under scheme) detector m old new
+notes_recorded scheme l detector m conflict round at signers are round_state is =
+    notes_message scheme l detector m conflict round at signers are (found_against scheme.eq round_state.votes signers)
+    (λ judging schedule messages holds. let rules = rules_under scheme judging schedule in
+    found_in_round scheme.eq (valid_votes rules messages) (rules.size round.epoch) round round_state.votes
+    (subst (RecallsAt rules messages round) (sym is) (holds round)).votes signers)
+
+-- nothing is recorded of the round of a message
+pub notes_unrecorded : {S D C P G : Type 0} (scheme : Scheme S D C P G) → IsEquivalence scheme.eq →
+    (detector : Detector S D P G) (m : Activity S D C P G) → AreInConflict scheme.eq (contents_of m) → (round : Round) →
+    round ≡ activity_round m → None ≡ get round_cmp detector.rounds round → (alerts : Alerts S D P G) →
+    NotesMessage (rules_under scheme) detector m alerts alerts
+notes_unrecorded scheme l detector m conflict round at is alerts =
+    let signers = signers_of_held scheme.listed (contents_of m) in
+    notes_message scheme l detector m conflict round at signers refl []
+    (λ judging schedule messages holds. let rules = rules_under scheme judging schedule in
+    none_against scheme.eq (valid_votes rules messages) round
+    (subst (RecallsAt rules messages round) (sym is) (holds round)).votes signers)
+    alerts alerts (notes_none alerts)
 
 -- a message that is no news completes no evidence
 pub tells_same : {S D C P G : Type 0} (rules : Rules S D C P G) → IsEquivalence rules.eq →

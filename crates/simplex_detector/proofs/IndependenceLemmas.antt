@@ -349,7 +349,7 @@ module _ {S D C P G : Type 0} (rules : Rules S D C P G) (messages : List (Activi
 -- ---- below a floor, and from it on
 
 -- a round below a floor is below each round from it on
-below_floor : (floor a b : Round) → is_from floor a ≡ false → is_from floor b ≡ true → round_cmp a b ≡ Less
+pub below_floor : (floor a b : Round) → is_from floor a ≡ false → is_from floor b ≡ true → round_cmp a b ≡ Less
 below_floor floor a b below above =
     let under : round_cmp a floor ≡ Less = round_cmp_total.antisymm a floor
     ∙ (elim (round_cmp floor a) as (λ o. is_le o ≡ false → ordering_reverse o ≡ Less)

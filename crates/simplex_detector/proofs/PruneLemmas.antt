@@ -1,11 +1,12 @@
 -- The state of a part of the rounds is what it was before the states of other rounds were given up.
-use Rattle.simplex_detector.proofs.Prelude.{Activity, BTreeMap, Bool, CertifiedSubjects, Detector, HoldsRound, List, None, Option, Recalls, RecallsAt, RecallsNothing, RecordsFirsts, Round, RoundState, Rules, SignedVote, Slot, Some, VoteKind, SubjectValue, [], and_left, and_parts, ap, append-nil, append_assoc, arith, certified_subjects, changes, cond, excludes, false, false_from_ne_true, false≢true, filter, filter-append, find, firsts_of, get, in_rounds, is_at, is_key, is_news, kind_of, length, no_slot, nothing_certified, other_than, recorded_in, refl, round_cmp, round_of, same_kind, same_round, slot_of, subst, sym, true, valid_votes, ℕ, ◌&&◌, ◌++◌, ◌∙◌, ◌∷◌, ◌≡◌}
+use Rattle.simplex_detector.proofs.Prelude.{Activity, All, All-contains, BTreeMap, Bool, CertifiedSubjects, Detector, HoldsRound, List, None, Option, Recalls, RecallsAt, RecallsNothing, RecordsFirsts, Round, RoundState, Rules, SignedVote, Slot, Some, VoteKind, SubjectValue, [], and_left, and_parts, ap, append-nil, append_assoc, arith, certified_subjects, changes, cond, excludes, false, false_from_ne_true, false≢true, filter, filter-append, find, firsts_of, get, in_rounds, is_at, is_from, is_gt, is_key, is_news, kind_of, length, map, no_slot, nothing_certified, other_than, recorded_in, refl, round_cmp, round_of, same_kind, same_round, slot_of, subst, sym, true, valid_votes, ℕ, ◌&&◌, ◌++◌, ◌∙◌, ◌∷◌, ◌≡◌}
 use Rattle.std.specs.Map.{lookup}
+use Rattle.std.specs.Ordering.{ordering_reverse}
 use Rattle.simplex_scheme.specs.declared.kind.VoteKind.TheVariants as kinds
-use Rattle.simplex_detector.proofs.Filters.{find_filtered}
-use Rattle.simplex_detector.proofs.IndependenceLemmas.{is_subject_of, is_vote_of, split-from_within, split-within, subjects_in_rounds, votes_in_rounds, within}
-use Rattle.simplex_detector.proofs.Lists.{Contains-from_filter, none_found}
-use Rattle.simplex_detector.proofs.Places.{Spot, is_at-true, key_tells, same_round-true}
+use Rattle.simplex_detector.proofs.Filters.{filter_all, find_filtered}
+use Rattle.simplex_detector.proofs.IndependenceLemmas.{below_floor, is_subject_of, is_vote_of, split-from_within, split-within, subjects_in_rounds, votes_in_rounds, within}
+use Rattle.simplex_detector.proofs.Lists.{Contains-from_filter, Contains-map, each, none_found}
+use Rattle.simplex_detector.proofs.Places.{Spot, is_at-true, key_tells, round_cmp_total, same_round-true}
 use Rattle.simplex_detector.proofs.RecordedLemmas.{of_round, recorded_in_push, same_held}
 
 -- ---- votes
@@ -212,3 +213,22 @@ lookup-within {X} part round (e ∷ entries) =
         (λ i. lookup (is_key (round_cmp round)) (cond (same i) (e ∷ kept) kept)) ∙ take rest (part round) at refl
         ∙ (λ i. cond (part round) (cond (sym at i) (Some e.1) found) None)
     by rest false at = skip rest (part e.0) at ∙ (λ i. cond (part round) (cond (sym at i) (Some e.1) found) None)
+
+-- ---- what is kept by round
+
+-- if the first round is from a floor on, all are
+pub all_from_floor : {V : Type 0} (floor first : Round) → is_from floor first ≡ true → (entries : List (Round × V)) →
+    All (λ round. is_gt (round_cmp first round) ≡ false) (map (λ entry. entry.0) entries) →
+    filter (λ entry. is_from floor entry.0) entries ≡ entries
+all_from_floor floor first at entries all =
+    filter_all (λ entry. is_from floor entry.0) entries (each (λ entry. is_from floor entry.0 ≡ true) entries (λ entry e_in.
+    from_floor entry.0 (All-contains (λ round. is_gt (round_cmp first round) ≡ false) (map (λ entry. entry.0) entries) entry.0
+    all (Contains-map (λ entry. entry.0) entries entry e_in))))
+  where
+    from_floor : (round : Round) → is_gt (round_cmp first round) ≡ false → is_from floor round ≡ true
+    from_floor round h =
+        (elim (is_from floor round) as (λ b. is_from floor round ≡ b → b ≡ true) [
+          | true ↦ λ here. refl
+          | false ↦ λ away. absurd (false≢true (sym h
+              ∙ ap is_gt (round_cmp_total.antisymm first round ∙ ap ordering_reverse (below_floor floor round first away at))))
+        ]) refl

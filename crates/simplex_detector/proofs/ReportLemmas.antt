@@ -121,6 +121,14 @@ module _ {D G : Type 0} (eq : D → D → Bool) (vs : List (SignedVote D G)) whe
       ((signer : ℕ) (kind : VoteKind) → no_slot ≡ slot_of eq vs kind round signer) → [] ≡ evidence_against eq vs round signer
   against_nothing round signer empty = found_at-evidence round signer (λ kind. no_slot) (empty signer)
 
+  -- nor is anybody else
+  pub none_against : (round : Round) → ((signer : ℕ) (kind : VoteKind) → no_slot ≡ slot_of eq vs kind round signer) →
+      (signers : List ℕ) → [] ≡ filter_map (evidence_of eq vs) (names_in round signers)
+  none_against round empty [] = refl
+  none_against round empty (s ∷ signers) =
+      (λ i. against_nothing round s empty i ++ none_against round empty signers i)
+      ∙ sym (filter_map-append (evidence_of eq vs) (accusations_of round s) (names_in round signers))
+
   module _ {S P : Type 0} (size : ℕ) (round : Round) (recorded : RoundVotes S D P G)
       (holds : HoldsRound eq size vs round recorded) where
     -- what is found of some signers

@@ -91,19 +91,6 @@ pub record NotesAll {S D P G : Type 0} (es : List (Equivocation D G)) (old new :
   pub stay : (n : Accusation) → has_arisen old n ≡ true → has_arisen new n ≡ true
   pub noted : (e : Equivocation D G) → Contains es e → has_arisen new (accused_by e) ≡ true
 
--- the evidence against some signers in a round, which a detector has, is noted
-pub record NotesSigners {S D C P G : Type 0} (rules : Judging → Schedule S → Rules S D C P G) (detector : Detector S D P G)
-    (round : Round) (signers : List ℕ) (old new : Alerts S D P G) : Type 0 where
-  pub added : (judging : Judging) (schedule : Schedule S) (messages : List (Activity S D C P G))
-      (told : List (Equivocation D G)) → Recalls (rules judging schedule) messages detector →
-      TellsSome (rules judging schedule).eq (valid_votes (rules judging schedule) messages) told old →
-      TellsSome (rules judging schedule).eq (valid_votes (rules judging schedule) messages) told new
-  pub stay : (n : Accusation) → has_arisen old n ≡ true → has_arisen new n ≡ true
-  pub noted : (judging : Judging) (schedule : Schedule S) (messages : List (Activity S D C P G)) →
-      Recalls (rules judging schedule) messages detector → (n : Accusation) → n.round ≡ round → Contains signers n.signer →
-      is_some (evidence_of (rules judging schedule).eq (valid_votes (rules judging schedule) messages) n) ≡ true →
-      has_arisen new n ≡ true
-
 -- one message more, which the detector has observed, for every way to judge and every schedule
 abbrev pub NotesMessage : {S D C P G : Type 0} → (Judging → Schedule S → Rules S D C P G) → Detector S D P G →
     Activity S D C P G → Alerts S D P G → Alerts S D P G → Type 0

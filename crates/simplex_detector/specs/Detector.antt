@@ -11,7 +11,7 @@ use Rattle.simplex_evidence.specs.Contents.{ContentsValue, contents_round, conte
 use Rattle.simplex_evidence.specs.Contradiction.{Equivocation}
 use Rattle.simplex_evidence.specs.declared.types.activity.Activity.{Activity}
 use Rattle.simplex_scheme.specs.Committees.{Schedule, committee_of}
-use Rattle.simplex_detector.specs.Evidence.{IsEvidence, evidence_against}
+use Rattle.simplex_detector.specs.Evidence.{IsEvidence}
 use Rattle.simplex_detector.specs.FirstCertified.{certified_subjects, first_certified, nothing_certified, RecordsFirsts}
 use Rattle.simplex_detector.specs.News.{have_news, message_is_news, subject_is_news}
 use Rattle.simplex_detector.specs.Recorded.{slot_of, votes_recorded}
@@ -19,7 +19,6 @@ use Rattle.simplex_detector.specs.Accusation.{round_cmp}
 use Rattle.simplex_detector.specs.Rounds.{no_slot, HoldsRound}
 use Rattle.simplex_detector.specs.Rules.{Rules, HaveCommittees, is_valid, valid_votes}
 use Rattle.simplex_detector.specs.Splits.{if_certified, is_split, split_of, AreSplits}
-use Rattle.simplex_detector.specs.declared.evidence.SignerInRound.{SignerInRound}
 use Rattle.simplex_detector.specs.declared.judging.Judging.{Judging}
 use Rattle.simplex_detector.specs.declared.split.Split.{Split}
 use Rattle.simplex_detector.specs.declared.round_state.RoundState.{RoundState}
@@ -57,15 +56,6 @@ module _ {S D C P G : Type 0} (rules : Judging → Schedule S → Rules S D C P 
   GivesEvidence detector es = (judging : Judging) (schedule : Schedule S) (messages : List (Activity S D C P G)) →
       Recalls (rules judging schedule) messages detector →
       IsEvidence (rules judging schedule).eq (valid_votes (rules judging schedule) messages) es
-
-  -- the evidence in those votes against one signer in one round, behind other evidence
-  abbrev pub GivesEvidenceAgainst : Detector S D P G → SignerInRound → List (Equivocation D G) → List (Equivocation D G) →
-      Type 0
-  GivesEvidenceAgainst detector accused before after =
-      (judging : Judging) (schedule : Schedule S) (messages : List (Activity S D C P G)) →
-      Recalls (rules judging schedule) messages detector →
-      after ≡ before ++ evidence_against (rules judging schedule).eq (valid_votes (rules judging schedule) messages)
-      accused.round accused.signer
 
   -- the number of the recorded votes of those messages, up to 2^64 - 1
   abbrev pub CountsVotes : Detector S D P G → ℕ → Type 0

@@ -1,6 +1,7 @@
 -- The recorded votes of one round, by the votes so far.
 use Rattle.std.specs.Prelude.{◌≡◌, ℕ, ◌+◌, ◌<◌, ◌==◌, ◌&&◌, ◌||◌, Bool, IsTrue, List, length, ◌++◌, Contains, Option, option_map, Some, None, if◌then◌else◌}
 use Rattle.std.specs.Option.{is_some, option_to_list}
+use Rattle.std.specs.List.{flat_map}
 use Rattle.std.specs.List.Sorted.{IsStrictlySortedBy}
 use Rattle.std.specs.Ordering.{nat_cmp}
 use Rattle.simplex_base.specs.Positions.{Round}
@@ -95,6 +96,10 @@ found_at eq slot =
     option_to_list (found_of_kind eq slot Conflicting_notarize) ++
     (option_to_list (found_of_kind eq slot Conflicting_finalize) ++
     option_to_list (found_of_kind eq slot Nullify_finalize))
+
+-- the evidence in the slots of some signers, signer by signer
+abbrev pub found_against : {S D P G : Type 0} → (D → D → Bool) → RoundVotes S D P G → List ℕ → List (Equivocation D G)
+found_against eq recorded signers = flat_map (λ signer. found_at eq (slots recorded signer)) signers
 
 -- whether the slots of a signer accuse it, for any kind of contradiction
 abbrev pub accuses : {D G : Type 0} → (VoteKind → Slot D G) → Bool

@@ -46,8 +46,8 @@ impl<S: Listing<D>, D: Digest> Alarm<S, D> {
     }
 
     /// Has a detector observe one message, and notes the evidence that the message completes and the split that it changes. It
-    /// returns whether the message is news, as [`Detector::observe`] does; of one that is not, nothing is looked at. `AllocError`
-    /// only where an allocation failed: nothing is stated of the detector and of the alarm then, so drop both.
+    /// returns whether the message is news, as [`Detector::observe`] does; of one that is not, nothing is looked at.
+    /// `AllocError` only where an allocation failed: nothing is stated of the detector and of the alarm then, so drop both.
     pub fn observe(
         &mut self,
         alloc: Global,

@@ -2,17 +2,19 @@
 
 ghost use Rattle.std.specs.Prelude.{◌≡◌, [], ◌∷◌, map, IfOk, OnOk};
 ghost use Rattle.simplex_detector.specs.Accusation.{accused_by};
-ghost use Rattle.simplex_detector.specs.Alerts.{NotesAll, NotesMessage, NotesSigners, TellsFrom, TellsMore, TellsNone, TellsUntold};
+ghost use Rattle.simplex_detector.specs.Alerts.{NotesAll, NotesMessage, TellsFrom, TellsMore, TellsNone, TellsUntold};
 ghost use Rattle.simplex_detector.specs.Detector.{RecallsMore, TellsNews};
 ghost use Rattle.simplex_detector.specs.Independence.{is_from};
+ghost use Rattle.simplex_detector.specs.Rounds.{found_against, found_at, slots};
 ghost use Rattle.simplex_detector.specs.Rules.{Rules};
 ghost use Rattle.simplex_detector.specs.Values.{evidence_value};
 
 use crate::detector::Detector;
-use crate::evidence::{Accusation, Evidence, SignerInRound};
+use crate::evidence::{Accusation, Evidence};
 use crate::judging::{Judging, is_at_least};
+use crate::round_votes::RoundVotes;
 use crate::rules::Judges;
-use simplex_base::positions::Round;
+use simplex_base::positions::{Participant, Round};
 use simplex_evidence::types::{Activity, Contents};
 use simplex_scheme::committees::Committees;
 use simplex_scheme::scheme::{Attestation, Digest, Listing, SchemeTypes};
@@ -20,8 +22,8 @@ use std::alloc::{AllocError, Global};
 use std::collections::BTreeSet;
 use std::mem;
 
-/// The evidence that arose in messages and was not told yet. Each evidence is told once, in the order in which the messages that
-/// complete it came.
+/// The evidence that arose in messages and was not told yet. Each evidence is told once, in the order in which the messages
+/// that complete it came.
 #[derive(Drop)]
 pub struct Alerts<S: SchemeTypes, D: Digest> {
     /// Whom the evidence so far accuses, told or not.
@@ -68,7 +70,7 @@ impl<S: Listing<D>, D: Digest> Alerts<S, D> {
         Ok(true)
     }
 
-    /// Notes the evidence against the signers of a message that a detector observed.
+    /// Notes the evidence against the signers of a message that a detector observed. The message's round is looked up once.
     fn note(
         &mut self,
         alloc: Global,
@@ -79,53 +81,46 @@ impl<S: Listing<D>, D: Digest> Alerts<S, D> {
             self.old self.new) }
     {
         let contents = message.contents();
-        let round = contents.round();
+        let Some(round_state) = detector.rounds.get(&contents.round()) else {
+            return Ok(());
+        };
+        let votes = &round_state.votes;
         match &contents {
-            Contents::Vote(vote) => {
-                let signer = vote.attestation.signer;
-                self.note_signer(alloc, detector, SignerInRound { round, signer })
-            }
+            Contents::Vote(vote) => self.note_signer(alloc, votes, vote.attestation.signer),
             Contents::Certificate(_, certificate) => {
-                self.note_signers(alloc, detector, round, S::attestations(certificate))
+                self.note_signers(alloc, votes, S::attestations(certificate))
             }
-            Contents::Evidence(vote, _) => {
-                let signer = vote.attestation.signer;
-                self.note_signer(alloc, detector, SignerInRound { round, signer })
-            }
+            Contents::Evidence(vote, _) => self.note_signer(alloc, votes, vote.attestation.signer),
         }
     }
 
-    /// Notes the evidence against the signers of some attestations in a round.
+    /// Notes the evidence against the signers of some attestations in a round's votes.
     fn note_signers(
         &mut self,
         alloc: Global,
-        detector: &Detector<S, D>,
-        round: Round,
+        votes: &RoundVotes<S, D>,
         attestations: &[Attestation<S>],
     ) -> Result<(), AllocError>
-        ensures { OnOk result (NotesSigners ⟦<S as Judges<D>>⟧.rules_under detector.now round
-            (map (λ a. a.signer) attestations.now)
-            self.old self.new) }
+        ensures { OnOk result (NotesAll (found_against D.eq votes.now
+            (map (λ a. a.signer) attestations.now)) self.old self.new) }
     {
         'listed: for attestation in attestations {
-            let signer = attestation.signer;
-            self.note_signer(alloc, detector, SignerInRound { round, signer })?;
+            self.note_signer(alloc, votes, attestation.signer)?;
         }
         Ok(())
     }
 
-    /// Notes the evidence against a signer in a round.
+    /// Notes the evidence against a signer in a round's votes.
     fn note_signer(
         &mut self,
         alloc: Global,
-        detector: &Detector<S, D>,
-        signer: SignerInRound,
+        votes: &RoundVotes<S, D>,
+        signer: Participant,
     ) -> Result<(), AllocError>
-        ensures { OnOk result (NotesSigners ⟦<S as Judges<D>>⟧.rules_under detector.now signer.round
-            (signer.signer ∷ []) self.old self.new) }
+        ensures { OnOk result (NotesAll (found_at D.eq (slots votes.now signer)) self.old self.new) }
     {
         let mut found = Vec::new(alloc);
-        detector.evidence_against(signer, &mut found)?;
+        votes.report_signer(signer, &mut found)?;
         self.note_all(found)
     }
 

@@ -3,19 +3,20 @@
 ghost use Rattle.std.specs.Prelude.{◌≡◌, [], ◌∷◌, ◌++◌, List, All, map, IfOk, OnOk};
 ghost use Rattle.std.specs.Option.{option_to_list};
 ghost use Rattle.simplex_base.specs.Format.{format_of};
-ghost use Rattle.simplex_detector.specs.Detector.{RecallsNone, RecallsMore, TellsNews, GivesEvidence, GivesEvidenceAgainst, GivesSplitOf, GivesSplits, CountsVotes, Recalls, TellsCertified};
+ghost use Rattle.simplex_detector.specs.Detector.{RecallsNone, RecallsMore, TellsNews, GivesEvidence, GivesSplitOf, GivesSplits, CountsVotes, Recalls, TellsCertified};
 ghost use Rattle.simplex_evidence.specs.declared.types.activity.Activity.{Activity};
-ghost use Rattle.simplex_detector.specs.EncodedEvidence.{IsEncoded, StayEncoded};
+ghost use Rattle.simplex_detector.specs.EncodedEvidence.{IsEncoded};
 ghost use Rattle.simplex_detector.specs.Independence.{in_rounds, is_from};
 ghost use Rattle.simplex_detector.specs.Kept.{GathersMessage, TellsKept};
 ghost use Rattle.simplex_detector.specs.Rules.{Rules};
 ghost use Rattle.simplex_detector.specs.Values.{evidence_value};
 
 use crate::apart::Apart;
-use crate::evidence::{Evidence, SignerInRound};
+use crate::evidence::Evidence;
 use crate::judge::Judge;
-use crate::judging::{Judging, is_at_least};
+use crate::judging::Judging;
 use crate::kept::Kept;
+use crate::pruning::prune_rounds;
 use crate::round_state::RoundState;
 use crate::rules::Judges;
 use crate::split::Split;
@@ -30,7 +31,7 @@ use std::collections::BTreeMap;
 /// The state of every round so far. A round has a state as soon as something of it is recorded.
 #[derive(Drop)]
 pub struct Detector<S: SchemeTypes, D: Digest> {
-    rounds: BTreeMap<Round, RoundState<S, D>>,
+    pub(crate) rounds: BTreeMap<Round, RoundState<S, D>>,
 }
 
 impl<S: Listing<D>, D: Digest> Detector<S, D> {
@@ -121,18 +122,14 @@ impl<S: Listing<D>, D: Digest> Detector<S, D> {
     }
 
     /// Gives up the states of all rounds below a floor. The detector is then as if nothing of these rounds had been valid.
-    /// Nothing is allocated. The states are walked once.
+    /// Nothing is allocated, and no state that stays is looked at but the first.
     pub fn prune(&mut self, floor: Round)
         ensures { (rules : Rules S D S.Certificate S.PublicKey S.Signature)
             (messages : List (Activity S D S.Certificate S.PublicKey S.Signature)) →
             Recalls rules messages self.old →
             Recalls (in_rounds (is_from floor) rules) messages self.new }
     {
-        let stays = |round: &Round, round_state: &mut RoundState<S, D>| -> bool
-            ensures { (result ≡ is_from floor round.now) ×
-                (round_state.exit.now ≡ round_state.entry.now) }
-        { is_at_least(*round, floor) };
-        self.rounds.retain(stays);
+        prune_rounds(&mut self.rounds, floor);
     }
 
     /// The evidence in the valid votes so far: at most one for each round, signer and kind, in that order.
@@ -167,25 +164,6 @@ impl<S: Listing<D>, D: Digest> Detector<S, D> {
             push_split(&mut splits, round_state.split(committees, *round))?;
         }
         Ok(splits)
-    }
-
-    /// Appends the evidence in the valid votes so far against one signer in one round, in the order of kinds. Two maps are looked
-    /// into, that of rounds and that of the signer's votes. `AllocError` only where an allocation failed.
-    pub fn evidence_against(
-        &self,
-        accused: SignerInRound,
-        found: &mut Vec<Evidence<S, D>>,
-    ) -> Result<(), AllocError>
-        ensures appended { OnOk result (GivesEvidenceAgainst ⟦<S as Judges<D>>⟧.rules_under self.now
-            accused (map evidence_value found.old.items) (map evidence_value found.new.items)) }
-        // Each can be encoded as a message.
-        ensures encoded { OnOk result (StayEncoded D.eq (format_of ⟦<D as Read>⟧)
-            (format_of ⟦<S::Signature as Read>⟧) found.old.items found.new.items) }
-    {
-        match self.rounds.get(&accused.round) {
-            None => Ok(()),
-            Some(round_state) => round_state.votes.report_signer(accused.signer, found),
-        }
     }
 
     /// The split of a round, if the messages so far split it.

@@ -19,6 +19,7 @@ pub mod judge;
 pub mod judging;
 pub mod kept;
 pub mod laws;
+mod pruning;
 mod round_state;
 mod round_votes;
 pub mod rules;

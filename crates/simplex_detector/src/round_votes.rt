@@ -261,8 +261,8 @@ impl<S: SchemeTypes, D: Digest> RoundVotes<S, D> {
         ensures { option_map evidence_value result ≡
             found_of_kind D.eq (slots self.now signer) Conflicting_notarize }
     {
-        let first = self.notarizes.first(signer)?;
         let other = self.notarizes.other(signer)?;
+        let first = self.notarizes.first(signer)?;
         Some(Evidence::ConflictingNotarize(conflict_of(first.copy(), other.copy())?))
     }
 
@@ -271,8 +271,8 @@ impl<S: SchemeTypes, D: Digest> RoundVotes<S, D> {
         ensures { option_map evidence_value result ≡
             found_of_kind D.eq (slots self.now signer) Conflicting_finalize }
     {
-        let first = self.finalizes.first(signer)?;
         let other = self.finalizes.other(signer)?;
+        let first = self.finalizes.first(signer)?;
         Some(Evidence::ConflictingFinalize(conflict_of(first.copy(), other.copy())?))
     }
 

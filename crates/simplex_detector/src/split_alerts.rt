@@ -7,6 +7,7 @@ ghost use Rattle.simplex_detector.specs.SplitAlerts.{AddsSplit, NotesSplit, Tell
 
 use crate::detector::Detector;
 use crate::judging::is_at_least;
+use crate::pruning::prune_rounds;
 use crate::rules::Judges;
 use crate::split::Split;
 use simplex_base::positions::Round;
@@ -80,10 +81,7 @@ impl SplitAlerts {
         ensures { (rules : Rules S D S.Certificate S.PublicKey S.Signature) →
             TellsSplitsFrom rules floor self.old self.new }
     {
-        let counted = |round: &Round, named: &mut u32| -> bool
-            ensures { (result ≡ is_from floor round.now) × (named.exit.now ≡ named.entry.now) }
-        { is_at_least(*round, floor) };
-        self.accused.retain(counted);
+        prune_rounds(&mut self.accused, floor);
         let untold = |split: &Split| -> bool
             ensures { result ≡ is_from floor split.now.round }
         { is_at_least(split.round, floor) };

@@ -42,8 +42,9 @@ fn account_records<S: Listing<D>, D: Digest>(
 }
 
 /// Audits a stream, and puts the evidence of the report at the start of a buffer, as records. The status is
-/// [`WHOLE`](crate::answer::WHOLE), [`FAULT`](crate::answer::FAULT), [`MEMORY`] or [`SHORT`]. Where an allocation failed nothing
-/// is written; where the buffer is too short it is as before, and the summary has the number of records that is needed.
+/// [`WHOLE`](crate::answer::WHOLE), [`FAULT`](crate::answer::FAULT), [`MEMORY`] or [`SHORT`]. Where an allocation failed
+/// nothing is written; where the buffer is too short it is as before, and the summary has the number of records that is
+/// needed.
 fn answer_records<S: Listing<D>, D: Digest>(
     alloc: Global,
     committees: &Committees<S>,
@@ -70,8 +71,8 @@ fn answer_records<S: Listing<D>, D: Digest>(
 
 /// Audits a stream whose signatures have `N` bytes, the last of which is the caller's verdict, under the committees of these
 /// sizes, and puts the evidence of the report at the start of a buffer, as records. The status is
-/// [`WHOLE`](crate::answer::WHOLE), [`FAULT`](crate::answer::FAULT), [`MEMORY`] or [`SHORT`], or [`ARGUMENTS`] where there are no
-/// such committees, and then nothing is written.
+/// [`WHOLE`](crate::answer::WHOLE), [`FAULT`](crate::answer::FAULT), [`MEMORY`] or [`SHORT`], or [`ARGUMENTS`] where there are
+/// no such committees, and then nothing is written.
 pub fn records_vouched<R: Role<N>, const N: usize>(
     alloc: Global,
     epochs: &[u64],

@@ -126,26 +126,27 @@ pub listens_to_nothing : {S D C P G : Type 0} (basis : Schedule S → Basis S D 
     HasDecoded (basis committees).format [] [] monitor.decoder →
     Watches (basis committees).rules window [] nothing_told 0 0 (watcher_of monitor) → window ≡ start →
     Listens basis start committees nothing_told [] monitor
-listens_to_nothing basis monitor start window committees ordered are bound readable members sizes terms decoded held is = record {
-  ordered = subst IsInOrder is ordered;
-  committees_are = are;
-  bound_is = bound;
-  readable = readable;
-  members = members;
-  sizes = sizes;
-  terms = terms;
-  front = [];
-  behind = [];
-  parts = refl;
-  unread = inl refl;
-  messages = [];
-  decoded = decoded;
-  taken = [];
-  below = 0;
-  above = 0;
-  are_taken = (refl, refl, refl);
-  watches = subst (λ w. Watches (basis committees).rules w [] nothing_told 0 0 (watcher_of monitor)) is held;
-}
+listens_to_nothing basis monitor start window committees ordered are bound readable members sizes terms decoded held
+    is = record {
+      ordered = subst IsInOrder is ordered;
+      committees_are = are;
+      bound_is = bound;
+      readable = readable;
+      members = members;
+      sizes = sizes;
+      terms = terms;
+      front = [];
+      behind = [];
+      parts = refl;
+      unread = inl refl;
+      messages = [];
+      decoded = decoded;
+      taken = [];
+      below = 0;
+      above = 0;
+      are_taken = (refl, refl, refl);
+      watches = subst (λ w. Watches (basis committees).rules w [] nothing_told 0 0 (watcher_of monitor)) is held;
+    }
 
 module _ {S D C P G : Type 0} (rules : Rules S D C P G) where
   -- what was untold is told

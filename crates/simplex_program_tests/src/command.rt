@@ -257,8 +257,8 @@ fn refused(rt: HostRuntime) {
     let _ = any_is_refused(&rt);
 }
 
-/// The complaint about a fault, that of `inspect` too, has room for each place, and takes no memory. One that stops short of the
-/// greatest place, or of the line's end, is refused.
+/// The complaint about a fault, that of `inspect` too, has room for each place, and takes no memory. One that stops short of
+/// the greatest place, or of the line's end, is refused.
 #[test]
 fn without_memory_longest_complaint(rt: HostRuntime) {
     memory_ends(rt.alloc());

@@ -97,8 +97,8 @@ fn ample_each_piece_is_flushed(rt: HostRuntime) -> Result<(), Fail> {
     ends(&rt, rt.alloc(), steady())
 }
 
-/// Where a read fails, or is interrupted, all lines of what the earlier reads gave were written and flushed, and nothing else. A
-/// body that reads on before it writes or flushes, or that reads again, is refused.
+/// Where a read fails, or is interrupted, all lines of what the earlier reads gave were written and flushed, and nothing else.
+/// A body that reads on before it writes or flushes, or that reads again, is refused.
 #[test]
 fn ample_each_read_in_turn(rt: HostRuntime) -> Result<(), Fail> {
     for call in 0..5 {

@@ -1,5 +1,5 @@
-//! What the plain scheme hashes. The bytes before the key are the same for all votes of a kind, so a committee hashes them once;
-//! the key and the numbers of the message are laid out one after another, and hashed by one call.
+//! What the plain scheme hashes. The bytes before the key are the same for all votes of a kind, so a committee hashes them
+//! once; the key and the numbers of the message are laid out one after another, and hashed by one call.
 
 ghost use Rattle.std.specs.Prelude.{◌≡◌, ◌+◌, ◌++◌, ◌≤◌, ℕ, List, length};
 ghost use Rattle.sha2.specs.Sha256.{sha256};

@@ -1,0 +1,23 @@
+//! What is kept by round is given up below a floor.
+
+ghost use Rattle.std.specs.Prelude.{◌≡◌, filter};
+ghost use Rattle.simplex_detector.specs.Independence.{is_from};
+
+use crate::judging::is_at_least;
+use simplex_base::positions::Round;
+use std::collections::BTreeMap;
+
+/// Gives up what a map has of rounds below a floor. Of what stays only the first is looked at.
+pub(crate) fn prune_rounds<V>(rounds: &mut BTreeMap<Round, V>, floor: Round)
+where
+    V: Drop,
+    ensures { rounds.new.entries ≡ filter (λ entry. is_from floor entry.0) rounds.old.entries }
+{
+    'below: while let Some((round, _)) = rounds.first_key_value() {
+        let stays = is_at_least(*round, floor);
+        if stays {
+            return;
+        }
+        rounds.pop_first();
+    }
+}
