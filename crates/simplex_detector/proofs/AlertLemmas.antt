@@ -1,7 +1,7 @@
 -- Evidence as it arises is noted once, message by message.
-use Rattle.simplex_detector.proofs.Prelude.{Accusation, Activity, RecallsAt, RoundState, get, round_cmp, SignerInRound, exact_pairs, exact_unsigned, list_any, ◌||◌, All, All-contains, All-filter, All-push, AllByRecursion, Attestation, Bool, Contains, Scheme, rules_under, vote_on, Contains-append_cases, Contains-append_left, Contains-append_right, BTreeSet, Conflicting_finalize, Conflicting_notarize, Detector, Equal, EquivocationKind, Nullify_finalize, Ordering, kind_rank, nat_cmp, not, ordering_then, signer_cmp, signer_in, tied_itself, in_rounds, is_from, filter_map, and_left, same_Some, Equivocation, IsEquivalence, Judging, List, None, Option, Recalls, Round, Rules, Schedule, SignedVote, Some, [], accused_by, accused_cmp, activity_round, and_parts, ap, append-nil, append_assoc, arith, cond, contains, contradicts, evidence_from, evidence_of, message_is_news, false, false_from_ne_true, false≢true, filter, filter-append, inl, inr, is_accused, is_eq, is_of, is_some, is_valid, length, length-append, map, map-append, or_right, or_left, refl, round_of, subst, sym, true, valid_votes, votes_in, ℕ, ⊎_elim, ◌++◌, ◌+◌, ◌&&◌, ◌∙◌, ◌∷◌, ◌≡◌, ◌⊎◌}
+use Rattle.simplex_detector.proofs.Prelude.{Accusation, Activity, RecallsAt, RoundState, get, round_cmp, SignerInRound, exact_pairs, exact_unsigned, list_any, ◌||◌, All, All-contains, All-push, Attestation, Bool, Contains, Scheme, rules_under, vote_on, Contains-append_cases, Contains-append_left, Contains-append_right, BTreeSet, Conflicting_finalize, Conflicting_notarize, Detector, Equal, EquivocationKind, Nullify_finalize, Ordering, kind_rank, nat_cmp, not, ordering_then, signer_cmp, signer_in, tied_itself, in_rounds, filter_map, Equivocation, IsEquivalence, Judging, List, None, Recalls, Round, Rules, Schedule, SignedVote, Some, [], accused_by, accused_cmp, activity_round, and_parts, ap, append-nil, append_assoc, arith, cond, contains, evidence_from, evidence_of, message_is_news, false, false_from_ne_true, false≢true, filter, filter-append, is_eq, is_of, is_some, is_valid, length, length-append, map, refl, round_of, subst, sym, true, valid_votes, votes_in, ℕ, ⊎_elim, ◌++◌, ◌+◌, ◌&&◌, ◌∙◌, ◌∷◌, ◌≡◌}
 use Rattle.std.specs.Int.{from_bool}
-use Rattle.simplex_detector.proofs.EvidenceLemmas.{accused-from_evidence, accused_from_votes, evidence-from_accused, evidence_is, valid_votes-push, votes_from_accused}
+use Rattle.simplex_detector.proofs.EvidenceLemmas.{accused-from_evidence, accused_from_votes, evidence-from_accused, valid_votes-push, votes_from_accused}
 use Rattle.simplex_detector.proofs.Filters.{filter_none}
 use Rattle.simplex_detector.proofs.CountLemmas.{filter_filtered}
 use Rattle.simplex_detector.proofs.IndependenceLemmas.{accused-from_within, is_vote_of, same_evidence-within, votes_in_rounds}
@@ -9,7 +9,7 @@ use Rattle.simplex_detector.proofs.Lists.{Contains-cons_cases, Contains-filter_m
 use Rattle.simplex_detector.proofs.ReportLemmas.{accuses_own, found_in_round, names_in, none_against, own_name}
 use Rattle.simplex_detector.proofs.NewsLemmas.{news_changes_state}
 use Rattle.simplex_detector.proofs.RecordedLemmas.{evidence_of-slots}
-use Rattle.simplex_detector.proofs.Places.{accused_cmp_total, exact_accused, exact_signers, is_of-true, is_of-from}
+use Rattle.simplex_detector.proofs.Places.{accused_cmp_total, exact_accused, exact_signers, is_of-true}
 use Rattle.simplex_detector.proofs.StayLemmas.{evidence_of-stays}
 use Rattle.simplex_detector.specs.Rounds.{found_against}
 use Rattle.simplex_detector.specs.Accusation.{accusations_of, key_cmp, key_of, way_of, way_rank}

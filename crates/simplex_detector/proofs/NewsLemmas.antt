@@ -5,7 +5,7 @@ use Rattle.simplex_detector.specs.News.{IsCompaction, IsTheirs, LogsCompact, New
 use Rattle.simplex_detector.specs.NewsLaws.{kept-append}
 use Rattle.simplex_evidence.specs.Activity.{has_certificate}
 use Rattle.simplex_detector.proofs.EvidenceLemmas.{valid_votes-append, valid_votes-push}
-use Rattle.simplex_detector.proofs.InterchangeLemmas.{interchangeable, same_slot_among, state-joined, state-push, state-refl, state-sym, state-trans}
+use Rattle.simplex_detector.proofs.InterchangeLemmas.{interchangeable, same_slot_among, state-joined, state-refl, state-sym, state-trans}
 use Rattle.simplex_detector.proofs.Lists.{Contains-cons, Contains-cons_cases, Contains-filter, Contains-first, Contains-flat_map, Contains-from_filter, Contains-from_map, Contains-none, each, same_bool}
 use Rattle.simplex_detector.proofs.Places.{Spot, is_at-from, same_round-from, same_round-true, same_kind-refl, same_kind-true, spot}
 use Rattle.simplex_detector.proofs.RecordedLemmas.{in_slot_after, no_news}

@@ -12,6 +12,7 @@ ghost use Rattle.simplex_detector.specs.Values.{evidence_value};
 use crate::detector::Detector;
 use crate::evidence::{Accusation, Evidence};
 use crate::judging::{Judging, is_at_least};
+use crate::pruning::prune_accusations;
 use crate::round_votes::RoundVotes;
 use crate::rules::Judges;
 use simplex_base::positions::{Participant, Round};
@@ -157,10 +158,7 @@ impl<S: Listing<D>, D: Digest> Alerts<S, D> {
         ensures { (rules : Rules S D S.Certificate S.PublicKey S.Signature) →
             TellsFrom rules floor self.old self.new }
     {
-        let judged = |accusation: &Accusation| -> bool
-            ensures { result ≡ is_from floor accusation.now.accused.round }
-        { is_at_least(accusation.accused.round, floor) };
-        self.accused.retain(judged);
+        prune_accusations(&mut self.accused, floor);
         let untold = |evidence: &Evidence<S, D>| -> bool
             ensures { result ≡ is_from floor (accused_by (evidence_value evidence.now)).round }
         { is_at_least(evidence.round(), floor) };

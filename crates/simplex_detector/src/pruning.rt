@@ -1,13 +1,14 @@
-//! What is kept by round is given up below a floor.
+//! What is kept by round is given up below a floor. Of what stays only the first is looked at.
 
 ghost use Rattle.std.specs.Prelude.{◌≡◌, filter};
 ghost use Rattle.simplex_detector.specs.Independence.{is_from};
 
+use crate::evidence::Accusation;
 use crate::judging::is_at_least;
 use simplex_base::positions::Round;
-use std::collections::BTreeMap;
+use std::collections::{BTreeMap, BTreeSet};
 
-/// Gives up what a map has of rounds below a floor. Of what stays only the first is looked at.
+/// Gives up what a map has of rounds below a floor.
 pub(crate) fn prune_rounds<V>(rounds: &mut BTreeMap<Round, V>, floor: Round)
 where
     V: Drop,
@@ -19,5 +20,19 @@ where
             return;
         }
         rounds.pop_first();
+    }
+}
+
+/// Gives up the accusations of rounds below a floor.
+pub(crate) fn prune_accusations(accusations: &mut BTreeSet<Accusation>, floor: Round)
+    ensures { accusations.new.keys ≡
+        filter (λ accusation. is_from floor accusation.accused.round) accusations.old.keys }
+{
+    'below: while let Some(accusation) = accusations.first() {
+        let stays = is_at_least(accusation.accused.round, floor);
+        if stays {
+            return;
+        }
+        accusations.pop_first();
     }
 }

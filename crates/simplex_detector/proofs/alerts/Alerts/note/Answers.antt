@@ -1,4 +1,4 @@
-use Rattle.simplex_detector.proofs.Prelude.{ap, append-nil, evidence_of, found_at, map, on_ok_weaker, scheme_of, slots, subst, sym, ◌∙◌}
+use Rattle.simplex_detector.proofs.Prelude.{ap, append-nil, map, on_ok_weaker, scheme_of, subst, sym, ◌∙◌}
 use Rattle.simplex_evidence.specs.Contents.{contents_round, contents_value}
 use Rattle.simplex_detector.specs.Alerts.{NotesAll}
 use Rattle.simplex_detector.proofs.AlertLemmas.{notes_recorded, notes_unrecorded, signers_of_held}

@@ -1,4 +1,4 @@
-use Rattle.simplex_detector.proofs.Prelude.{ap, evidence_value, found_at, map, on_ok_weaker, slots, subst, sym, ◌++◌, ◌∙◌}
+use Rattle.simplex_detector.proofs.Prelude.{ap, evidence_value, found_at, map, on_ok_weaker, slots, subst, ◌++◌, ◌∙◌}
 use Rattle.simplex_detector.specs.Alerts.{NotesAll}
 use Rattle.simplex_detector.proofs.alerts.Alerts.note_signer.Goals as goal
 

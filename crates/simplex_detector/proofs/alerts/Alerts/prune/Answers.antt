@@ -4,17 +4,14 @@ use Rattle.simplex_detector.proofs.AlertLemmas.{arisen_in_part, tells_part}
 use Rattle.simplex_detector.proofs.Filters.{map-filter}
 use Rattle.simplex_detector.proofs.alerts.Alerts.prune.Goals as goal
 
--- both closures only test, and stay as they were
+-- the closure only tests
 pub returns : goal.returns
 returns g c rules messages told tells =
     let floor = c.args.floor in
-    let accused = filter_same _ (λ q. is_from floor q.accused.round) _
-    (λ x b f t. (t.called.met.0 ∙ (λ i. is_from floor (t.shows i).accused.round), t.called.met.1)) _ _
-    c.retain.ensures.filtered in
     let untold = filter_same _ (λ e. is_from floor (accused_by (evidence_value e)).round) _
     (λ x b f t. (t.called.met.0 ∙ (λ i. is_from floor (accused_by (evidence_value (t.shows i))).round), t.called.met.1)) _ _
-    c.retain-2.ensures.filtered in
+    c.retain.ensures.filtered in
     tells_part rules (is_from floor) messages told c.args.self.now _
-    (arisen_in_part (is_from floor) c.args.self.now.accused c.retain.new.self accused)
+    (arisen_in_part (is_from floor) c.args.self.now.accused c.prune_accusations.new.accusations c.prune_accusations.ensures)
     (ap (map evidence_value) untold
     ∙ map-filter evidence_value (λ e. is_from floor (accused_by e).round) c.args.self.now.untold.items) tells
