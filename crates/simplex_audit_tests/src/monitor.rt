@@ -1,11 +1,14 @@
 //! A monitor: what it takes of a stream, where its window is behind each message, and what it tells.
 
-use simplex_audit::audit::Committees;
+use faulty_io::{Source, Target, Trouble};
+use simplex_audit::audit::{Committees, RunError, Watched};
 use simplex_base::positions::{Epoch, Round, TermLength, View, ViewDelta};
 use simplex_lead::Lookahead;
+use simplex_monitor::input::monitor_input;
 use simplex_monitor::monitor::Monitor;
 use simplex_schemes::marked::{Marked, MarkedDigest};
 use std::alloc::Global;
+use std::io::ErrorKind;
 use std::process::Abort;
 use std::test::Fail;
 
@@ -88,6 +91,35 @@ fn end<'a>(rt: &impl Abort, monitor: Monitor<'a, Marked, MarkedDigest>) -> Resul
     assert_eq!(rt; monitor.fed(), fed);
     assert_eq!(rt; monitor.votes(), 3);
     Ok(())
+}
+
+/// Has a monitor listen to two notarizes that contradict, 7 bytes a read, and panics unless their line was written and flushed
+/// before the third read, which fails: flushed are what it begins with and each read.
+fn say_at_once(
+    rt: &impl Abort,
+    alloc: Global,
+    committees: &Committees<Marked>,
+    line: &str,
+) -> Result<(), Fail> {
+    let stream: &[u8] = &[0, 0, 3, 2, 6, 1, 0xaa, 0, 0, 3, 2, 7, 1, 0xaa];
+    let mut reader = Watched::new(Source::new(stream, 7, Trouble::Once(2, ErrorKind::Other)));
+    let target = Target::new(usize::MAX, usize::MAX, Trouble::Never, Trouble::Never);
+    let mut writer = Watched::new(target);
+    let monitor = begin(alloc, committees);
+    let ended = monitor_input(alloc, monitor, &mut reader, &mut writer);
+    assert_eq!(rt; ended.err(), Some(RunError::Read));
+    assert!(rt; writer.flushed());
+    let target = writer.into_inner();
+    assert_eq!(rt; target.held(), line.as_bytes());
+    assert_eq!(rt; target.calls().1, 3);
+    Ok(())
+}
+
+#[test]
+fn ample_a_line_comes_before_the_next_read(rt: HostRuntime) -> Result<(), Fail> {
+    let committees = crate::outcome::marked(rt.alloc(), 4)?;
+    let line = "0 3 1 conflicting-notarize 2 06 2 07\n";
+    say_at_once(&rt, rt.alloc(), &committees, line)
 }
 
 #[test]

@@ -1,18 +1,18 @@
 -- How a message that was recorded moves a watcher's window.
-use Rattle.std.proofs.Common.{◌≡◌, ◌⊎◌, Bool, true, false, Some, None, List, [], ◌∷◌, ◌++◌, refl, sym, ap, subst, ◌∙◌}
+use Rattle.std.proofs.Common.{◌≡◌, Bool, true, false, None, refl, sym, ap, subst, ◌∙◌}
 use Rattle.std.specs.Option.{is_some}
 use Rattle.simplex_base.specs.Positions.{Round}
 use Rattle.simplex_scheme.specs.Kind.{kind_of}
 use Rattle.simplex_scheme.specs.Subject.{SubjectValue, round_of}
 use Rattle.simplex_scheme.specs.declared.kind.VoteKind.{VoteKind}
-use Rattle.simplex_evidence.specs.Activity.{activity_round, contents_of, subject_and_certificate}
-use Rattle.simplex_evidence.specs.Contents.{ContentsValue, OneCertificate, contents_certificate, contents_round}
+use Rattle.simplex_evidence.specs.Activity.{contents_of, subject_and_certificate}
+use Rattle.simplex_evidence.specs.Contents.{OneCertificate, contents_certificate, contents_round}
 use Rattle.simplex_evidence.specs.declared.types.activity.Activity.{Activity}
 use Rattle.simplex_detector.specs.Independence.{is_from}
 use Rattle.simplex_detector.specs.Rules.{Rules}
 use Rattle.simplex_detector.specs.Splits.{if_certified}
 use Rattle.simplex_monitor.specs.Watching.{Advances, KeepsCounts, KeepsFrom, TellsIfCertified}
-use Rattle.simplex_monitor.specs.Window.{AdmitsCertificate, floor_of}
+use Rattle.simplex_monitor.specs.Window.{floor_of}
 use Rattle.simplex_monitor.specs.declared.watcher.Watcher.{Watcher}
 use Rattle.simplex_monitor.proofs.TakenLemmas.{MovesBy, unmoved, window_moved, window_stays}
 

@@ -1,5 +1,5 @@
 -- How many votes can be recorded of the rounds that a window looks at.
-use Rattle.std.proofs.Common.{◌≡◌, ℕ, ◌+◌, ◌*◌, ◌-◌, ◌<◌, ◌≤◌, ◌⊎◌, Bool, true, false, not, List, [], ◌∷◌, ◌++◌, Option, Some, None, cond, get_or, inl, inr, length, length-append, map, max, min, nat_eq, nat_lt, refl, sym, ap, subst, ◌∙◌, arith}
+use Rattle.std.proofs.Common.{◌≡◌, ℕ, ◌+◌, ◌*◌, ◌-◌, ◌<◌, ◌≤◌, Bool, true, false, not, List, [], ◌∷◌, ◌++◌, cond, inl, inr, length, length-append, map, max, min, nat_eq, nat_lt, refl, sym, ap, subst, ◌∙◌, arith}
 use Rattle.std.proofs.Math.Nat.{suc-mul}
 use Rattle.std.proofs.lemmas.Bool.{cases_lt, false≢true, lt-ltb}
 use Rattle.std.proofs.lemmas.List.{length-map}
@@ -7,12 +7,10 @@ use Rattle.std.proofs.lemmas.List.Elements.{Contains-append_left, Contains-appen
 use Rattle.std.proofs.lemmas.List.Filters.{length-filter_both}
 use Rattle.std.proofs.lemmas.List.FromFn.{get_or-range_with_len, length-range_with_len}
 use Rattle.std.specs.List.{range_with_len}
-use Rattle.std.specs.Option.{is_some}
-use Rattle.std.specs.Prelude.{All, Contains, filter}
+use Rattle.std.specs.Prelude.{Contains, filter}
 use Rattle.simplex_base.specs.Positions.{Round, same_round}
 use Rattle.simplex_base.specs.Terms.{term_end}
 use Rattle.simplex_base.specs.TermLaws.{end_after}
-use Rattle.simplex_detector.specs.Independence.{is_from}
 use Rattle.simplex_lead.specs.Windows.{next_start}
 use Rattle.simplex_lead.specs.declared.lookahead.Lookahead.{Lookahead}
 use Rattle.simplex_monitor.specs.Bounded.{IsInSight, IsNearby, lowest_of, views_from, views_of}

@@ -8,3 +8,4 @@ mod NearbyLemmas
 mod BoundedLemmas
 mod RecordedLemmas
 mod MonitorLemmas
+mod HearingLemmas

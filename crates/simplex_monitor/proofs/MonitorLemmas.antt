@@ -1,5 +1,5 @@
 -- A monitor from piece to piece.
-use Rattle.std.proofs.Common.{◌≡◌, ◌⊎◌, inl, inr, ℕ, ◌+◌, ◌*◌, ◌-◌, ◌^◌, ◌≤◌, Bool, true, false, IsTrue, Option, Some, None, cond, drop, get_or, length, map, min, List, [], ◌∷◌, ◌++◌, refl, sym, ap, subst, ◌∙◌, arith, append_assoc, append-nil}
+use Rattle.std.proofs.Common.{◌≡◌, inl, inr, ℕ, ◌+◌, ◌*◌, ◌-◌, ◌^◌, ◌≤◌, Bool, true, false, IsTrue, Option, Some, None, cond, drop, get_or, length, map, min, List, [], ◌∷◌, ◌++◌, refl, sym, ap, subst, ◌∙◌, arith, append_assoc, append-nil}
 use Rattle.std.proofs.Math.Seq.{drop-append_seam}
 use Rattle.std.proofs.lemmas.Bool.{and_parts}
 use Rattle.std.proofs.lemmas.List.Elements.{All-contains, All-head, All-tail, filter-append}
@@ -24,7 +24,7 @@ use Rattle.simplex_detector.specs.Alarm.{Sounds, SoundsUntold, Told, nothing_tol
 use Rattle.simplex_detector.specs.Alerts.{IsEachOnce, Tells, untold}
 use Rattle.simplex_detector.specs.Detector.{Recalls}
 use Rattle.simplex_detector.specs.Evidence.{IsEvidence, evidence_of, with_first}
-use Rattle.simplex_detector.specs.Independence.{IsOfOneRound, evidence_within, in_rounds, is_from, splits_within}
+use Rattle.simplex_detector.specs.Independence.{IsOfOneRound, in_rounds, is_from, splits_within}
 use Rattle.simplex_detector.specs.Recorded.{recorded_in, votes_recorded}
 use Rattle.simplex_detector.specs.Rules.{HaveCommittees, Rules, is_valid, valid_votes}
 use Rattle.simplex_detector.specs.SplitAlerts.{splits_arising}
@@ -38,7 +38,7 @@ use Rattle.simplex_stream.specs.declared.decoder.Decoder.{Decoder}
 use Rattle.simplex_audit.specs.Basis.{Basis}
 use Rattle.simplex_monitor.specs.Monitoring.{AreFewVotes, HasEvidence, HasSplits, HasVotes, Listens, TellsRest, retained, watcher_of}
 use Rattle.simplex_monitor.specs.Bounded.{views_of}
-use Rattle.simplex_monitor.specs.Taken.{AreTaken, window_of}
+use Rattle.simplex_monitor.specs.Taken.{window_of}
 use Rattle.simplex_monitor.proofs.RecordedLemmas.{few_recorded}
 use Rattle.simplex_monitor.specs.Watching.{Watches, WatchesMore}
 use Rattle.simplex_monitor.specs.WatchingLaws.{taken_then}

@@ -1,16 +1,15 @@
 -- Rounds that a window looks at, as it moves.
-use Rattle.std.proofs.Common.{◌≡◌, ℕ, ◌+◌, ◌<◌, ◌≤◌, ◌⊎◌, List, [], ◌∷◌, ◌++◌, Bool, true, false, max, inl, inr, refl, sym, ap, subst, ◌∙◌, arith, cond}
+use Rattle.std.proofs.Common.{◌≡◌, ℕ, ◌+◌, ◌<◌, ◌≤◌, ◌⊎◌, List, [], ◌∷◌, ◌++◌, true, false, max, inl, inr, refl, sym, ap, subst, ◌∙◌, arith, cond}
 use Rattle.std.proofs.lemmas.Bool.{cases_lt}
 use Rattle.std.specs.Ordering.{is_lt, ord_max}
 use Rattle.simplex_base.specs.Positions.{Round}
 use Rattle.simplex_detector.specs.Accusation.{round_cmp}
 use Rattle.simplex_lead.specs.declared.lookahead.Lookahead.{Lookahead}
 use Rattle.simplex_monitor.specs.Bounded.{IsInSight, IsNearby}
-use Rattle.simplex_monitor.specs.Heads.{greatest}
 use Rattle.simplex_monitor.specs.Window.{AdmitsVote, IsInOrder, IsNear, window_after}
 use Rattle.simplex_monitor.specs.declared.window.Window.{Window}
 use Rattle.simplex_monitor.proofs.AdmittedLemmas.{admitted_ahead, admitted_stay}
-use Rattle.simplex_monitor.proofs.RoundOrder.{AtMost, at_most_epoch, at_most_numbers, max_above_left, max_above_right}
+use Rattle.simplex_monitor.proofs.RoundOrder.{at_most_epoch, at_most_numbers, max_above_left, max_above_right}
 use Rattle.simplex_monitor.proofs.WindowLemmas.{ended_at_most, max_epoch, moved_earlier, moved_here, moved_later}
 
 -- the greater of two rounds is one of them

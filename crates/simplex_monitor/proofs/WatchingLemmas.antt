@@ -1,5 +1,5 @@
 -- What a watcher knows, after each step.
-use Rattle.std.proofs.Common.{◌≡◌, ◌⊎◌, ℕ, ◌+◌, ◌-◌, ◌^◌, Bool, true, false, Option, Some, None, min, List, [], ◌∷◌, ◌++◌, inl, inr, refl, sym, ap, subst, ◌∙◌, cond, arith, append-nil}
+use Rattle.std.proofs.Common.{◌≡◌, ℕ, ◌+◌, ◌-◌, ◌^◌, Bool, true, false, Option, Some, None, min, List, [], ◌∷◌, ◌++◌, inl, inr, refl, sym, ap, subst, ◌∙◌, cond, arith, append-nil}
 use Rattle.std.proofs.lemmas.Bool.{false≢true, le-ltb}
 use Rattle.std.proofs.lemmas.Option.{same_Some}
 use Rattle.std.specs.Option.{is_some}
@@ -21,8 +21,8 @@ use Rattle.simplex_detector.specs.declared.alarm.Alarm.{Alarm}
 use Rattle.simplex_detector.specs.declared.detector.Detector.{Detector}
 use Rattle.simplex_detector.specs.declared.split.Split.{Split}
 use Rattle.simplex_monitor.specs.Heads.{greatest}
-use Rattle.simplex_monitor.specs.Taken.{AreTaken, Takes, window_of}
-use Rattle.simplex_monitor.specs.Watching.{Advances, HoldsFrom, KeepsFrom, PrunesTo, RecordsOne, Watches, WatchesFurther, WatchesMore}
+use Rattle.simplex_monitor.specs.Taken.{Takes, window_of}
+use Rattle.simplex_monitor.specs.Watching.{Advances, HoldsFrom, KeepsFrom, PrunesTo, RecordsOne, Watches, WatchesMore}
 use Rattle.simplex_monitor.specs.Window.{AdmitsCertificate, IsInOrder, floor_of, window_after}
 use Rattle.simplex_monitor.specs.declared.watcher.Watcher.{Watcher}
 use Rattle.simplex_monitor.specs.declared.window.Window.{Window}

@@ -4,4 +4,5 @@ pub mod Watching
 pub mod WatchingLaws
 pub mod Monitoring
 pub mod Bounded
+pub mod Hearing
 pub mod Window

@@ -1,6 +1,7 @@
 -- Which stream a monitor listens to, and what it knows of it.
-use Rattle.std.specs.Prelude.{◌≡◌, ◌⊎◌, ◌++◌, ◌*◌, ◌-◌, ◌^◌, ◌≤◌, ℕ, Bool, IsTrue, List, [], min}
-use Rattle.simplex_base.specs.Format.{IsLawful}
+use Rattle.std.specs.Prelude.{◌≡◌, ◌⊎◌, ◌++◌, ◌*◌, ◌-◌, ◌^◌, ◌≤◌, ℕ, Bool, IsTrue, List, [], Option, length, min}
+use Rattle.std.specs.List.{flat_map}
+use Rattle.simplex_base.specs.Format.{Format, IsLawful}
 use Rattle.simplex_scheme.specs.Committees.{Schedule}
 use Rattle.simplex_evidence.specs.Contradiction.{Equivocation}
 use Rattle.simplex_evidence.specs.declared.types.activity.Activity.{Activity}
@@ -14,6 +15,9 @@ use Rattle.simplex_detector.specs.SplitAlerts.{splits_arising}
 use Rattle.simplex_detector.specs.Splits.{AreSplits}
 use Rattle.simplex_detector.specs.declared.alarm.News.{News}
 use Rattle.simplex_detector.specs.declared.split.Split.{Split}
+use Rattle.simplex_stream.specs.Fault.{IsFault}
+use Rattle.simplex_stream.specs.Messages.{AreMessages}
+use Rattle.simplex_stream.specs.declared.fault.Fault.{Fault}
 use Rattle.simplex_stream.specs.Decoder.{HasDecoded, bytes_fed, decoding_over}
 use Rattle.simplex_audit.specs.Basis.{Basis}
 use Rattle.simplex_monitor.specs.Bounded.{views_of}
@@ -90,3 +94,9 @@ module _ {S D C P G : Type 0} (rules : Rules S D C P G) (taken : List (Activity 
 -- at most five votes are recorded of each participant of the greatest committee in each view that the window looks at
 abbrev pub AreFewVotes : {S D C P G : Type 0} → Basis S D C P G → Monitor S D P G → ℕ → Type 0
 AreFewVotes basis monitor count = count ≤ views_of (watcher_of monitor).window * (5 * basis.bound)
+
+-- where a stream of these messages stops being messages
+abbrev pub EndsAt : {M : Type 0} → Format M → List ℕ → List M → Option Fault → Type 0
+EndsAt format stream messages fault =
+    (rest : List ℕ) × AreMessages format stream messages rest
+    × IsFault format.reading (length (flat_map format.encoding messages)) rest fault

@@ -4,7 +4,8 @@ ghost use Rattle.std.specs.Prelude.{◌≡◌, ◌+◌, ◌-◌, ◌<◌, ◌≤
 ghost use Rattle.simplex_scheme.specs.Committees.{Schedule};
 ghost use Rattle.simplex_detector.specs.Alarm.{Told, nothing_told, told_then};
 ghost use Rattle.simplex_detector.specs.Values.{evidence_value};
-ghost use Rattle.simplex_monitor.specs.Monitoring.{AreFewVotes, HasEvidence, HasSplits, HasVotes, Listens, TellsRest, fed_of, listening_over, watcher_of};
+ghost use Rattle.simplex_monitor.specs.Hearing.{AllTold};
+ghost use Rattle.simplex_monitor.specs.Monitoring.{AreFewVotes, EndsAt, HasEvidence, HasSplits, HasVotes, Listens, TellsRest, fed_of, listening_over, watcher_of};
 ghost use Rattle.simplex_monitor.specs.Window.{first_window, floor_of};
 ghost use Rattle.simplex_monitor.specs.declared.window.Window as windows;
 
@@ -23,6 +24,8 @@ use simplex_lead::Lookahead;
 use simplex_scheme::committees::Committees;
 use simplex_scheme::scheme::{Digest, Listing, SchemeTypes};
 use simplex_stream::decoder::Decoder;
+use simplex_stream::fault::{Fault, fault_at};
+use simplex_stream::messages::stop_of;
 use std::alloc::{AllocError, Global};
 
 /// Listens to a stream that comes in pieces, and follows the network by itself. Of the stream's messages it takes those that
@@ -103,6 +106,8 @@ impl<'a, S: Listing<D>, D: Digest> Monitor<'a, S, D> {
             (listens : Listens ⟦<S as Audited<D>>⟧.basis start committees told stream self.old) →
             TellsRest (⟦<S as Audited<D>>⟧.basis committees).rules listens.taken told result
             self.old self.new }
+        ensures told { AllTold self.new }
+        ensures fed { fed_of self.new ≡ fed_of self.old }
     {
         let news = self.watcher.alarm.take();
         rounds_are_independent::<S, D>();
@@ -174,6 +179,18 @@ impl<'a, S: Listing<D>, D: Digest> Monitor<'a, S, D> {
             result ≡ length listens.messages }
     {
         self.decoder.read()
+    }
+
+    /// Where the stream stops being messages, if it does. The bytes after the last whole message are read once for it.
+    /// `AllocError` only where an allocation failed.
+    pub fn fault(&self, alloc: Global) -> Result<Option<Fault>, AllocError>
+        ensures { IfOk result (λ fault. (start : windows.Window) (committees : Schedule S)
+            (told : Told D S.Signature) (stream : List ℕ) →
+            (listens : Listens ⟦<S as Audited<D>>⟧.basis start committees told stream self.now) →
+            EndsAt (⟦<S as Audited<D>>⟧.basis committees).format stream listens.messages fault) }
+    {
+        let stop = stop_of::<Activity<S, D>>(alloc, self.bound, self.decoder.rest())?;
+        Ok(fault_at(self.decoder.place(), stop))
     }
 
     /// How many of them were of rounds below the floor when they came, or of view 0. The number stops at 2^64 - 1.

@@ -1,4 +1,4 @@
-use Rattle.std.proofs.Common.{[], ◌≤◌, inl, refl, rules, subst, sym}
+use Rattle.std.proofs.Common.{◌≤◌, refl, rules, subst}
 use Rattle.simplex_evidence.specs.ActivityLaws.{activity_lawful}
 use Rattle.simplex_detector.specs.declared.judging.Judging.TheVariants.{Verified}
 use Rattle.simplex_scheme.specs.Committees.{bound_of, committee_of, size_by}

@@ -1,0 +1,147 @@
+//! Listens to all that a reader gives, and writes each line at once.
+
+ghost use Rattle.std.specs.Prelude.{◌≡◌, ◌≢◌, ◌↔◌, ◌+◌, ◌<◌, ◌≤◌, ◌^◌, ◌++◌, ◌∷◌, [], ℕ, List, false, Ok, Err, IsTrue, IfOk, IfErr, OnOk, OnErr, length, take};
+ghost use Rattle.std.specs.Io.KnownBytes.{Appends, Consumes, IsAtEnd, Keeps};
+ghost use Rattle.simplex_detector.specs.declared.alarm.News as alarm;
+ghost use Rattle.simplex_monitor.specs.Hearing.{AllTold, Heard, Hears, HearsBeginning, news_text};
+ghost use Rattle.simplex_monitor.specs.Monitoring.{fed_of};
+ghost use Rattle.simplex_monitor.specs.declared.monitor.Monitor as monitors;
+ghost use Rattle.simplex_stream.specs.Text.{AppendsBeginning};
+ghost use Rattle.simplex_stream.specs.Watched.{inner_of, has_failed, is_flushed};
+
+use crate::monitor::{Monitor, News};
+use simplex_audit::basis::Audited;
+use simplex_audit::run::{RunError, write_text};
+use simplex_audit::text::text;
+use simplex_scheme::scheme::{Digest, Listing};
+use simplex_stream::pieces::make_piece;
+use simplex_stream::watched::Watched;
+use std::alloc::Global;
+use std::io::{Read, Write};
+
+/// Has a monitor listen to all that a reader gives, and writes a line for each evidence and each split that it tells, as a run of
+/// an audit does: those of a piece behind those of the pieces before it, the evidence first. What the monitor has not told yet
+/// is written before the first read. The lines of what a read completes are written and flushed before the next read. Returns
+/// the monitor, which has told all that arose.
+///
+/// The input is read in pieces of up to 65,536 bytes, as they come. Held are the state of the monitor and the bytes after the
+/// last whole message. Once nothing that follows can be read, the rest is read and dropped.
+///
+/// `Read` exactly where a read failed, `Write` exactly where a write or a flush failed; an interrupted call counts as failed.
+/// `OutOfMemory` where an allocation failed, and `TooLong` where the monitor was fed more than 2^64 - 1 bytes, those before this
+/// call included. After each of them a front of the lines of what was read was written, and after `Read` all of them.
+pub fn monitor_input<'a, S: Listing<D>, D: Digest, R: Read, W: Write>(
+    alloc: Global,
+    monitor: Monitor<'a, S, D>,
+    reader: &mut Watched<R>,
+    writer: &mut Watched<W>,
+) -> Result<Monitor<'a, S, D>, RunError>
+    requires reader_well { has_failed reader.old ≡ false }
+    requires writer_well { has_failed writer.old ≡ false }
+    // The whole input was heard, and exactly the lines of what was told were written.
+    ensures whole { IfOk result (λ next. (input : List ℕ)
+        × Consumes (R.remaining (inner_of reader.old)) (R.remaining (inner_of reader.new)) input
+        × Heard ⟦<S as Audited<D>>⟧.basis D.bytes_of monitor.entry input next
+        (W.contents (inner_of writer.old)) (W.contents (inner_of writer.new))) }
+    ensures end { OnOk result (IsAtEnd (R.remaining (inner_of reader.new))) }
+    // Whatever a failed read leaves behind, the lines of all that was read before it were written.
+    ensures at_once { result ≡ Err RunError.Read →
+        (input : List ℕ) × (next : monitors.Monitor S D S.PublicKey S.Signature)
+        × Consumes (R.remaining (inner_of reader.old)) (R.remaining (inner_of reader.new)) input
+        × Heard ⟦<S as Audited<D>>⟧.basis D.bytes_of monitor.entry input next
+        (W.contents (inner_of writer.old)) (W.contents (inner_of writer.new)) }
+    // After an error a front of the lines of what was read was written.
+    ensures begun { IfErr result (λ e. (input more : List ℕ) ×
+        Consumes (R.remaining (inner_of reader.old)) (R.remaining (inner_of reader.new)) (input ++ more)
+        × HearsBeginning ⟦<S as Audited<D>>⟧.basis D.bytes_of monitor.entry input
+        (W.contents (inner_of writer.old)) (W.contents (inner_of writer.new))) }
+    ensures flushed { OnOk result (IsTrue (is_flushed writer.new)) }
+    // Read and write errors come from the reader and the writer alone.
+    ensures read_failed { IsTrue (has_failed reader.new) ↔ (result ≡ Err RunError.Read) }
+    ensures write_failed { IsTrue (has_failed writer.new) ↔ (result ≡ Err RunError.Write) }
+    ensures too_long { result ≡ Err RunError.TooLong →
+        (input : List ℕ) × (2 ^ 64 ≤ fed_of monitor.entry + length input)
+        × Consumes (R.remaining (inner_of reader.old)) (R.remaining (inner_of reader.new)) input }
+{
+    let mut monitor = monitor;
+    tell(alloc, &monitor.news(), writer)?;
+    let mut piece = make_piece(alloc)?;
+    let mut seen = monitor.fed();
+    'reads: loop {
+        let count = read_some(reader, piece.as_mut_slice())?;
+        if count == 0 {
+            return Ok(monitor);
+        }
+        if count > usize::MAX - seen {
+            return Err(RunError::TooLong);
+        }
+        seen += count;
+        monitor = hear(alloc, monitor, &piece[..count], writer)?;
+    }
+}
+
+/// Reads once. Returns how many bytes were read, 0 only at the end.
+fn read_some<R: Read>(reader: &mut Watched<R>, piece: &mut [u8]) -> Result<usize, RunError>
+    requires well { has_failed reader.old ≡ false }
+    requires room { 0 < length piece.old }
+    ensures within { IfOk result (λ count. count ≤ length piece.new) }
+    ensures bytes { IfOk result (λ count.
+        Consumes (R.remaining (inner_of reader.old)) (R.remaining (inner_of reader.new))
+        (take count piece.new)) }
+    ensures end { result ≡ Ok 0 → IsAtEnd (R.remaining (inner_of reader.new)) }
+    ensures kept { OnErr result
+        (Keeps (R.remaining (inner_of reader.old)) (R.remaining (inner_of reader.new))) }
+    ensures failed { IsTrue (has_failed reader.new) ↔ (result ≡ Err RunError.Read) }
+    ensures error { IfErr result (λ e. e ≡ RunError.Read) }
+{
+    match reader.read(piece) {
+        Ok(count) => Ok(count),
+        Err(_) => Err(RunError::Read),
+    }
+}
+
+/// Feeds a piece, and writes the lines of what it tells.
+fn hear<'a, S: Listing<D>, D: Digest, W: Write>(
+    alloc: Global,
+    monitor: Monitor<'a, S, D>,
+    piece: &[u8],
+    writer: &mut Watched<W>,
+) -> Result<Monitor<'a, S, D>, RunError>
+    requires room { fed_of monitor + length piece.now < 2 ^ 64 }
+    requires writer_well { has_failed writer.old ≡ false }
+    ensures fed { IfOk result (λ next. fed_of next ≤ fed_of monitor.entry + length piece.now) }
+    ensures hears { IfOk result (λ next. (news : alarm.News S D S.PublicKey S.Signature)
+        × Hears ⟦<S as Audited<D>>⟧.basis monitor.entry piece.now (news ∷ []) next
+        × Appends (W.contents (inner_of writer.old)) (W.contents (inner_of writer.new))
+        (news_text D.bytes_of news)) }
+    ensures told { IfOk result AllTold }
+    ensures flushed { OnOk result (IsTrue (is_flushed writer.new)) }
+    ensures begun { IfErr result (λ e. (input more : List ℕ) × (piece.now ≡ input ++ more)
+        × HearsBeginning ⟦<S as Audited<D>>⟧.basis D.bytes_of monitor.entry input
+        (W.contents (inner_of writer.old)) (W.contents (inner_of writer.new))) }
+    ensures failed { IsTrue (has_failed writer.new) ↔ (result ≡ Err RunError.Write) }
+    ensures error { IfErr result (λ e. (e ≢ RunError.Read) × (e ≢ RunError.TooLong)) }
+{
+    let mut next = monitor.feed(piece)?;
+    tell(alloc, &next.news(), writer)?;
+    Ok(next)
+}
+
+/// Writes the lines of what arose, and flushes.
+fn tell<S: Listing<D>, D: Digest, W: Write>(
+    alloc: Global,
+    news: &News<S, D>,
+    writer: &mut Watched<W>,
+) -> Result<(), RunError>
+    requires { has_failed writer.old ≡ false }
+    ensures written { OnOk result (Appends (W.contents (inner_of writer.old))
+        (W.contents (inner_of writer.new)) (news_text D.bytes_of news.now)) }
+    ensures flushed { OnOk result (IsTrue (is_flushed writer.new)) }
+    ensures begun { OnErr result (AppendsBeginning (W.contents (inner_of writer.old))
+        (W.contents (inner_of writer.new)) (news_text D.bytes_of news.now)) }
+    ensures failed { IsTrue (has_failed writer.new) ↔ (result ≡ Err RunError.Write) }
+    ensures error { IfErr result (λ e. (e ≢ RunError.Read) × (e ≢ RunError.TooLong)) }
+{
+    let text = text(alloc, news.evidence.as_slice(), news.splits.as_slice())?;
+    write_text(writer, text.as_bytes())
+}
