@@ -19,8 +19,6 @@ mod deferred;
 mod listener;
 #[cfg(test)]
 mod model;
-#[cfg(test)]
-mod monitor;
 mod outcome;
 #[cfg(test)]
 mod pieces;
