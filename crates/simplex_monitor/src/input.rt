@@ -19,17 +19,17 @@ use simplex_stream::watched::Watched;
 use std::alloc::Global;
 use std::io::{Read, Write};
 
-/// Has a monitor listen to all that a reader gives, and writes a line for each evidence and each split that it tells, as a run of
-/// an audit does: those of a piece behind those of the pieces before it, the evidence first. What the monitor has not told yet
-/// is written before the first read. The lines of what a read completes are written and flushed before the next read. Returns
-/// the monitor, which has told all that arose.
+/// Has a monitor listen to all that a reader gives, and writes a line for each evidence and each split that it tells, as a run
+/// of an audit does: those of a piece behind those of the pieces before it, the evidence first. What the monitor has not told
+/// yet is written before the first read. The lines of what a read completes are written and flushed before the next read.
+/// Returns the monitor, which has told all that arose.
 ///
 /// The input is read in pieces of up to 65,536 bytes, as they come. Held are the state of the monitor and the bytes after the
 /// last whole message. Once nothing that follows can be read, the rest is read and dropped.
 ///
 /// `Read` exactly where a read failed, `Write` exactly where a write or a flush failed; an interrupted call counts as failed.
-/// `OutOfMemory` where an allocation failed, and `TooLong` where the monitor was fed more than 2^64 - 1 bytes, those before this
-/// call included. After each of them a front of the lines of what was read was written, and after `Read` all of them.
+/// `OutOfMemory` where an allocation failed, and `TooLong` where the monitor was fed more than 2^64 - 1 bytes, those before
+/// this call included. After each of them a front of the lines of what was read was written, and after `Read` all of them.
 pub fn monitor_input<'a, S: Listing<D>, D: Digest, R: Read, W: Write>(
     alloc: Global,
     monitor: Monitor<'a, S, D>,

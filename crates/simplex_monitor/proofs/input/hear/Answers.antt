@@ -15,8 +15,9 @@ returns-in_err-tell-clause-begun g c =
       [],
       sym (append-nil c.args.piece.now),
       begun_look _ _ c.args.monitor c.news.new.self c.args.piece.now c.news.result _ _
-          (hears_piece _ c.args.monitor c.in_ok-next.next c.news.new.self c.args.piece.now c.news.result c.in_ok-next.ensures.fed
-          c.news.ensures.fed c.in_ok-next.ensures.listens c.news.ensures.listens) c.in_err-tell.ensures.begun,
+          (hears_piece _ c.args.monitor c.in_ok-next.next c.news.new.self c.args.piece.now c.news.result
+          c.in_ok-next.ensures.fed c.news.ensures.fed c.in_ok-next.ensures.listens c.news.ensures.listens)
+          c.in_err-tell.ensures.begun,
     )
 
 pub returns-clause-hears : goal.returns-clause-hears
