@@ -103,8 +103,9 @@ impl<S: Listing<D>, D: Digest> Visitor<Activity<S, D>> for Compactor<S, D> {
     ghost left = { λ _ _ _ _ _ _ room. room };
 }
 
-/// Appends the encodings of what is kept of a message. Each can be encoded.
-fn append_news<S: Listing<D>, D: Digest>(
+/// Appends the encodings of what is kept of a message. Each can be encoded. `AllocError` only where an allocation failed:
+/// a part may be appended then.
+pub fn append_news<S: Listing<D>, D: Digest>(
     news: &Kept<S, D>,
     message: &Activity<S, D>,
     kept: &mut Vec<u8>,

@@ -22,4 +22,5 @@ pub mod NewsLemmas
 pub mod StayLemmas
 pub mod BoundLemmas
 pub mod AlertLemmas
+pub mod AlarmLemmas
 pub mod GatherLemmas

@@ -1,5 +1,5 @@
 -- What arises in messages, and what was told of it.
-use Rattle.std.specs.Prelude.{◌≡◌, List, [], ◌++◌, map}
+use Rattle.std.specs.Prelude.{◌≡◌, List, [], ◌∷◌, ◌++◌, map}
 use Rattle.simplex_base.specs.Positions.{Round}
 use Rattle.simplex_scheme.specs.Committees.{Schedule}
 use Rattle.simplex_evidence.specs.Contradiction.{Equivocation}
@@ -59,6 +59,14 @@ abbrev pub SoundsMore : {S D C P G : Type 0} → Rules S D C P G → List (Activ
 SoundsMore {S} {D} {C} {P} {G} rules more detector old new =
     (messages : List (Activity S D C P G)) (told : Told D G) → HaveCommittees rules → Recalls rules messages detector →
     Sounds rules messages told old → Sounds rules (messages ++ more) told new
+
+-- what arose by one more message is noted, for every way to judge it, behind any messages before it
+abbrev pub SoundsNoted : {S D C P G : Type 0} → (Judging → Schedule S → Rules S D C P G) → Schedule S → Detector S D P G →
+    Activity S D C P G → Alarm S D P G → Alarm S D P G → Type 0
+SoundsNoted {S} {D} {C} {P} {G} rules schedule detector message old new =
+    (judging : Judging) (messages : List (Activity S D C P G)) (told : Told D G) → HaveCommittees (rules judging schedule) →
+    Recalls (rules judging schedule) (messages ++ message ∷ []) detector →
+    Sounds (rules judging schedule) messages told old → Sounds (rules judging schedule) (messages ++ message ∷ []) told new
 
 -- what was untold is told, and none is left
 pub record SoundsUntold {S D P G : Type 0} (C : Type 0) (news : News S D P G) (old new : Alarm S D P G) : Type 0 where

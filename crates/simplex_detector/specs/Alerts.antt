@@ -53,14 +53,6 @@ module _ {S D C P G : Type 0} (rules : Judging → Schedule S → Rules S D C P 
   TellsNone alerts = (judging : Judging) (schedule : Schedule S) → Tells (rules judging schedule).eq
       (valid_votes (rules judging schedule) []) [] alerts
 
--- one message more is observed by a detector in this state
-abbrev pub TellsMore : {S D C P G : Type 0} → Rules S D C P G → Activity S D C P G → Detector S D P G → Alerts S D P G →
-    Alerts S D P G → Type 0
-TellsMore {S} {D} {C} {P} {G} rules message detector old new =
-    (messages : List (Activity S D C P G)) (told : List (Equivocation D G)) → Recalls rules messages detector →
-    Tells rules.eq (valid_votes rules messages) told old →
-    Tells rules.eq (valid_votes rules (messages ++ message ∷ [])) told new
-
 -- the untold evidence is told, and none is left
 pub record TellsUntold {S D P G : Type 0} (taken : List (Equivocation D G)) (old new : Alerts S D P G) : Type 0 where
   pub taken_is : taken ≡ untold old

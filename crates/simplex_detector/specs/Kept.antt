@@ -28,6 +28,12 @@ kept_by m kept.Nothing = []
 kept_by m kept.Whole = m ∷ []
 kept_by m (kept.Votes vs) = vs.items
 
+-- whether something is kept
+abbrev pub is_kept : {S D C P G : Type 0} → Kept S D C P G → Bool
+is_kept kept.Nothing = false
+is_kept kept.Whole = true
+is_kept (kept.Votes vs) = true
+
 -- `told` tells what is kept of a message behind any messages whose state this is
 abbrev pub TellsKept : {S D C P G : Type 0} → Rules S D C P G → Activity S D C P G → Detector S D P G → Kept S D C P G → Type 0
 TellsKept {S} {D} {C} {P} {G} rules m old told =

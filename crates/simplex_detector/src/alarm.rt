@@ -1,14 +1,16 @@
 //! What arises in messages: the evidence and the splits, each told once.
 
 ghost use Rattle.std.specs.Prelude.{[], ◌∷◌, IfOk, OnOk};
-ghost use Rattle.simplex_detector.specs.Alarm.{SoundsFrom, SoundsMore, SoundsNone, SoundsUntold};
+ghost use Rattle.simplex_detector.specs.Alarm.{SoundsFrom, SoundsMore, SoundsNone, SoundsNoted, SoundsUntold};
 ghost use Rattle.simplex_detector.specs.Detector.{RecallsMore, TellsNews};
+ghost use Rattle.simplex_detector.specs.Kept.{TellsKept};
 ghost use Rattle.simplex_detector.specs.Rules.{Rules};
 
 use crate::alerts::Alerts;
 use crate::detector::Detector;
 use crate::evidence::Evidence;
 use crate::judging::Judging;
+use crate::kept::Kept;
 use crate::rules::Judges;
 use crate::split::Split;
 use crate::split_alerts::SplitAlerts;
@@ -65,14 +67,53 @@ impl<S: Listing<D>, D: Digest> Alarm<S, D> {
             (⟦<S as Judges<D>>⟧.rules_under judging.now committees.now) (message.now ∷ [])
             detector.old self.old self.new) }
     {
-        if !self
-            .evidence
-            .observe(alloc, detector, committees, judging, message)?
-        {
+        if !detector.observe(alloc, committees, judging, message)? {
             return Ok(false);
         }
-        self.splits.note(detector, committees, message)?;
+        self.note(alloc, detector, committees, message)?;
         Ok(true)
+    }
+
+    /// Has a detector observe one message, as `observe` does, and returns what can be kept in its place, as
+    /// [`Detector::observe_apart`] does. `AllocError` only where an allocation failed, with no more stated than by `observe`.
+    pub fn observe_apart(
+        &mut self,
+        alloc: Global,
+        detector: &mut Detector<S, D>,
+        committees: &Committees<S>,
+        judging: &Judging,
+        message: &Activity<S, D>,
+    ) -> Result<Kept<S, D>, AllocError>
+        ensures records { OnOk result (RecallsMore
+            (⟦<S as Judges<D>>⟧.rules_under judging.now committees.now)
+            (message.now ∷ []) detector.old detector.new) }
+        ensures kept { IfOk result (λ kept. TellsKept
+            (⟦<S as Judges<D>>⟧.rules_under judging.now committees.now) message.now detector.old kept) }
+        ensures sounds { OnOk result (SoundsMore
+            (⟦<S as Judges<D>>⟧.rules_under judging.now committees.now) (message.now ∷ [])
+            detector.old self.old self.new) }
+    {
+        let kept = detector.observe_apart(alloc, committees, judging, message)?;
+        if !kept.is_kept() {
+            return Ok(kept);
+        }
+        self.note(alloc, detector, committees, message)?;
+        Ok(kept)
+    }
+
+    /// Notes the evidence that a message completed and the split that it changed, if a detector observed it and it was news.
+    fn note(
+        &mut self,
+        alloc: Global,
+        detector: &Detector<S, D>,
+        committees: &Committees<S>,
+        message: &Activity<S, D>,
+    ) -> Result<(), AllocError>
+        ensures { OnOk result (SoundsNoted ⟦<S as Judges<D>>⟧.rules_under committees.now detector.now
+            message.now self.old self.new) }
+    {
+        self.evidence.note(alloc, detector, message)?;
+        self.splits.note(detector, committees, message)
     }
 
     /// Takes what was not told yet. None of it is taken again.

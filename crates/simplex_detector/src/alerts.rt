@@ -1,9 +1,8 @@
 //! Evidence as it arises: each is told once.
 
-ghost use Rattle.std.specs.Prelude.{◌≡◌, [], ◌∷◌, map, IfOk, OnOk};
+ghost use Rattle.std.specs.Prelude.{◌≡◌, [], ◌∷◌, map, OnOk};
 ghost use Rattle.simplex_detector.specs.Accusation.{accused_by};
-ghost use Rattle.simplex_detector.specs.Alerts.{NotesAll, NotesMessage, TellsFrom, TellsMore, TellsNone, TellsUntold};
-ghost use Rattle.simplex_detector.specs.Detector.{RecallsMore, TellsNews};
+ghost use Rattle.simplex_detector.specs.Alerts.{NotesAll, NotesMessage, TellsFrom, TellsNone, TellsUntold};
 ghost use Rattle.simplex_detector.specs.Independence.{is_from};
 ghost use Rattle.simplex_detector.specs.Rounds.{found_against, found_at, slots};
 ghost use Rattle.simplex_detector.specs.Rules.{Rules};
@@ -11,13 +10,12 @@ ghost use Rattle.simplex_detector.specs.Values.{evidence_value};
 
 use crate::detector::Detector;
 use crate::evidence::{Accusation, Evidence};
-use crate::judging::{Judging, is_at_least};
+use crate::judging::is_at_least;
 use crate::pruning::prune_accusations;
 use crate::round_votes::RoundVotes;
 use crate::rules::Judges;
 use simplex_base::positions::{Participant, Round};
 use simplex_evidence::types::{Activity, Contents};
-use simplex_scheme::committees::Committees;
 use simplex_scheme::scheme::{Attestation, Digest, Listing, SchemeTypes};
 use std::alloc::{AllocError, Global};
 use std::collections::BTreeSet;
@@ -44,35 +42,9 @@ impl<S: Listing<D>, D: Digest> Alerts<S, D> {
         }
     }
 
-    /// Has a detector observe one message, and notes the evidence that the message completes. It returns whether the message is
-    /// news, as [`Detector::observe`] does; if it is, it looks for evidence against the message's signers and no others.
-    /// `AllocError` only where an allocation failed: nothing is stated of the detector and of the alerts then, so drop both.
-    pub fn observe(
-        &mut self,
-        alloc: Global,
-        detector: &mut Detector<S, D>,
-        committees: &Committees<S>,
-        judging: &Judging,
-        message: &Activity<S, D>,
-    ) -> Result<bool, AllocError>
-        ensures records { OnOk result (RecallsMore
-            (⟦<S as Judges<D>>⟧.rules_under judging.now committees.now)
-            (message.now ∷ []) detector.old detector.new) }
-        ensures news { IfOk result (λ news. TellsNews
-            (⟦<S as Judges<D>>⟧.rules_under judging.now committees.now) message.now detector.old news) }
-        ensures tells { OnOk result (TellsMore
-            (⟦<S as Judges<D>>⟧.rules_under judging.now committees.now) message.now detector.old
-            self.old self.new) }
-    {
-        if !detector.observe(alloc, committees, judging, message)? {
-            return Ok(false);
-        }
-        self.note(alloc, detector, message)?;
-        Ok(true)
-    }
-
     /// Notes the evidence against the signers of a message that a detector observed. The message's round is looked up once.
-    fn note(
+    /// `AllocError` only where an allocation failed: nothing is stated of the alerts then.
+    pub(crate) fn note(
         &mut self,
         alloc: Global,
         detector: &Detector<S, D>,

@@ -4,7 +4,7 @@ ghost use Rattle.std.specs.Prelude.{◌≡◌, ◌&&◌, ◌++◌, [], ◌∷◌
 ghost use Rattle.simplex_scheme.specs.Subject.{subject_value};
 ghost use Rattle.simplex_evidence.specs.declared.types.activity.Activity as activities;
 ghost use Rattle.simplex_detector.specs.Judging.{are_known};
-ghost use Rattle.simplex_detector.specs.Kept.{kept_by, kept_from};
+ghost use Rattle.simplex_detector.specs.Kept.{is_kept, kept_by, kept_from};
 ghost use Rattle.simplex_detector.specs.News.{message_on};
 
 use crate::judge::Signatures;
@@ -68,7 +68,8 @@ impl<S: CertificateScheme, D: Digest> Apart<S, D> {
 
     /// What is kept of a message that was observed, which is news or not.
     pub fn news(self, is_news: bool) -> Kept<S, D>
-        ensures { (message : activities.Activity S D S.Certificate S.PublicKey S.Signature) →
+        ensures is_news { is_kept result ≡ is_news }
+        ensures kept { (message : activities.Activity S D S.Certificate S.PublicKey S.Signature) →
             kept_by message result ≡ kept_from is_news self.votes.items message }
     {
         if !is_news {

@@ -7,7 +7,7 @@ ghost use Rattle.simplex_detector.specs.Detector.{RecallsNone, RecallsMore, Tell
 ghost use Rattle.simplex_evidence.specs.declared.types.activity.Activity.{Activity};
 ghost use Rattle.simplex_detector.specs.EncodedEvidence.{IsEncoded};
 ghost use Rattle.simplex_detector.specs.Independence.{in_rounds, is_from};
-ghost use Rattle.simplex_detector.specs.Kept.{GathersMessage, TellsKept};
+ghost use Rattle.simplex_detector.specs.Kept.{GathersMessage, TellsKept, is_kept};
 ghost use Rattle.simplex_detector.specs.Rules.{Rules};
 ghost use Rattle.simplex_detector.specs.Values.{evidence_value};
 
@@ -77,8 +77,11 @@ impl<S: Listing<D>, D: Digest> Detector<S, D> {
         ensures records { OnOk result (RecallsMore
             (⟦<S as Judges<D>>⟧.rules_under judging.now committees.now)
             (message.now ∷ []) self.old self.new) }
-        ensures kept { IfOk result (λ news. TellsKept
-            (⟦<S as Judges<D>>⟧.rules_under judging.now committees.now) message.now self.old news) }
+        ensures news { IfOk result (λ kept. TellsNews
+            (⟦<S as Judges<D>>⟧.rules_under judging.now committees.now) message.now self.old
+            (is_kept kept)) }
+        ensures kept { IfOk result (λ kept. TellsKept
+            (⟦<S as Judges<D>>⟧.rules_under judging.now committees.now) message.now self.old kept) }
     {
         let mut apart = Apart::new(alloc, true);
         let is_news = self.record(alloc, committees, judging, message, &mut apart)?;

@@ -1,5 +1,8 @@
 //! What is kept of a message when it comes.
 
+ghost use Rattle.std.specs.Prelude.{◌≡◌};
+ghost use Rattle.simplex_detector.specs.Kept.{is_kept};
+
 use simplex_evidence::types::Activity;
 use simplex_scheme::scheme::{CertificateScheme, Digest};
 
@@ -12,4 +15,17 @@ pub enum Kept<S: CertificateScheme, D: Digest> {
     Whole,
     /// Of a certificate whose subject is no news, its votes that are, each as a message of its own.
     Votes(Vec<Activity<S, D>>),
+}
+
+impl<S: CertificateScheme, D: Digest> Kept<S, D> {
+    /// Whether something is kept.
+    pub fn is_kept(&self) -> bool
+        ensures { result ≡ is_kept self.now }
+    {
+        match self {
+            Kept::Nothing => false,
+            Kept::Whole => true,
+            Kept::Votes(_) => true,
+        }
+    }
 }

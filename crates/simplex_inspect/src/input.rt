@@ -16,7 +16,7 @@ use simplex_scheme::committees::Committees;
 use simplex_scheme::scheme::{Digest, Listing};
 use simplex_stream::fault::Fault;
 use simplex_stream::messages::is_over;
-use simplex_stream::pieces::make_piece;
+use simplex_stream::pieces::{make_piece, read_some};
 use simplex_stream::run_error::RunError;
 use simplex_stream::tail::Tail;
 use simplex_stream::text::write_text;
@@ -34,26 +34,6 @@ fn nothing(alloc: Global) -> Left
         offset: 0,
         tail: Tail::new(alloc),
         over: false,
-    }
-}
-
-/// Reads once. Returns how many bytes were read, 0 only at the end.
-fn read_some<R: Read>(reader: &mut Watched<R>, piece: &mut [u8]) -> Result<usize, RunError>
-    requires well { has_failed reader.old ≡ false }
-    requires room { 0 < length piece.old }
-    ensures within { IfOk result (λ count. count ≤ length piece.new) }
-    ensures bytes { IfOk result (λ count.
-        Consumes (R.remaining (inner_of reader.old)) (R.remaining (inner_of reader.new))
-        (take count piece.new)) }
-    ensures end { result ≡ Ok 0 → IsAtEnd (R.remaining (inner_of reader.new)) }
-    ensures kept { OnErr result
-        (Keeps (R.remaining (inner_of reader.old)) (R.remaining (inner_of reader.new))) }
-    ensures failed { IsTrue (has_failed reader.new) ↔ (result ≡ Err RunError.Read) }
-    ensures error { IfErr result (λ e. e ≡ RunError.Read) }
-{
-    match reader.read(piece) {
-        Ok(count) => Ok(count),
-        Err(_) => Err(RunError::Read),
     }
 }
 

@@ -14,7 +14,7 @@ use simplex_audit::basis::Audited;
 use simplex_audit::run::{RunError, write_text};
 use simplex_audit::text::text;
 use simplex_scheme::scheme::{Digest, Listing};
-use simplex_stream::pieces::make_piece;
+use simplex_stream::pieces::{make_piece, read_some};
 use simplex_stream::watched::Watched;
 use std::alloc::Global;
 use std::io::{Read, Write};
@@ -77,26 +77,6 @@ pub fn monitor_input<'a, S: Listing<D>, D: Digest, R: Read, W: Write>(
         }
         seen += count;
         monitor = hear(alloc, monitor, &piece[..count], writer)?;
-    }
-}
-
-/// Reads once. Returns how many bytes were read, 0 only at the end.
-fn read_some<R: Read>(reader: &mut Watched<R>, piece: &mut [u8]) -> Result<usize, RunError>
-    requires well { has_failed reader.old ≡ false }
-    requires room { 0 < length piece.old }
-    ensures within { IfOk result (λ count. count ≤ length piece.new) }
-    ensures bytes { IfOk result (λ count.
-        Consumes (R.remaining (inner_of reader.old)) (R.remaining (inner_of reader.new))
-        (take count piece.new)) }
-    ensures end { result ≡ Ok 0 → IsAtEnd (R.remaining (inner_of reader.new)) }
-    ensures kept { OnErr result
-        (Keeps (R.remaining (inner_of reader.old)) (R.remaining (inner_of reader.new))) }
-    ensures failed { IsTrue (has_failed reader.new) ↔ (result ≡ Err RunError.Read) }
-    ensures error { IfErr result (λ e. e ≡ RunError.Read) }
-{
-    match reader.read(piece) {
-        Ok(count) => Ok(count),
-        Err(_) => Err(RunError::Read),
     }
 }
 

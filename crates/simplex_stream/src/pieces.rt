@@ -1,7 +1,7 @@
 //! Pieces of a stream, as a reader gives them.
 
-ghost use Rattle.std.specs.Prelude.{◌≡◌, ◌↔◌, ◌<◌, ◌≤◌, ℕ, List, false, IsTrue, Err, IfOk, IfErr, length, take, drop, vec_len};
-ghost use Rattle.std.specs.Io.KnownBytes.{Consumes, IsAtEnd};
+ghost use Rattle.std.specs.Prelude.{◌≡◌, ◌↔◌, ◌<◌, ◌≤◌, ℕ, List, false, IsTrue, Ok, Err, IfOk, IfErr, OnErr, length, take, drop, vec_len};
+ghost use Rattle.std.specs.Io.KnownBytes.{Consumes, IsAtEnd, Keeps};
 ghost use Rattle.simplex_stream.specs.Watched.{inner_of, has_failed};
 
 use crate::run_error::RunError;
@@ -17,6 +17,26 @@ pub fn make_piece(alloc: Global) -> Result<Vec<u8>, AllocError>
     ensures { IfOk result (λ piece. vec_len piece ≡ 65536) }
 {
     vec![in alloc; 0u8; PIECE]
+}
+
+/// Reads once. Returns how many bytes were read, 0 only at the end.
+pub fn read_some<R: Read>(reader: &mut Watched<R>, piece: &mut [u8]) -> Result<usize, RunError>
+    requires well { has_failed reader.old ≡ false }
+    requires room { 0 < length piece.old }
+    ensures within { IfOk result (λ count. count ≤ length piece.new) }
+    ensures bytes { IfOk result (λ count.
+        Consumes (R.remaining (inner_of reader.old)) (R.remaining (inner_of reader.new))
+        (take count piece.new)) }
+    ensures end { result ≡ Ok 0 → IsAtEnd (R.remaining (inner_of reader.new)) }
+    ensures kept { OnErr result
+        (Keeps (R.remaining (inner_of reader.old)) (R.remaining (inner_of reader.new))) }
+    ensures failed { IsTrue (has_failed reader.new) ↔ (result ≡ Err RunError.Read) }
+    ensures error { IfErr result (λ e. e ≡ RunError.Read) }
+{
+    match reader.read(piece) {
+        Ok(count) => Ok(count),
+        Err(_) => Err(RunError::Read),
+    }
 }
 
 /// Reads until the piece is full or a read returns 0. Returns how many bytes were read.

@@ -1,5 +1,5 @@
 use Rattle.simplex_detector.proofs.Prelude.{rules_under, scheme_of, sym, ◌∙◌}
-use Rattle.simplex_detector.proofs.SplitAlertLemmas.{splits_same}
+use Rattle.simplex_detector.proofs.AlarmLemmas.{sounds_same}
 use Rattle.simplex_detector.proofs.alarm.Alarm.observe.Goals as goal
 
 -- the message is no news
@@ -11,18 +11,12 @@ returns-then-not-branch g c =
     record {
       records = c.in_ok-observe.ensures.records;
       news = λ messages holds. sym old ∙ c.in_ok-observe.ensures.news messages holds;
-      sounds = λ messages told l holds sounds. record {
-        evidence = c.in_ok-observe.ensures.tells messages told.evidence holds sounds.evidence;
-        splits = splits_same (rules_under scheme c.args.judging.now c.args.committees.now) messages c.args.message.now
-            g.met.D.Eq.laws (sym (c.in_ok-observe.ensures.news messages holds) ∙ old) told.splits c.args.self.now.splits
-            sounds.splits;
-      };
+      sounds = λ messages told l holds.
+          sounds_same (rules_under scheme c.args.judging.now c.args.committees.now) messages c.args.message.now
+          g.met.D.Eq.laws (sym (c.in_ok-observe.ensures.news messages holds) ∙ old) told c.args.self.now;
     }
 
 -- it is news
 pub returns-clause-sounds : goal.returns-clause-sounds
-returns-clause-sounds g c messages told l holds sounds = record {
-  evidence = c.in_ok-observe.ensures.tells messages told.evidence holds sounds.evidence;
-  splits = c.in_ok-note.ensures c.args.judging.now messages told.splits l
-      (c.in_ok-observe.ensures.records messages holds) sounds.splits;
-}
+returns-clause-sounds g c messages told l holds =
+    c.in_ok-note.ensures c.args.judging.now messages told l (c.in_ok-observe.ensures.records messages holds)

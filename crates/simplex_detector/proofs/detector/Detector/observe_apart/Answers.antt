@@ -9,8 +9,9 @@ returns g c =
     let m = c.args.message.now in
     record {
       records = c.in_ok-is_news.ensures.records;
+      news = λ messages holds. c.news.ensures.is_news ∙ c.in_ok-is_news.ensures.news messages holds;
       kept = λ messages holds.
-          c.news.ensures m ∙ kept_told rules messages m c.in_ok-is_news.is_news c.new-apart.result c.record.new.apart
+          c.news.ensures.kept m ∙ kept_told rules messages m c.in_ok-is_news.is_news c.new-apart.result c.record.new.apart
           c.new-apart.ensures.wanted c.new-apart.ensures.votes (c.in_ok-is_news.ensures.news messages holds)
           (c.in_ok-is_news.ensures.gathers messages holds);
     }
