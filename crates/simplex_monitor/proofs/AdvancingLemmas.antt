@@ -39,7 +39,8 @@ module _ {S D C P G : Type 0} (basis : Basis S D C P G) (m : Activity S D C P G)
     advances_not fails = record {
       counts = record { below = refl; above = refl };
       window = λ start before ordered began low recalls.
-          began ∙ sym (window_stays basis.rules (is_from (floor_of old.window)) start before m x c (ap contents_certificate held)
+          began ∙ sym (window_stays basis.rules (is_from (floor_of old.window)) start before m x c
+          (ap contents_certificate held)
           (sym (ap (λ h. is_from (floor_of old.window) (contents_round h)) held) ∙ low.1)
           (subst (λ t. TellsIfCertified basis m (round_of x) (kind_of x) old t) fails tells_here before recalls));
       holds = λ start before taken all ordered began h. h;

@@ -1,6 +1,7 @@
 //! An auditor that listens to the network for long.
 
 ghost use Rattle.std.specs.Prelude.{◌≡◌, ◌+◌, ◌-◌, ◌<◌, ◌≤◌, ◌^◌, ◌++◌, ℕ, List, [], map, min, length, IfOk, IfSome, IsTrue, OnErr, OnOk};
+ghost use Rattle.std.specs.List.{flat_map};
 ghost use Rattle.std.specs.Option.{is_some};
 ghost use Rattle.simplex_scheme.specs.Committees.{Schedule};
 ghost use Rattle.simplex_detector.specs.Alarm.{Told, nothing_told, told_then};
@@ -257,6 +258,16 @@ impl<'a, S: Listing<D>, D: Digest> Monitor<'a, S, D> {
     {
         let stop = stop_of::<Activity<S, D>>(alloc, self.bound, self.decoder.rest())?;
         Ok(fault_at(self.decoder.place(), stop))
+    }
+
+    /// How many bytes these messages have, joined: the 0-based offset of the first byte that is not read yet.
+    pub fn place(&self) -> usize
+        ensures { (start : windows.Window) (committees : Schedule S)
+            (told : Told D S.Signature) (stream : List ℕ) →
+            (listens : Listens ⟦<S as Audited<D>>⟧.basis start committees told stream self.now) →
+            result ≡ length (flat_map (⟦<S as Audited<D>>⟧.basis committees).format.encoding listens.messages) }
+    {
+        self.decoder.place()
     }
 
     /// How many of them were of rounds below the floor when they came, or of view 0. The number stops at 2^64 - 1.
