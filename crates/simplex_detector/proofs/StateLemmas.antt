@@ -1,5 +1,5 @@
 -- What is recorded of a part of the rounds.
-use Rattle.simplex_detector.proofs.Prelude.{Activity, All, Bool, Contains, List, None, Option, Round, Rules, SignedVote, Slot, Some, SubjectValue, VoteKind, and_parts, ap, are_split, certified_subjects, false, false_from_ne_true, false≢true, filter, find, first_certified, in_rounds, is_at, kind_of, other_than, refl, round_of, same_kind, same_round, slot_of, subst, sym, true, valid_votes, ℕ, ◌&&◌, ◌∙◌, ◌≡◌}
+use Rattle.simplex_detector.proofs.Prelude.{Activity, All, Bool, List, None, Option, Round, Rules, SignedVote, Slot, Some, SubjectValue, VoteKind, and_parts, ap, are_split, certified_subjects, false, false_from_ne_true, false≢true, filter, find, first_certified, in_rounds, is_at, kind_of, other_than, refl, round_of, same_kind, same_round, slot_of, sym, true, valid_votes, ℕ, ◌∙◌, ◌≡◌}
 use Rattle.simplex_detector.specs.Independence.{IsOfOneRound, of_rounds}
 use Rattle.simplex_detector.specs.Interchange.{HaveSameState}
 use Rattle.simplex_detector.proofs.CountLemmas.{filter_filtered}
