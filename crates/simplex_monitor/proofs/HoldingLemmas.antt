@@ -70,7 +70,8 @@ module _ {S D C P G : Type 0} (rules : Rules S D C P G) where
 -- ---- what is held
 
 -- nothing is held at first, if anything is to be held
-pub none_held : (holds : Bool) (bytes : Vec ℕ Global) → bytes.items ≡ [] → IfSome (then_some holds bytes) (λ held. held.items ≡ [])
+pub none_held : (holds : Bool) (bytes : Vec ℕ Global) → bytes.items ≡ [] →
+    IfSome (then_some holds bytes) (λ held. held.items ≡ [])
 none_held true bytes none = none
 none_held false bytes none = tt
 

@@ -28,8 +28,8 @@ returns g c =
     (Some c.append_news.new.kept) (c.rounds_are_independent.ensures.committees _) c.floor.ensures
     (c.floors_rise.ensures.judged c.args.committees.now c.floor.result)
     c.in_ok-kept-in-Some.ensures.records c.in_ok-kept-in-Some.ensures.sounds
-    (holds_kept _ judged c.args.message.now c.args.self.now.detector c.args.self.now.held c.in-Some.held c.append_news.new.kept kept
-    c.in-Some.is
+    (holds_kept _ judged c.args.message.now c.args.self.now.detector c.args.self.now.held c.in-Some.held
+    c.append_news.new.kept kept c.in-Some.is
     (c.same_state_suffices.ensures.joined judged g.met.D.Eq.laws)
     (λ ms. c.news_suffices.ensures.compaction judged ms g.met.D.Eq.laws)
     (λ ms k. c.news_suffices.ensures.next judged ms k)
