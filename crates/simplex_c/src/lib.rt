@@ -34,14 +34,14 @@ use simplex_ffi::answer::ReportSummary;
 use simplex_ffi::plain::{answer_plain, store_plain};
 use simplex_ffi::records::{records_plain, records_vouched};
 use simplex_ffi::suspects::suspects_vouched;
-use simplex_ffi::vouched::{Role48, Role64, Role96, answer_vouched, store_vouched};
+use simplex_ffi::vouched::{answer_vouched, store_vouched};
 use simplex_ffi::{leaders, numbers};
 use simplex_places::located::Located;
 use simplex_places::places::AttestationPlace;
 use simplex_places::records::Record;
 use simplex_scheme::scheme::{Hasher, Sha256, Sha256Digest};
 use simplex_schemes::plain::Plain;
-use simplex_schemes::vouched::Vouched;
+use simplex_schemes::vouched::{Role48, Role64, Role96, Vouched};
 use std::alloc::Global;
 
 /// The version of these calls: 1.

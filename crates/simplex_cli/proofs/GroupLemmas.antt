@@ -10,47 +10,10 @@ use Rattle.std.specs.Ordering.{nat_cmp, is_lt, MatchOrdering}
 use Rattle.std.proofs.lemmas.Cmp.{ranked}
 use Rattle.std.proofs.lemmas.Bool.{cases_lt, false≢true}
 use Rattle.std.proofs.lemmas.Fmt.{decimal_injective}
-use Rattle.hex.specs.Hex.{decode_pairs}
-use Rattle.hex.specs.declared.error.FromHexError.{FromHexError}
-use Rattle.hex.specs.declared.error.FromHexError.TheVariants.{OddLength, InvalidStringLength}
-use Rattle.simplex_schemes.specs.Plain.{PlainScheme}
 use Rattle.simplex_scheme.specs.Committees.{AreRising}
-use Rattle.simplex_cli.specs.Arguments.{IsNamedCommittee, NameKeys, AreGroups, BeginAsGroups, BeginsGroup, StandsBeforeGroup, epoch_text, key_of, key_named, keys_named, with_key}
+use Rattle.simplex_cli.specs.Arguments.{AreGroups, BeginAsGroups, BeginsGroup, IsNaming, Naming, StandsBeforeGroup, epoch_text}
 
--- ---- keys and groups
-
--- a text of any length that is not hexadecimal digits names no key
-no_digits : (b c : Bool) (decoded : Result (List ℕ) FromHexError) → key_of decoded ≡ None →
-    key_of (if b then Err OddLength else if c then decoded else Err InvalidStringLength) ≡ None
-no_digits true c decoded none = refl
-no_digits false true decoded none = none
-no_digits false false decoded none = refl
-
--- a text that begins a group names no key
-at_names_none : (rest : List ℕ) → key_named (64 ∷ rest) ≡ None
-unfolding decode_pairs
-at_names_none [] = refl
-at_names_none (digit ∷ rest) = no_digits _ _ (decode_pairs 0 (64 ∷ digit ∷ rest)) refl
-
--- a key's text begins no group
-pub key_begins_no_group : (text key : List ℕ) → key_named text ≡ Some key → BeginsGroup text → ⊥
-key_begins_no_group text key named (rest, e) =
-    let none : key_named text ≡ None = ap key_named e ∙ at_names_none rest in
-    let both : Some key ≡ None = sym named ∙ none in
-    absurd cc
-
--- the texts of keys begin no group
-pub keys_begin_no_group : (texts keys : List (List ℕ)) → keys_named texts ≡ Some keys → All (λ text. BeginsGroup text → ⊥) texts
-keys_begin_no_group [] keys e = All-nil _
-keys_begin_no_group (text ∷ texts) keys e = by (key_named text) (keys_named texts) refl e (keys_begin_no_group texts)
-  where
-    by : (o : Option (List ℕ)) (rest : Option (List (List ℕ))) → key_named text ≡ o → with_key o rest ≡ Some keys
-        → ((more : List (List ℕ)) → rest ≡ Some more → All (λ t. BeginsGroup t → ⊥) texts)
-        → All (λ t. BeginsGroup t → ⊥) (text ∷ texts)
-    by None rest first whole others = absurd cc
-    by (Some key) None first whole others = absurd cc
-    by (Some key) (Some more) first whole others =
-        All-cons (λ t. BeginsGroup t → ⊥) text texts (key_begins_no_group text key first) (others more refl)
+-- ---- where a group begins
 
 -- a text stands before a group
 pub stands_before : (texts : List (String Global)) (i : ℕ) (d : String Global) → i < length texts →
@@ -95,10 +58,10 @@ same_front (text ∷ front) rest (suc n) keys group none stands =
     (ap (λ (ts : List (List ℕ)). text ∷ ts) tail.0, tail.1)
 
 -- the texts of groups begin with a group, or are none
-pub groups_stand : (namespace : List ℕ) (texts : List (List ℕ)) (pairs : List (ℕ × PlainScheme)) →
-    AreGroups namespace texts pairs → StandsBeforeGroup texts
-groups_stand namespace texts [] none = subst StandsBeforeGroup (sym none) tt
-groups_stand namespace texts (pair ∷ pairs) (keys, rest, e, small, is, others) =
+pub groups_stand : {S : Type 0} (naming : Naming S) (texts : List (List ℕ)) (pairs : List (ℕ × S)) →
+    AreGroups naming texts pairs → StandsBeforeGroup texts
+groups_stand naming texts [] none = subst StandsBeforeGroup (sym none) tt
+groups_stand naming texts (pair ∷ pairs) (own, rest, e, small, is, others) =
     subst StandsBeforeGroup (sym e) (decimal pair.0, refl)
 
 -- the text of an epoch determines it
@@ -106,33 +69,34 @@ pub epoch_told : (m n : ℕ) → m < 2 ^ 64 → n < 2 ^ 64 → epoch_text m ≡ 
 epoch_told m n m_small n_small e = decimal_injective m n m_small n_small (ap (drop 1) e)
 
 -- the first group of texts
-pub record FirstGroup (namespace : List ℕ) (text : List ℕ) (behind : List (List ℕ))
-    (pairs : List (ℕ × PlainScheme)) : Type 0 where
-  pub pair : ℕ × PlainScheme
-  pub more : List (ℕ × PlainScheme)
+pub record FirstGroup {S : Type 0} (naming : Naming S) (text : List ℕ) (behind : List (List ℕ))
+    (pairs : List (ℕ × S)) : Type 0 where
+  pub pair : ℕ × S
+  pub more : List (ℕ × S)
   pub pairs_are : pairs ≡ pair ∷ more
   pub text_is : text ≡ epoch_text pair.0
   pub small : pair.0 < 2 ^ 64
   pub ends : (n : ℕ) → All (λ t. BeginsGroup t → ⊥) (take n behind) → StandsBeforeGroup (drop n behind) →
-      IsNamedCommittee namespace (take n behind) pair.1 × AreGroups namespace (drop n behind) more
+      naming.names (take n behind) pair.1 × AreGroups naming (drop n behind) more
 
-pub first_group : (namespace : List ℕ) (text : List ℕ) (behind : List (List ℕ)) (pairs : List (ℕ × PlainScheme)) →
-    AreGroups namespace (text ∷ behind) pairs → FirstGroup namespace text behind pairs
-first_group namespace text behind [] e = absurd cc
-first_group namespace text behind (pair ∷ more) (keys, rest, e, small, is, others) = record {
+pub first_group : {S : Type 0} (naming : Naming S) (law : IsNaming naming) (text : List ℕ) (behind : List (List ℕ))
+    (pairs : List (ℕ × S)) →
+    AreGroups naming (text ∷ behind) pairs → FirstGroup naming text behind pairs
+first_group naming law text behind [] e = absurd cc
+first_group naming law text behind (pair ∷ more) (own, rest, e, small, is, others) = record {
   pair = pair;
   more = more;
   pairs_are = refl;
   text_is = ap (λ (ts : List (List ℕ)). get_or ts 0 []) e;
   small = small;
   ends = λ n none stands.
-      let parts : behind ≡ keys ++ rest = ap (drop 1) e in
+      let parts : behind ≡ own ++ rest = ap (drop 1) e in
       let same =
-      same_front keys rest n (keys_begin_no_group keys is.keys is.named.named) (groups_stand namespace rest more others)
+      same_front own rest n (law.apart own pair.1 is) (groups_stand naming rest more others)
       (subst (λ ts. All (λ t. BeginsGroup t → ⊥) (take n ts)) parts none)
       (subst (λ ts. StandsBeforeGroup (drop n ts)) parts stands) in (
-        subst (λ ts. IsNamedCommittee namespace ts pair.1) (same.0 ∙ ap (take n) (sym parts)) is,
-        subst (λ ts. AreGroups namespace ts more) (same.1 ∙ ap (drop n) (sym parts)) others,
+        subst (λ ts. naming.names ts pair.1) (same.0 ∙ ap (take n) (sym parts)) is,
+        subst (λ ts. AreGroups naming ts more) (same.1 ∙ ap (drop n) (sym parts)) others,
       );
 }
 
@@ -207,13 +171,14 @@ split_group rest behind keys after first n epoch whole begins front back =
     ∙ (ap (λ (w : List ℕ). w ∷ map string_bytes behind) begins ∙ ap (λ (ws : List (List ℕ)). epoch_text epoch ∷ ws) split)
 
 -- the next group in front of more
-pub next_group : (namespace : List ℕ) (rest behind keys after : List (String Global)) (first : String Global) (n epoch : ℕ)
-    (committee : PlainScheme) (more : List (ℕ × PlainScheme))
+pub next_group : {S : Type 0} (naming : Naming S) (rest behind keys after : List (String Global)) (first : String Global)
+    (n epoch : ℕ)
+    (committee : S) (more : List (ℕ × S))
     → rest ≡ first ∷ behind → string_bytes first ≡ epoch_text epoch → epoch < 2 ^ 64 → keys ≡ take n behind
     → after ≡ drop n behind
-    → IsNamedCommittee namespace (map string_bytes keys) committee → AreGroups namespace (map string_bytes after) more
-    → AreGroups namespace (map string_bytes rest) ((epoch, committee) ∷ more)
-next_group namespace rest behind keys after first n epoch committee more whole begins small front back is others = (
+    → naming.names (map string_bytes keys) committee → AreGroups naming (map string_bytes after) more
+    → AreGroups naming (map string_bytes rest) ((epoch, committee) ∷ more)
+next_group naming rest behind keys after first n epoch committee more whole begins small front back is others = (
   map string_bytes keys,
   map string_bytes after,
   split_group rest behind keys after first n epoch whole begins front back,
@@ -223,16 +188,16 @@ next_group namespace rest behind keys after first n epoch committee more whole b
 )
 
 -- one group more behind groups
-one_group_more : (namespace : List ℕ) (before keys : List (List ℕ)) (pairs : List (ℕ × PlainScheme)) (epoch : ℕ)
-    (committee : PlainScheme) → AreGroups namespace before pairs → epoch < 2 ^ 64
-    → IsNamedCommittee namespace keys committee
-    → AreGroups namespace (before ++ epoch_text epoch ∷ keys) (pairs ++ (epoch, committee) ∷ [])
-one_group_more namespace before keys [] epoch committee none small is =
+one_group_more : {S : Type 0} (naming : Naming S) (before keys : List (List ℕ)) (pairs : List (ℕ × S)) (epoch : ℕ)
+    (committee : S) → AreGroups naming before pairs → epoch < 2 ^ 64
+    → naming.names keys committee
+    → AreGroups naming (before ++ epoch_text epoch ∷ keys) (pairs ++ (epoch, committee) ∷ [])
+one_group_more naming before keys [] epoch committee none small is =
     let texts : before ++ epoch_text epoch ∷ keys ≡ epoch_text epoch ∷ (keys ++ []) =
     ap (λ (ts : List (List ℕ)). ts ++ epoch_text epoch ∷ keys) none
     ∙ ap (λ (ts : List (List ℕ)). epoch_text epoch ∷ ts) (sym (append-nil keys)) in
     (keys, [], texts, small, is, refl)
-one_group_more namespace before keys (pair ∷ pairs) epoch committee (front, rest, e, below, named, others) small is =
+one_group_more naming before keys (pair ∷ pairs) epoch committee (front, rest, e, below, named, others) small is =
     let texts : before ++ epoch_text epoch ∷ keys ≡ epoch_text pair.0 ∷ (front ++ (rest ++ epoch_text epoch ∷ keys)) =
     ap (λ (ts : List (List ℕ)). ts ++ epoch_text epoch ∷ keys) e
     ∙ ap (λ (ts : List (List ℕ)). epoch_text pair.0 ∷ ts) (append_assoc front rest (epoch_text epoch ∷ keys)) in (
@@ -241,43 +206,43 @@ one_group_more namespace before keys (pair ∷ pairs) epoch committee (front, re
       texts,
       below,
       named,
-      one_group_more namespace rest keys pairs epoch committee others small is,
+      one_group_more naming rest keys pairs epoch committee others small is,
     )
 
 -- the texts are groups of these pairs, and then the rest
-abbrev pub AreRead : List ℕ → List (List ℕ) → List (List ℕ) → List (ℕ × PlainScheme) → Type 0
-AreRead namespace texts rest pairs = (before : List (List ℕ)) × (texts ≡ before ++ rest) × AreGroups namespace before pairs
+abbrev pub AreRead : {S : Type 0} → Naming S → List (List ℕ) → List (List ℕ) → List (ℕ × S) → Type 0
+AreRead naming texts rest pairs = (before : List (List ℕ)) × (texts ≡ before ++ rest) × AreGroups naming before pairs
 
 -- one group more was read
-pub read_next : (namespace : List ℕ) (texts : List (List ℕ)) (rest behind keys after : List (String Global))
-    (first : String Global) (n epoch : ℕ) (pairs : List (ℕ × PlainScheme)) (committee : PlainScheme)
-    → AreRead namespace texts (map string_bytes rest) pairs → rest ≡ first ∷ behind → string_bytes first ≡ epoch_text epoch
+pub read_next : {S : Type 0} (naming : Naming S) (texts : List (List ℕ)) (rest behind keys after : List (String Global))
+    (first : String Global) (n epoch : ℕ) (pairs : List (ℕ × S)) (committee : S)
+    → AreRead naming texts (map string_bytes rest) pairs → rest ≡ first ∷ behind → string_bytes first ≡ epoch_text epoch
     → epoch < 2 ^ 64 → keys ≡ take n behind → after ≡ drop n behind
-    → IsNamedCommittee namespace (map string_bytes keys) committee
-    → AreRead namespace texts (map string_bytes after) (pairs ++ (epoch, committee) ∷ [])
-read_next namespace texts rest behind keys after first n epoch pairs committee (before, e, are) whole begins small
+    → naming.names (map string_bytes keys) committee
+    → AreRead naming texts (map string_bytes after) (pairs ++ (epoch, committee) ∷ [])
+read_next naming texts rest behind keys after first n epoch pairs committee (before, e, are) whole begins small
     front back is =
     let group = epoch_text epoch ∷ map string_bytes keys in (
       before ++ group,
       e ∙ (ap (λ (ts : List (List ℕ)). before ++ ts) (split_group rest behind keys after first n epoch whole begins front back)
           ∙ sym (append_assoc before group (map string_bytes after))),
-      one_group_more namespace before (map string_bytes keys) pairs epoch committee are small is,
+      one_group_more naming before (map string_bytes keys) pairs epoch committee are small is,
     )
 
 -- the keys of the next group were read
-pub begun : (namespace : List ℕ) (texts : List (List ℕ)) (rest behind keys after : List (String Global)) (first : String Global)
-    (n epoch : ℕ) (pairs : List (ℕ × PlainScheme))
-    → AreRead namespace texts (map string_bytes rest) pairs → AreRising pairs → All (λ q. q.0 < epoch) pairs
+pub begun : {S : Type 0} (naming : Naming S) (texts : List (List ℕ)) (rest behind keys after : List (String Global))
+    (first : String Global) (n epoch : ℕ) (pairs : List (ℕ × S))
+    → AreRead naming texts (map string_bytes rest) pairs → AreRising pairs → All (λ q. q.0 < epoch) pairs
     → rest ≡ first ∷ behind → string_bytes first ≡ epoch_text epoch → epoch < 2 ^ 64 → keys ≡ take n behind
     → after ≡ drop n behind
-    → StandsBeforeGroup (map string_bytes after) → NameKeys (map string_bytes keys) → BeginAsGroups namespace texts
-begun namespace texts rest behind keys after first n epoch pairs (before, e, are) rising above whole begins small front back
+    → StandsBeforeGroup (map string_bytes after) → naming.may (map string_bytes keys) → BeginAsGroups naming texts
+begun naming texts rest behind keys after first n epoch pairs (before, e, are) rising above whole begins small front back
     ends named =
     record {
       before = before;
       pairs = pairs;
       epoch = epoch;
-      keys = map string_bytes keys;
+      own = map string_bytes keys;
       rest = map string_bytes after;
       texts_are =
           e ∙ ap (λ (ts : List (List ℕ)). before ++ ts)
@@ -286,7 +251,7 @@ begun namespace texts rest behind keys after first n epoch pairs (before, e, are
       rising = rising;
       above = above;
       small = small;
-      named = named;
+      may = named;
       ends = ends;
     }
 

@@ -6,4 +6,5 @@ mod InspectLemmas
 mod KeyLemmas
 mod NoGroups
 mod ProgramLemmas
+mod VerdictLemmas
 mod WritingLemmas

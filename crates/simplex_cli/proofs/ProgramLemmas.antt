@@ -4,9 +4,8 @@ use Rattle.std.specs.Io.KnownBytes.{Keeps}
 use Rattle.simplex_audit.specs.Outcome.{ReaderUse, WriterUse}
 use Rattle.simplex_cli.specs.Answer.{Bases, Ending, status_of}
 use Rattle.simplex_cli.specs.Endings.{AreRefused, EndsAs}
-use Rattle.simplex_cli.specs.Arguments.{AreNotGiven}
 use Rattle.simplex_cli.specs.Compacting.{IsCompactedInput, IsCompactionBegun, NameNoFloor}
-use Rattle.simplex_cli.specs.Inspecting.{IsBegun, IsShown, LinesUnder}
+use Rattle.simplex_cli.specs.Inspecting.{GiveNothing, IsBegunBy, IsShownBy, LinesUnder}
 use Rattle.simplex_cli.specs.Status.{number_of}
 use Rattle.simplex_cli.specs.declared.program.Program.{Program}
 use Rattle.simplex_cli.specs.declared.program.Program.TheVariants.{Audit, Compact, Inspect}
@@ -26,8 +25,11 @@ refused-by basis lines Compact words reader writer ending none =
     ends_refused (NameNoFloor words) (IsCompactedInput basis words reader writer) (IsCompactionBegun basis words reader writer)
     reader writer ending (λ fault h. none h.floor h.committees h.named) (λ h. none h.floor h.committees h.named)
 refused-by basis lines Inspect words reader writer ending none =
-    ends_refused (AreNotGiven words) (IsShown lines words reader writer) (IsBegun lines words reader writer) reader writer
-    ending (λ fault h. none h.committees h.given) (λ h. none h.committees h.given)
+    ends_refused (GiveNothing words) (IsShownBy lines words reader writer) (IsBegunBy lines words reader writer) reader writer
+    ending (λ fault. elim [
+      | inl h ↦ none.plain h.committees h.given
+      | inr h ↦ none.verdicts h.0 h.1.committees h.1.given
+    ]) (elim [ inl h ↦ none.plain h.committees h.given | inr h ↦ none.verdicts h.0 h.1.committees h.1.given ])
 
 -- an allocation failed before anything was written
 pub unstarted : (basis : Bases) (lines : LinesUnder) (program : Program) (words : List (List ℕ)) (reader : ReaderUse)

@@ -38,3 +38,23 @@ module _ (Refused : Type 0) (Whole : Option Fault → Type 0) (Begun : Type 0) (
   ends_refused (Err failures.OutOfMemory) whole begun ends = inr refl
   ends_refused (Err failures.Read) whole begun ends = absurd (begun ends.1)
   ends_refused (Err failures.Write) whole begun ends = absurd (begun ends.1)
+
+-- an ending stands by what follows of each of the three
+pub ends_mapped : (Refused : Type 0) (Whole : Option Fault → Type 0) (Begun Refused' : Type 0) (Whole' : Option Fault → Type 0)
+    (Begun' : Type 0) (reader : ReaderUse) (writer : WriterUse) (ending : Ending) →
+    (ending ≡ Err failures.Usage → Refused → Refused') → ((fault : Option Fault) → Whole fault → Whole' fault) →
+    (Begun → Begun') → WritingEnds Refused Whole Begun reader writer ending →
+    WritingEnds Refused' Whole' Begun' reader writer ending
+ends_mapped Refused Whole Begun Refused' Whole' Begun' reader writer (Ok fault) refused whole begun ends = whole fault ends
+ends_mapped Refused Whole Begun Refused' Whole' Begun' reader writer (Err failures.Usage) refused whole begun ends =
+    (refused refl ends.0, ends.1)
+ends_mapped Refused Whole Begun Refused' Whole' Begun' reader writer (Err failures.Read) refused whole begun ends =
+    (ends.0, begun ends.1)
+ends_mapped Refused Whole Begun Refused' Whole' Begun' reader writer (Err failures.OutOfMemory) refused whole begun
+    (inl keeps) =
+    inl keeps
+ends_mapped Refused Whole Begun Refused' Whole' Begun' reader writer (Err failures.OutOfMemory) refused whole begun
+    (inr more) =
+    inr (begun more)
+ends_mapped Refused Whole Begun Refused' Whole' Begun' reader writer (Err failures.Write) refused whole begun ends =
+    (ends.0, begun ends.1)

@@ -68,53 +68,85 @@ StandsBeforeGroup (text ∷ texts) = BeginsGroup text
 abbrev pub epoch_text : ℕ → List ℕ
 epoch_text epoch = codes "@" ++ decimal epoch
 
--- the texts are groups, each of the text of its epoch and the texts of its committee's keys
-abbrev pub AreGroups : List ℕ → List (List ℕ) → List (ℕ × PlainScheme) → Type 0
-AreGroups namespace texts [] = texts ≡ []
-AreGroups namespace texts (pair ∷ pairs) =
-    (keys rest : List (List ℕ)) × (texts ≡ epoch_text pair.0 ∷ (keys ++ rest)) × (pair.0 < 2 ^ 64)
-    × IsNamedCommittee namespace keys pair.1 × AreGroups namespace rest pairs
+-- How texts name the committees of a scheme: which committee they name, and which texts may name one.
+pub record Naming (S : Type 0) : Type 1 where
+  pub names : List (List ℕ) → S → Type 0
+  pub may : List (List ℕ) → Type 0
+
+-- what has to hold of it: there is a text at least, none begins a group, and texts that name a committee may name one
+pub record IsNaming {S : Type 0} (naming : Naming S) : Type 0 where
+  pub some : (committee : S) → ¬ naming.names [] committee
+  pub apart : (texts : List (List ℕ)) (committee : S) → naming.names texts committee → All (λ text. ¬ BeginsGroup text) texts
+  pub may : (texts : List (List ℕ)) (committee : S) → naming.names texts committee → naming.may texts
+
+-- the texts name no committee
+abbrev pub NameNone : {S : Type 0} → Naming S → List (List ℕ) → Type 0
+NameNone {S} naming texts = (committee : S) → ¬ naming.names texts committee
+
+-- by the keys of its participants, under a namespace
+abbrev pub by_keys : List ℕ → Naming PlainScheme
+by_keys namespace = record { names = IsNamedCommittee namespace; may = NameKeys }
+
+-- the texts are groups, each of the text of its epoch and the texts that name its committee
+abbrev pub AreGroups : {S : Type 0} → Naming S → List (List ℕ) → List (ℕ × S) → Type 0
+AreGroups naming texts [] = texts ≡ []
+AreGroups naming texts (pair ∷ pairs) =
+    (own rest : List (List ℕ)) × (texts ≡ epoch_text pair.0 ∷ (own ++ rest)) × (pair.0 < 2 ^ 64)
+    × naming.names own pair.1 × AreGroups naming rest pairs
 
 -- the texts name one committee for every epoch, or in groups one for each of some epochs, which rise strictly
-abbrev pub NameCommittees : List ℕ → List (List ℕ) → Schedule PlainScheme → Type 0
-NameCommittees namespace texts (Every committee) = IsNamedCommittee namespace texts committee
-NameCommittees namespace texts (Listed pairs) = (pairs ≢ []) × AreRising pairs × AreGroups namespace texts pairs
+abbrev pub NameCommittees : {S : Type 0} → Naming S → List (List ℕ) → Schedule S → Type 0
+NameCommittees naming texts (Every committee) = naming.names texts committee
+NameCommittees naming texts (Listed pairs) = (pairs ≢ []) × AreRising pairs × AreGroups naming texts pairs
+
+-- the texts name no committees
+abbrev pub NameNoCommittees : {S : Type 0} → Naming S → List (List ℕ) → Type 0
+NameNoCommittees {S} naming texts = (committees : Schedule S) → ¬ NameCommittees naming texts committees
+
+-- the texts begin with groups whose epochs rise, and behind them come the text of an epoch above theirs and texts that may
+-- name a committee
+pub record BeginAsGroups {S : Type 0} (naming : Naming S) (texts : List (List ℕ)) : Type 0 where
+  pub before : List (List ℕ)
+  pub pairs : List (ℕ × S)
+  pub epoch : ℕ
+  pub own : List (List ℕ)
+  pub rest : List (List ℕ)
+  pub texts_are : texts ≡ before ++ epoch_text epoch ∷ (own ++ rest)
+  pub groups : AreGroups naming before pairs
+  pub rising : AreRising pairs
+  pub above : All (λ pair. pair.0 < epoch) pairs
+  pub small : epoch < 2 ^ 64
+  pub may : naming.may own
+  pub ends : StandsBeforeGroup rest
+
+-- the texts may name a committee, or begin as groups do
+abbrev pub BeginAsCommittees : {S : Type 0} → Naming S → List (List ℕ) → Type 0
+BeginAsCommittees naming texts = naming.may texts ⊎ BeginAsGroups naming texts
 
 -- the words are a namespace and texts that name these committees
 abbrev pub AreArguments : List (List ℕ) → Schedule PlainScheme → Type 0
 AreArguments words committees =
-    (namespace : List ℕ) × (texts : List (List ℕ)) × (words ≡ namespace ∷ texts) × NameCommittees namespace texts committees
+    (namespace : List ℕ) × (texts : List (List ℕ)) × (words ≡ namespace ∷ texts)
+    × NameCommittees (by_keys namespace) texts committees
 
 -- the words are no namespace and texts that name committees
 abbrev pub AreNoArguments : List (List ℕ) → Type 0
 AreNoArguments words = (committees : Schedule PlainScheme) → ¬ AreArguments words committees
 
--- the texts begin with groups whose epochs rise, and behind them come the text of an epoch above theirs and texts that name
--- keys
-pub record BeginAsGroups (namespace : List ℕ) (texts : List (List ℕ)) : Type 0 where
-  pub before : List (List ℕ)
-  pub pairs : List (ℕ × PlainScheme)
-  pub epoch : ℕ
-  pub keys : List (List ℕ)
-  pub rest : List (List ℕ)
-  pub texts_are : texts ≡ before ++ epoch_text epoch ∷ (keys ++ rest)
-  pub groups : AreGroups namespace before pairs
-  pub rising : AreRising pairs
-  pub above : All (λ pair. pair.0 < epoch) pairs
-  pub small : epoch < 2 ^ 64
-  pub named : NameKeys keys
-  pub ends : StandsBeforeGroup rest
-
 -- the words are a namespace and texts that name keys, or that begin as groups do
 abbrev pub BeginAsArguments : List (List ℕ) → Type 0
 BeginAsArguments words =
     (namespace : List ℕ) × (texts : List (List ℕ)) × (words ≡ namespace ∷ texts)
-    × (NameKeys texts ⊎ BeginAsGroups namespace texts)
+    × BeginAsCommittees (by_keys namespace) texts
+
+-- there are no words, or they name these committees
+abbrev pub AreNoneOr : {S : Type 0} → (List (List ℕ) → Schedule S → Type 0) → List (List ℕ) → Option (Schedule S) → Type 0
+AreNoneOr Name words None = words ≡ []
+AreNoneOr Name words (Some committees) = Name words committees
 
 -- there are no words, or they name these committees as the arguments of `audit` do
 abbrev pub AreGiven : List (List ℕ) → Option (Schedule PlainScheme) → Type 0
-AreGiven words None = words ≡ []
-AreGiven words (Some committees) = AreArguments words committees
+AreGiven = AreNoneOr AreArguments
 
 -- there are words, and they name no committees
 abbrev pub AreNotGiven : List (List ℕ) → Type 0

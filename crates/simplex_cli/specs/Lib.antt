@@ -1,4 +1,7 @@
 pub mod Arguments
+pub mod KeyLaws
+pub mod Verdicts
+pub mod VerdictLaws
 pub mod Answer
 pub mod Compacting
 pub mod Inspecting

@@ -15,7 +15,7 @@ name_of Inspect = codes "inspect"
 abbrev pub usage_of : Program → List ℕ
 usage_of (Audit verification) = codes " NAMESPACE KEY...\n"
 usage_of Compact = codes " [--floor EPOCH VIEW] NAMESPACE KEY...\n"
-usage_of Inspect = codes " [NAMESPACE KEY...]\n"
+usage_of Inspect = codes " [NAMESPACE KEY...|--verdicts BYTES [PARTICIPANTS]]\n"
 
 -- whether two are the same
 abbrev pub same_verification : Verification → Verification → Bool

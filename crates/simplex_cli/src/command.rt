@@ -12,10 +12,10 @@ use crate::compacting::keep_news;
 use crate::complaints::{complaint_at, complaint_of};
 use crate::inspecting::show_input;
 use crate::program::Program;
+use crate::showing::{Showing, Streams};
 use crate::status::{Failure, Status};
 use simplex_audit::audit::{Fault, Watched};
 use simplex_audit::basis::Audited;
-use simplex_inspect::basis::Inspected;
 use simplex_scheme::scheme::Sha256Digest;
 use simplex_schemes::plain::Plain;
 use std::alloc::Global;
@@ -32,7 +32,7 @@ fn process<R: Read, W: Write>(
     requires input_well { has_failed input.old ≡ false }
     requires output_well { has_failed output.old ≡ false }
     ensures ends { EndsAs ⟦<Plain as Audited<Sha256Digest>>⟧.basis
-        ⟦<Plain as Inspected<Sha256Digest>>⟧.lines program (map string_bytes arguments.now)
+        ⟦<Streams as Showing>⟧.lines program (map string_bytes arguments.now)
         (reader_use R.remaining input.old input.new)
         (writer_use W.contents output.old output.new) result }
     ensures read_failed { IsTrue (has_failed input.new) → result ≡ Err Failure.Read }
@@ -108,7 +108,7 @@ pub fn command<R: Read, W: Write, E: Write>(
     ensures ends { (ending : Ending) × (result ≡ status_of ending)
         × Says (writer_use E.contents errors.old errors.new) (said_of program ending)
         × EndsAs ⟦<Plain as Audited<Sha256Digest>>⟧.basis
-        ⟦<Plain as Inspected<Sha256Digest>>⟧.lines program (map string_bytes arguments.now)
+        ⟦<Streams as Showing>⟧.lines program (map string_bytes arguments.now)
         (reader_use R.remaining input.old input.new)
         (writer_use W.contents output.old output.new) ending }
     // Where the input or the output failed the status is `Failed`, and standard error says only that.

@@ -9,8 +9,8 @@ use arrayvec::ArrayString;
 use itoa::Buffer;
 
 /// Three texts, one after another.
-fn joined(before: &str, name: &str, after: &str) -> ArrayString<64>
-    requires { length before.now + length name.now + length after.now ≤ 64 }
+fn joined(before: &str, name: &str, after: &str) -> ArrayString<72>
+    requires { length before.now + length name.now + length after.now ≤ 72 }
     ensures { result.bytes ≡ before.now ++ (name.now ++ after.now) }
 {
     let mut text = ArrayString::new();
@@ -20,8 +20,8 @@ fn joined(before: &str, name: &str, after: &str) -> ArrayString<64>
     text
 }
 
-/// The line on standard error for a failure, with its newline. The longest has 59 bytes.
-pub fn complaint_of(program: Program, failure: Failure) -> ArrayString<64>
+/// The line on standard error for a failure, with its newline. The longest has 66 bytes.
+pub fn complaint_of(program: Program, failure: Failure) -> ArrayString<72>
     ensures { result.bytes ≡ complaint_of program failure }
 {
     let name = program.name();
@@ -34,7 +34,7 @@ pub fn complaint_of(program: Program, failure: Failure) -> ArrayString<64>
 }
 
 /// The line on standard error for a fault at a byte, with its newline. The longest, of 50 bytes, fits.
-pub fn complaint_at(program: Program, place: usize) -> ArrayString<64>
+pub fn complaint_at(program: Program, place: usize) -> ArrayString<72>
     ensures { result.bytes ≡ complaint_at program place }
 {
     let mut number = Buffer::new();

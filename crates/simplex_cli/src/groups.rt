@@ -1,15 +1,13 @@
-//! Groups of arguments, each an epoch and the keys of its committee.
+//! Groups of arguments, each an epoch and what names its committee.
 
 ghost use Rattle.std.specs.Prelude.{◌≡◌, ◌≢◌, ◌↔◌, ◌≤◌, ◌<◌, ◌^◌, ◌⊎◌, ℕ, List, Ok, Err, All, IfOk, IfErr, map, length, take, drop, string_bytes, IsTrue};
 ghost use Rattle.simplex_scheme.specs.Committees.{AreRising};
-ghost use Rattle.simplex_schemes.specs.Plain.{PlainScheme};
 ghost use Rattle.simplex_cli.specs.Arguments.{AreGroups, BeginAsGroups, BeginsGroup, StandsBeforeGroup, epoch_text};
 
-use crate::keys::parse_committee;
+use crate::naming::Named;
 use crate::numbers::parse_number;
 use crate::status::Failure;
 use simplex_base::positions::Epoch;
-use simplex_schemes::plain::Plain;
 use std::alloc::{AllocError, Global};
 
 /// Whether a text begins a group.
@@ -48,7 +46,7 @@ fn parse_epoch(text: &str) -> Result<Epoch, Failure>
 }
 
 /// Whether an epoch is above all epochs so far, which rise.
-fn is_above(pairs: &[(Epoch, Plain)], epoch: Epoch) -> bool
+fn is_above<S>(pairs: &[(Epoch, S)], epoch: Epoch) -> bool
     requires { AreRising pairs.now }
     ensures { IsTrue result ↔ All (λ pair. pair.0 < epoch) pairs.now }
 {
@@ -59,20 +57,20 @@ fn is_above(pairs: &[(Epoch, Plain)], epoch: Epoch) -> bool
 }
 
 /// The epochs and committees that groups of texts name. The texts are checked from left to right: `Failure::Usage` where they
-/// are not groups of an epoch and the keys of a committee, or the epochs do not rise strictly; `Failure::OutOfMemory` where an
+/// are not groups of an epoch and what names a committee, or the epochs do not rise strictly; `Failure::OutOfMemory` where an
 /// allocation failed before that was found.
-pub fn parse_groups(
+pub fn parse_groups<S: Named>(
     alloc: Global,
-    namespace: &str,
+    common: &S::Common,
     texts: &[String],
-) -> Result<Vec<(Epoch, Plain)>, Failure>
+) -> Result<Vec<(Epoch, S)>, Failure>
     ensures groups { IfOk result (λ pairs.
-        AreGroups namespace.now (map string_bytes texts.now) pairs.items) }
+        AreGroups (S.naming common.now) (map string_bytes texts.now) pairs.items) }
     ensures rising { IfOk result (λ pairs. AreRising pairs.items) }
-    ensures usage { result ≡ Err Failure.Usage → (pairs : List (ℕ × PlainScheme)) →
-        AreGroups namespace.now (map string_bytes texts.now) pairs → ¬ AreRising pairs }
+    ensures usage { result ≡ Err Failure.Usage → (pairs : List (ℕ × S)) →
+        AreGroups (S.naming common.now) (map string_bytes texts.now) pairs → ¬ AreRising pairs }
     ensures memory { result ≡ Err Failure.OutOfMemory →
-        BeginAsGroups namespace.now (map string_bytes texts.now) }
+        BeginAsGroups (S.naming common.now) (map string_bytes texts.now) }
     ensures failure { IfErr result (λ e. (e ≡ Failure.Usage) ⊎ (e ≡ Failure.OutOfMemory)) }
 {
     let mut pairs = Vec::new(alloc);
@@ -82,8 +80,8 @@ pub fn parse_groups(
         if !is_above(pairs.as_slice(), epoch) {
             return Err(Failure::Usage);
         }
-        let (keys, after) = behind.split_at(count_keys(behind));
-        let committee = parse_committee(alloc, namespace, keys)?;
+        let (own, after) = behind.split_at(count_keys(behind));
+        let committee = S::parse(alloc, common, own)?;
         pairs.push((epoch, committee)).map_err(AllocError::from)?;
         rest = after;
     }

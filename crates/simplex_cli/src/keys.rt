@@ -3,6 +3,7 @@
 ghost use Rattle.std.specs.Prelude.{◌≡◌, ℕ, List, Some, Ok, Err, IfOk, IfErr, None, false, ◌⊎◌, map, string_bytes, IsTrue};
 ghost use Rattle.simplex_cli.specs.Arguments.{AreNoKeys, IsNamedCommittee, NameKeys, key_named, keys_named};
 
+use crate::naming::Named;
 use crate::status::Failure;
 use hex::FromHex;
 use simplex_base::codec::Fixed;
@@ -66,5 +67,21 @@ pub fn parse_committee(alloc: Global, namespace: &str, texts: &[String]) -> Resu
     match Plain::of_keys(alloc, namespace.as_bytes(), keys)? {
         Some(committee) => Ok(committee),
         None => Err(Failure::Usage),
+    }
+}
+
+/// By the keys of its participants, under a namespace.
+impl Named for Plain {
+    ghost use Rattle.simplex_cli.specs.Arguments.{by_keys};
+    ghost use Rattle.simplex_cli.specs.KeyLaws.{naming_by_keys};
+
+    type Common = String;
+
+    ghost naming = { λ namespace. by_keys (string_bytes namespace) };
+
+    ghost is_naming = { λ namespace. naming_by_keys (string_bytes namespace) };
+
+    fn parse(alloc: Global, namespace: &String, texts: &[String]) -> Result<Plain, Failure> {
+        parse_committee(alloc, namespace.as_str(), texts)
     }
 }

@@ -41,12 +41,12 @@ impl Program {
     /// What stands after its name where the usage is said.
     pub(crate) fn usage(self) -> &'static str
         ensures usage { result.now ≡ usage_of self }
-        ensures short { length result.now ≤ 40 }
+        ensures short { length result.now ≤ 52 }
     {
         match self {
             Program::Audit(_) => " NAMESPACE KEY...\n",
             Program::Compact => " [--floor EPOCH VIEW] NAMESPACE KEY...\n",
-            Program::Inspect => " [NAMESPACE KEY...]\n",
+            Program::Inspect => " [NAMESPACE KEY...|--verdicts BYTES [PARTICIPANTS]]\n",
         }
     }
 }

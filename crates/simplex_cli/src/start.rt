@@ -13,10 +13,10 @@ ghost use Rattle.simplex_stream.specs.Watched.{has_failed};
 
 use crate::command::{command, conclude};
 use crate::program::Program;
+use crate::showing::{Showing, Streams};
 use crate::status::{Failure, Status};
 use simplex_audit::audit::Watched;
 use simplex_audit::basis::Audited;
-use simplex_inspect::basis::Inspected;
 use simplex_scheme::scheme::Sha256Digest;
 use simplex_schemes::plain::Plain;
 use std::alloc::{AllocError, Global};
@@ -64,7 +64,7 @@ pub fn start<R: Read, W: Write, E: Write>(
     ensures ends { IfOk given (λ given. (ending : Ending) × (result ≡ number_of (status_of ending))
         × Says (writer_use E.contents errors.old errors.new) (said_of program ending)
         × EndsAs ⟦<Plain as Audited<Sha256Digest>>⟧.basis
-        ⟦<Plain as Inspected<Sha256Digest>>⟧.lines program (words_of (into_iter_items given))
+        ⟦<Streams as Showing>⟧.lines program (words_of (into_iter_items given))
         (reader_use R.remaining input.old input.new)
         (writer_use W.contents output.old output.new) ending) }
     // Where the input or the output failed the number is 3, and standard error says only that.

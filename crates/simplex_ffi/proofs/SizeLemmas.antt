@@ -10,11 +10,11 @@ use Rattle.std.proofs.lemmas.Bool.Decides.{nat_tests}
 use Rattle.std.proofs.lemmas.List.Elements.{All-nil, All-cons}
 use Rattle.std.proofs.lemmas.List.{drop_more, drop_all, length-map}
 use Rattle.std.proofs.lemmas.Map.Keys.{below_from_sorted, sorted_from_strictly_increasing}
-use Rattle.simplex_schemes.specs.Vouched.{VouchedScheme}
+use Rattle.simplex_schemes.specs.Vouched.{VouchedScheme, of_size}
 use Rattle.simplex_scheme.specs.Committees.{Schedule, Every, Listed, AreRising}
 use Rattle.simplex_scheme.specs.declared.committees.CommitteesError.{CommitteesError}
 use Rattle.simplex_scheme.specs.declared.committees.CommitteesError.TheVariants as errors
-use Rattle.simplex_ffi.specs.Sizes.{AreSizes, AreCommitteeSizes, of_size, pairs_of}
+use Rattle.simplex_ffi.specs.Sizes.{AreSizes, AreCommitteeSizes, pairs_of}
 
 -- one more epoch
 pub pairs_more : (epochs sizes : List ℕ) (i : ℕ) (before whole : List (ℕ × VouchedScheme)) → i < length epochs →

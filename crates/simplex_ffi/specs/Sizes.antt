@@ -1,12 +1,7 @@
 -- Committees by their sizes.
 use Rattle.std.specs.Prelude.{◌≡◌, ◌≢◌, ℕ, ◌≤◌, List, [], ◌∷◌, All, length}
 use Rattle.simplex_scheme.specs.Committees.{Schedule, Every, Listed, AreRising}
-use Rattle.simplex_schemes.specs.Marked.{numbered}
-use Rattle.simplex_schemes.specs.Vouched.{VouchedScheme}
-
--- the committee of this many participants
-abbrev pub of_size : ℕ → VouchedScheme
-of_size n = record { keys = numbered n }
+use Rattle.simplex_schemes.specs.Vouched.{VouchedScheme, of_size}
 
 -- each epoch with the committee of its size
 abbrev pub pairs_of : List ℕ → List ℕ → List (ℕ × VouchedScheme)

@@ -1,7 +1,6 @@
 //! Audits of streams whose signatures the caller verified.
 
 ghost use Rattle.std.specs.Prelude.{◌≡◌, ◌≢◌, ◌⊎◌, ◌++◌};
-ghost use Rattle.std.proofs.Common.{lit<, lit≤};
 ghost use Rattle.simplex_scheme.specs.Committees.{Schedule};
 ghost use Rattle.simplex_schemes.specs.Vouched.{VouchedScheme};
 ghost use Rattle.simplex_ffi.specs.Answer.{AreStored, IsAudited};
@@ -16,27 +15,6 @@ use simplex_base::codec::fixed_bytes::Role;
 use simplex_scheme::scheme::Sha256Digest;
 use simplex_schemes::vouched::Vouched;
 use std::alloc::Global;
-
-/// The role of a signature of 64 bytes, such as one of Ed25519, with its verdict.
-pub enum Role64 {}
-
-impl Role<65> for Role64 {
-    ghost sized = { (lit< tt, lit≤ tt) };
-}
-
-/// The role of a signature of 48 bytes, such as one of BLS12-381 in G1, with its verdict.
-pub enum Role48 {}
-
-impl Role<49> for Role48 {
-    ghost sized = { (lit< tt, lit≤ tt) };
-}
-
-/// The role of a signature of 96 bytes, such as one of BLS12-381 in G2, with its verdict.
-pub enum Role96 {}
-
-impl Role<97> for Role96 {
-    ghost sized = { (lit< tt, lit≤ tt) };
-}
 
 /// Audits a stream whose signatures have `N` bytes, the last of which is the caller's verdict,
 /// under the committees of these sizes. The status is that of [`answer`], or [`ARGUMENTS`] where

@@ -2,10 +2,15 @@
 use Rattle.std.specs.Prelude.{ℕ, ◌&&◌, Bool, List, [], ◌∷◌, Option, None, length, nat_eq, nat_lt}
 use Rattle.std.specs.List.{ends_with}
 use Rattle.simplex_scheme.specs.Subject.{SubjectValue}
+use Rattle.simplex_schemes.specs.Marked.{numbered}
 
 -- the keys of a committee: the numbers of its participants
 pub record VouchedScheme : Type 0 where
   pub keys : List (List ℕ)
+
+-- the committee of this many participants
+abbrev pub of_size : ℕ → VouchedScheme
+of_size n = record { keys = numbered n }
 
 -- the participant that signs here: none
 abbrev pub nobody : Option ℕ

@@ -7,12 +7,11 @@
 
 ghost use Rattle.std.specs.Prelude.{◌≡◌, ◌↔◌, ◌+◌, ◌*◌, ◌<◌, ◌≤◌, None, Some, Ok, IsOk, IsTrue, IfOk, MatchOption, All, length, nat_eq, nat_lt, ◌&&◌, true};
 ghost use Rattle.std.specs.List.{IsDistinct};
-ghost use Rattle.std.proofs.Common.{lit≤};
+ghost use Rattle.std.proofs.Common.{lit<, lit≤};
 ghost use Rattle.simplex_scheme.specs.Subject.{SubjectValue, subject_value};
 ghost use Rattle.simplex_scheme.specs.Committee.{IsInOrder, IsQuorum, is_quorum, quorum_of, signers_of, RefusesFew, AssemblesQuorum};
 ghost use Rattle.simplex_schemes.specs.CommitteeLaws.{quorum_meaning, listed_size};
-ghost use Rattle.simplex_schemes.specs.Marked.{numbered};
-ghost use Rattle.simplex_schemes.specs.Vouched.{nobody, is_vouched, vouched_valid};
+ghost use Rattle.simplex_schemes.specs.Vouched.{nobody, of_size, is_vouched, vouched_valid};
 ghost use Rattle.simplex_schemes.specs.VouchedLaws.{vouched_members};
 
 use crate::certificates::{AttestationVerifier, are_certified, assembled, is_certified};
@@ -27,6 +26,27 @@ use simplex_scheme::scheme::{
 };
 use std::alloc::{AllocError, Global};
 use std::marker::{Model, PhantomData};
+
+/// The role of a signature of 64 bytes, such as one of Ed25519, with its verdict.
+pub enum Role64 {}
+
+impl Role<65> for Role64 {
+    ghost sized = { (lit< tt, lit≤ tt) };
+}
+
+/// The role of a signature of 48 bytes, such as one of BLS12-381 in G1, with its verdict.
+pub enum Role48 {}
+
+impl Role<49> for Role48 {
+    ghost sized = { (lit< tt, lit≤ tt) };
+}
+
+/// The role of a signature of 96 bytes, such as one of BLS12-381 in G2, with its verdict.
+pub enum Role96 {}
+
+impl Role<97> for Role96 {
+    ghost sized = { (lit< tt, lit≤ tt) };
+}
 
 /// A committee whose signatures the caller verified. A signature has `N` bytes, the last of which is the verdict: it is
 /// valid where that byte is `01` and the signer is in the committee.
@@ -50,7 +70,7 @@ impl<R, const N: usize> Vouched<R, N> {
     /// 4 bytes for each; `AllocError` only where that failed.
     pub fn new(alloc: Global, participants: u32) -> Result<Self, AllocError>
         requires { 1 ≤ participants }
-        ensures { IfOk result (λ vouched. vouched ≡ record { keys = numbered participants }) }
+        ensures { IfOk result (λ vouched. vouched ≡ of_size participants) }
     {
         Ok(Vouched {
             committee: Marked::new(alloc, participants, None)?,

@@ -3,7 +3,7 @@ use Rattle.simplex_cli.proofs.GroupLemmas.{above_last, last_below, lt_told}
 use Rattle.simplex_cli.proofs.groups.is_above.Goals as goal
 
 pub returns-in-Some : goal.returns-in-Some
-returns-in-Some c =
+returns-in-Some g c =
     let some : length c.args.pairs.now - 1 < length c.args.pairs.now = omega (arith, c.in-Some.ensures.item.3.0) in
     let is = c.in-Some.ensures.item.3.1 c.in-Some.last.now in
     let told = lt_told c.in-Some.last.now.0 c.args.epoch in (
