@@ -1,5 +1,5 @@
 -- What is compacted of an input from piece to piece, and what is written of it.
-use Rattle.std.proofs.Common.{◌≡◌, ◌⊎◌, ℕ, ◌+◌, Bool, false, IsTrue, List, [], ◌++◌, Option, Some, None, Result, Ok, Err, inl, inr, length, take, drop, refl, sym, ap, subst, ◌∙◌, append_assoc, append-nil}
+use Rattle.std.proofs.Common.{◌≡◌, ◌⊎◌, ℕ, ◌+◌, false, IsTrue, List, [], ◌++◌, Option, Some, None, Result, Ok, Err, inl, inr, length, take, drop, refl, sym, ap, subst, ◌∙◌, append_assoc, append-nil}
 use Rattle.std.specs.Prelude.{All, IfErr, IfSome, OnOk}
 use Rattle.std.specs.List.{flat_map}
 use Rattle.std.specs.Io.KnownBytes.{Appends, Consumes}
@@ -20,10 +20,9 @@ use Rattle.simplex_detector.specs.declared.judging.Judging.{Judging}
 use Rattle.simplex_detector.specs.declared.judging.Judging.TheVariants.{From}
 use Rattle.simplex_stream.specs.Decoder.{DecodesMore, HasDecoded, bytes_fed, decoding_over, messages_read, undecoded}
 use Rattle.simplex_stream.specs.Fault.{IsFault, fault_of}
-use Rattle.simplex_stream.specs.Messages.{AreMessages, IsOver, IsStop, IsStuck}
+use Rattle.simplex_stream.specs.Messages.{AreMessages, IsStop, IsStuck}
 use Rattle.simplex_stream.specs.StreamLaws.{fault_is, messages_continue, over_fault, over_messages}
 use Rattle.simplex_stream.specs.Text.{AppendsBeginning}
-use Rattle.simplex_stream.specs.declared.fault.Fault.{Fault}
 use Rattle.simplex_audit.specs.Basis.{Basis, basis_from}
 use Rattle.simplex_audit.specs.CompactedInput.{BeginsCompaction, HasCompacted, WritesCompaction, kept_bytes, unwritten}
 use Rattle.simplex_audit.specs.Compacting.{CompactsMore, KeepsCompaction}

@@ -1,6 +1,5 @@
 -- What a listener has heard and told from piece to piece.
-use Rattle.std.proofs.Common.{Bool, ◌≡◌, ℕ, List, [], ◌∷◌, ◌++◌, refl, sym, ap, subst, ◌∙◌, append-nil, map}
-use Rattle.std.specs.Prelude.{All}
+use Rattle.std.proofs.Common.{Bool, ◌≡◌, ℕ, List, [], ◌++◌, sym, ap, subst, ◌∙◌, append-nil}
 use Rattle.std.specs.Ordering.{ord_max}
 use Rattle.std.proofs.lemmas.List.Elements.{All-nil}
 use Rattle.simplex_base.specs.Format.{Format}
@@ -12,8 +11,7 @@ use Rattle.simplex_detector.specs.Alarm.{Sounds, SoundsMore, SoundsUntold, Told,
 use Rattle.simplex_detector.specs.Alerts.{IsEachOnce}
 use Rattle.simplex_detector.specs.Detector.{RecallsMore}
 use Rattle.simplex_detector.specs.Independence.{FloorsRise, in_rounds, is_from}
-use Rattle.simplex_detector.specs.Rules.{AreLawful, HaveCommittees, Rules, valid_votes}
-use Rattle.simplex_detector.specs.Values.{evidence_value}
+use Rattle.simplex_detector.specs.Rules.{AreLawful, Rules, valid_votes}
 use Rattle.simplex_detector.specs.declared.alarm.Alarm.{Alarm}
 use Rattle.simplex_detector.specs.declared.alarm.News.{News}
 use Rattle.simplex_detector.specs.declared.detector.Detector.{Detector}

@@ -36,13 +36,16 @@ pub kept_fits : {S D C P G : Type 0} (eq : D → D → Bool) (payload : Format D
 kept_fits {S} {D} {C} {P} {G} eq payload is_certificate fits signature rules before m is =
     of_message (certifies_no_news rules before m) (message_is_news rules before m)
   where
-    of_votes : (vs : List (SignedVote D G)) → All (IsActivity eq payload is_certificate signature) (map vote_message vs) →
-        All (IsActivity eq payload fits signature) (map vote_message vs)
-    of_votes [] values = values
+    alone : SignedVote D G → Activity S D C P G
+    alone v = vote_message v
+
+    of_votes : (vs : List (SignedVote D G)) → All (IsActivity eq payload is_certificate signature) (map alone vs) →
+        All (IsActivity eq payload fits signature) (map alone vs)
+    of_votes [] values = All-nil (IsActivity eq payload fits signature)
     of_votes (v ∷ vs) values =
-        let one = All-head (IsActivity eq payload is_certificate signature) (vote_message v) (map vote_message vs) values in
-        let rest = All-tail (IsActivity eq payload is_certificate signature) (vote_message v) (map vote_message vs) values in
-        All-cons (IsActivity eq payload fits signature) (vote_message v) (map vote_message vs)
+        let one = All-head (IsActivity eq payload is_certificate signature) (alone v) (map alone vs) values in
+        let rest = All-tail (IsActivity eq payload is_certificate signature) (alone v) (map alone vs) values in
+        All-cons (IsActivity eq payload fits signature) (alone v) (map alone vs)
         (alone_is_value eq payload is_certificate fits signature v.subject
         (record { signer = v.signer; signature = v.signature }) one) (of_votes vs rest)
 

@@ -1,5 +1,5 @@
 -- What a listener has heard of a stream and told of it.
-use Rattle.std.specs.Prelude.{◌≡◌, ℕ, List, [], ◌++◌, map}
+use Rattle.std.specs.Prelude.{◌≡◌, ℕ, List, []}
 use Rattle.simplex_base.specs.Positions.{Round}
 use Rattle.simplex_scheme.specs.Committees.{Schedule}
 use Rattle.simplex_evidence.specs.declared.types.activity.Activity.{Activity}

@@ -96,6 +96,18 @@ module _ {S D C P G : Type 0} (basis : Schedule S → Basis S D C P G) where
         looks start committees told (stream ++ piece) (feeds start committees told stream h);
   }
 
+  -- what a monitor holds was shortened behind a look
+  pub hears_hooked : (monitor between next : Monitor S D P G) (input : List ℕ) (looks : List (News S D P G)) →
+      Hears basis monitor input looks between → fed_of next ≡ fed_of between →
+      ((start : Window) (committees : Schedule S) (told : Told D G) (stream : List ℕ) →
+      Listens basis start committees told stream between → Listens basis start committees told stream next) →
+      Hears basis monitor input looks next
+  hears_hooked monitor between next input looks hears same stays = record {
+    fed = let before = hears.fed in omega (arith, before, same);
+    listens = λ start committees told stream h.
+        stays start committees (told_by told looks) (stream ++ input) (hears.listens start committees told stream h);
+  }
+
   module _ (bytes_of : D → List ℕ) where
     -- nothing was heard or written
     pub begun_nothing : (monitor : Monitor S D P G) (now : Option (List ℕ)) →

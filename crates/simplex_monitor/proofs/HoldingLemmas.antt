@@ -1,25 +1,32 @@
 -- What is held of messages, when one more comes and when the floor rises.
-use Rattle.std.proofs.Common.{◌≡◌, ℕ, Bool, ◌∙◌, List, [], ◌∷◌, ◌++◌, Option, Some, None, ap, inl, inr, refl, subst, sym, append-nil}
-use Rattle.std.specs.Prelude.{All, IfSome, Vec}
+use Rattle.std.proofs.Common.{◌≡◌, ℕ, Bool, true, false, ◌∙◌, List, [], ◌∷◌, ◌++◌, Option, Some, None, Result, Ok, Err, cond, ap, refl, subst, sym, append-nil}
+use Rattle.std.specs.Prelude.{All, IfSome, IsTrue, OnOk, Vec, filter}
 use Rattle.std.specs.Global.{Global}
 use Rattle.std.specs.List.{flat_map}
+use Rattle.std.specs.Bool.{then_some}
+use Rattle.std.specs.Prelude.{is_some}
 use Rattle.std.specs.Ordering.{ord_max}
 use Rattle.std.proofs.lemmas.Grind.{flat_map-append}
 use Rattle.std.proofs.lemmas.Option.{same_Some}
-use Rattle.std.proofs.lemmas.List.Elements.{All-append, All-pop}
+use Rattle.std.proofs.lemmas.List.Elements.{All-append, All-cons, All-filter, All-nil, All-pop, All-weaker}
+use Rattle.simplex_base.specs.Format.{Format}
 use Rattle.simplex_base.specs.Positions.{Round}
+use Rattle.simplex_evidence.specs.Activity.{IsActivity, activity_round}
 use Rattle.simplex_evidence.specs.declared.types.activity.Activity.{Activity}
 use Rattle.simplex_detector.specs.Accusation.{round_cmp}
 use Rattle.simplex_detector.specs.Detector.{Recalls}
-use Rattle.simplex_detector.specs.Independence.{FloorsRise, in_rounds, is_from}
+use Rattle.simplex_detector.specs.Independence.{FloorsRise, IsOfOneRound, in_rounds, is_from, of_rounds}
 use Rattle.simplex_detector.specs.Interchange.{HaveSameState, SameStateJoined}
 use Rattle.simplex_detector.specs.Kept.{TellsKept, kept_by}
 use Rattle.simplex_detector.specs.News.{CompactsNext, IsCompaction, compacted, kept_of}
 use Rattle.simplex_detector.specs.Rules.{Rules}
 use Rattle.simplex_detector.specs.declared.detector.Detector.{Detector}
 use Rattle.simplex_detector.specs.declared.kept.Kept.{Kept}
+use Rattle.simplex_stream.specs.Messages.{AreMessages}
+use Rattle.simplex_stream.specs.StreamLaws.{IsNeverEmpty, are_joined}
 use Rattle.simplex_audit.specs.Basis.{Basis}
-use Rattle.simplex_monitor.specs.Holding.{StandsFor, StandsIfHeld}
+use Rattle.simplex_audit.specs.CompactingLaws.{kept_fits}
+use Rattle.simplex_monitor.specs.Holding.{Holds, HoldsNoOther, StandsFor, StandsIfHeld}
 
 -- ---- states
 
@@ -62,6 +69,41 @@ module _ {S D C P G : Type 0} (rules : Rules S D C P G) where
 
 -- ---- what is held
 
+-- nothing is held at first, if anything is to be held
+pub none_held : (holds : Bool) (bytes : Vec ℕ Global) → bytes.items ≡ [] → IfSome (then_some holds bytes) (λ held. held.items ≡ [])
+none_held true bytes none = none
+none_held false bytes none = tt
+
+pub held_if : (holds : Bool) (bytes : Vec ℕ Global) → is_some (then_some holds bytes) ≡ holds
+held_if true bytes = refl
+held_if false bytes = refl
+
+-- what is kept of a message that can be read can be read, if it can be encoded
+pub fits_kept : {S D C P G : Type 0} (eq : D → D → Bool) (payload : Format D) (is_certificate fits : C → Type 0)
+    (signature : Format G) (rules : Rules S D C P G) (m : Activity S D C P G) (kept : Kept S D C P G) →
+    All (IsActivity eq payload is_certificate signature) (kept_by m kept) → (before : List (Activity S D C P G)) →
+    IsActivity eq payload fits signature m → kept_by m kept ≡ kept_of rules before m →
+    All (IsActivity eq payload fits signature) (kept_by m kept)
+fits_kept eq payload is_certificate fits signature rules m kept values before is same =
+    subst (All (IsActivity eq payload fits signature)) (sym same)
+    (kept_fits eq payload is_certificate fits signature rules before m is
+    (subst (All (IsActivity eq payload is_certificate signature)) same values))
+
+-- what a filter leaves passes
+passed : {X : Type 0} (p : X → Bool) (xs : List X) → All (λ x. IsTrue (p x)) (filter p xs)
+passed p [] = All-nil (λ x. IsTrue (p x))
+passed {X} p (x ∷ xs) = one (passed p xs) (p x) refl
+  where
+    one : All (λ y. IsTrue (p y)) (filter p xs) → (b : Bool) → p x ≡ b →
+        All (λ y. IsTrue (p y)) (cond b (x ∷ filter p xs) (filter p xs))
+    one rest true e = All-cons (λ y. IsTrue (p y)) x (filter p xs) e rest
+    one rest false e = rest
+
+-- two facts of a result that is no error, together
+pub on_both : {T E A B X : Type 0} (r : Result T E) → (A → B → X) → OnOk r A → OnOk r B → OnOk r X
+on_both (Ok t) both a b = both a b
+on_both (Err e) both a b = a
+
 -- messages with the same state have the same state of a part of the rounds
 abbrev pub StatesOfParts : Type 0 → Type 0 → Type 0 → Type 0 → Type 0 → Type 0
 StatesOfParts D C P G S = (rules : Rules S D C P G) (part : Round → Bool) (messages others : List (Activity S D C P G)) →
@@ -86,11 +128,11 @@ module _ {S D C P G : Type 0} (basis : Basis S D C P G) where
     state = same_itself (in_rounds (is_from floor) basis.rules) [];
   }
 
-  -- nothing is held if nothing was
+  -- one message more comes, and nothing was held
   pub holds_nothing : (judged : Rules S D C P G) (m : Activity S D C P G) (detector : Detector S D P G)
       (held : Option (Vec ℕ Global)) → held ≡ None → HoldsMore judged m detector held held
   holds_nothing judged m detector None is floor taken by recalls stands = tt
-  holds_nothing judged m detector (Some bytes) is = absurd cc
+  holds_nothing judged m detector (Some bytes) is floor taken by recalls stands = absurd cc
 
   -- what is kept of the message is appended
   pub holds_kept : (judged : Rules S D C P G) (m : Activity S D C P G) (detector : Detector S D P G)
@@ -102,7 +144,8 @@ module _ {S D C P G : Type 0} (basis : Basis S D C P G) where
       ((before : List (Activity S D C P G)) → basis.format.is_value m → kept_by m kept ≡ kept_of judged before m →
       All basis.format.is_value (kept_by m kept)) →
       HoldsMore judged m detector held (Some new)
-  holds_kept judged m detector None old new kept is joined compaction next tells written fits = absurd cc
+  holds_kept judged m detector None old new kept is joined compaction next tells written fits floor taken by recalls stands =
+      absurd cc
   holds_kept judged m detector (Some bytes) old new kept is joined compaction next tells written fits floor taken by recalls
       stands =
       let same : bytes ≡ old = same_Some bytes old is in
@@ -134,3 +177,70 @@ module _ {S D C P G : Type 0} (basis : Basis S D C P G) where
     state = subst (λ rs. HaveSameState rs stands.messages taken) (rise.higher low high)
         (parts (in_rounds (is_from low) basis.rules) (is_from high) stands.messages taken stands.state);
   }
+
+  -- what is held are messages, if those that were taken can be read
+  pub holds_here : (floor : Round) (taken : List (Activity S D C P G)) (held : Option (Vec ℕ Global)) (bytes : Vec ℕ Global) →
+      held ≡ Some bytes → IsNeverEmpty basis.format → All basis.format.is_value taken → StandsIfHeld basis floor taken held →
+      Holds basis floor taken bytes.items
+  holds_here floor taken None bytes is some each stands = absurd cc
+  holds_here floor taken (Some held) bytes is some each stands =
+      let same : held ≡ bytes = same_Some held bytes is in
+      record {
+        messages = stands.messages;
+        are_messages = subst (λ xs. AreMessages basis.format xs stands.messages [])
+            (sym stands.encoded ∙ ap (λ (v : Vec ℕ Global). v.items) same)
+            (are_joined basis.format some stands.messages (stands.values each));
+        state = stands.state;
+      }
+
+  -- what is held stands for what was taken
+  pub stands_if : (floor : Round) (taken : List (Activity S D C P G)) (held : Option (Vec ℕ Global)) (bytes : Vec ℕ Global) →
+      held ≡ Some bytes → StandsIfHeld basis floor taken held → StandsFor basis floor taken bytes.items
+  stands_if floor taken None bytes is stands = absurd cc
+  stands_if floor taken (Some held) bytes is stands =
+      subst (λ (v : Vec ℕ Global). StandsFor basis floor taken v.items) (same_Some held bytes is) stands
+
+  -- messages that have the state of others stand for them
+  pub stands_by : (floor : Round) (taken : List (Activity S D C P G)) (bytes : List ℕ) → Holds basis floor taken bytes →
+      StandsFor basis floor taken bytes
+  stands_by floor taken bytes holds = record {
+    messages = holds.messages;
+    encoded = holds.are_messages.whole ∙ append-nil (flat_map basis.format.encoding holds.messages);
+    values = λ each. holds.are_messages.each;
+    state = holds.state;
+  }
+
+  -- the messages from the floor on can stand for all that is held
+  module _ (floor : Round) (taken : List (Activity S D C P G)) (bytes : List ℕ) (kept : Vec ℕ Global)
+      (some : IsNeverEmpty basis.format) (each : All basis.format.is_value taken)
+      (whole : (m : Activity S D C P G) → basis.format.is_value m → IsOfOneRound basis.rules.listed m)
+      (alone : (messages : List (Activity S D C P G)) → All (IsOfOneRound basis.rules.listed) messages →
+      HaveSameState (in_rounds (is_from floor) basis.rules) (of_rounds (is_from floor) messages) messages)
+      (sieved : (messages : List (Activity S D C P G)) → AreMessages basis.format bytes messages [] →
+      kept.items ≡ flat_map basis.format.encoding (of_rounds (is_from floor) messages))
+      (stands : StandsFor basis floor taken bytes) where
+    abbrev left : List (Activity S D C P G)
+    left = of_rounds (is_from floor) stands.messages
+
+    encoded_left : kept.items ≡ flat_map basis.format.encoding left
+    encoded_left = sieved stands.messages (subst (λ xs. AreMessages basis.format xs stands.messages []) (sym stands.encoded)
+        (are_joined basis.format some stands.messages (stands.values each)))
+
+    values_left : All basis.format.is_value left
+    values_left = All-filter (λ m. is_from floor (activity_round m)) basis.format.is_value stands.messages (stands.values each)
+
+    state_left : HaveSameState (in_rounds (is_from floor) basis.rules) left taken
+    state_left = same_then (in_rounds (is_from floor) basis.rules) left stands.messages taken
+        (alone stands.messages (All-weaker basis.format.is_value (IsOfOneRound basis.rules.listed) whole stands.messages
+        (stands.values each))) stands.state
+
+    pub holds_short : HoldsNoOther basis floor taken kept.items
+    holds_short = record {
+      holds = record {
+        messages = left;
+        are_messages = subst (λ xs. AreMessages basis.format xs left []) (sym encoded_left)
+            (are_joined basis.format some left values_left);
+        state = state_left;
+      };
+      above = passed (λ m. is_from floor (activity_round m)) stands.messages;
+    }

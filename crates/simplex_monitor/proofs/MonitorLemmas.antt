@@ -2,10 +2,11 @@
 use Rattle.std.proofs.Common.{◌≡◌, inl, inr, ℕ, ◌+◌, ◌*◌, ◌-◌, ◌^◌, ◌≤◌, Bool, true, false, IsTrue, Option, Some, None, cond, drop, get_or, length, map, min, List, [], ◌∷◌, ◌++◌, refl, sym, ap, subst, ◌∙◌, arith, append_assoc, append-nil}
 use Rattle.std.proofs.Math.Seq.{drop-append_seam}
 use Rattle.std.proofs.lemmas.Bool.{and_parts}
-use Rattle.std.proofs.lemmas.List.Elements.{All-contains, All-head, All-tail, filter-append}
+use Rattle.std.proofs.lemmas.List.Elements.{All-contains, All-contains_itself, All-head, All-tail, All-weaker, filter-append}
 use Rattle.std.proofs.lemmas.Option.{same_Some}
 use Rattle.std.specs.List.{find, flat_map}
-use Rattle.std.specs.Prelude.{All, filter, ◌&&◌, ◌==◌}
+use Rattle.std.specs.Global.{Global}
+use Rattle.std.specs.Prelude.{All, Contains, Vec, filter, ◌&&◌, ◌==◌}
 use Rattle.simplex_base.specs.Format.{Format, IsLawful}
 use Rattle.simplex_base.specs.Positions.{Round, same_round}
 use Rattle.simplex_evidence.specs.Activity.{votes_in}
@@ -38,8 +39,9 @@ use Rattle.simplex_stream.specs.declared.decoder.Decoder.{Decoder}
 use Rattle.simplex_audit.specs.Basis.{Basis}
 use Rattle.simplex_monitor.specs.Monitoring.{AreFewVotes, HasEvidence, HasSplits, HasVotes, Listens, TellsRest, retained, watcher_of}
 use Rattle.simplex_monitor.specs.Bounded.{views_of}
+use Rattle.simplex_monitor.specs.Holding.{StandsIfHeld}
 use Rattle.simplex_monitor.specs.Taken.{window_of}
-use Rattle.simplex_monitor.proofs.RecordedLemmas.{few_recorded}
+use Rattle.simplex_monitor.proofs.RecordedLemmas.{few_recorded, taken_among}
 use Rattle.simplex_monitor.specs.Watching.{Watches, WatchesMore}
 use Rattle.simplex_monitor.specs.WatchingLaws.{taken_then}
 use Rattle.simplex_monitor.specs.Window.{IsInOrder, floor_of}
@@ -116,6 +118,62 @@ listens_on {S} {D} {C} {P} {G} basis format old decoder watcher piece reads on d
           w.are_taken;
       watches = w.watches;
     }
+
+-- a window by another name
+pub listens_as : {S D C P G : Type 0} (basis : Schedule S → Basis S D C P G) (monitor : Monitor S D P G) (window start : Window)
+    (committees : Schedule S) (told : Told D G) (stream : List ℕ) → window ≡ start →
+    Listens basis window committees told stream monitor → Listens basis start committees told stream monitor
+listens_as basis monitor window start committees told stream same =
+    subst (λ w. Listens basis w committees told stream monitor) same
+
+-- what was taken can be read, as the messages that were decoded can
+pub taken_values : {S D C P G : Type 0} (basis : Schedule S → Basis S D C P G) (monitor : Monitor S D P G) (start : Window)
+    (committees : Schedule S) (told : Told D G) (stream : List ℕ) (h : Listens basis start committees told stream monitor) →
+    All (basis committees).format.is_value h.taken
+taken_values basis monitor start committees told stream h =
+    All-weaker (Contains h.taken) (basis committees).format.is_value (λ m m_in.
+    All-contains (basis committees).format.is_value h.messages m h.decoded.are_messages.each
+    (taken_among (basis committees).rules start [] h.messages h.taken h.below h.above h.are_taken m m_in))
+    h.taken (All-contains_itself h.taken)
+
+-- a monitor holds other bytes that can stand for what it took
+pub listens_held : {S D C P G : Type 0} (basis : Schedule S → Basis S D C P G) (old : Monitor S D P G)
+    (held : Option (Vec ℕ Global)) →
+    ((start : Window) (committees : Schedule S) (told : Told D G) (stream : List ℕ)
+    (h : Listens basis start committees told stream old) →
+    StandsIfHeld (basis committees) (floor_of (watcher_of old).window) h.taken held) →
+    (start : Window) (committees : Schedule S) (told : Told D G) (stream : List ℕ) →
+    Listens basis start committees told stream old →
+    Listens basis start committees told stream (record old { watcher = record (watcher_of old) { held = held } })
+listens_held basis old held stands start committees told stream h = record {
+  ordered = h.ordered;
+  committees_are = h.committees_are;
+  bound_is = h.bound_is;
+  readable = h.readable;
+  members = h.members;
+  sizes = h.sizes;
+  terms = h.terms;
+  front = h.front;
+  behind = h.behind;
+  parts = h.parts;
+  unread = h.unread;
+  messages = h.messages;
+  decoded = h.decoded;
+  taken = h.taken;
+  below = h.below;
+  above = h.above;
+  are_taken = h.are_taken;
+  watches = record {
+    window_is = h.watches.window_is;
+    holds = record {
+      recalls = h.watches.holds.recalls;
+      sounds = h.watches.holds.sounds;
+      stands = stands start committees told stream h;
+    };
+    below_is = h.watches.below_is;
+    above_is = h.watches.above_is;
+  };
+}
 
 -- a monitor that was fed nothing
 pub listens_to_nothing : {S D C P G : Type 0} (basis : Schedule S → Basis S D C P G) (monitor : Monitor S D P G)

@@ -15,6 +15,12 @@ module _ {S D C P G : Type 0} (encoding : Activity S D C P G → List ℕ) where
     pub floor : new.floor ≡ old.floor
     pub kept : new.kept.items ≡ old.kept.items ++ flat_map encoding (of_rounds (is_from old.floor) messages)
 
+  -- what is kept of messages, if nothing was before
+  pub sieved : (ms ks : List (Activity S D C P G)) (old new : Sieve) → SievesMore ms old new → ms ≡ ks → old.kept.items ≡ [] →
+      new.kept.items ≡ flat_map encoding (of_rounds (is_from old.floor) ks)
+  sieved ms ks old new more same none =
+      more.kept ∙ (λ i. none i ++ flat_map encoding (of_rounds (is_from old.floor) (same i)))
+
   -- no message came
   pub sieves_none : (state : Sieve) → SievesMore [] state state
   sieves_none state = record { floor = λ i. state.floor; kept = sym (append-nil state.kept.items) }

@@ -2,10 +2,13 @@
 
 ghost use Rattle.std.specs.Prelude.{◌≡◌, ◌≢◌, ◌↔◌, ◌+◌, ◌<◌, ◌≤◌, ◌^◌, ◌++◌, ◌∷◌, [], ℕ, List, false, Ok, Err, IsTrue, IfOk, IfErr, OnOk, OnErr, length, take};
 ghost use Rattle.std.specs.Io.KnownBytes.{Appends, Consumes, IsAtEnd, Keeps};
+ghost use Rattle.simplex_detector.specs.Alarm.{Told};
 ghost use Rattle.simplex_detector.specs.declared.alarm.News as alarm;
 ghost use Rattle.simplex_monitor.specs.Hearing.{AllTold, Heard, Hears, HearsBeginning, news_text};
-ghost use Rattle.simplex_monitor.specs.Monitoring.{fed_of};
+ghost use Rattle.simplex_monitor.specs.Monitoring.{Listens, fed_of};
 ghost use Rattle.simplex_monitor.specs.declared.monitor.Monitor as monitors;
+ghost use Rattle.simplex_monitor.specs.declared.window.Window as windows;
+ghost use Rattle.simplex_scheme.specs.Committees.{Schedule};
 ghost use Rattle.simplex_stream.specs.Text.{AppendsBeginning};
 ghost use Rattle.simplex_stream.specs.Watched.{inner_of, has_failed, is_flushed};
 
@@ -19,10 +22,28 @@ use simplex_stream::watched::Watched;
 use std::alloc::Global;
 use std::io::{Read, Write};
 
+/// What is done behind each look of a monitor that listens to a reader.
+pub trait Hook<S: Listing<D>, D: Digest> {
+    /// Called once the lines of a look were written and flushed, with whether there were any. It may shorten what the monitor
+    /// holds, and changes nothing else of it. It cannot end the listening: what fails in it, it says itself.
+    fn looked(&mut self, monitor: &mut Monitor<'_, S, D>, told: bool)
+        ensures listens { (start : windows.Window) (committees : Schedule S)
+            (told : Told D S.Signature) (stream : List ℕ) →
+            Listens ⟦<S as Audited<D>>⟧.basis start committees told stream monitor.old →
+            Listens ⟦<S as Audited<D>>⟧.basis start committees told stream monitor.new }
+        ensures told { AllTold monitor.old → AllTold monitor.new }
+        ensures fed { fed_of monitor.new ≡ fed_of monitor.old };
+}
+
+/// Nothing is done.
+impl<S: Listing<D>, D: Digest> Hook<S, D> for () {
+    fn looked(&mut self, _monitor: &mut Monitor<'_, S, D>, _told: bool) {}
+}
+
 /// Has a monitor listen to all that a reader gives, and writes a line for each evidence and each split that it tells, as a run
 /// of an audit does: those of a piece behind those of the pieces before it, the evidence first. What the monitor has not told
-/// yet is written before the first read. The lines of what a read completes are written and flushed before the next read.
-/// Returns the monitor, which has told all that arose.
+/// yet is written before the first read. The lines of what a read completes are written and flushed before the next read, and
+/// before the hook is called. Returns the monitor, which has told all that arose.
 ///
 /// The input is read in pieces of up to 65,536 bytes, as they come. Held are the state of the monitor and the bytes after the
 /// last whole message. Once nothing that follows can be read, the rest is read and dropped.
@@ -30,11 +51,12 @@ use std::io::{Read, Write};
 /// `Read` exactly where a read failed, `Write` exactly where a write or a flush failed; an interrupted call counts as failed.
 /// `OutOfMemory` where an allocation failed, and `TooLong` where the monitor was fed more than 2^64 - 1 bytes, those before
 /// this call included. After each of them a front of the lines of what was read was written, and after `Read` all of them.
-pub fn monitor_input<'a, S: Listing<D>, D: Digest, R: Read, W: Write>(
+pub fn monitor_input<'a, S: Listing<D>, D: Digest, R: Read, W: Write, H: Hook<S, D>>(
     alloc: Global,
     monitor: Monitor<'a, S, D>,
     reader: &mut Watched<R>,
     writer: &mut Watched<W>,
+    hook: &mut H,
 ) -> Result<Monitor<'a, S, D>, RunError>
     requires reader_well { has_failed reader.old ≡ false }
     requires writer_well { has_failed writer.old ≡ false }
@@ -76,16 +98,17 @@ pub fn monitor_input<'a, S: Listing<D>, D: Digest, R: Read, W: Write>(
             return Err(RunError::TooLong);
         }
         seen += count;
-        monitor = hear(alloc, monitor, &piece[..count], writer)?;
+        monitor = hear(alloc, monitor, &piece[..count], writer, hook)?;
     }
 }
 
-/// Feeds a piece, and writes the lines of what it tells.
-fn hear<'a, S: Listing<D>, D: Digest, W: Write>(
+/// Feeds a piece, writes the lines of what it tells, and then calls the hook.
+fn hear<'a, S: Listing<D>, D: Digest, W: Write, H: Hook<S, D>>(
     alloc: Global,
     monitor: Monitor<'a, S, D>,
     piece: &[u8],
     writer: &mut Watched<W>,
+    hook: &mut H,
 ) -> Result<Monitor<'a, S, D>, RunError>
     requires room { fed_of monitor + length piece.now < 2 ^ 64 }
     requires writer_well { has_failed writer.old ≡ false }
@@ -103,7 +126,10 @@ fn hear<'a, S: Listing<D>, D: Digest, W: Write>(
     ensures error { IfErr result (λ e. (e ≢ RunError.Read) × (e ≢ RunError.TooLong)) }
 {
     let mut next = monitor.feed(piece)?;
-    tell(alloc, &next.news(), writer)?;
+    let news = next.news();
+    tell(alloc, &news, writer)?;
+    let nothing = news.evidence.as_slice().is_empty() && news.splits.as_slice().is_empty();
+    hook.looked(&mut next, !nothing);
     Ok(next)
 }
 

@@ -2,7 +2,7 @@
 
 ghost use Rattle.std.specs.Prelude.{◌≡◌, ◌+◌, ◌-◌, ◌<◌, ◌≤◌, ◌^◌, ◌++◌, ℕ, List, [], map, min, length, IfOk, IfSome, IsTrue, OnErr, OnOk};
 ghost use Rattle.std.specs.List.{flat_map};
-ghost use Rattle.std.specs.Option.{is_some};
+ghost use Rattle.std.specs.Prelude.{is_some};
 ghost use Rattle.simplex_scheme.specs.Committees.{Schedule};
 ghost use Rattle.simplex_detector.specs.Alarm.{Told, nothing_told, told_then};
 ghost use Rattle.simplex_detector.specs.Values.{evidence_value};
@@ -168,6 +168,7 @@ impl<'a, S: Listing<D>, D: Digest> Monitor<'a, S, D> {
             (listens : Listens ⟦<S as Audited<D>>⟧.basis start committees told stream self.old) →
             HoldsNoOther (⟦<S as Audited<D>>⟧.basis committees)
             (floor_of (watcher_of self.old).window) listens.taken held.items)) }
+        ensures told { AllTold self.old → AllTold self.new }
         ensures fed { fed_of self.new ≡ fed_of self.old }
         ensures failed { OnErr result (self.new ≡ self.old) }
     {

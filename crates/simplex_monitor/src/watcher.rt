@@ -1,7 +1,6 @@
 //! What an auditor that listens knows of the messages that its window took.
 
-ghost use Rattle.std.specs.Prelude.{◌≡◌, ◌↔◌, ◌++◌, ⊤, [], ◌∷◌, List, Contains, IsTrue, OnOk, if◌then◌else◌, true};
-ghost use Rattle.simplex_audit.specs.Basis.{Basis};
+ghost use Rattle.std.specs.Prelude.{◌≡◌, ◌↔◌, ◌++◌, ⊤, [], ◌∷◌, List, Contains, IsTrue, OnOk, if◌then◌else◌, is_some, true};
 ghost use Rattle.simplex_base.specs.Positions as positions;
 ghost use Rattle.simplex_evidence.specs.Activity.{activity_round};
 ghost use Rattle.simplex_scheme.specs.Committees.{Schedule};
@@ -178,8 +177,8 @@ impl<S: Listing<D>, D: Digest> Watcher<S, D> {
             (same_kind kind kinds.Finalize ≡ true → Contains finalized round) →
             self.new.window ≡ self.old.window }
         ensures counts { KeepsCounts self.old self.new }
-        ensures holds { (basis : Basis S D S.Certificate S.PublicKey S.Signature) →
-            KeepsFrom basis self.old self.new }
+        ensures holds { (committees : Schedule S) →
+            KeepsFrom (⟦<S as Audited<D>>⟧.basis committees) self.old self.new }
     {
         let before = self.window.floor();
         self.window.advance(round, finalizes(kind));
@@ -194,8 +193,8 @@ impl<S: Listing<D>, D: Digest> Watcher<S, D> {
     fn prune(&mut self, floor: Round)
         ensures window { self.new.window ≡ self.old.window }
         ensures counts { KeepsCounts self.old self.new }
-        ensures holds { (basis : Basis S D S.Certificate S.PublicKey S.Signature) →
-            PrunesTo basis floor self.old self.new }
+        ensures holds { (committees : Schedule S) →
+            PrunesTo (⟦<S as Audited<D>>⟧.basis committees) floor self.old self.new }
     {
         floors_rise::<S, D>();
         rounds_are_independent::<S, D>();

@@ -1,11 +1,11 @@
-use Rattle.std.proofs.Common.{rules, arith, ℕ, List, [], ◌++◌, ◌+◌, length, take, subst, sym, ap, ◌≡◌, ◌∙◌, length-append}
+use Rattle.std.proofs.Common.{rules, arith, ℕ, List, [], ◌++◌, length, take, subst, sym, ap, ◌≡◌, ◌∙◌, length-append}
 use Rattle.std.specs.Io.KnownBytes.{Consumes}
 use Rattle.std.proofs.KnownBytes.{Consumes-nil, Consumes-trans}
 use Rattle.std.proofs.lemmas.List.{length-take-le}
 use Rattle.simplex_stream.specs.DeviceLaws.{front_of}
 use Rattle.simplex_stream.specs.Watched.{inner_of}
 use Rattle.simplex_audit.specs.Basis.{Basis, basis_from}
-use Rattle.simplex_audit.specs.CompactedInput.{BeginsCompaction, WritesCompaction}
+use Rattle.simplex_audit.specs.CompactedInput.{WritesCompaction}
 use Rattle.simplex_audit.proofs.CompactedInputLemmas.{begun_so_far, if_err, known}
 use Rattle.simplex_audit.proofs.FloorLemmas.{from_first}
 use Rattle.simplex_audit.proofs.compacted_input.compact_input.Invariants.{is_value, whole}

@@ -1,4 +1,4 @@
-use Rattle.std.proofs.Common.{◌-◌, ◌^◌, ◌≡◌, ◌<◌, ◌≤◌, ℕ, List, [], length, false, vec_len}
+use Rattle.std.proofs.Common.{◌-◌, ◌^◌, ◌≡◌, ◌<◌, ◌≤◌, ℕ, List, length, false, vec_len}
 use Rattle.std.specs.Io.KnownBytes.{Consumes}
 use Rattle.simplex_base.specs.Format.{fixed}
 use Rattle.simplex_evidence.specs.Activity.{IsActivity, activity_format}
@@ -6,7 +6,7 @@ use Rattle.simplex_evidence.specs.declared.types.activity.Activity.{Activity}
 use Rattle.simplex_scheme.specs.Committees.{Schedule, bound_of}
 use Rattle.simplex_detector.specs.Scheme.{rules_of, scheme_of}
 use Rattle.simplex_audit.specs.Basis.{Basis}
-use Rattle.simplex_audit.specs.CompactedInput.{HasCompacted, fed_of, unwritten}
+use Rattle.simplex_audit.specs.CompactedInput.{HasCompacted, fed_of}
 use Rattle.simplex_stream.specs.Watched.{inner_of, has_failed}
 use Rattle.simplex_audit.proofs.compacted_input.compact_input.Given as goal
 

@@ -1,5 +1,5 @@
-use Rattle.std.proofs.Common.{[], append-nil, refl, sym}
-use Rattle.simplex_monitor.proofs.HearingLemmas.{begun_look, begun_nothing, hears_piece, if_err}
+use Rattle.std.proofs.Common.{[], ◌∷◌, append-nil, refl, sym}
+use Rattle.simplex_monitor.proofs.HearingLemmas.{begun_look, begun_nothing, hears_hooked, hears_piece, if_err}
 use Rattle.simplex_monitor.proofs.input.hear.Goals as goal
 
 -- an allocation failed while the piece was fed
@@ -14,16 +14,27 @@ returns-in_err-tell-clause-begun g c =
       c.args.piece.now,
       [],
       sym (append-nil c.args.piece.now),
-      begun_look _ _ c.args.monitor c.news.new.self c.args.piece.now c.news.result _ _
-          (hears_piece _ c.args.monitor c.in_ok-next.next c.news.new.self c.args.piece.now c.news.result
-          c.in_ok-next.ensures.fed c.news.ensures.fed c.in_ok-next.ensures.listens c.news.ensures.listens)
+      begun_look _ _ c.args.monitor c.news-news.new.self c.args.piece.now c.news-news.result _ _
+          (hears_piece _ c.args.monitor c.in_ok-next.next c.news-news.new.self c.args.piece.now c.news-news.result
+          c.in_ok-next.ensures.fed c.news-news.ensures.fed c.in_ok-next.ensures.listens c.news-news.ensures.listens)
           c.in_err-tell.ensures.begun,
     )
 
+pub returns-clause-told : goal.returns-clause-told
+returns-clause-told g c = c.looked.ensures.told c.news-news.ensures.told
+
+pub returns-clause-failed : goal.returns-clause-failed
+returns-clause-failed g c = (
+  λ failed. let wrong = c.in_ok-tell.ensures.failed.0 failed in let right = c.in_ok-tell.was in absurd cc,
+  λ e. absurd cc,
+)
+
 pub returns-clause-hears : goal.returns-clause-hears
 returns-clause-hears g c = (
-  c.news.result,
-  hears_piece _ c.args.monitor c.in_ok-next.next c.news.new.self c.args.piece.now c.news.result c.in_ok-next.ensures.fed
-      c.news.ensures.fed c.in_ok-next.ensures.listens c.news.ensures.listens,
+  c.news-news.result,
+  hears_hooked _ c.args.monitor c.news-news.new.self c.looked.new.monitor c.args.piece.now (c.news-news.result ∷ [])
+      (hears_piece _ c.args.monitor c.in_ok-next.next c.news-news.new.self c.args.piece.now c.news-news.result
+      c.in_ok-next.ensures.fed c.news-news.ensures.fed c.in_ok-next.ensures.listens c.news-news.ensures.listens)
+      c.looked.ensures.fed c.looked.ensures.listens,
   c.in_ok-tell.ensures.written,
 )

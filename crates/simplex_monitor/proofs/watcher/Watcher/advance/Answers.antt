@@ -21,7 +21,7 @@ returns-then-has_certified g c =
     (c.round-round.ensures ∙ ap (λ held. contents_round (contents_value held)) c.in-Certificate.is) c.kind-kind.ensures
     c.args.self.now c.has_certified.result c.has_certified.ensures c.move_by.new.self c.if-has_certified.true
     (record { moves = c.move_by.ensures.moves; again = c.move_by.ensures.again }) c.move_by.ensures.counts
-    (c.move_by.ensures.holds _)
+    (c.move_by.ensures.holds c.args.committees.now)
 
 pub returns-else-has_certified : goal.returns-else-has_certified
 returns-else-has_certified g c =

@@ -3,13 +3,24 @@ use Rattle.simplex_detector.specs.Independence.{is_from}
 use Rattle.simplex_monitor.specs.Taken.{certified_rounds, finalized_rounds}
 use Rattle.simplex_monitor.specs.Window.{window_after}
 use Rattle.simplex_monitor.proofs.WatchingLemmas.{keeps_pruned, keeps_same}
+use Rattle.simplex_scheme.specs.Committees.{Schedule}
+use Rattle.simplex_detector.specs.Rules.{Rules}
+use Rattle.simplex_detector.specs.Scheme.{rules_of, scheme_of}
+use Rattle.simplex_monitor.proofs.watcher.Watcher.move_by.Given as given
 use Rattle.simplex_monitor.proofs.watcher.Watcher.move_by.Goals as goal
 
+-- the rules by which committees judge
+abbrev rules : (g : given.Over) → Schedule g.row.S.Denot → Rules g.row.S.Denot g.row.D.Denot g.row.S-Certificate.Denot
+    g.row.S-PublicKey.Denot g.row.S-Signature.Denot
+rules g committees =
+    rules_of (scheme_of g.D.PartialEq.eq g.S.CertificateScheme.keys g.S.Scheme.good g.S.CertificateVerifier.certified
+    g.S.Listing.listed) committees
+
 pub returns-then-is_at_least-clause-holds : goal.returns-then-is_at_least-clause-holds
-returns-then-is_at_least-clause-holds g c rules =
-    keeps_same rules c.args.self.now c.advance.new.self
-    (λ start before ordered began. c.advance.ensures.rises start (certified_rounds rules before)
-    (finalized_rounds rules before) ordered began)
+returns-then-is_at_least-clause-holds g c committees =
+    keeps_same _ c.args.self.now c.advance.new.self
+    (λ start before ordered began. c.advance.ensures.rises start (certified_rounds (rules g committees) before)
+    (finalized_rounds (rules g committees) before) ordered began)
     ((λ i. is_from (sym c.floor-floor.ensures i) (sym c.floor-before.ensures i)) ∙ sym c.is_at_least.ensures
     ∙ c.if-is_at_least.true)
 
@@ -25,8 +36,8 @@ returns-clause-counts g c =
     record { below = c.prune.ensures.counts.below; above = c.prune.ensures.counts.above }
 
 pub returns-clause-holds : goal.returns-clause-holds
-returns-clause-holds g c rules =
-    keeps_pruned rules c.args.self.now c.prune.new.self c.advance.new.self c.floor-floor.result c.prune.ensures.window
-    (c.prune.ensures.holds rules) c.floor-floor.ensures
-    (λ start before ordered began. c.advance.ensures.rises start (certified_rounds rules before)
-    (finalized_rounds rules before) ordered began)
+returns-clause-holds g c committees =
+    keeps_pruned _ c.args.self.now c.prune.new.self c.advance.new.self c.floor-floor.result c.prune.ensures.window
+    (c.prune.ensures.holds committees) c.floor-floor.ensures
+    (λ start before ordered began. c.advance.ensures.rises start (certified_rounds (rules g committees) before)
+    (finalized_rounds (rules g committees) before) ordered began)
