@@ -21,7 +21,7 @@ fn ample(rt: HostRuntime) -> Result<(), Fail> {
     let mut reader = Watched::new(Source::new(STREAM, 7, Trouble::Once(2, ErrorKind::Other)));
     let mut writer = Watched::new(Target::steady());
     let monitor = begin(alloc, &committees);
-    let error = monitor_input(alloc, monitor, &mut reader, &mut writer).err();
+    let error = monitor_input(alloc, monitor, &mut reader, &mut writer, &mut ()).err();
     assert_eq!(rt; error, Some(RunError::Read));
     let flushed = writer.flushed();
     let target = writer.into_inner();
