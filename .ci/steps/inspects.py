@@ -183,17 +183,17 @@ def live(data):
     """A stream that comes a message at a time, with the first byte of the next: the line of each has come before more is
     sent."""
     messages, _ = decoded(data, 32, 2**32 - 1)
-    program = subprocess.Popen([program("inspect")], **PIPES)
+    inspect = subprocess.Popen([program("inspect")], **PIPES)
     sent = 0
     for (place, length, _), line in zip(messages, shown(messages, None, data, None)):
-        os.write(program.stdin.fileno(), data[sent : place + length + 1])
+        os.write(inspect.stdin.fileno(), data[sent : place + length + 1])
         sent = place + length + 1
-        told = select.select([program.stdout], [], [], 60)[0] and program.stdout.readline().decode()
+        told = select.select([inspect.stdout], [], [], 60)[0] and inspect.stdout.readline().decode()
         if told != line + "\n":
             fail(f"inspect of a stream that waits at {sent}:", told, "to be", line)
-    program.stdin.close()
-    if program.wait() or program.stdout.read() or sent < len(data):
-        fail("inspect of a stream that waited:", program.returncode)
+    inspect.stdin.close()
+    if inspect.wait() or inspect.stdout.read() or sent < len(data):
+        fail("inspect of a stream that waited:", inspect.returncode)
 
 
 def long_stream():

@@ -41,23 +41,22 @@ class Refusing:
     """Runs commands with allocations refused by refuse.c. Each refusal comes as a byte on descriptor 9."""
 
     def __init__(self, room):
-        self.library = pathlib.Path(room) / "refuse.so"
+        self.room, self.library = pathlib.Path(room), f"{room}/refuse.so"
         source = pathlib.Path(__file__).with_name("refuse.c")
         subprocess.run(["cc", "-O2", "-Wall", "-Werror", "-shared", "-fPIC", "-o", self.library, source], check=True)
         os.dup2(os.open(f"{room}/refused", os.O_RDWR | os.O_CREAT), 9)
         resource.setrlimit(resource.RLIMIT_CORE, (0, 0))
 
-    def run(self, command, stdin=subprocess.DEVNULL, **names):
-        """A run of a command by these variables of refuse.c."""
+    def run(self, command, stdin, **names):
+        """A run of a command over a file, by these variables of refuse.c."""
         os.ftruncate(9, 0)
         os.lseek(9, 0, os.SEEK_SET)
-        if stdin != subprocess.DEVNULL:
-            stdin.seek(0)
-        around = os.environ | {"LD_PRELOAD": str(self.library), **{name: str(it) for name, it in names.items()}}
-        done = subprocess.run(command, stdin=stdin, capture_output=True, env=around, pass_fds=[9])
+        around = os.environ | {"LD_PRELOAD": self.library, **{name: str(it) for name, it in names.items()}}
+        with open(stdin, "rb") as given:
+            done = subprocess.run(command, stdin=given, capture_output=True, env=around, pass_fds=[9])
         return Run(done.returncode, done.stdout, done.stderr, os.fstat(9).st_size)
 
-    def each(self, judge, command, stdin=subprocess.DEVNULL, **names):
+    def each(self, judge, command, stdin=os.devnull, **names):
         """Refuses each allocation of a command in turn, and judges each run: how many there are, and the run without one."""
         say(f"making allocations fail in turn: {command[0]} {command[1] if command[1:] else ''}")
         number = 1
@@ -67,7 +66,7 @@ class Refusing:
             number += 1
         return number - 1, done
 
-    def every(self, command, stdin=subprocess.DEVNULL):
+    def every(self, command, stdin=os.devnull):
         """Refuses all allocations of a command from its signal on, or between two. It has to pass."""
         done = self.run(command, stdin, SIGNALS=1)
         if done.status or not done.refused:
@@ -138,32 +137,30 @@ def whole_run(refusing, crate, stdin, stored):
 
 def large_run(refusing, crate, judge):
     """Refuses each large allocation of a run on two certificates of 10,000 attestations."""
-    with tempfile.TemporaryFile() as stdin:
-        stdin.write(streams("fork", 10000, 1))
-        words = [program(crate), *streams("keys", 10000, 1).decode().splitlines()]
-        count, done = refusing.each(judge, words, stdin, LEAST=4096)
+    stdin = refusing.room / "large"
+    stdin.write_bytes(streams("fork", 10000, 1))
+    command = [program(crate), *streams("keys", 10000, 1).decode().splitlines()]
+    count, done = refusing.each(judge, command, stdin, LEAST=4096)
     if done.status or done.out.count(b"\n") != 10001 or done.err or not count:
-        unfit("no allocation", words, done)
+        unfit("no allocation", command, done)
     print(f"{crate}: {count} allocations of its large run refused in turn")
 
 
 def program_of(refusing, crate, first):
     """A program on its stored run."""
     build(crate)
-    words, (asked, told) = arguments(crate), ((ROOT / f"crates/{crate}/{it}").read_bytes() for it in ("stdin", "stdout"))
-    with tempfile.TemporaryFile() as stdin:
-        lines = None if first is None else int(first)
-        stdin.write(b"".join(asked.splitlines(True)[:lines]))
-        stored = b"".join(told.splitlines(True)[:lines])
-        judge = judged(crate, stored)
-        stored_run(refusing, crate, judge, stored, words, stdin, "stored run")
-        if crate == "audit":
-            groups = [words[0], "@0", words[1], "@1", words[1]]
-            stored_run(refusing, crate, judge, stored, groups, stdin, "stored run with groups of keys")
-            large_run(refusing, crate, judge)
+    words, whole, stdin = arguments(crate), ROOT / f"crates/{crate}/stdin", refusing.room / "stdin"
+    told = (ROOT / f"crates/{crate}/stdout").read_bytes()
+    asked, stored = (b"".join(it.splitlines(True)[: first and int(first)]) for it in (whole.read_bytes(), told))
+    stdin.write_bytes(asked)
+    judge = judged(crate, stored)
+    stored_run(refusing, crate, judge, stored, words, stdin, "stored run")
+    if crate == "audit":
+        groups = [words[0], "@0", words[1], "@1", words[1]]
+        stored_run(refusing, crate, judge, stored, groups, stdin, "stored run with groups of keys")
+        large_run(refusing, crate, judge)
     if crate == "conformance":
-        with open(ROOT / "crates/conformance/stdin", "rb") as stdin:
-            whole_run(refusing, crate, stdin, told)
+        whole_run(refusing, crate, whole, told)
 
 
 def main(crate, first=None):

@@ -14,13 +14,14 @@ def compared(*texts):
     """Compares answers to test vectors: vectors, wanted answers and those of a program, a line each. Returns whether they
     differ."""
     vectors, wanted, got = (it.splitlines() for it in texts)
-    bad = [it for it in zip(vectors, wanted, got) if it[1] != it[2]]
+    every = [*zip(vectors, wanted, got)]
+    bad = [it for it in every if it[1] != it[2]]
     for vector, answer, said in bad[:5]:
         print(vector, f"  wanted {answer}", f"  got    {said}", sep="\n")
     otherwise = f", {len(bad)} otherwise" if bad else ""
-    print(f"{len(got) - len(bad)} test vectors answered as they should be{otherwise}")
+    print(f"{len(every) - len(bad)} test vectors answered as they should be{otherwise}")
     if not len(vectors) == len(wanted) == len(got):
-        print(f"of {len(vectors)}, with {len(wanted)} wanted answers")
+        print(f"of {len(vectors)}, with {len(wanted)} wanted answers and {len(got)} answers")
         return True
     return bool(bad)
 
