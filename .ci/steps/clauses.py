@@ -194,7 +194,7 @@ def page():
             for file, entries in files.items():
                 path = file.relative_to(source).as_posix()
                 public = f", public in `{module}`" if module and path != module.replace("::", "/") + ".rt" else ""
-                lines += [f"**{path}**{public}", *described(entries), ""]
+                lines += [f"`{path}`{public}", *described(entries), ""]
     return "\n".join(lines).rstrip() + "\n"
 
 
