@@ -15,21 +15,20 @@ use Rattle.simplex_detector.specs.Evidence.{IsEvidence}
 use Rattle.simplex_detector.specs.Interchange.{AreInterchangeable}
 use Rattle.simplex_detector.specs.Kept.{TellsKept, kept_by}
 use Rattle.simplex_detector.specs.Laws.{EvidenceIsUnique}
-use Rattle.simplex_detector.specs.News.{FewAreKept, IsCompaction, IsTheirs, compacted, kept_of, message_on}
+use Rattle.simplex_detector.specs.News.{FewAreKept, IsCompaction, IsTheirs, compacted, kept_of}
 use Rattle.simplex_detector.specs.Rules.{Rules, valid_votes}
 use Rattle.simplex_detector.specs.SplitLaws.{SplitsAreUnique}
 use Rattle.simplex_detector.specs.Splits.{AreSplits}
 use Rattle.simplex_detector.specs.declared.judging.Judging.{Judging}
 use Rattle.simplex_detector.specs.declared.kept.Kept.{Kept}
 use Rattle.simplex_detector.specs.declared.split.Split.{Split}
-use Rattle.simplex_scheme.specs.Subject.{Finalizes, Notarizes, Nullifies, SubjectValue}
-use Rattle.simplex_scheme.specs.declared.scheme.Attestation.{Attestation}
 use Rattle.simplex_stream.specs.Fault.{fault_of}
 use Rattle.simplex_stream.specs.Messages.{AreMessages}
 use Rattle.simplex_stream.specs.Progress.{IsProgress}
 use Rattle.simplex_stream.specs.StreamLaws.{IsNeverEmpty, are_joined, fault_is, messages_continue, messages_once}
 use Rattle.simplex_audit.specs.Basis.{Basis}
 use Rattle.simplex_audit.specs.Compacting.{CompactsMore, KeepsCompaction}
+use Rattle.simplex_audit.specs.CompactingLaws.{alone_is_value}
 use Rattle.simplex_audit.specs.Compaction.{HaveSameReports, IsCompacted}
 use Rattle.simplex_audit.specs.Recording.{RecordsMore}
 use Rattle.simplex_audit.specs.Report.{evidence_in}
@@ -43,14 +42,6 @@ in_conflict eq payload is_certificate signature (activity.ConflictingNotarize c)
 in_conflict eq payload is_certificate signature (activity.ConflictingFinalize c) is = (Conflicting_finalize, is.1)
 in_conflict eq payload is_certificate signature (activity.NullifyFinalize c) is = (Nullify_finalize, is.1)
 in_conflict eq payload is_certificate signature _ is = tt
-
--- a vote as a message is a value of the format under any bound, since it has no certificate
-alone_is_value : {S D C P G : Type 0} (eq : D → D → Bool) (payload : Format D) (is_certificate fits : C → Type 0)
-    (signature : Format G) (x : SubjectValue D) (a : Attestation S P G) →
-    IsActivity eq payload is_certificate signature (message_on x a) → IsActivity eq payload fits signature (message_on x a)
-alone_is_value eq payload is_certificate fits signature (Notarizes p) a is = is
-alone_is_value eq payload is_certificate fits signature (Nullifies r) a is = is
-alone_is_value eq payload is_certificate fits signature (Finalizes p) a is = is
 
 -- what is kept of values are values
 pub kept_are_values : {S D C P G : Type 0} (eq : D → D → Bool) (payload : Format D) (is_certificate fits : C → Type 0)

@@ -1,18 +1,58 @@
 -- Messages that are compacted one after another.
-use Rattle.std.proofs.Common.{◌≡◌, ℕ, List, [], ◌∷◌, ◌++◌, sym, ap, subst, ◌∙◌, append_assoc, append-nil}
+use Rattle.std.proofs.Common.{◌≡◌, ℕ, Bool, true, false, cond, List, [], ◌∷◌, ◌++◌, map, sym, ap, subst, ◌∙◌, append_assoc, append-nil}
 use Rattle.std.specs.Prelude.{All}
 use Rattle.std.specs.List.{flat_map}
 use Rattle.std.proofs.lemmas.Grind.{flat_map-append}
-use Rattle.std.proofs.lemmas.List.Elements.{All-append, All-nil}
+use Rattle.std.proofs.lemmas.List.Elements.{All-append, All-cons, All-head, All-nil, All-tail}
+use Rattle.simplex_base.specs.Format.{Format}
+use Rattle.simplex_evidence.specs.Activity.{IsActivity}
 use Rattle.simplex_evidence.specs.declared.types.activity.Activity.{Activity}
 use Rattle.simplex_detector.specs.Detector.{Recalls}
-use Rattle.simplex_detector.specs.News.{kept_of, messages_kept}
+use Rattle.simplex_detector.specs.News.{certifies_no_news, kept_of, message_is_news, message_on, messages_kept, valid_votes_in, vote_message, votes_alone}
 use Rattle.simplex_detector.specs.NewsLaws.{kept_next}
-use Rattle.simplex_detector.specs.Rules.{Rules}
+use Rattle.simplex_detector.specs.Recorded.{news_after}
+use Rattle.simplex_detector.specs.Rules.{Rules, valid_votes}
 use Rattle.simplex_detector.specs.declared.judging.Judging.{Judging}
+use Rattle.simplex_scheme.specs.Subject.{Finalizes, Notarizes, Nullifies, SubjectValue}
+use Rattle.simplex_scheme.specs.declared.scheme.Attestation.{Attestation}
+use Rattle.simplex_votes.specs.Votes.{SignedVote}
 use Rattle.simplex_audit.specs.Compacting.{CompactsMore}
 use Rattle.simplex_audit.specs.RecordingLaws.{records_none, records_more}
 use Rattle.simplex_audit.specs.declared.compaction.Compactor.{Compactor}
+
+-- a vote as a message is a value of the format under any bound, since it has no certificate
+pub alone_is_value : {S D C P G : Type 0} (eq : D → D → Bool) (payload : Format D) (is_certificate fits : C → Type 0)
+    (signature : Format G) (x : SubjectValue D) (a : Attestation S P G) →
+    IsActivity eq payload is_certificate signature (message_on x a) → IsActivity eq payload fits signature (message_on x a)
+alone_is_value eq payload is_certificate fits signature (Notarizes p) a is = is
+alone_is_value eq payload is_certificate fits signature (Nullifies r) a is = is
+alone_is_value eq payload is_certificate fits signature (Finalizes p) a is = is
+
+-- what is kept of a message that is a value of the format under a bound is values of it, if it can be encoded
+pub kept_fits : {S D C P G : Type 0} (eq : D → D → Bool) (payload : Format D) (is_certificate fits : C → Type 0)
+    (signature : Format G) (rules : Rules S D C P G) (before : List (Activity S D C P G)) (m : Activity S D C P G) →
+    IsActivity eq payload fits signature m → All (IsActivity eq payload is_certificate signature) (kept_of rules before m) →
+    All (IsActivity eq payload fits signature) (kept_of rules before m)
+kept_fits {S} {D} {C} {P} {G} eq payload is_certificate fits signature rules before m is =
+    of_message (certifies_no_news rules before m) (message_is_news rules before m)
+  where
+    of_votes : (vs : List (SignedVote D G)) → All (IsActivity eq payload is_certificate signature) (map vote_message vs) →
+        All (IsActivity eq payload fits signature) (map vote_message vs)
+    of_votes [] values = values
+    of_votes (v ∷ vs) values =
+        let one = All-head (IsActivity eq payload is_certificate signature) (vote_message v) (map vote_message vs) values in
+        let rest = All-tail (IsActivity eq payload is_certificate signature) (vote_message v) (map vote_message vs) values in
+        All-cons (IsActivity eq payload fits signature) (vote_message v) (map vote_message vs)
+        (alone_is_value eq payload is_certificate fits signature v.subject
+        (record { signer = v.signer; signature = v.signature }) one) (of_votes vs rest)
+
+    of_message : (apart news : Bool) → All (IsActivity eq payload is_certificate signature)
+        (cond apart (votes_alone rules before m) (cond news (m ∷ []) [])) →
+        All (IsActivity eq payload fits signature) (cond apart (votes_alone rules before m) (cond news (m ∷ []) []))
+    of_message true news values =
+        of_votes (news_after rules.eq (valid_votes rules before) (valid_votes_in rules m)) values
+    of_message false true values = All-cons (IsActivity eq payload fits signature) m [] is (All-nil _)
+    of_message false false values = All-nil _
 
 module _ {S D C P G : Type 0} (is_value : Activity S D C P G → Type 0) (encoding : Activity S D C P G → List ℕ)
     (rules : Judging → Rules S D C P G) where

@@ -1,5 +1,5 @@
 -- How many messages of a round are kept: at most five without a certificate for each participant, and three with one.
-use Rattle.simplex_detector.proofs.Prelude.{Activity, All, All-contains, Bool, Contains, Finalizes, HaveCommittees, IsEquivalence, List, None, Nullifies, Option, Round, Rules, SignedVote, Some, VoteKind, SubjectValue, [], activity_round, and-false, and-true, and_parts, and_right, ap, append-nil, append_assoc, are_split, arith, certified_in, certified_subjects, cond, cond-false, eqb, eqb-false, excludes, excludes_some, false, false≢true, filter, filter-append, first_certified, flat_map, inl, inr, is_news, is_none, is_valid, length, length-append, length-filter_both, map, news_after, not, not-true, option_or, option_to_list, recorded_of, refl, round_of, same_round, same_kind, kind_of, subst, suc, sym, true, valid_votes, votes_in, zero, ℕ, ◌&&◌, ◌++◌, ◌+◌, ◌<◌, ◌||◌, ◌∙◌, ◌∷◌, ◌≡◌, ◌≤◌}
+use Rattle.simplex_detector.proofs.Prelude.{Activity, All, All-contains, Bool, Contains, Finalizes, HaveCommittees, IsEquivalence, List, None, Nullifies, Option, Round, Rules, SignedVote, Some, VoteKind, SubjectValue, [], activity_round, and-false, and-true, and_parts, and_right, ap, append-nil, append_assoc, are_split, arith, certified_in, certified_subjects, cond, cond-false, eqb, eqb-false, excludes, excludes_some, false, false≢true, filter, filter-append, first_certified, flat_map, is_none, is_valid, length, length-append, length-filter_both, map, news_after, not, not-true, option_or, option_to_list, recorded_of, refl, round_of, same_round, same_kind, kind_of, subst, suc, sym, true, valid_votes, votes_in, zero, ℕ, ◌&&◌, ◌++◌, ◌+◌, ◌<◌, ◌||◌, ◌∙◌, ◌∷◌, ◌≡◌, ◌≤◌}
 use Rattle.std.proofs.lemmas.List.Elements.{All-head, All-tail}
 use Rattle.std.specs.Prelude.{◌*◌}
 use Rattle.simplex_scheme.specs.declared.kind.VoteKind.TheVariants as kinds
@@ -9,7 +9,7 @@ use Rattle.simplex_evidence.specs.Activity.{has_certificate}
 use Rattle.simplex_evidence.specs.declared.types.activity.Activity.TheVariants as activity
 use Rattle.simplex_detector.proofs.EvidenceLemmas.{valid_votes-push}
 use Rattle.simplex_detector.proofs.Filters.{filter_both, filter_swap}
-use Rattle.simplex_detector.proofs.Lists.{Contains-cons, Contains-cons_cases, Contains-filter, Contains-first, Contains-from_filter, Contains-none, found}
+use Rattle.simplex_detector.proofs.Lists.{Contains-filter, Contains-first, Contains-from_filter, found}
 use Rattle.simplex_detector.proofs.NewsLemmas.{alone_round, attested, is_alone, news_after-append, news_from, news_here, one_is_news, split_now}
 use Rattle.simplex_detector.proofs.Places.{same_round-true, same_kind-true}
 use Rattle.simplex_detector.proofs.RecordedLemmas.{few_are_recorded}

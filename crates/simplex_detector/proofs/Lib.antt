@@ -23,4 +23,5 @@ pub mod StayLemmas
 pub mod BoundLemmas
 pub mod AlertLemmas
 pub mod AlarmLemmas
+pub mod StateLemmas
 pub mod GatherLemmas

@@ -16,7 +16,7 @@ ghost use Rattle.simplex_scheme.specs.Committees.{Schedule, committee_of};
 ghost use Rattle.simplex_detector.specs.declared.judging.Judging.{Judging};
 ghost use Rattle.simplex_detector.specs.declared.judging.Judging.TheVariants.{Claimed, From};
 ghost use Rattle.simplex_detector.specs.Evidence.{IsEvidence, IsEquivocation};
-ghost use Rattle.simplex_detector.specs.Independence.{FloorParts, FloorsRise, IsOfOneRound, OthersStay, PartsAddUp, RoundsAreIndependent, in_rounds, is_from, splits_within};
+ghost use Rattle.simplex_detector.specs.Independence.{FloorParts, FloorsRise, IsOfOneRound, OthersStay, PartsAddUp, RoundsAreIndependent, in_rounds, is_from, of_rounds, splits_within};
 ghost use Rattle.simplex_detector.specs.Interchange.{AreInterchangeable, HaveSameState, SameStateAmong, SameStateJoined};
 ghost use Rattle.simplex_detector.specs.News.{CompactsNext, FewAreKept, IsCompaction, LogsCompact, NewsChangesState, VotesCanStandAlone};
 ghost use Rattle.simplex_detector.specs.Recorded.{RecordedAreSlots, FewAreRecorded, recorded_in, votes_recorded};
@@ -199,6 +199,14 @@ pub fn rounds_are_independent<S: CertificateScheme, D: Digest>()
         (before messages : List (Activity S D S.Certificate S.PublicKey S.Signature)) →
         splits_arising (in_rounds part rules) before messages ≡
         splits_within part (splits_arising rules before messages) }
+    // Messages with the same state have the same state of a part, and the messages of the part have it alone.
+    ensures state { (rules : Rules S D S.Certificate S.PublicKey S.Signature) (part : Round → Bool)
+        (messages others : List (Activity S D S.Certificate S.PublicKey S.Signature)) →
+        HaveSameState rules messages others → HaveSameState (in_rounds part rules) messages others }
+    ensures alone { (rules : Rules S D S.Certificate S.PublicKey S.Signature) (part : Round → Bool)
+        (messages : List (Activity S D S.Certificate S.PublicKey S.Signature)) →
+        All (IsOfOneRound rules.listed) messages →
+        HaveSameState (in_rounds part rules) (of_rounds part messages) messages }
     // The votes of a message are of one round, as two votes that contradict are.
     ensures whole { (rules : Rules S D S.Certificate S.PublicKey S.Signature)
         (message : Activity S D S.Certificate S.PublicKey S.Signature) →

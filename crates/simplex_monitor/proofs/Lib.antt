@@ -2,6 +2,7 @@ mod RoundOrder
 mod WindowLemmas
 mod AdmittedLemmas
 mod TakenLemmas
+mod HoldingLemmas
 mod WatchingLemmas
 mod AdvancingLemmas
 mod NearbyLemmas

@@ -78,7 +78,7 @@ pub listens_on : {S D C P G : Type 0} (basis : Schedule S → Basis S D C P G) (
     (old : Monitor S D P G) (decoder : Decoder) (watcher : Watcher S D P G) (piece : List ℕ) →
     ((s : Schedule S) → (basis s).format ≡ format (basis s).bound) → decoding_over old.decoder ≡ false →
     DecodesMore (format old.bound)
-    (λ more. WatchesMore (basis old.committees.now).rules more (watcher_of old) watcher) piece old.decoder decoder →
+    (λ more. WatchesMore (basis old.committees.now) more (watcher_of old) watcher) piece old.decoder decoder →
     (start : Window) (committees : Schedule S) (told : Told D G) (stream : List ℕ) →
     Listens basis start committees told stream old →
     Listens basis start committees told (stream ++ piece) (record old { decoder = decoder; watcher = watcher })
@@ -91,8 +91,8 @@ listens_on {S} {D} {C} {P} {G} basis format old decoder watcher piece reads on d
     let Decoded : Format (Activity S D C P G) → Type 0 = λ f. HasDecoded f h.front h.messages old.decoder in
     let (more, decoded, watched) = decodes h.front h.messages (subst Decoded same h.decoded) in
     let rules = (basis committees).rules in
-    let here : WatchesMore rules more (watcher_of old) watcher =
-    subst (λ (c : Schedule S). WatchesMore (basis c).rules more (watcher_of old) watcher) h.committees_are watched in
+    let here : WatchesMore (basis committees) more (watcher_of old) watcher =
+    subst (λ (c : Schedule S). WatchesMore (basis c) more (watcher_of old) watcher) h.committees_are watched in
     let w = here start h.taken told h.below h.above h.ordered h.members h.watches in
     record {
       ordered = h.ordered;
@@ -124,7 +124,7 @@ pub listens_to_nothing : {S D C P G : Type 0} (basis : Schedule S → Basis S D 
     HaveCommittees (basis committees).rules →
     ((epoch : ℕ) → (basis committees).rules.size epoch ≤ (basis committees).bound) → 1 ≤ start.lookahead.term_length →
     HasDecoded (basis committees).format [] [] monitor.decoder →
-    Watches (basis committees).rules window [] nothing_told 0 0 (watcher_of monitor) → window ≡ start →
+    Watches (basis committees) window [] nothing_told 0 0 (watcher_of monitor) → window ≡ start →
     Listens basis start committees nothing_told [] monitor
 listens_to_nothing basis monitor start window committees ordered are bound readable members sizes terms decoded held
     is = record {
@@ -145,7 +145,7 @@ listens_to_nothing basis monitor start window committees ordered are bound reada
       below = 0;
       above = 0;
       are_taken = (refl, refl, refl);
-      watches = subst (λ w. Watches (basis committees).rules w [] nothing_told 0 0 (watcher_of monitor)) is held;
+      watches = subst (λ w. Watches (basis committees) w [] nothing_told 0 0 (watcher_of monitor)) is held;
     }
 
 module _ {S D C P G : Type 0} (rules : Rules S D C P G) where
@@ -335,6 +335,7 @@ listens_told {S} {D} {C} {P} {G} basis old alarm news takes arising start commit
         holds = record {
           recalls = holds.recalls;
           sounds = subst (λ t. Sounds judged h.taken t alarm) same (takes.sounds judged h.taken before holds.sounds);
+          stands = holds.stands;
         };
         below_is = h.watches.below_is;
         above_is = h.watches.above_is;

@@ -1,5 +1,7 @@
 pub mod Heads
 pub mod Taken
+pub mod Holding
+pub mod Sieving
 pub mod Watching
 pub mod WatchingLaws
 pub mod Monitoring

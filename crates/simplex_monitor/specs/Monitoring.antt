@@ -1,5 +1,6 @@
 -- Which stream a monitor listens to, and what it knows of it.
-use Rattle.std.specs.Prelude.{◌≡◌, ◌⊎◌, ◌++◌, ◌*◌, ◌-◌, ◌^◌, ◌≤◌, ℕ, Bool, IsTrue, List, [], Option, length, min}
+use Rattle.std.specs.Prelude.{◌≡◌, ◌⊎◌, ◌++◌, ◌*◌, ◌-◌, ◌^◌, ◌≤◌, ℕ, Bool, IsTrue, List, [], Option, Vec, length, min}
+use Rattle.std.specs.Global.{Global}
 use Rattle.std.specs.List.{flat_map}
 use Rattle.simplex_base.specs.Format.{Format, IsLawful}
 use Rattle.simplex_scheme.specs.Committees.{Schedule}
@@ -40,6 +41,10 @@ listening_over monitor = decoding_over monitor.decoder
 abbrev pub watcher_of : {S D P G : Type 0} → Monitor S D P G → Watcher S D P G
 watcher_of monitor = monitor.watcher
 
+-- the bytes that it holds for a restart, if it does
+abbrev pub held_of : {S D P G : Type 0} → Monitor S D P G → Option (Vec ℕ Global)
+held_of monitor = monitor.watcher.held
+
 -- A monitor of these committees, under which reading is lawful and nothing is valid without a committee, has listened to a
 -- stream since its window began as `start`: it has decoded the messages of the stream, or those of a front of it behind which
 -- nothing can be read. Its window has taken those messages that it takes when they come, and the monitor knows their state and
@@ -63,7 +68,7 @@ pub record Listens {S D C P G : Type 0} (basis : Schedule S → Basis S D C P G)
   pub below : ℕ
   pub above : ℕ
   pub are_taken : AreTaken (basis committees).rules start [] messages taken below above
-  pub watches : Watches (basis committees).rules start taken told below above (watcher_of monitor)
+  pub watches : Watches (basis committees) start taken told below above (watcher_of monitor)
 
 module _ {S D C P G : Type 0} (rules : Rules S D C P G) (taken : List (Activity S D C P G)) where
   -- the rules under which nothing below the floor of a monitor is valid

@@ -2,6 +2,7 @@
 use Rattle.std.proofs.Common.{◌≡◌, ℕ, ◌+◌, List, [], ◌∷◌, ◌++◌, inl, inr, refl, sym, ap, subst, ◌∙◌, arith, append_assoc, append-nil}
 use Rattle.simplex_evidence.specs.declared.types.activity.Activity.{Activity}
 use Rattle.simplex_detector.specs.Rules.{Rules}
+use Rattle.simplex_audit.specs.Basis.{Basis}
 use Rattle.simplex_monitor.specs.Taken.{AreTaken}
 use Rattle.simplex_monitor.specs.Watching.{Watches, WatchesMore}
 use Rattle.simplex_monitor.specs.declared.watcher.Watcher.{Watcher}
@@ -33,21 +34,22 @@ module _ {S D C P G : Type 0} (rules : Rules S D C P G) where
   taken_then start before (k ∷ ms) ks taken more b a d c (inr (inr (low, out, n, is, first))) later =
       inr (inr (low, out, n + c, omega (arith, is), taken_then start before ms ks taken more b n d c first later))
 
+module _ {S D C P G : Type 0} (basis : Basis S D C P G) where
   -- no message came
-  pub watches_none : (state : Watcher S D P G) → WatchesMore rules [] state state
+  pub watches_none : (state : Watcher S D P G) → WatchesMore basis [] state state
   watches_none state start before told below above ordered members held = record {
     taken = [];
     lower = 0;
     higher = 0;
     are_taken = (refl, refl, refl);
-    watches = subst (λ ts. Watches rules start ts told (below + 0) (above + 0) state) (sym (append-nil before)) (
-        subst (λ n. Watches rules start before told n (above + 0) state) (omega arith)
-        (subst (λ n. Watches rules start before told below n state) (omega arith) held));
+    watches = subst (λ ts. Watches basis start ts told (below + 0) (above + 0) state) (sym (append-nil before)) (
+        subst (λ n. Watches basis start before told n (above + 0) state) (omega arith)
+        (subst (λ n. Watches basis start before told below n state) (omega arith) held));
   }
 
   -- one message more came
   pub watches_more : (ms : List (Activity S D C P G)) (m : Activity S D C P G) (a b c : Watcher S D P G) →
-      WatchesMore rules ms a b → WatchesMore rules (m ∷ []) b c → WatchesMore rules (ms ++ m ∷ []) a c
+      WatchesMore basis ms a b → WatchesMore basis (m ∷ []) b c → WatchesMore basis (ms ++ m ∷ []) a c
   watches_more ms m a b c first one start before told below above ordered members held =
       let f = first start before told below above ordered members held in
       let o = one start (before ++ f.taken) told (below + f.lower) (above + f.higher) ordered members f.watches in
@@ -55,12 +57,12 @@ module _ {S D C P G : Type 0} (rules : Rules S D C P G) where
         taken = f.taken ++ o.taken;
         lower = f.lower + o.lower;
         higher = f.higher + o.higher;
-        are_taken = taken_then start before ms (m ∷ []) f.taken o.taken f.lower f.higher o.lower o.higher f.are_taken
-            o.are_taken;
-        watches = subst (λ ts. Watches rules start ts told (below + (f.lower + o.lower)) (above + (f.higher + o.higher)) c)
+        are_taken = taken_then basis.rules start before ms (m ∷ []) f.taken o.taken f.lower f.higher o.lower o.higher
+            f.are_taken o.are_taken;
+        watches = subst (λ ts. Watches basis start ts told (below + (f.lower + o.lower)) (above + (f.higher + o.higher)) c)
             (append_assoc before f.taken o.taken)
-            (subst (λ n. Watches rules start ((before ++ f.taken) ++ o.taken) told n (above + (f.higher + o.higher)) c)
+            (subst (λ n. Watches basis start ((before ++ f.taken) ++ o.taken) told n (above + (f.higher + o.higher)) c)
             (omega arith)
-            (subst (λ n. Watches rules start ((before ++ f.taken) ++ o.taken) told (below + f.lower + o.lower) n c)
+            (subst (λ n. Watches basis start ((before ++ f.taken) ++ o.taken) told (below + f.lower + o.lower) n c)
             (omega arith) o.watches));
       }

@@ -107,8 +107,11 @@ fn hear<'a, S: Listing<D>, D: Digest, W: Write>(
     Ok(next)
 }
 
-/// Writes the lines of what arose, and flushes.
-fn tell<S: Listing<D>, D: Digest, W: Write>(
+/// Writes a line for each evidence and each split of what arose, as an audit does, and flushes.
+///
+/// `Write` exactly where a write or a flush failed, and `OutOfMemory` where an allocation failed. A front of the lines was
+/// written then.
+pub fn tell<S: Listing<D>, D: Digest, W: Write>(
     alloc: Global,
     news: &News<S, D>,
     writer: &mut Watched<W>,

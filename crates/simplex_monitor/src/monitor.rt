@@ -1,14 +1,18 @@
 //! An auditor that listens to the network for long.
 
-ghost use Rattle.std.specs.Prelude.{◌≡◌, ◌+◌, ◌-◌, ◌<◌, ◌≤◌, ◌^◌, ◌++◌, ℕ, List, [], map, min, length, IfOk, IsTrue};
+ghost use Rattle.std.specs.Prelude.{◌≡◌, ◌+◌, ◌-◌, ◌<◌, ◌≤◌, ◌^◌, ◌++◌, ℕ, List, [], map, min, length, IfOk, IfSome, IsTrue, OnErr, OnOk};
+ghost use Rattle.std.specs.List.{flat_map};
+ghost use Rattle.std.specs.Option.{is_some};
 ghost use Rattle.simplex_scheme.specs.Committees.{Schedule};
 ghost use Rattle.simplex_detector.specs.Alarm.{Told, nothing_told, told_then};
 ghost use Rattle.simplex_detector.specs.Values.{evidence_value};
 ghost use Rattle.simplex_monitor.specs.Hearing.{AllTold};
-ghost use Rattle.simplex_monitor.specs.Monitoring.{AreFewVotes, EndsAt, HasEvidence, HasSplits, HasVotes, Listens, TellsRest, fed_of, listening_over, watcher_of};
-ghost use Rattle.simplex_monitor.specs.Window.{first_window, floor_of};
+ghost use Rattle.simplex_monitor.specs.Holding.{Holds, HoldsNoOther};
+ghost use Rattle.simplex_monitor.specs.Monitoring.{AreFewVotes, EndsAt, HasEvidence, HasSplits, HasVotes, Listens, TellsRest, fed_of, held_of, listening_over, watcher_of};
+ghost use Rattle.simplex_monitor.specs.Window.{IsInOrder, first_window, floor_of};
 ghost use Rattle.simplex_monitor.specs.declared.window.Window as windows;
 
+use crate::sieve::messages_from;
 use crate::watcher::Watcher;
 use crate::window::Window;
 use simplex_audit::basis::Audited;
@@ -53,13 +57,35 @@ impl<'a, S: Listing<D>, D: Digest> Monitor<'a, S, D> {
         ensures listens { Listens ⟦<S as Audited<D>>⟧.basis
             (first_window start view_retention lookahead) committees.now nothing_told [] result }
     {
-        committees_are_lawful::<S, D>();
         let window = Window::new(start, view_retention, lookahead);
+        Monitor::begin(alloc, committees, window, false)
+    }
+
+    /// A monitor of these committees that was fed nothing, and whose window begins as this one. It holds messages that can
+    /// stand for those that it takes. A monitor that begins with the window of another, and is fed what that one holds, knows
+    /// of the rounds from the floor on what that one knew; what it then has to tell was told by that one or is told again.
+    pub fn holding(alloc: Global, committees: &'a Committees<S>, window: Window) -> Self
+        requires { IsInOrder window }
+        ensures fed { fed_of result ≡ 0 }
+        ensures holds { IsTrue (is_some (held_of result)) }
+        ensures listens { Listens ⟦<S as Audited<D>>⟧.basis window committees.now nothing_told [] result }
+    {
+        Monitor::begin(alloc, committees, window, true)
+    }
+
+    /// A monitor that was fed nothing.
+    fn begin(alloc: Global, committees: &'a Committees<S>, window: Window, holds: bool) -> Self
+        requires { IsInOrder window }
+        ensures fed { fed_of result ≡ 0 }
+        ensures holds { is_some (held_of result) ≡ holds }
+        ensures listens { Listens ⟦<S as Audited<D>>⟧.basis window committees.now nothing_told [] result }
+    {
+        committees_are_lawful::<S, D>();
         Monitor {
             committees,
             bound: committees.bound(),
             decoder: Decoder::new::<Activity<S, D>>(alloc),
-            watcher: Watcher::new(alloc, window),
+            watcher: Watcher::new(alloc, window, holds),
         }
     }
 
@@ -112,6 +138,47 @@ impl<'a, S: Listing<D>, D: Digest> Monitor<'a, S, D> {
         let news = self.watcher.alarm.take();
         rounds_are_independent::<S, D>();
         news
+    }
+
+    /// Messages that can stand for those that it took, from the floor on, one after the other; `None` if it holds none. What is
+    /// of rounds below the floor may stand among them until [`Monitor::shorten`] is called.
+    pub fn held(&self) -> Option<&[u8]>
+        ensures holds { is_some result ≡ is_some (held_of self.now) }
+        ensures stands { IfSome result (λ bytes. (start : windows.Window) (committees : Schedule S)
+            (told : Told D S.Signature) (stream : List ℕ) →
+            (listens : Listens ⟦<S as Audited<D>>⟧.basis start committees told stream self.now) →
+            Holds (⟦<S as Audited<D>>⟧.basis committees) (floor_of (watcher_of self.now).window)
+            listens.taken bytes.now) }
+    {
+        match &self.watcher.held {
+            None => None,
+            Some(held) => Some(held.as_slice()),
+        }
+    }
+
+    /// Leaves out of what it holds the messages of rounds below the floor. It costs a reading of what is held.
+    /// `AllocError` only where an allocation failed, and then all is as it was.
+    pub fn shorten(&mut self, alloc: Global) -> Result<(), AllocError>
+        ensures listens { (start : windows.Window) (committees : Schedule S)
+            (told : Told D S.Signature) (stream : List ℕ) →
+            Listens ⟦<S as Audited<D>>⟧.basis start committees told stream self.old →
+            Listens ⟦<S as Audited<D>>⟧.basis start committees told stream self.new }
+        ensures short { OnOk result (IfSome (held_of self.new) (λ held. (start : windows.Window)
+            (committees : Schedule S) (told : Told D S.Signature) (stream : List ℕ) →
+            (listens : Listens ⟦<S as Audited<D>>⟧.basis start committees told stream self.old) →
+            HoldsNoOther (⟦<S as Audited<D>>⟧.basis committees)
+            (floor_of (watcher_of self.old).window) listens.taken held.items)) }
+        ensures fed { fed_of self.new ≡ fed_of self.old }
+        ensures failed { OnErr result (self.new ≡ self.old) }
+    {
+        let Some(held) = &self.watcher.held else {
+            return Ok(());
+        };
+        let floor = self.watcher.window.floor();
+        let kept = messages_from::<S, D>(alloc, self.bound, floor, held.as_slice())?;
+        rounds_are_independent::<S, D>();
+        self.watcher.held = Some(kept);
+        Ok(())
     }
 
     /// The evidence in the messages that it took, from the floor on.
@@ -191,6 +258,16 @@ impl<'a, S: Listing<D>, D: Digest> Monitor<'a, S, D> {
     {
         let stop = stop_of::<Activity<S, D>>(alloc, self.bound, self.decoder.rest())?;
         Ok(fault_at(self.decoder.place(), stop))
+    }
+
+    /// How many bytes these messages have, joined: the 0-based offset of the first byte that is not read yet.
+    pub fn place(&self) -> usize
+        ensures { (start : windows.Window) (committees : Schedule S)
+            (told : Told D S.Signature) (stream : List ℕ) →
+            (listens : Listens ⟦<S as Audited<D>>⟧.basis start committees told stream self.now) →
+            result ≡ length (flat_map (⟦<S as Audited<D>>⟧.basis committees).format.encoding listens.messages) }
+    {
+        self.decoder.place()
     }
 
     /// How many of them were of rounds below the floor when they came, or of view 0. The number stops at 2^64 - 1.

@@ -1,6 +1,7 @@
 //! What an auditor that listens knows of the messages that its window took.
 
 ghost use Rattle.std.specs.Prelude.{◌≡◌, ◌↔◌, ◌++◌, ⊤, [], ◌∷◌, List, Contains, IsTrue, OnOk, if◌then◌else◌, true};
+ghost use Rattle.simplex_audit.specs.Basis.{Basis};
 ghost use Rattle.simplex_base.specs.Positions as positions;
 ghost use Rattle.simplex_evidence.specs.Activity.{activity_round};
 ghost use Rattle.simplex_scheme.specs.Committees.{Schedule};
@@ -9,17 +10,20 @@ ghost use Rattle.simplex_scheme.specs.declared.kind.VoteKind.TheVariants as kind
 ghost use Rattle.simplex_detector.specs.Alarm.{nothing_told};
 ghost use Rattle.simplex_detector.specs.Splits.{is_certified_message};
 ghost use Rattle.simplex_monitor.specs.Taken.{Takes};
-ghost use Rattle.simplex_detector.specs.Rules.{Rules};
 ghost use Rattle.simplex_monitor.specs.Watching.{Advances, KeepsCounts, KeepsFrom, PrunesTo, RecordsOne, TellsIfCertified, Watches, WatchesMore};
 ghost use Rattle.simplex_monitor.specs.Window.{AdmitsCertificate, IsInOrder, window_after};
 ghost use Rattle.simplex_monitor.specs.declared.window.Window as windows;
 
 use crate::window::{Window, is_at_least};
+use simplex_audit::basis::Audited;
+use simplex_audit::compaction::append_news;
 use simplex_base::positions::{Round, Roundable};
 use simplex_detector::alarm::Alarm;
 use simplex_detector::detector::Detector;
 use simplex_detector::judging::Judging;
-use simplex_detector::laws::{floors_rise, rounds_are_independent};
+use simplex_detector::laws::{
+    floors_rise, news_suffices, rounds_are_independent, same_state_suffices,
+};
 use simplex_detector::rules::Judges;
 use simplex_evidence::types::{Activity, Contents};
 use simplex_scheme::committees::Committees;
@@ -36,6 +40,8 @@ pub struct Watcher<S: SchemeTypes, D: Digest> {
     pub detector: Detector<S, D>,
     /// What arose in them from the floor on, as far as it was not told yet.
     pub alarm: Alarm<S, D>,
+    /// Messages that can stand for them from the floor on, one after the other, if they are wanted.
+    pub held: Option<Vec<u8>>,
     /// How many messages were of rounds below the floor when they came, or of view 0. The number stops at 2^64 - 1.
     pub below: u64,
     /// How many messages were of rounds above the window when they came. The number stops at 2^64 - 1.
@@ -43,16 +49,18 @@ pub struct Watcher<S: SchemeTypes, D: Digest> {
 }
 
 impl<S: Listing<D>, D: Digest> Watcher<S, D> {
-    /// Nothing came yet.
-    pub fn new(alloc: Global, window: Window) -> Self
-        ensures { (committees : Schedule S) →
-            Watches (⟦<S as Judges<D>>⟧.rules committees) window [] nothing_told 0 0 result }
+    /// Nothing came yet. Messages that can stand for those that come are held if they are wanted.
+    pub fn new(alloc: Global, window: Window, holds: bool) -> Self
+        ensures holds { is_some result.held ≡ holds }
+        ensures watches { (committees : Schedule S) →
+            Watches (⟦<S as Audited<D>>⟧.basis committees) window [] nothing_told 0 0 result }
     {
         floors_rise::<S, D>();
         Watcher {
             window,
             detector: Detector::new(alloc),
             alarm: Alarm::new(alloc),
+            held: holds.then_some(Vec::new(alloc)),
             below: 0,
             above: 0,
         }
@@ -67,7 +75,7 @@ impl<S: Listing<D>, D: Digest> Watcher<S, D> {
         committees: &Committees<S>,
         message: &Activity<S, D>,
     ) -> Result<(), AllocError>
-        ensures { OnOk result (WatchesMore (⟦<S as Judges<D>>⟧.rules committees.now) (message.now ∷ [])
+        ensures { OnOk result (WatchesMore (⟦<S as Audited<D>>⟧.basis committees.now) (message.now ∷ [])
             self.old self.new) }
     {
         let round = message.round();
@@ -93,28 +101,40 @@ impl<S: Listing<D>, D: Digest> Watcher<S, D> {
         self.window.admits_vote(round) || is_certified(committees, message)
     }
 
-    /// Records a message, judged from the floor on.
+    /// Records a message, judged from the floor on, and holds what is kept of it, if that is wanted.
     fn record(
         &mut self,
         alloc: Global,
         committees: &Committees<S>,
         message: &Activity<S, D>,
     ) -> Result<(), AllocError>
-        ensures { OnOk result (RecordsOne (⟦<S as Judges<D>>⟧.rules committees.now) message.now
+        ensures { OnOk result (RecordsOne (⟦<S as Audited<D>>⟧.basis committees.now) message.now
             self.old self.new) }
     {
         floors_rise::<S, D>();
         rounds_are_independent::<S, D>();
+        same_state_suffices::<S, D>();
+        news_suffices::<S, D>();
         let judging = Judging::From(self.window.floor());
-        self.alarm
-            .observe(alloc, &mut self.detector, committees, &judging, message)?;
-        Ok(())
+        match &mut self.held {
+            None => {
+                self.alarm
+                    .observe(alloc, &mut self.detector, committees, &judging, message)?;
+                Ok(())
+            }
+            Some(held) => {
+                let kept = self
+                    .alarm
+                    .observe_apart(alloc, &mut self.detector, committees, &judging, message)?;
+                append_news(&kept, message, held)
+            }
+        }
     }
 
     /// Moves the window by a message that was recorded, if that has a certificate, and a message so far certifies a subject of
     /// the same kind in the same round.
     fn advance(&mut self, committees: &Committees<S>, message: &Activity<S, D>)
-        ensures { Advances (⟦<S as Judges<D>>⟧.rules committees.now) message.now self.old self.new }
+        ensures { Advances (⟦<S as Audited<D>>⟧.basis committees.now) message.now self.old self.new }
     {
         let contents = message.contents();
         let round = contents.round();
@@ -137,7 +157,7 @@ impl<S: Listing<D>, D: Digest> Watcher<S, D> {
         kind: VoteKind,
         message: &Activity<S, D>,
     ) -> bool
-        ensures { TellsIfCertified (⟦<S as Judges<D>>⟧.rules committees.now) message.now round kind
+        ensures { TellsIfCertified (⟦<S as Audited<D>>⟧.basis committees.now) message.now round kind
             self.now result }
     {
         floors_rise::<S, D>();
@@ -158,8 +178,8 @@ impl<S: Listing<D>, D: Digest> Watcher<S, D> {
             (same_kind kind kinds.Finalize ≡ true → Contains finalized round) →
             self.new.window ≡ self.old.window }
         ensures counts { KeepsCounts self.old self.new }
-        ensures holds { (rules : Rules S D S.Certificate S.PublicKey S.Signature) →
-            KeepsFrom rules self.old self.new }
+        ensures holds { (basis : Basis S D S.Certificate S.PublicKey S.Signature) →
+            KeepsFrom basis self.old self.new }
     {
         let before = self.window.floor();
         self.window.advance(round, finalizes(kind));
@@ -174,10 +194,11 @@ impl<S: Listing<D>, D: Digest> Watcher<S, D> {
     fn prune(&mut self, floor: Round)
         ensures window { self.new.window ≡ self.old.window }
         ensures counts { KeepsCounts self.old self.new }
-        ensures holds { (rules : Rules S D S.Certificate S.PublicKey S.Signature) →
-            PrunesTo rules floor self.old self.new }
+        ensures holds { (basis : Basis S D S.Certificate S.PublicKey S.Signature) →
+            PrunesTo basis floor self.old self.new }
     {
         floors_rise::<S, D>();
+        rounds_are_independent::<S, D>();
         self.detector.prune(floor);
         self.alarm.prune(floor);
     }
@@ -188,7 +209,7 @@ impl<S: Listing<D>, D: Digest> Visitor<Activity<S, D>> for Watcher<S, D> {
 
     type Context = Committees<S>;
 
-    ghost follows = { λ committees. WatchesMore (⟦<S as Judges<D>>⟧.rules committees) };
+    ghost follows = { λ committees. WatchesMore (⟦<S as Audited<D>>⟧.basis committees) };
 
     ghost has_room = { λ _ _. ⊤ };
 
@@ -202,9 +223,9 @@ impl<S: Listing<D>, D: Digest> Visitor<Activity<S, D>> for Watcher<S, D> {
         self.observe(alloc, committees, message)
     }
 
-    ghost none = { λ committees state. watches_none (⟦<S as Judges<D>>⟧.rules committees) state };
+    ghost none = { λ committees state. watches_none (⟦<S as Audited<D>>⟧.basis committees) state };
 
-    ghost more = { λ committees ms m a b c. watches_more (⟦<S as Judges<D>>⟧.rules committees) ms m a b
+    ghost more = { λ committees ms m a b c. watches_more (⟦<S as Audited<D>>⟧.basis committees) ms m a b
         c };
 
     ghost less = { λ _ _ _ room. room };

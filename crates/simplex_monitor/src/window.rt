@@ -42,6 +42,13 @@ impl Window {
         }
     }
 
+    /// Whether the last round of an earlier epoch is not above the current round, as in every window that certificates moved.
+    pub fn is_in_order(&self) -> bool
+        ensures { IsTrue result ↔ IsInOrder self.now }
+    {
+        self.ended <= self.current
+    }
+
     /// What a node of the current epoch looks at.
     pub fn viewport(&self) -> Viewport
         ensures { result ≡ record {

@@ -2,6 +2,7 @@ use Rattle.simplex_detector.proofs.IndependenceLemmas.{committees_in_rounds, flo
 use Rattle.simplex_evidence.specs.Activity.{contents_of}
 use Rattle.simplex_detector.proofs.DetectorLemmas.{votes_here}
 use Rattle.simplex_detector.proofs.SplitAlertLemmas.{arising_part}
+use Rattle.simplex_detector.proofs.StateLemmas.{state_in_part, state_of_rounds}
 use Rattle.simplex_detector.proofs.laws.rounds_are_independent.Goals as goal
 
 pub returns-clause-part : goal.returns-clause-part
@@ -24,6 +25,12 @@ returns-clause-committees g c rules part l = committees_in_rounds rules part l
 
 pub returns-clause-arising : goal.returns-clause-arising
 returns-clause-arising g c rules part before messages = arising_part rules part before messages
+
+pub returns-clause-state : goal.returns-clause-state
+returns-clause-state g c rules part messages others same = state_in_part rules part messages others same
+
+pub returns-clause-alone : goal.returns-clause-alone
+returns-clause-alone g c rules part messages one = state_of_rounds rules part messages one
 
 pub returns-clause-whole : goal.returns-clause-whole
 returns-clause-whole g c rules message conflict = votes_here rules.eq rules.listed (contents_of message) conflict

@@ -3,11 +3,11 @@ use Rattle.simplex_detector.proofs.AlarmLemmas.{sounds_same}
 use Rattle.simplex_detector.proofs.alarm.Alarm.observe_apart.Goals as goal
 
 -- the message is no news
-pub returns-then-not-branch-clause-sounds : goal.returns-then-not-branch-clause-sounds
-returns-then-not-branch-clause-sounds g c messages told l holds =
+pub returns-then-not-is_kept-clause-sounds : goal.returns-then-not-is_kept-clause-sounds
+returns-then-not-is_kept-clause-sounds g c messages told l holds =
     let scheme = scheme_of g.D.PartialEq.eq g.S.CertificateScheme.keys g.S.Scheme.good g.S.CertificateVerifier.certified
     g.S.Listing.listed in
-    let old = sym c.is_kept.ensures ∙ c.if-not-branch.true in
+    let old = sym c.is_kept.ensures ∙ c.if-not-is_kept.true in
     sounds_same (rules_under scheme c.args.judging.now c.args.committees.now) messages c.args.message.now
     g.met.D.Eq.laws (sym (c.in_ok-kept.ensures.news messages holds) ∙ old) told c.args.self.now
 

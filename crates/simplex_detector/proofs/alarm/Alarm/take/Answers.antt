@@ -1,4 +1,3 @@
-use Rattle.simplex_detector.proofs.Prelude.{ap, append-nil, append_assoc, sym, ◌++◌, ◌∙◌}
 use Rattle.simplex_detector.proofs.SplitAlertLemmas.{splits_taken}
 use Rattle.simplex_detector.proofs.alarm.Alarm.take.Goals as goal
 

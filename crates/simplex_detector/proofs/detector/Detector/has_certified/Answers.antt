@@ -1,7 +1,6 @@
-use Rattle.simplex_detector.proofs.Prelude.{Judging, RecallsAt, Rules, Schedule, nothing_certified, rules_under, subst, sym, ◌∙◌, scheme_of, None, Some, is_some, firsts_of, false, refl, ◌≡◌, Option, Bool}
+use Rattle.simplex_detector.proofs.Prelude.{Judging, RecallsAt, Rules, Schedule, nothing_certified, rules_under, subst, sym, ◌∙◌, scheme_of, Some, is_some, firsts_of, false, refl, ◌≡◌}
 use Rattle.simplex_scheme.specs.declared.kind.VoteKind.{VoteKind}
 use Rattle.simplex_scheme.specs.declared.kind.VoteKind.TheVariants as kinds
-use Rattle.simplex_detector.specs.declared.certified_subjects.CertifiedSubjects.{CertifiedSubjects}
 use Rattle.simplex_detector.proofs.CountLemmas.{certified_told}
 use Rattle.simplex_detector.proofs.detector.Detector.has_certified.Given as given
 use Rattle.simplex_detector.proofs.detector.Detector.has_certified.Goals as goal

@@ -1,5 +1,5 @@
-use Rattle.simplex_detector.proofs.Prelude.{Judging, Round, Rules, ap, on_ok_weaker, Schedule, rules_under, scheme_of, split_of, subst, sym, ◌∙◌, ◌++◌, ◌∷◌, [], ◌≡◌, Option, Split}
-use Rattle.simplex_evidence.specs.Activity.{activity_round, contents_of}
+use Rattle.simplex_detector.proofs.Prelude.{Judging, Rules, ap, on_ok_weaker, Schedule, rules_under, scheme_of, split_of, sym, ◌∙◌, ◌++◌, ◌∷◌, []}
+use Rattle.simplex_evidence.specs.Activity.{contents_of}
 use Rattle.simplex_evidence.specs.Contents.{contents_round}
 use Rattle.simplex_detector.proofs.DetectorLemmas.{votes_here}
 use Rattle.simplex_detector.proofs.SplitAlertLemmas.{no_split_more, split_more_told}

@@ -16,4 +16,4 @@ returns-clause-listens g c =
     (committee_of c.args.committees.now epoch) (c.bound.ensures.most epoch)))
     (search rules)
     (c.new.ensures.decoded (bound_of g.S.CertificateScheme.keys c.args.committees.now))
-    (c.new-2.ensures c.args.committees.now) c.new-window.ensures.value
+    (c.new-2.ensures.watches c.args.committees.now) c.new-window.ensures.value
