@@ -109,6 +109,20 @@ def streams(*words):
     return subprocess.run([ROOT / "bench/streams.py", *map(str, words)], capture_output=True, check=True).stdout
 
 
+def damaged(stream):
+    """A stream as it is, twice over, cut off, and with a fault within."""
+    return stream, stream + stream, stream[:-3], stream[: len(stream) // 2] + b"\xff" + stream
+
+
+def behind_a_fault(command, stream):
+    """Runs a command, which may have a tenth of that memory, over a stream with a fault and a gibibyte behind it."""
+    with tempfile.TemporaryFile() as large:
+        large.write(stream + b"\xff")
+        large.truncate(2**30)
+        large.seek(0)
+        return run(command, large, memory=100 * 2**20)
+
+
 def run(command, stdin=b"", stdout=subprocess.PIPE, stderr=subprocess.PIPE, memory=None):
     """The status of a command, and what it writes to standard output and to standard error. Standard input is bytes, of which a
     file is made; or, as the other two can be, the path of a file, a file, a descriptor or CLOSED. The command may have so many

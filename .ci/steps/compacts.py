@@ -11,12 +11,12 @@ Then it is run with arguments and devices that are not as they should be.
 """
 
 import random
-import tempfile
 
-from .common import build, expect, program, run, streams
+from .common import behind_a_fault, build, damaged, expect, program, run, streams
 
 COMPACT = program("audit_compact")
 USAGE = "usage: audit_compact [--floor EPOCH VIEW] NAMESPACE KEY..."
+SHAPES = ("votes", "certificates", "all", "honest", "network", "shuffled", "forged", "unsigned")
 
 
 def audit(words, stream):
@@ -64,11 +64,7 @@ def refused(keys, stream):
     expect([COMPACT, *keys], 3, err="audit_compact: write failed", stdin=stream, stdout="/dev/full")
     expect([COMPACT, *keys], 3, err="audit_compact: read failed", stdin="/")
     # What is kept comes while the stream is read, and what stands behind a final fault is dropped.
-    with tempfile.TemporaryFile() as large:
-        large.write(stream + b"\xff")
-        large.truncate(2**30)
-        large.seek(0)
-        got = run([COMPACT, *keys], large, memory=100 * 2**20)
+    got = behind_a_fault([COMPACT, *keys], stream)
     assert got == (1, compact(keys, stream)[1], f"audit_compact: fault at byte {len(stream)}\n".encode()), got[2]
     return len(bad) + 6
 
@@ -76,13 +72,11 @@ def refused(keys, stream):
 def main():
     build("audit_compact", "audit")
     keys = streams("keys", 7, 1).decode().splitlines()
-    shapes = ("votes", "certificates", "all", "honest", "network", "shuffled", "forged", "unsigned")
-    whole = {shape: streams(shape, 7, 12) for shape in shapes}
+    whole = {shape: streams(shape, 7, 12) for shape in SHAPES}
     sizes = []
     for shape, stream in whole.items():
-        other = whole[random.Random(shape).choice(shapes)]
-        for piece in (stream, stream + stream, stream[:-3], stream[: len(stream) // 2] + b"\xff" + stream):
-            sizes.append(compare(keys, piece, other))
+        other = whole[random.Random(shape).choice(SHAPES)]
+        sizes += [compare(keys, it, other) for it in damaged(stream)]
     count = len(sizes) + refused(keys, whole["votes"])
     before, after = map(sum, zip(*sizes))
     print(f"{count} runs of audit_compact as they should be; {before} bytes came down to {after}")
