@@ -23,7 +23,7 @@ import sys
 import tempfile
 
 from . import library
-from .common import ROOT, SAMPLE, arguments, expect, fail, passed, say
+from .common import ROOT, SAMPLE, arguments, expect, fail, passed, run, say
 
 WORDS = arguments("audit")
 LINE = (ROOT / "crates/audit/stdout").read_text().rstrip("\n")
@@ -64,9 +64,8 @@ def succeeds(*command, **how):
 
 def compiles(source, *flags):
     """Whether a text compiles as C, and what the compiler says."""
-    command = ["cc", "-x", "c", "-", *flags]
-    done = subprocess.run(command, input=source, capture_output=True, text=True, cwd=ROOT)
-    return done.returncode == 0, done.stderr
+    status, _, said = run(["cc", "-x", "c", "-", *flags], source.encode())
+    return status == 0, said.decode()
 
 
 def found(what, is_there):
@@ -77,8 +76,8 @@ def found(what, is_there):
 
 def names(*flags):
     """What `nm` lists of the library, as words a line."""
-    done = subprocess.run(["nm", *flags, OUT / "libsimplex_audit.a"], stdout=subprocess.PIPE, text=True, check=True)
-    return [line.split() for line in done.stdout.splitlines() if line]
+    status, listed, said = run(["nm", *flags, OUT / "libsimplex_audit.a"])
+    return [line.split() for line in listed.decode().splitlines() if line] if status == 0 else fail(said.decode())
 
 
 def header():
@@ -88,7 +87,7 @@ def header():
     if found("C++", shutil.which("c++")):
         succeeds("c++", *STRICT, "-fsyntax-only", "-x", "c++", path)
     null = '#include "bindings/simplex_audit.h"\nuint32_t f(void) { return simplex_leader(4, 1, 3, 10, NULL); }\n'
-    done, said = compiles(null, "-I.", "-Wall", "-Werror", "-fsyntax-only")
+    done, said = compiles(null, f"-I{ROOT}", "-Wall", "-Werror", "-fsyntax-only")
     if done or "nonnull" not in said:
         fail("no compiler warning of NULL", said)
     defined = {it[2]: it[1] for it in names("-g", "--defined-only") if len(it) == 3}
@@ -160,16 +159,14 @@ def programs_in_c(work):
     if not found("ed25519", compiles("#include <openssl/evp.h>\n", "-fsyntax-only")[0]):
         return None
     in_c(work, "ed25519", demonstration, "-lcrypto")
-    return subprocess.run([work / "ed25519", "stream"], stdout=subprocess.PIPE, check=True).stdout
+    return run([work / "ed25519", "stream"])[1]
 
 
 def shows(signed, *command):
     """The demonstration, and that the same votes and signatures come to the same stream as in C."""
     expect(command, out=DEMONSTRATION)
     if signed is not None:
-        if subprocess.run([*command, "stream"], stdout=subprocess.PIPE, check=True).stdout != signed:
-            fail(f"{command}: another stream than that of C")
-        passed.append("stream")
+        expect([*command, "stream"], out=signed)
 
 
 def rust(work, signed):
@@ -221,7 +218,7 @@ def main():
         signed = programs_in_c(work)
         say("the Rust crate")
         # a `cargo` that leads to no toolchain is none
-        if found("Rust", shutil.which("cargo") and not subprocess.run(["cargo", "--version"], capture_output=True).returncode):
+        if found("Rust", shutil.which("cargo") and run(["cargo", "--version"])[0] == 0):
             rust(work, signed)
         say("the Python module")
         python(signed)

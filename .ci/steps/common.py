@@ -153,9 +153,9 @@ def run(command, stdin=b"", stdout=subprocess.PIPE, stderr=subprocess.PIPE, memo
 
 
 def expect(command, status=0, out="", err="", **how):
-    """Runs a command, and fails unless it ends with this status and writes these lines to standard output and standard error:
-    of each its text, without the last line's end."""
-    wanted = status, *((text + "\n").encode() if text else b"" for text in (out, err))
+    """Runs a command, and fails unless it ends with this status and writes this to standard output and standard error: bytes,
+    or lines without the end of the last one."""
+    wanted = status, *(it if isinstance(it, bytes) else f"{it}\n".encode() if it else b"" for it in (out, err))
     got = run(command, **how)
     if got != wanted:
         both = zip(("status", "standard output", "standard error"), got, wanted)
