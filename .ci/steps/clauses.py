@@ -144,7 +144,7 @@ def described(entries):
         if kind == "ghost":
             ghosts.append(name)
         elif shown := names(clauses):
-            lines.append(f"- `{name}`: `{shown}`" + (f". {text}" if text else ""))
+            lines.append(f"- `{name}`: {shown}" + (f". {text}" if text else ""))
         elif clauses:
             unnamed.append(name)
         else:
