@@ -60,7 +60,7 @@ def proofs():
 def step(name, begin):
     """Runs a step: whether it passed, and what it says. It is said when it ended, and how."""
     command = [sys.executable, ROOT / ".ci", *name.split()]
-    how = {"stdin": subprocess.DEVNULL, "stdout": subprocess.PIPE, "stderr": subprocess.STDOUT, "cwd": ROOT, "text": True}
+    how = {"stdin": subprocess.DEVNULL, "stdout": subprocess.PIPE, "stderr": subprocess.STDOUT, "errors": "replace"}
     done = subprocess.run(command, env=os.environ | {"BUILT": "1", "LIBRARY": "1"}, **how)
     say(f"{'FAILED' if done.returncode else 'passed'} after {time.time() - begin:.0f} seconds: {name}")
     return done.returncode == 0, done.stdout

@@ -52,7 +52,7 @@ def prove(command, names, pattern, shown=False, stdout=None, **how):
     standard output goes elsewhere these are those of standard error."""
     how |= {"stdout": stdout or subprocess.PIPE, "stderr": None if shown else subprocess.PIPE if stdout else subprocess.STDOUT}
     said = []
-    with Proving(names, pattern) as proving, subprocess.Popen(command, text=True, **how) as rt:
+    with Proving(names, pattern) as proving, subprocess.Popen(command, errors="replace", **how) as rt:
         for line in rt.stderr or rt.stdout:
             said.append(line)
             proving.take(line, shown)
