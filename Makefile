@@ -4,28 +4,28 @@ PREFIX ?= /usr/local
 
 # Runs the program on the sample stream of crates/audit, without proving anything.
 run:
-	@.ci/sample
+	@python3 .ci sample
 
 # Proves and builds the program, crates/audit/out/audit, and runs it on the sample stream.
 audit:
-	@.ci/built audit
+	@python3 .ci built audit
 
 # Proves and builds the program for stored streams, crates/audit_stored/out/audit_stored, and runs it on the same stream.
 audit_stored:
-	@.ci/built audit_stored
+	@python3 .ci built audit_stored
 
 # Proves and builds the program that writes a shorter stream in place of a stream, crates/audit_compact/out/audit_compact, and
 # runs it on the sample stream twice over.
 audit_compact:
-	@.ci/built audit_compact
+	@python3 .ci built audit_compact
 
 # Proves and builds the program that shows what is in a stream, crates/inspect/out/inspect, and runs it on the same stream.
 inspect:
-	@.ci/built inspect
+	@python3 .ci built inspect
 
 # Proves and builds the library of bindings/, for C and Rust bindings/out/libsimplex_audit.a, and for Python simplex_audit.so there.
 library:
-	@.ci/library
+	@python3 .ci library
 
 # Copies to PREFIX/bin what is built of the programs, by a target above or by `make test`, as simplex-audit, simplex-audit-stored,
 # simplex-audit-compact and simplex-inspect, and says which. The short names are links to them, if no other program has the name.
@@ -45,11 +45,11 @@ install:
 # The gate: proves everything, tries the mutants, runs the tests and the programs, and then tries what was
 # built as its users would, and with each of its allocations made to fail.
 test:
-	.ci/gate
+	python3 .ci gate
 
 # Answers the stored test vectors, without proving anything.
 quick:
-	.ci/quick
+	python3 .ci quick
 
 # Proves what changed.
 check:
@@ -59,4 +59,4 @@ check:
 try:
 	@test -d "crates/$(CRATE)/src" || { echo 'Which crate? make try CRATE=simplex_lead' >&2; exit 2; }
 	env --chdir="crates/$(CRATE)" rt check
-	.ci/quick
+	python3 .ci quick

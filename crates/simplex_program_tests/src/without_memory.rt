@@ -1,6 +1,6 @@
 //! Calls that allocate nothing: what they return while every allocation fails.
 //!
-//! `.ci/refusals` runs each test here with every allocation made to fail, from that of `memory_ends` on.
+//! Step `refusals` of the gate runs each test here with every allocation made to fail, from that of `memory_ends` on.
 
 use faulty_io::{Source, Target, Trouble};
 use simplex_audit::audit::Watched;

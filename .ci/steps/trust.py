@@ -1,13 +1,14 @@
-#!/usr/bin/env python3
-"""The tables of docs/TRUST.md that list definitions and types: those that contracts cite, those that these cite, and so on down
-to the toolchain's own, with their lines by crate, comments aside. The page's numbers of mutants are counted, too.
+"""`trust [check]`: writes the tables of docs/TRUST.md from the sources, or says whether they are as these have them.
 
-    .ci/trust          writes the tables into the page
-    .ci/trust check    says whether they are as the sources have them
+They list definitions and types: those that contracts cite, those that these cite, and so on down to the toolchain's own, with
+their lines by crate, comments aside. The page's numbers of mutants are counted, too.
 """
-import collections, pathlib, re, sys
 
-ROOT = pathlib.Path(__file__).resolve().parent.parent
+import collections
+import re
+
+from .common import ROOT, crates, fail, written
+
 PAGE = ROOT / "docs/TRUST.md"
 # Of each table, in the order of the page, where the search begins: contracts of functions, traits with their laws, and ghost
 # members that give types their meaning. What a table has is left out of those behind it.
@@ -138,7 +139,7 @@ class Cited:
         source = self.source(ROOT / "crates" / crate / "specs" / (module.replace(".", "/") + ".antt"))
         owner = source and source.owner(name)
         if not owner:
-            sys.exit(f"no definition of {name} in {module} of {crate}")
+            fail(f"no definition of {name} in {module} of {crate}")
         self.define(source, owner)
 
     def define(self, source, name):
@@ -153,7 +154,7 @@ class Cited:
         end = {"fn": r"^ *(?:\{\}?|.*\};)$", "trait": r"^\}$", "ghost": r"\};$"}[item.split()[0]]
         found = re.findall(rf"(?ms)^ *(?:pub )?{item}\b.*?{end}", source.text)
         if not found:
-            sys.exit(f"{path} has no {item}")
+            fail(f"{path} has no {item}")
         for text in found:
             text = re.sub(r"(?s)\} = \{.*?\};", "};", text) if item.startswith("trait") else text
             self.cite(source, re.sub(r"(?m)^ *(//|ghost use).*$", "", text))
@@ -170,7 +171,7 @@ def type_lines(text, kind):
 def table(cited, before, named):
     """The rows of a table, one for each crate: all that is cited and not in what was cited before. Definitions that are not
     named are counted."""
-    order = re.findall(r"(?m)^(\w+)[\w ]*:", (ROOT / "crates.txt").read_text())[::-1]
+    order = [*crates()][::-1]
     lines, names, kinds = collections.Counter(), {}, {}
     for (path, name), count in cited.definitions.items():
         if (path, name) not in before:
@@ -203,16 +204,11 @@ def page(text):
         rows = table(cited, before, name != COUNTED)
         text, count = re.subn(rf"(?s)(<!-- {name} -->\n).*?(<!-- end -->)", lambda it: f"{it[1]}\n{rows}\n\n{it[2]}", text)
         if count != 1:
-            sys.exit(f"{PAGE.name} has no one table {name}")
+            fail(f"{PAGE.name} has no one table {name}")
     tried, left = len([*ROOT.glob("crates/*/must-fail/*.edit")]), len([*ROOT.glob("mutants/*/*.edit")])
     text = re.sub(r"\d+(?=\s+mutants\s+in\s+`must-fail/`)", str(tried), text)
     return re.sub(r"\d+(?=\s+in\s+`mutants/`)", str(left), text)
 
 
-if __name__ == "__main__":
-    stands = PAGE.read_text()
-    made = page(stands)
-    if sys.argv[1:] == ["check"]:
-        print(f"docs/TRUST.md is {'' if made == stands else 'not '}as the sources have it, which .ci/trust writes")
-        sys.exit(made != stands)
-    PAGE.write_text(made)
+def main(check=""):
+    return written(PAGE, page(PAGE.read_text()), check, "trust")

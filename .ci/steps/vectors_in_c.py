@@ -1,6 +1,6 @@
-#!/usr/bin/env python3
-""".ci/vectors_in_c: puts test vectors of crates/conformance to the static library as `make library` has built it, and compares
-with the stored answers what its exports return. The Python module calls them by `ctypes`.
+"""Puts test vectors to the static library as it is built, and compares with the stored answers what its exports return.
+
+The Python module calls them by `ctypes`.
 
 The stream of a vector of `audit`, `feed` or `store` is written anew with payloads of 32 bytes, and with signatures of 48, 64
 and 96 bytes and verdicts, or under the plain scheme where the vector has one committee for every epoch. Then
@@ -14,31 +14,20 @@ and 96 bytes and verdicts, or under the plain scheme where the vector has one co
 Vectors of `admits`, `outbound`, `floor` and `leader` are put to the exports of these. Each vector of these forms is compared,
 and fewer than there are as of now are a failure.
 """
-import importlib.machinery, importlib.util, pathlib, sys
 
-ROOT = pathlib.Path(__file__).resolve().parent.parent
+from .common import ROOT, fail, module, vectors
+from .decoder import EVIDENCE, Committees, plainly, transcribed
+from .decoder import streams as model
+
+if not (ROOT / "bindings/out/simplex_audit.so").exists():
+    fail("There is no bindings/out/simplex_audit.so yet: make library")
+c = module(ROOT / "bindings/python/simplex_audit.py")
 LEAST = {"audit": 1303, "feed": 2127, "store": 10, "admits": 219, "outbound": 117, "floor": 105, "leader": 318}
 STREAMS = ("audit", "feed", "store")
 # those of the streams that have one committee for every epoch, and so are audited under the plain scheme too
 LEAST_PLAIN = 3184
 SIZES = (48, 64, 96)
 VALID = b"\xaa"
-
-
-def loaded(name, path):
-    """A module from a file, whatever its name."""
-    loader = importlib.machinery.SourceFileLoader(name, str(path))
-    module = importlib.util.module_from_spec(importlib.util.spec_from_loader(name, loader))
-    sys.dont_write_bytecode = True
-    sys.modules[name] = module
-    loader.exec_module(module)
-    return module
-
-
-inspects = loaded("inspects", ROOT / ".ci/inspects")
-if not (ROOT / "bindings/out/simplex_audit.so").exists():
-    sys.exit("There is no bindings/out/simplex_audit.so yet: make library")
-c = loaded("simplex_audit", ROOT / "bindings/python/simplex_audit.py")
 
 
 def vouched(size, verified=True):
@@ -54,8 +43,8 @@ def committees(who):
     for size in SIZES:
         yield c.Committees._vouched(size, epochs, sizes), size, vouched(size)
     if not listed:
-        keys = [inspects.streams.key(i) for i in range(sizes[0])]
-        yield c.Committees.plain(b"test", keys), None, inspects.plainly
+        keys = [model.key(i) for i in range(sizes[0])]
+        yield c.Committees.plain(b"test", keys), None, plainly
 
 
 def longer(line):
@@ -70,7 +59,7 @@ def places(line, messages):
     """Where the votes of a line of evidence stand: the offsets of the first messages that carry them."""
     epoch, view, signer, kind, *proposals = line.split()
     by = {"signer": int(signer), "signature": VALID}
-    for vote in next(votes for name, *votes in inspects.EVIDENCE.values() if name == kind):
+    for vote in next(votes for name, *votes in EVIDENCE.values() if name == kind):
         said = {"vote": vote}
         if vote != "nullify":
             parent, payload, *proposals = proposals
@@ -99,9 +88,9 @@ def audits(who, data, answer):
     fault = lines.pop() if lines and lines[-1].startswith("fault at ") else None
     lines = [longer(line) for line in lines]
     evidence = [line for line in lines if line.split()[2] != "split"]
-    bound = inspects.Committees(who).bound
+    bound = Committees(who).bound
     for under, size, sign in committees(who):
-        stream, messages, stop = inspects.transcribed(data, bound, sign)
+        stream, messages, stop = transcribed(data, bound, sign)
         if (read, fault) != (f"read {len(messages)}", stop and f"fault at {stop[1]}: {stop[2]}"):
             return f"the decoder reads {len(messages)} messages, and {stop}"
         report = c.audit(under, stream)
@@ -116,7 +105,7 @@ def audits(who, data, answer):
         if (stored.read, stored.evidence, stored.fault) != (len(evidence), report.evidence, None):
             return f"simplex_store_..: {stored}"
         if size:
-            unverified = inspects.transcribed(data, bound, vouched(size, False))[0]
+            unverified = transcribed(data, bound, vouched(size, False))[0]
             deferred = c.audit_deferred(under, unverified, lambda vote, signer, signature: signature == VALID * size)
             if deferred != report:
                 return f"simplex_suspects_..: {deferred}"
@@ -138,9 +127,9 @@ def no_committees(who, data):
 def stores(who, data, answer):
     """What differs from the answer to a store: its messages are written anew as well, and a split is in no answer."""
     messages, *lines = answer.split("; ")
-    bound = inspects.Committees(who).bound
+    bound = Committees(who).bound
     for under, _, sign in committees(who):
-        stream, stored = (inspects.transcribed(it, bound, sign)[0] for it in (data, bytes.fromhex(messages)))
+        stream, stored = (transcribed(it, bound, sign)[0] for it in (data, bytes.fromhex(messages)))
         got = c.store(under, b"", stream)
         if got != stored or [it.line for it in c.audit(under, got).evidence] != [longer(line) for line in lines]:
             return f"simplex_store_..: {got.hex()}, to be {stored.hex()}"
@@ -172,9 +161,8 @@ def numbers(form, rest, answer):
 
 
 def main():
-    asked, told = ((ROOT / "crates/conformance" / it).read_text().splitlines() for it in ("stdin", "stdout"))
     there, same, plain, left = dict.fromkeys(LEAST, 0), dict.fromkeys(LEAST, 0), 0, 0
-    for line, answer in zip(asked, told, strict=True):
+    for line, answer in vectors():
         form, *rest = line.split() or [""]
         if form not in LEAST:
             continue
@@ -190,6 +178,3 @@ def main():
     print(", ".join(f"{same[form]} of {there[form]} vectors of {form}" for form in LEAST), "have the same answer through C,")
     print(f"{plain} of them under the plain scheme too; {left} have committees for epochs, for which it has no export")
     return same != there or plain < LEAST_PLAIN or any(same[form] < LEAST[form] for form in LEAST)
-
-
-sys.exit(main())

@@ -1,13 +1,26 @@
-#!/usr/bin/env python3
-"""Each link of the documents leads to a file or a heading that is there, and one with a name as its text to a file that defines
-it. docs/CLAUSES.md and the tables of docs/TRUST.md are as the sources have them, the plots and the tables of speed as
-bench/figures.csv has them, and the code that README.md shows stands so in its file. Each place that gives the version, or that
-of the library's calls, gives the same one, and each that says what `rt version` prints says what it prints here.
-"""
-import pathlib, re, shutil, subprocess, sys, textwrap
+"""Compares the documents with what they are made of and point to.
 
-ROOT = pathlib.Path(__file__).resolve().parent.parent
-PAGES = [*ROOT.glob("*.md"), *ROOT.glob("docs/*.md"), *ROOT.glob("bench/*.md")]
+Each link leads to a file or a heading that is there, and one with a name as its text to a file that defines it. docs/CLAUSES.md
+and the tables of docs/TRUST.md are as the sources have them, the plots and the tables of speed as bench/figures.csv has them,
+and the code that README.md shows stands so in its file. The table of CONTRIBUTING.md on tests is that of step `refusals`. Each
+place that gives the version, or that of the library's calls, gives the same one, and each that says what `rt version` prints
+says what it prints here. No block is indented, and each that is fenced is of LANGUAGES.
+"""
+
+import re
+import shutil
+import subprocess
+import textwrap
+
+from . import clauses, trust
+from .common import ROOT
+from .common import pages as every_page
+from .refusals import PROTOCOL
+
+PAGES = every_page()
+# a block without a language is text
+LANGUAGES = {"", "console", "sh", "toml", "rust", "antt", "mermaid"}
+FENCED = re.compile(r"(?ms)^( *)```(\w*)\n(.*?)^ *```$")
 LINK = re.compile(r"\[[^\]]*\]\(([^)\s]+)\)")
 TARGET = re.compile(r"(?m)^\[([^\]]+)\]: (\S+)$")
 NAMED = re.compile(r"\[`(\w+)`\]\(([^)\s]+\.(?:antt|rt))\)")
@@ -23,7 +36,7 @@ def text_of(page):
 
 def headings(page):
     """The anchors of a page's headings."""
-    titles = re.findall(r"(?m)^#+ (.*)$", page.read_text())
+    titles = re.sub(r"\[([^\]]*)\]\([^)]*\)", r"\1", "\n".join(re.findall(r"(?m)^#+ (.*)$", page.read_text()))).splitlines()
     return {re.sub(r"[^\w\- ]", "", title.lower()).replace(" ", "-") for title in titles}
 
 
@@ -53,20 +66,34 @@ def misnamed():
 
 def unmade():
     """Says which of the pages and plots that are made of others are not as these have them, and returns how many."""
-    makers = [ROOT / it for it in (".ci/clauses", ".ci/trust", "bench/plot.py")]
-    ran = [subprocess.run([it, "check"], stdout=subprocess.PIPE, text=True) for it in makers]
-    print("".join(it.stdout for it in ran), end="")
-    return sum(it.returncode != 0 for it in ran)
+    plots = subprocess.run([ROOT / "bench/plot.py", "check"]).returncode != 0
+    return clauses.main("check") + trust.main("check") + plots
+
+
+def unfenced():
+    """Says which blocks are indented, or fenced without a language of these, and returns how many."""
+    bad = 0
+    for page in PAGES:
+        text = page.read_text()
+        wrong = [f"a fence of {it[1]}" for it in FENCED.findall(text) if it[1] not in LANGUAGES]
+        wrong += [f"indented: {it}" for it in re.findall(r"(?<=\n\n) {4}(\S.*)", FENCED.sub("", text))]
+        for it in wrong:
+            print(f"{page.relative_to(ROOT)}: {it}")
+        bad += len(wrong)
+    return bad
 
 
 def misquoted():
-    """Says whether the code that README.md shows stands otherwise in its file, and returns how many blocks do."""
+    """Says whether the code that README.md shows stands otherwise in its file, and whether the table of CONTRIBUTING.md does,
+    and returns how many do."""
     text = (ROOT / "crates/examples/src/accused.rt").read_text()
-    blocks = re.findall(r"(?<=\n\n)(?: {4}.*\n)+", (ROOT / "README.md").read_text())
-    code = [it for it in blocks if it.startswith("    let ")]
-    bad = sum(textwrap.indent(textwrap.dedent(it), "    ") not in text for it in code)
+    code = [body for _, language, body in FENCED.findall((ROOT / "README.md").read_text()) if language == "rust"]
+    bad = sum(textwrap.indent(it, "    ") not in text for it in code)
     print(f"README.md shows code {'other than' if bad or not code else 'as'} it stands in crates/examples/src/accused.rt")
-    return bad + (not code)
+    rows = "".join(f"| {name if ' ' in name else f'`{name}`'} | {asked} |\n" for name, _, asked in PROTOCOL)
+    is_there = rows in (ROOT / "CONTRIBUTING.md").read_text()
+    print(f"CONTRIBUTING.md has {'' if is_there else 'not '}the table of .ci/steps/refusals.py on tests")
+    return bad + (not code) + (not is_there)
 
 
 # what gives the version: the first of these in the file
@@ -110,5 +137,6 @@ def unnamed_toolchain():
     return len(bad)
 
 
-versions = differing(VERSIONS, "the version") + differing(CALLS, "the version of the calls")
-sys.exit(any([broken(), misnamed(), unmade(), misquoted(), versions, unnamed_toolchain()]))
+def main():
+    versions = differing(VERSIONS, "the version") + differing(CALLS, "the version of the calls")
+    return any([broken(), misnamed(), unmade(), unfenced(), misquoted(), versions, unnamed_toolchain()])

@@ -1,15 +1,16 @@
-#!/usr/bin/env python3
-"""Says what a reader of the documents has to read twice: sentences of more than 30 words, cells of tables of more than 25, and
-"where" in place of "if" or "when". It prints a count for each page and then the places.
+"""`sentences [PAGE ..]`: says what a reader of the documents has to read twice.
 
-`.ci/sentences PAGE..` reads these pages alone, and `--counts` leaves the places out, and the pages without one. The status is
-0, and under `--strict` 1 if there is such a place. What is fenced or indented (commands, output, pictures) does not count, and
-what stands between backquotes is one word.
+That are sentences of more than 30 words, cells of tables of more than 25, and "where" in place of "if" or "when". It prints a
+count for each page and then the places, of these pages alone if there are some. `--counts` leaves the places out, and the pages
+without one. The status is 0, and under `--strict` 1 if there is such a place. What is fenced (commands, output, pictures) does
+not count, and what stands between backquotes is one word.
 """
-import pathlib, re, sys
 
-ROOT = pathlib.Path(__file__).resolve().parent.parent
-PAGES = [page for path in ("*.md", "docs/*.md", "bench/*.md") for page in sorted(ROOT.glob(path))]
+import pathlib
+import re
+
+from .common import ROOT, pages
+
 SENTENCE, CELL = 30, 25
 # "where" means a place after these words, as in "says where it stands"
 PLACE = "place|places|byte|offset|file|table|says?|said|shows?|states?|see|know|knows|and|or|to|from|of|over"
@@ -27,12 +28,11 @@ def plain(text):
 
 def paragraphs(page):
     """The paragraphs, list items and rows of a page outside code, each with the number of its first line."""
-    found, fenced, code, begun = [], False, False, False
+    found, fenced, begun = [], False, False
     for number, line in enumerate(page.read_text().splitlines(), 1):
         fence = line.lstrip().startswith("```")
         fenced ^= fence
-        code = line.startswith("    ") and (code or not begun)
-        if fence or fenced or code or not line.strip() or re.match(r"#|\|--|\[\w+\]: ", line):
+        if fence or fenced or not line.strip() or re.match(r"#|\|--|\[\w+\]: ", line):
             begun = False
             continue
         if begun and not re.match(r"\||\s*(?:-|\d+\.) ", line):
@@ -66,13 +66,14 @@ def places(page):
         yield from ((number, "where", text[max(0, at - 30) :]) for at in found)
 
 
-options = {"--strict", "--counts"}.intersection(sys.argv[1:])
-pages = [pathlib.Path(it) for it in sys.argv[1:] if it not in options] or PAGES
-listed = {str(page.resolve().relative_to(ROOT)): list(places(page)) for page in pages}
-for page, found in listed.items():
-    if found or "--counts" not in options:
-        print(f"{len(found):4} {page}")
-for page, found in listed.items():
-    for number, what, text in found if "--counts" not in options else []:
-        print(f"{page}:{number}: {what}: {text[:90].replace(JOINED, ' ')}")
-sys.exit("--strict" in options and any(listed.values()))
+def main(*words):
+    options = {"--strict", "--counts"}.intersection(words)
+    given = [pathlib.Path(it) for it in words if it not in options] or pages()
+    listed = {str(page.resolve().relative_to(ROOT)): list(places(page)) for page in given}
+    for page, found in listed.items():
+        if found or "--counts" not in options:
+            print(f"{len(found):4} {page}")
+    for page, found in listed.items():
+        for number, what, text in found if "--counts" not in options else []:
+            print(f"{page}:{number}: {what}: {text[:90].replace(JOINED, ' ')}")
+    return "--strict" in options and any(listed.values())

@@ -1,17 +1,17 @@
-#!/usr/bin/env python3
-"""docs/CLAUSES.md: every public function with the clauses of its contract, made from the sources.
+"""`clauses [check]`: writes docs/CLAUSES.md from the sources, or says whether it is as they have it.
 
-    .ci/clauses          writes the page
-    .ci/clauses check    says whether it is as the sources have it
+The page has every public function with the clauses of its contract.
 """
-import pathlib, re, sys
 
-ROOT = pathlib.Path(__file__).resolve().parent.parent
+import re
+
+from .common import ROOT, crates, written
+
 PAGE = ROOT / "docs/CLAUSES.md"
 HEAD = """# Clauses
 
 Every public function with the names of its clauses, by crate and by the file in which it stands; crates of tests are left out.
-`.ci/clauses` makes this page from the sources, and the gate compares the two: change the sources, not the page.
+Step `clauses` makes this page from the sources, and the gate compares the two.
 
 - A function's name is followed by the names of its clauses in their order, and by how its `///` begins, if that is short. What
   a clause states stands in the file.
@@ -144,7 +144,7 @@ def described(entries):
         if kind == "ghost":
             ghosts.append(name)
         elif shown := names(clauses):
-            lines.append(f"- `{name}`: `{shown}`" + (f". {text}" if text else ""))
+            lines.append(f"- `{name}`: {shown}" + (f". {text}" if text else ""))
         elif clauses:
             unnamed.append(name)
         else:
@@ -186,22 +186,17 @@ def listed(found):
 def page():
     """The text of the page."""
     lines = [HEAD]
-    for crate in re.findall(r"(?m)^(\w+)[\w ]*:", (ROOT / "crates.txt").read_text()):
+    for crate in crates():
         source = ROOT / "crates" / crate / "src"
         sections = {} if OF_TESTS.match(crate) else listed(modules(source))
-        lines += [f"## {crate}\n", f"[src](../{source.relative_to(ROOT)})\n"] if sections else []
+        lines += [f"## [{crate}](../{source.relative_to(ROOT)})\n"] if sections else []
         for module, files in sections.items():
             for file, entries in files.items():
                 path = file.relative_to(source).as_posix()
                 public = f", public in `{module}`" if module and path != module.replace("::", "/") + ".rt" else ""
-                lines += [f"**{path}**{public}\n", *described(entries), ""]
+                lines += [f"`{path}`{public}", *described(entries), ""]
     return "\n".join(lines).rstrip() + "\n"
 
 
-if __name__ == "__main__":
-    made = page()
-    if sys.argv[1:] == ["check"]:
-        stands = PAGE.exists() and PAGE.read_text() == made
-        print(f"docs/CLAUSES.md is {'' if stands else 'not '}as the sources have it, which .ci/clauses writes")
-        sys.exit(not stands)
-    PAGE.write_text(made)
+def main(check=""):
+    return written(PAGE, page(), check, "clauses")

@@ -1,18 +1,9 @@
-"""Says on a terminal at which crate `rt` is and for how long it runs, and nothing where standard error is no terminal."""
-import pathlib, sys, threading, time
+"""Says on a terminal at which crate `rt` is and for how long it runs, and nothing if standard error is no terminal."""
 
-ROOT = pathlib.Path(__file__).resolve().parent.parent
-
-
-def crates():
-    """The crates of crates.txt, each with those that it rests on."""
-    lines = [line.partition(":") for line in (ROOT / "crates.txt").read_text().splitlines() if ":" in line]
-    return {name.split()[0]: rest.split() for name, _, rest in lines}
-
-
-def needed(name, of):
-    """The crates that this one rests on, itself among them."""
-    return {name}.union(*(needed(it, of) for it in of[name] if it in of))
+import subprocess
+import sys
+import threading
+import time
 
 
 class Proving:
@@ -46,14 +37,23 @@ class Proving:
         if sys.stderr.isatty():
             print("\r\033[K", end="", file=sys.stderr, flush=True)
 
-    def read(self, line):
-        """Takes a line of `rt`."""
+    def take(self, line, shown):
+        """Takes a line of `rt`, and prints it if it is shown."""
         found = self.pattern.match(line)
-        self.done |= {found[1]} & self.names if found else set()
-
-    def hand_on(self, line):
-        """Takes a line of `rt`, and prints it."""
         with self.printing:
-            self.clear()
-            print(line, end="", flush=True)
-            self.read(line)
+            self.done |= {found[1]} & self.names if found else set()
+            if shown:
+                self.clear()
+                print(line, end="", flush=True)
+
+
+def prove(command, names, pattern, shown=False, stdout=None, **how):
+    """Runs a command of `rt` that proves these crates: its status and the lines that it says, which are shown or not. If its
+    standard output goes elsewhere these are those of standard error."""
+    how |= {"stdout": stdout or subprocess.PIPE, "stderr": None if shown else subprocess.PIPE if stdout else subprocess.STDOUT}
+    said = []
+    with Proving(names, pattern) as proving, subprocess.Popen(command, errors="replace", **how) as rt:
+        for line in rt.stderr or rt.stdout:
+            said.append(line)
+            proving.take(line, shown)
+    return rt.returncode, said

@@ -1,0 +1,94 @@
+"""Proves and tests everything, and then tries what was built as its users would.
+
+First the mutants of mutants/, which it leaves out, have to fit the code, linters have to find nothing, and the documents have
+to be as the sources have them; which of their sentences are too long is said and no more. Then `rt ci` proves and builds. Of
+what it built, the rest is tried side by side. The last line counts what passed and what failed.
+"""
+
+import concurrent.futures
+import os
+import re
+import subprocess
+import sys
+import time
+
+from . import documents, lint, mutants, sentences
+from .common import ROOT, crates, fail, say
+from .proving import prove
+
+# Side by side, and what each says in this order: the words of a step each.
+STEPS = [
+    "library",
+    "bindings",
+    "commands",
+    "runs audit",
+    "runs audit_stored",
+    "compacts",
+    "inspects",
+    "refusals audit",
+    "refusals audit_stored",
+    "refusals audit_compact",
+    "refusals inspect",
+    "refusals simplex_message_tests",
+    "refusals simplex_audit_tests",
+    "refusals simplex_monitor_tests",
+    "refusals simplex_program_tests",
+    "refusals conformance 200",
+]
+# These call the library, and begin when it is built.
+OVER_LIBRARY = {"bindings", "commands"}
+DONE = re.compile(r"rt: (\w+)(?:'s tests)? (?:proved|is kept|are kept)")
+FAILED = re.compile(r"(note: )?[^ ]+:[0-9:]+ (error|it is not proved)|.*(NOT (PROVED|REFUSED|TRIED)|FAILED)")
+
+
+def proofs():
+    """Runs `rt ci`, and returns its last line. A mutant that does not compile shows nothing, nor does one that is refused
+    because a name is gone, and `rt ci` passes with both. So each crate and each mutant has to be counted among those that
+    passed, and none may be refused for such a name."""
+    status, said = prove(["rt", "ci"], crates(), DONE, shown=True, cwd=ROOT)
+    said = [line.rstrip("\n") for line in said] or [""]
+    if status:
+        fail("What failed:", *filter(FAILED.match, said), said[-1])
+    every = len(crates()) + len([*ROOT.glob("crates/*/must-fail/*.edit")])
+    little = [line for line in said if "says little of the contract" in line]
+    if said[-1] != f"{every} passed, 0 failed":
+        fail(f"crates and mutants: {every}; {said[-1]}")
+    if little:
+        fail(*little)
+    return said[-1]
+
+
+def step(name, begin):
+    """Runs a step: whether it passed, and what it says. It is said when it ended, and how."""
+    command = [sys.executable, ROOT / ".ci", *name.split()]
+    how = {"stdin": subprocess.DEVNULL, "stdout": subprocess.PIPE, "stderr": subprocess.STDOUT, "errors": "replace"}
+    done = subprocess.run(command, env=os.environ | {"BUILT": "1", "LIBRARY": "1"}, **how)
+    say(f"{'FAILED' if done.returncode else 'passed'} after {time.time() - begin:.0f} seconds: {name}")
+    return done.returncode == 0, done.stdout
+
+
+def side_by_side():
+    """Runs all steps, prints what they say, and returns whether all passed."""
+    say(f"{len(STEPS)} steps side by side, which take some minutes")
+    begin, passed = time.time(), []
+    with concurrent.futures.ThreadPoolExecutor(len(STEPS)) as pool:
+        library = pool.submit(step, "library", begin)
+
+        def behind(name, begin):
+            return step(name, begin) if library.result()[0] else (False, "")
+
+        others = [pool.submit(behind if it in OVER_LIBRARY else step, it, begin) for it in STEPS if it != "library"]
+        for it in [library, *others]:
+            print(it.result()[1], end="")
+            passed.append(it.result()[0])
+    return all(passed)
+
+
+def main():
+    if mutants.main() or lint.main() or documents.main() or sentences.main("--counts"):
+        return 1
+    last = proofs()
+    if not side_by_side():
+        return 1
+    print(last)
+    return 0
