@@ -11,7 +11,7 @@ use Rattle.simplex_stream.specs.declared.run_error.RunError.TheVariants as error
 use Rattle.simplex_audit.specs.Outcome.{ReaderUse, WriterUse}
 use Rattle.simplex_cli.specs.Answer.{Ending, GaveTooMuch}
 use Rattle.simplex_cli.specs.Arguments.{AreGiven, AreNoneOr, AreNotGiven}
-use Rattle.simplex_cli.specs.Inspecting.{GiveNothing, GivePlain, GiveVerdicts, InspectEnds, IsBegun, IsBegunBy, IsShown, IsShownBy, LinesOf, LinesUnder, ShowEnds, with_verdicts}
+use Rattle.simplex_cli.specs.Inspecting.{GiveNothing, GivePlain, GiveVerdicts, InspectEnds, IsBegun, IsBegunBy, IsShown, IsShownBy, LinesAs, LinesUnder, ShowEnds, with_verdicts}
 use Rattle.simplex_cli.specs.Status.{failure_of}
 use Rattle.simplex_cli.specs.Verdicts.{AreBehindVerdicts, AreCountsGiven, AreNoCountsGiven}
 use Rattle.simplex_cli.specs.declared.status.Failure.{Failure}
@@ -41,7 +41,7 @@ pub failed_apart : {A : Type 0} (given : Result A Failure) (e : Failure) (a : A)
 failed_apart (Ok b) e a failed done = absurd cc
 failed_apart (Err d) e a failed done = absurd cc
 
-module _ {S : Type 0} (lines : LinesOf S) (Given : Option (Schedule S) → Type 0) (reader : ReaderUse) (writer : WriterUse) where
+module _ {S D C P G : Type 0} (lines : LinesAs S D C P G) (Given : Option (Schedule S) → Type 0) (reader : ReaderUse) (writer : WriterUse) where
   -- nothing is given
   pub show_without : (failure : Failure) →
       (failure ≡ failures.Usage → (committees : Option (Schedule S)) → ¬ Given committees) →
@@ -86,7 +86,7 @@ gives_no_counts words behind size is none = record {
 }
 
 -- a whole input was shown by what gives more
-shown_more : {S : Type 0} (lines : LinesOf S) (Given More : Option (Schedule S) → Type 0) (reader : ReaderUse)
+shown_more : {S D C P G : Type 0} (lines : LinesAs S D C P G) (Given More : Option (Schedule S) → Type 0) (reader : ReaderUse)
     (writer : WriterUse) (fault : Option Fault) → ((committees : Option (Schedule S)) → Given committees → More committees)
     → IsShown lines Given reader writer fault → IsShown lines More reader writer fault
 shown_more lines Given More reader writer fault more is = record {
@@ -100,7 +100,7 @@ shown_more lines Given More reader writer fault more is = record {
 }
 
 -- a prefix of it was
-begun_more : {S : Type 0} (lines : LinesOf S) (Given More : Option (Schedule S) → Type 0) (reader : ReaderUse)
+begun_more : {S D C P G : Type 0} (lines : LinesAs S D C P G) (Given More : Option (Schedule S) → Type 0) (reader : ReaderUse)
     (writer : WriterUse) → ((committees : Option (Schedule S)) → Given committees → More committees) →
     IsBegun lines Given reader writer → IsBegun lines More reader writer
 begun_more lines Given More reader writer more is = record {
@@ -112,7 +112,7 @@ begun_more lines Given More reader writer more is = record {
 }
 
 -- a run by what was parsed
-pub parsed_ends : {S : Type 0} (lines : LinesOf S) (Given : Option (Schedule S) → Type 0) (reader : ReaderUse)
+pub parsed_ends : {S D C P G : Type 0} (lines : LinesAs S D C P G) (Given : Option (Schedule S) → Type 0) (reader : ReaderUse)
     (writer : WriterUse) (ending : Ending) (given : Result (Option (Schedule S)) Failure) → IfOk given Given →
     (given ≡ Err failures.Usage → (committees : Option (Schedule S)) → ¬ Given committees) →
     (ending ≡ Err failures.Usage → given ≡ Err failures.Usage) →

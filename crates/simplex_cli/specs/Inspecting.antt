@@ -15,12 +15,13 @@ use Rattle.simplex_cli.specs.Verdicts.{AreBehindVerdicts, AreCountsGiven}
 use Rattle.simplex_cli.specs.declared.verdicts.SignatureSize.{SignatureSize}
 use Rattle.simplex_cli.specs.declared.verdicts.SignatureSize.TheVariants.{Bytes48, Bytes64, Bytes96}
 
--- how messages are read under committees of a scheme or without any, and the line of each: a certificate is the attestations
--- that it lists
+-- how messages are read under committees or without any, and the line of each
+abbrev pub LinesAs : Type 0 → Type 0 → Type 0 → Type 0 → Type 0 → Type 1
+LinesAs S D C P G = Option (Schedule S) → Lines (Activity S D C P G)
+
+-- the same, if a certificate is the attestations that it lists
 abbrev pub LinesOf : Type 0 → Type 1
-LinesOf S =
-    Option (Schedule S)
-    → Lines (Activity S (List ℕ) (List (Attestation S (List ℕ) (List ℕ))) (List ℕ) (List ℕ))
+LinesOf S = LinesAs S (List ℕ) (List (Attestation S (List ℕ) (List ℕ))) (List ℕ) (List ℕ)
 
 -- how messages are read and shown: those of plain keys, and those whose signatures the caller verified, by their size
 pub record LinesUnder : Type 1 where
@@ -36,8 +37,8 @@ with_verdicts lines Bytes64 = lines.of64
 with_verdicts lines Bytes96 = lines.of96
 
 -- A whole input was read, and exactly its text was written and flushed, by committees that are given, or without any.
-pub record IsShown {S : Type 0} (lines : LinesOf S) (Given : Option (Schedule S) → Type 0) (reader : ReaderUse)
-    (writer : WriterUse) (fault : Option Fault) : Type 0 where
+pub record IsShown {S D C P G : Type 0} (lines : LinesAs S D C P G) (Given : Option (Schedule S) → Type 0)
+    (reader : ReaderUse) (writer : WriterUse) (fault : Option Fault) : Type 0 where
   pub committees : Option (Schedule S)
   pub input : List ℕ
   pub given : Given committees
@@ -47,8 +48,8 @@ pub record IsShown {S : Type 0} (lines : LinesOf S) (Given : Option (Schedule S)
   pub flushed : IsTrue writer.flushed
 
 -- A prefix of the text of an input was written, perhaps empty or the whole.
-pub record IsBegun {S : Type 0} (lines : LinesOf S) (Given : Option (Schedule S) → Type 0) (reader : ReaderUse)
-    (writer : WriterUse) : Type 0 where
+pub record IsBegun {S D C P G : Type 0} (lines : LinesAs S D C P G) (Given : Option (Schedule S) → Type 0)
+    (reader : ReaderUse) (writer : WriterUse) : Type 0 where
   pub committees : Option (Schedule S)
   pub input : List ℕ
   pub given : Given committees
@@ -56,7 +57,8 @@ pub record IsBegun {S : Type 0} (lines : LinesOf S) (Given : Option (Schedule S)
   pub written : AppendsPart (lines committees) input writer.before writer.after
 
 -- what holds of the reader and of the writer after an ending, if committees or none are given
-abbrev pub ShowEnds : {S : Type 0} → LinesOf S → (Option (Schedule S) → Type 0) → ReaderUse → WriterUse → Ending → Type 0
+abbrev pub ShowEnds : {S D C P G : Type 0} → LinesAs S D C P G → (Option (Schedule S) → Type 0) → ReaderUse →
+    WriterUse → Ending → Type 0
 ShowEnds {S} lines Given reader writer =
     WritingEnds ((committees : Option (Schedule S)) → ¬ Given committees) (IsShown lines Given reader writer)
     (IsBegun lines Given reader writer) reader writer

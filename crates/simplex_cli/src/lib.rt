@@ -19,7 +19,7 @@ pub mod groups;
 mod inspecting;
 pub mod keys;
 pub mod naming;
-mod numbers;
+pub mod numbers;
 pub mod program;
 pub mod showing;
 pub mod start;

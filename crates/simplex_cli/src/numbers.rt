@@ -6,7 +6,7 @@ use crate::status::Failure;
 use itoa::Buffer;
 
 /// The number that a text is: decimal digits, without sign or leading zeros.
-pub(crate) fn parse_number(text: &str) -> Result<u64, Failure>
+pub fn parse_number(text: &str) -> Result<u64, Failure>
     ensures number { IfOk result (λ number. text.now ≡ decimal number) }
     ensures usage { IfErr result (λ e. (number : ℕ) → number < 2 ^ 64 → text.now ≢ decimal number) }
     ensures failure { IfErr result (λ e. e ≡ Failure.Usage) }
