@@ -43,7 +43,9 @@ fn parse_size(text: &str) -> Result<SignatureSize, Failure>
 
 /// How many bytes the signatures have, which arguments begin with as `--verdicts` and 48, 64 or 96, and how many arguments
 /// these are. Without the option it is `None`, and none.
-pub fn parse_verdicts(arguments: &[String]) -> Result<(Option<SignatureSize>, usize), Failure>
+pub(crate) fn parse_verdicts(
+    arguments: &[String],
+) -> Result<(Option<SignatureSize>, usize), Failure>
     ensures size { IfOk result (λ (size, count). AreBehindVerdicts (map string_bytes arguments.now)
         size (drop count (map string_bytes arguments.now))) }
     ensures within { IfOk result (λ (_, count). count ≤ length arguments.now) }
@@ -102,7 +104,7 @@ impl<R: Role<N>, const N: usize> Named for Vouched<R, N> {
 /// The committees that texts name by their numbers of participants, one for every epoch, or in groups one for each of some
 /// epochs. `None` if there are no texts. `Failure::Usage` where they are none of these, `Failure::OutOfMemory` where an
 /// allocation failed before that was found.
-pub fn parse_counts<R: Role<N>, const N: usize>(
+pub(crate) fn parse_counts<R: Role<N>, const N: usize>(
     alloc: Global,
     texts: &[String],
 ) -> Result<Option<Committees<Vouched<R, N>>>, Failure>
