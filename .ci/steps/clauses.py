@@ -10,8 +10,9 @@ from .common import ROOT, crates, written
 PAGE = ROOT / "docs/CLAUSES.md"
 HEAD = """# Clauses
 
-Every public function with the names of its clauses, by crate and by the file in which it stands; crates of tests are left out.
-Step `clauses` makes this page from the sources, and the gate compares the two.
+Every public function with the names of its clauses, by crate and by the file in which it stands. A module behind the file is
+the one that makes it public. Crates of tests are left out. Step `clauses` makes this page from the sources, and the gate
+compares the two.
 
 - A function's name is followed by the names of its clauses in their order, and by how its `///` begins, if that is short. What
   a clause states stands in the file.
@@ -193,7 +194,7 @@ def page():
         for module, files in sections.items():
             for file, entries in files.items():
                 path = file.relative_to(source).as_posix()
-                public = f", public in `{module}`" if module and path != module.replace("::", "/") + ".rt" else ""
+                public = f" in `{module}`" if module and path != module.replace("::", "/") + ".rt" else ""
                 lines += [f"`{path}`{public}", *described(entries), ""]
     return "\n".join(lines).rstrip() + "\n"
 

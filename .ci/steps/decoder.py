@@ -25,10 +25,10 @@ class Refused(Exception):
 
 
 class Reader:
-    """Reads the parts of messages with payloads and signatures of so many bytes each."""
+    """Reads the parts of messages with payloads and signatures of so many bytes each, or other signatures."""
 
-    def __init__(self, data, at, size, bound):
-        self.data, self.at, self.size, self.bound = data, at, size, bound
+    def __init__(self, data, at, size, bound, signed=None):
+        self.data, self.at, self.size, self.bound, self.signed = data, at, size, bound, signed or size
 
     def take(self, count):
         if len(self.data) - self.at < count:
@@ -62,7 +62,7 @@ class Reader:
         return {"signer": signer, "signature": self.signature(signer)}
 
     def signature(self, signer):
-        return self.take(self.size)
+        return self.take(self.signed)
 
     def vote(self, vote):
         place, said = self.statement(vote)
@@ -97,11 +97,11 @@ class Reader:
         return kind, place, [said]
 
 
-def decoded(data, size, bound):
+def decoded(data, size, bound, signed=None):
     """The messages of a stream, each with its offset and length, and the fault: its place and its name, or nothing."""
     messages, at = [], 0
     while at < len(data):
-        reader = Reader(data, at, size, bound)
+        reader = Reader(data, at, size, bound, signed)
         try:
             message = reader.message()
         except Refused as refusal:
@@ -126,6 +126,22 @@ class Committees:
         if self.every:
             return ["test", *keys(self.every)]
         return ["test", *(word for epoch, size in sorted(self.of.items()) for word in (f"@{epoch}", *keys(size)))]
+
+    def takes(self, place, said, one):
+        """Whether the signature of a participant is valid."""
+        return one["signature"] == signature(place, said, one["signer"])
+
+
+class Counted(Committees):
+    """Committees by their numbers of participants, for signatures that end in the caller's verdict."""
+
+    def words(self):
+        if self.every:
+            return [str(self.every)]
+        return [word for epoch, size in sorted(self.of.items()) for word in (f"@{epoch}", str(size))]
+
+    def takes(self, place, said, one):
+        return one["signature"][-1] == 1
 
 
 def keys(count):
@@ -154,7 +170,7 @@ def judged(place, said, committees):
     size = committees.size(place[0])
     listed = [
         one | verdict(
-            one["signer"] < size and one["signature"] == signature(place, said, one["signer"]),
+            one["signer"] < size and committees.takes(place, said, one),
             (size == 0, "no committee for the epoch"),
             (one["signer"] < size, "signature does not verify"),
             (True, "signer outside the committee"),

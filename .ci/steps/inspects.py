@@ -10,7 +10,8 @@ with the stored answers of the test vectors, and then
 - each line has come before more of the stream is needed than the byte behind its message;
 - the page for people takes the lines of both programs, and has each vote of the evidence in the first message that carries it.
 
-Then both are run where devices and arguments are not as they should be, and `inspect` over a stream longer than its memory.
+Streams whose signatures the caller verified are shown so too. Then both are run where devices and arguments are not as they
+should be, and `inspect` over a stream longer than its memory.
 """
 
 import io
@@ -22,12 +23,29 @@ import shutil
 import subprocess
 import sys
 
-from .common import ROOT, SAMPLE, build, fail, module, program, run, say, vectors
-from .decoder import Committees, decoded, judged, keys, plainly, shown, streams, transcribed
+from .common import ROOT, SAMPLE, build, expect, fail, module, program, run, say, vectors
+from .decoder import Committees, Counted, decoded, judged, keys, plainly, shown, streams, transcribed
 
 report_lines, report_page = (module(ROOT / f"bindings/python/{it}.py") for it in ("report_lines", "report_page"))
 PIPES = {"stdin": subprocess.PIPE, "stdout": subprocess.PIPE}
+USAGE = b"usage: inspect [NAMESPACE KEY...|--verdicts BYTES [PARTICIPANTS]]\n"
 LETTERS = {"EndOfBuffer": "E", "InvalidVarint": "V", "InvalidBool": "B"}
+# a stream whose signatures the caller verified: the kind of each message, its payload, and each signer with its verdict
+VERDICTS = (
+    # a valid vote, and one that contradicts it
+    (0, b"a", {0: 1}),
+    (0, b"b", {0: 1}),
+    # votes with other verdicts than 01, and a vote of nobody
+    (0, b"a", {1: 0}),
+    (0, b"a", {2: 2}),
+    (0, b"a", {4: 1}),
+    # certificates
+    (1, b"a", {0: 1, 1: 1, 3: 1}),
+    (1, b"b", {0: 1, 1: 1, 2: 0}),
+    (6, b"a", {0: 1, 1: 1}),
+    # and one more vote of nobody, without a verdict
+    (0, b"a", {300: 255}),
+)
 
 
 def reported(lines, text, messages, committees):
@@ -64,6 +82,29 @@ def check(data, who):
             if (status, other.replace(b"audit:", b"inspect:")) != (got[0], got[2]):
                 fail(f"audit of {data.hex()} under {who} ends otherwise:", status, other)
             reported(lines + other, text, messages, given)
+    return texts
+
+
+def with_verdicts(size, epoch):
+    """The stream of VERDICTS, with signatures of so many bytes and a byte more."""
+    for kind, payload, signed in VERDICTS:
+        count = streams.number(len(signed)) if kind else b""
+        listed = b"".join(streams.number(it) + bytes([it % 251]) * size + bytes([mark]) for it, mark in signed.items())
+        yield bytes([kind]) + b"".join(map(streams.number, (epoch, 3, 2))) + payload * 32 + count + listed
+
+
+def vouched():
+    """Streams of verdicts are shown as the decoder reads them, with committees and without. Returns the lines of each run."""
+    texts = []
+    for size in (48, 64, 96):
+        for who, epoch in (("4", 0), ("5:4,7:9", 5), ("5:4,7:9", 6), (None, 0)):
+            data, given = b"".join(with_verdicts(size, epoch)) + b"\xff", Counted(who) if who else None
+            messages, fault = decoded(data, 32, given.bound if given else 2**32 - 1, size + 1)
+            if len(messages) != len(VERDICTS):
+                fail(f"of the stream of verdicts {len(messages)} messages are read:", data.hex())
+            texts.append("".join(line + "\n" for line in shown(messages, fault, data, given)).encode())
+            command = [program("inspect"), "--verdicts", str(size), *(given.words() if given else [])]
+            expect(command, 1, texts[-1], f"inspect: fault at byte {fault[0]}", stdin=data)
     return texts
 
 
@@ -124,7 +165,7 @@ def damaged(data):
 def alike(words, **how):
     """Both programs end alike: by the same status, and by what they say but for their names."""
     one, other = (run([program(name), *words], **how) for name in ("inspect", "audit"))
-    usage = b"usage: audit NAMESPACE KEY...", b"usage: inspect [NAMESPACE KEY...]"
+    usage = b"usage: audit NAMESPACE KEY...\n", USAGE
     said = other[2].replace(*usage).replace(b"audit:", b"inspect:")
     if (one[0], one[2]) != (other[0], said) or one[0] < 2:
         fail(f"inspect {words} {how}:", *one, "to be", *other)
@@ -158,13 +199,18 @@ def refused():
     )
     for words in bad:
         alike(words)
+    sizes, counts = ("", "32", "064", "65"), ("0", "04", "+4", "4 4", "4294967296", "x", "test", "--verdicts 64 4")
+    groups = ("@1", "@1 0", "@1 4 4", "@01 4", "@1 4 @1 4", "@2 4 @1 4", "4 @1 4", "@1 @2 4")
+    verdicts = [*sizes, *(f"64 {it}" for it in counts + groups)]
+    for words in verdicts:
+        expect([program("inspect"), "--verdicts", *words.split()], 2, err=USAGE, stdin=b"\xff")
     (reading, closed), (empty, filled) = os.pipe(), would_block()
     os.close(reading)
     for given in ("/", empty):
         alike(["test", key], stdin=given)
     for room in ("/dev/full", closed, filled):
         alike(["test", key], stdin=SAMPLE, stdout=room)
-    return len(bad) + 5
+    return len(bad) + len(verdicts) + 5
 
 
 def would_block():
@@ -214,8 +260,9 @@ def main():
     say("comparing inspect and audit over some 6,700 streams")
     every = b"".join(streams.every_kind(4, 10))
     tried = [(SAMPLE.read_bytes(), "1"), *of_vectors(), *((it, "4") for it in (every, *damaged(every)))]
-    are_objects(b"".join(check(*it) for it in tried))
+    texts, counted = [check(*it) for it in tried], vouched()
+    are_objects(b"".join(texts + counted))
     others = refused()
     live(every)
     long_stream()
-    print(f"{len(tried)} streams and {others} refusals: inspect shows what audit reads")
+    print(f"{len(tried)} streams, {len(counted)} runs with verdicts and {others} refusals: inspect shows what audit reads")
