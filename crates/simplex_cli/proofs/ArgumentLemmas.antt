@@ -1,8 +1,8 @@
 -- Why words and texts name no committees.
-use Rattle.std.proofs.Common.{◌≡◌, ℕ, zero, suc, ◌<◌, ◌≤◌, List, [], ◌∷◌, Result, Some, Err, take, drop, get_or, length, refl, sym, ap, subst, ◌∙◌, arith}
+use Rattle.std.proofs.Common.{◌≡◌, ℕ, zero, suc, ◌<◌, ◌≤◌, List, [], ◌∷◌, Result, Err, take, drop, get_or, refl, sym, ap, subst, ◌∙◌, arith}
 use Rattle.std.specs.Prelude.{◌≢◌, All}
 use Rattle.std.proofs.lemmas.List.Elements.{All-head}
-use Rattle.simplex_scheme.specs.Committees.{Schedule, Every, Listed, AreRising}
+use Rattle.simplex_scheme.specs.Committees.{Every, Listed, AreRising}
 use Rattle.simplex_scheme.specs.declared.committees.CommitteesError.{CommitteesError}
 use Rattle.simplex_scheme.specs.declared.committees.CommitteesError.TheVariants as errors
 use Rattle.simplex_cli.specs.Arguments.{AreGroups, AreNoArguments, BeginsGroup, IsNaming, NameCommittees, NameNoCommittees, NameNone, Naming, StandsBeforeGroup, by_keys}

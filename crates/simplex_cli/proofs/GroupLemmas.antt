@@ -1,9 +1,9 @@
 -- Which groups texts name.
-use Rattle.std.proofs.Common.{Ordering, Less, Equal, Greater, inl, inr, ◌≡◌, ℕ, zero, suc, List, [], ◌∷◌, ◌++◌, ◌-◌, ◌<◌, ◌≤◌, ◌^◌, Bool, true, false, Option, None, Some, Result, Err, take, drop, map, length, get_or, refl, arith, sym, ap, subst, ◌∙◌, append_assoc, append-nil, drop-cons}
-use Rattle.std.specs.Prelude.{String, string_bytes, All, if◌then◌else◌, decimal}
+use Rattle.std.proofs.Common.{Ordering, Less, Equal, Greater, inl, inr, ◌≡◌, ℕ, zero, suc, List, [], ◌∷◌, ◌++◌, ◌-◌, ◌<◌, ◌≤◌, ◌^◌, true, take, drop, map, length, get_or, refl, arith, sym, ap, subst, ◌∙◌, append_assoc, append-nil, drop-cons}
+use Rattle.std.specs.Prelude.{String, string_bytes, All, decimal}
 use Rattle.std.specs.Global.{Global}
 use Rattle.std.proofs.lemmas.List.{take-append-drop, map-append, take-map, drop-map, take_all, get_or_append_left, length-map, length-append, get_or_default}
-use Rattle.std.proofs.lemmas.List.Elements.{All-nil, All-cons, All-head, All-tail, All-map}
+use Rattle.std.proofs.lemmas.List.Elements.{All-head, All-tail, All-map}
 use Rattle.std.proofs.Math.Seq.{get_or-append_seam}
 use Rattle.std.proofs.Math.ListN.{get_or-map}
 use Rattle.std.specs.Ordering.{nat_cmp, is_lt, MatchOrdering}

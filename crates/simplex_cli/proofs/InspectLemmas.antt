@@ -1,5 +1,5 @@
 -- Which words give committees to `inspect`, and how its runs end.
-use Rattle.std.proofs.Common.{◌≡◌, ◌⊎◌, ◌∙◌, ℕ, inl, inr, Ok, Err, IsTrue, List, [], ◌∷◌, Option, Some, None, Result, ap, drop, subst, sym}
+use Rattle.std.proofs.Common.{◌≡◌, ◌⊎◌, ◌∙◌, ℕ, inl, inr, Ok, Err, IsTrue, List, [], Option, Some, None, Result, ap, drop, subst, sym}
 use Rattle.std.specs.Io.KnownBytes.{Keeps}
 use Rattle.std.specs.Prelude.{◌≢◌, IfOk, OnErr}
 use Rattle.simplex_schemes.specs.Plain.{PlainScheme}

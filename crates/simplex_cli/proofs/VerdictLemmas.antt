@@ -1,5 +1,5 @@
 -- Which words say that the caller verified signatures.
-use Rattle.std.proofs.Common.{◌≡◌, ◌∙◌, ℕ, ◌<◌, ◌^◌, List, [], ◌∷◌, Option, Some, None, ap, codes, decimal, drop, get_or, subst, sym, arith}
+use Rattle.std.proofs.Common.{◌≡◌, ◌∙◌, ℕ, ◌<◌, ◌^◌, List, [], ◌∷◌, Option, Some, None, ap, codes, decimal, get_or, subst, sym, arith}
 use Rattle.std.specs.Prelude.{◌≢◌}
 use Rattle.std.proofs.lemmas.Fmt.{decimal_injective}
 use Rattle.simplex_cli.specs.Arguments.{IsCommitteeSize}

@@ -1,12 +1,11 @@
 -- Numbers of participants name committees as texts have to. It stands beside the definitions because a ghost member cites it,
 -- which sees no proofs.
-use Rattle.std.proofs.Common.{◌≡◌, ℕ, ◌<◌, ◌^◌, List, [], ◌∷◌, ap, arith, drop, get_or, subst, sym}
+use Rattle.std.proofs.Common.{ℕ, ◌<◌, ◌^◌, List, [], arith, subst, sym}
 use Rattle.std.specs.Prelude.{All, decimal}
 use Rattle.std.specs.Str.Parse.{AllDigits}
 use Rattle.std.proofs.lemmas.Fmt.{decimal_is_IsNumeral}
 use Rattle.std.proofs.lemmas.List.Elements.{All-nil, All-cons}
 use Rattle.std.proofs.lemmas.Str.Parse.{digit_from_value}
-use Rattle.simplex_schemes.specs.Vouched.{VouchedScheme}
 use Rattle.simplex_cli.specs.Arguments.{BeginsGroup, IsNaming}
 use Rattle.simplex_cli.specs.Verdicts.{AreCount, by_count}
 

@@ -13,7 +13,7 @@ use std::alloc::Global;
 /// The committees that texts name: one for every epoch, or in groups one for each of some epochs. The texts are checked from
 /// left to right: `Failure::Usage` where they name none, `Failure::OutOfMemory` where an allocation failed before that was
 /// found.
-pub(crate) fn parse_committees<S: Named>(
+pub fn parse_committees<S: Named>(
     alloc: Global,
     common: &S::Common,
     texts: &[String],

@@ -43,9 +43,7 @@ fn parse_size(text: &str) -> Result<SignatureSize, Failure>
 
 /// How many bytes the signatures have, which arguments begin with as `--verdicts` and 48, 64 or 96, and how many arguments
 /// these are. Without the option it is `None`, and none.
-pub(crate) fn parse_verdicts(
-    arguments: &[String],
-) -> Result<(Option<SignatureSize>, usize), Failure>
+pub fn parse_verdicts(arguments: &[String]) -> Result<(Option<SignatureSize>, usize), Failure>
     ensures size { IfOk result (λ (size, count). AreBehindVerdicts (map string_bytes arguments.now)
         size (drop count (map string_bytes arguments.now))) }
     ensures within { IfOk result (λ (_, count). count ≤ length arguments.now) }

@@ -1,4 +1,4 @@
-use Rattle.std.proofs.Common.{rules, ◌≡◌, ◌∙◌, [], ◌∷◌, ap, codes, map, string_bytes}
+use Rattle.std.proofs.Common.{rules, ◌≡◌, ◌∙◌, ◌∷◌, ap, codes, map, string_bytes}
 use Rattle.simplex_cli.proofs.CompactLemmas.{no_epoch, no_view, none_left}
 use Rattle.simplex_cli.proofs.floors.parse_floor.Goals as goal
 

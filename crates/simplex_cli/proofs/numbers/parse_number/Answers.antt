@@ -1,4 +1,4 @@
-use Rattle.std.proofs.Common.{Ok, not, ◌≡◌, ◌∙◌, sym, ap, decimal, refl}
+use Rattle.std.proofs.Common.{Ok, not, ◌≡◌, ◌∙◌, sym, ap, decimal}
 use Rattle.std.proofs.lemmas.Bool.{false≢true}
 use Rattle.std.proofs.lemmas.Fmt.{parse-decimal}
 use Rattle.std.proofs.lemmas.Slice.Eq.{bytes_eq-Decides}

@@ -1,4 +1,4 @@
-use Rattle.std.proofs.Common.{rules, ◌≡◌, ◌<◌, ◌^◌, ◌∙◌, Err}
+use Rattle.std.proofs.Common.{rules, ◌<◌, ◌^◌}
 use Rattle.simplex_cli.proofs.VerdictLemmas.{same_count}
 use Rattle.simplex_cli.proofs.verdicts.parse_count.Goals as goal
 

@@ -1,4 +1,4 @@
-use Rattle.std.proofs.Common.{rules, ◌≡◌, ◌∙◌, [], ◌∷◌, ap, codes, map, string_bytes, sym}
+use Rattle.std.proofs.Common.{rules, ◌≡◌, ◌∙◌, ◌∷◌, ap, codes, map, string_bytes}
 use Rattle.std.proofs.lemmas.Result.{err_from_is_err_and}
 use Rattle.simplex_cli.proofs.GroupLemmas.{no_texts}
 use Rattle.simplex_cli.proofs.VerdictLemmas.{no_size, nothing_behind}
