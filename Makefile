@@ -1,4 +1,4 @@
-.PHONY: run audit audit_stored audit_compact inspect library install test quick check try
+.PHONY: run audit audit_stored audit_compact audit_live inspect library install test quick check try
 
 PREFIX ?= /usr/local
 
@@ -19,6 +19,10 @@ audit_stored:
 audit_compact:
 	@python3 .ci built audit_compact
 
+# Proves and builds the program that writes each line at once, crates/audit_live/out/audit_live, and runs it on the sample stream.
+audit_live:
+	@.ci/built audit_live
+
 # Proves and builds the program that shows what is in a stream, crates/inspect/out/inspect, and runs it on the same stream.
 inspect:
 	@python3 .ci built inspect
@@ -28,9 +32,9 @@ library:
 	@python3 .ci library
 
 # Copies to PREFIX/bin what is built of the programs, by a target above or by `make test`, as simplex-audit, simplex-audit-stored,
-# simplex-audit-compact and simplex-inspect, and says which. The short names are links to them, if no other program has the name.
+# simplex-audit-compact, simplex-audit-live and simplex-inspect, and says which. The short names are links to them, if no other program has the name.
 install:
-	@some=; bin="$(DESTDIR)$(PREFIX)/bin"; for it in audit audit_stored audit_compact inspect; do \
+	@some=; bin="$(DESTDIR)$(PREFIX)/bin"; for it in audit audit_stored audit_compact audit_live inspect; do \
 	    test -x crates/$$it/out/$$it || continue; \
 	    name=simplex-$$(echo $$it | tr _ -); \
 	    install -D -m 755 crates/$$it/out/$$it "$$bin/$$name" || exit 1; \
@@ -40,7 +44,7 @@ install:
 	    ln -s $$name "$$bin/$$it" || exit 1; \
 	    echo "$$bin/$$it -> $$name"; \
 	done; \
-	test -n "$$some" || { echo 'No program is built yet: make audit, make audit_stored, make audit_compact or make inspect' >&2; exit 1; }
+	test -n "$$some" || { echo 'No program is built yet: make audit, make audit_stored, make audit_compact, make audit_live or make inspect' >&2; exit 1; }
 
 # The gate: proves everything, tries the mutants, runs the tests and the programs, and then tries what was
 # built as its users would, and with each of its allocations made to fail.

@@ -1,0 +1,61 @@
+-- Which words begin with options.
+use Rattle.std.proofs.Common.{◌≡◌, ◌⊎◌, ◌∙◌, arith, Ok, Err, Result, ap, drop, inl, inr, length, length-drop, map, refl, take, ◌-◌, ◌+◌, ℕ, suc, zero, List, [], ◌∷◌, sym, subst}
+use Rattle.std.proofs.Math.Seq.{drop-nil, take-length}
+use Rattle.std.proofs.lemmas.List.{drop-map}
+use Rattle.std.specs.Prelude.{IfErr, codes}
+use Rattle.simplex_live.specs.Options.{AreBehindFile, AreBehindOption, AreBehindWindow}
+
+-- no elements
+pub none_left : {X : Type 0} (xs : List X) → length xs ≡ 0 → xs ≡ []
+none_left [] e = refl
+none_left (x ∷ xs) e = absurd cc
+
+-- what holds for any error
+pub if_err : {X E : Type 0} (r : Result X E) (Q : Type 0) → Q → IfErr r (λ e. Q)
+if_err (Ok x) Q q = tt
+if_err (Err e) Q q = q
+
+-- the words of the arguments behind the first ones
+pub words_behind : {X Y : Type 0} (f : X → Y) (n : ℕ) (xs : List X) →
+    map f (take (length xs - n) (drop n xs)) ≡ drop n (map f xs)
+words_behind f n xs =
+    ap (map f) (ap (λ k. take k (drop n xs)) (sym (length-drop n xs)) ∙ take-length (drop n xs)) ∙ sym (drop-map f n xs)
+
+-- what is left without some first elements and without some more
+pub drop_twice : {X : Type 0} (n k : ℕ) (xs : List X) → drop k (drop n xs) ≡ drop (n + k) xs
+drop_twice zero k xs = ap (λ m. drop m xs) (omega arith)
+drop_twice (suc n) k [] = drop-nil k ∙ sym (drop-nil (suc n + k))
+drop_twice (suc n) k (x ∷ xs) =
+    let same : suc (n + k) ≡ suc n + k = omega arith in
+    drop_twice n k xs ∙ ap (λ m. drop m (x ∷ xs)) same
+
+-- an option without a number
+pub no_number : (option : List ℕ) (otherwise : ℕ) (words : List (List ℕ)) (first : List ℕ) → words ≡ first ∷ [] →
+    first ≡ option → (number : ℕ) (behind : List (List ℕ)) → ¬ AreBehindOption option otherwise words number behind
+no_number option otherwise words first is named number behind (inl given) = let e = sym is ∙ given.0 in absurd cc
+no_number option otherwise words first is named number behind (inr none) = none.0 ([], is ∙ ap (λ word. word ∷ []) named)
+
+-- the same words stand behind an option, whichever the number is
+behind_alone : (option : List ℕ) (otherwise : ℕ) (words behind others : List (List ℕ)) (number another : ℕ) →
+    AreBehindOption option otherwise words number behind → AreBehindOption option otherwise words another others →
+    behind ≡ others
+behind_alone option otherwise words behind others number another (inl given) (inl again) =
+    let same = sym given.0 ∙ again.0 in cc
+behind_alone option otherwise words behind others number another (inl given) (inr none) = absurd (none.0 (_, given.0))
+behind_alone option otherwise words behind others number another (inr none) (inl given) = absurd (none.0 (_, given.0))
+behind_alone option otherwise words behind others number another (inr none) (inr again) = none.2 ∙ sym again.2
+
+-- words without a number behind the first option name no window
+pub no_first : (words : List (List ℕ)) →
+    ((number : ℕ) (behind : List (List ℕ)) → ¬ AreBehindOption (codes "--retain") 1000 words number behind) →
+    (retained ahead : ℕ) (behind : List (List ℕ)) → ¬ AreBehindWindow words retained ahead behind
+no_first words none retained ahead behind (between, first, second) = none retained between first
+
+-- nor do those without one behind the second
+pub no_second : (words between : List (List ℕ)) (number : ℕ) →
+    AreBehindOption (codes "--retain") 1000 words number between →
+    ((number : ℕ) (behind : List (List ℕ)) → ¬ AreBehindOption (codes "--ahead") 10 between number behind) →
+    (retained ahead : ℕ) (behind : List (List ℕ)) → ¬ AreBehindWindow words retained ahead behind
+no_second words between number here none retained ahead behind (others, first, second) =
+    none ahead behind (subst (λ ws. AreBehindOption (codes "--ahead") 10 ws ahead behind)
+    (sym (behind_alone (codes "--retain") 1000 words between others number retained here first)) second)

@@ -1,0 +1,88 @@
+//! What the arguments of `audit_live` begin with: the window, and files.
+
+ghost use Rattle.std.specs.Prelude.{◌≡◌, ◌≤◌, ◌∷◌, IfOk, IfErr, List, ℕ, drop, length, map, option_map, string_bytes};
+ghost use Rattle.simplex_live.specs.Options.{AreBehindFile, AreBehindOption, AreBehindWindow, lookahead_of};
+
+use simplex_base::positions::{TermLength, ViewDelta};
+use simplex_cli::numbers::parse_number;
+use simplex_cli::status::Failure;
+use simplex_lead::Lookahead;
+
+/// How many views before the finalized one are retained, unless the arguments say so.
+const RETAINED: u64 = 1000;
+
+/// How many views ahead votes are taken, unless the arguments say so.
+const AHEAD: u64 = 10;
+
+/// How many views before the finalized one are retained, behind `--retain`, and how many views ahead votes are taken, behind
+/// `--ahead`, and how many arguments these are. Without an option these are 1,000 views and 10 views. Numbers are decimal
+/// digits, without sign or leading zeros.
+pub fn parse_window(arguments: &[String]) -> Result<(u64, u64, usize), Failure>
+    ensures window { IfOk result (λ (retained, ahead, count). AreBehindWindow
+        (map string_bytes arguments.now) retained ahead (drop count (map string_bytes arguments.now))) }
+    ensures within { IfOk result (λ (_, _, count). count ≤ length arguments.now) }
+    ensures usage { IfErr result (λ e. (retained ahead : ℕ) (behind : List (List ℕ)) →
+        ¬ AreBehindWindow (map string_bytes arguments.now) retained ahead behind) }
+    ensures failure { IfErr result (λ e. e ≡ Failure.Usage) }
+{
+    let (retained, first) = parse_option(arguments, "--retain", RETAINED)?;
+    let (ahead, second) = parse_option(&arguments[first..], "--ahead", AHEAD)?;
+    Ok((retained, ahead, first + second))
+}
+
+/// The number behind an option, and how many arguments these are, or another number if the arguments do not begin with it.
+fn parse_option(arguments: &[String], option: &str, otherwise: u64) -> Result<(u64, usize), Failure>
+    ensures number { IfOk result (λ (number, count). AreBehindOption option.now otherwise
+        (map string_bytes arguments.now) number (drop count (map string_bytes arguments.now))) }
+    ensures within { IfOk result (λ (_, count). count ≤ length arguments.now) }
+    ensures usage { IfErr result (λ e. (number : ℕ) (behind : List (List ℕ)) →
+        ¬ AreBehindOption option.now otherwise (map string_bytes arguments.now) number behind) }
+    ensures failure { IfErr result (λ e. e ≡ Failure.Usage) }
+{
+    let Some((first, rest)) = arguments.split_first() else {
+        return Ok((otherwise, 0));
+    };
+    if first.as_str() != option {
+        return Ok((otherwise, 0));
+    }
+    let Some((number, _)) = rest.split_first() else {
+        return Err(Failure::Usage);
+    };
+    Ok((parse_number(number.as_str())?, 2))
+}
+
+/// The file behind an option, and how many arguments these are, or `None` if the arguments do not begin with it.
+pub fn parse_file<'a>(
+    arguments: &'a [String],
+    option: &str,
+) -> Result<(Option<&'a str>, usize), Failure>
+    ensures file { IfOk result (λ (file, count). AreBehindFile option.now
+        (map string_bytes arguments.now) (option_map (λ f. f.now) file)
+        (drop count (map string_bytes arguments.now))) }
+    ensures within { IfOk result (λ (_, count). count ≤ length arguments.now) }
+    ensures usage { IfErr result (λ e. (file : List ℕ) (behind : List (List ℕ)) →
+        ¬ (map string_bytes arguments.now ≡ option.now ∷ file ∷ behind)) }
+    ensures failure { IfErr result (λ e. e ≡ Failure.Usage) }
+{
+    let Some((first, rest)) = arguments.split_first() else {
+        return Ok((None, 0));
+    };
+    if first.as_str() != option {
+        return Ok((None, 0));
+    }
+    match rest.split_first() {
+        None => Err(Failure::Usage),
+        Some((file, _)) => Ok((Some(file.as_str()), 2)),
+    }
+}
+
+/// The lookahead of so many views.
+pub fn lookahead(ahead: u64) -> Lookahead
+    ensures { result ≡ lookahead_of ahead }
+{
+    let views = ahead.min(u64::from(u32::MAX)).max(1) as u32;
+    Lookahead {
+        term_length: TermLength::new(views),
+        optimistic_views: ViewDelta::new(ahead),
+    }
+}
