@@ -19,9 +19,9 @@ audit_stored:
 audit_compact:
 	@python3 .ci built audit_compact
 
-# Proves and builds the program that writes each line at once, crates/audit_live/out/audit_live, and runs it on the sample stream.
+# Proves and builds the program that writes each line at once, crates/audit_live/out/audit_live, and runs it on the sample.
 audit_live:
-	@.ci/built audit_live
+	@python3 .ci built audit_live
 
 # Proves and builds the program that shows what is in a stream, crates/inspect/out/inspect, and runs it on the same stream.
 inspect:
@@ -32,7 +32,8 @@ library:
 	@python3 .ci library
 
 # Copies to PREFIX/bin what is built of the programs, by a target above or by `make test`, as simplex-audit, simplex-audit-stored,
-# simplex-audit-compact, simplex-audit-live and simplex-inspect, and says which. The short names are links to them, if no other program has the name.
+# simplex-audit-compact, simplex-audit-live and simplex-inspect, and says which. The short names are links to them, if no other
+# program has the name.
 install:
 	@some=; bin="$(DESTDIR)$(PREFIX)/bin"; for it in audit audit_stored audit_compact audit_live inspect; do \
 	    test -x crates/$$it/out/$$it || continue; \

@@ -1,6 +1,7 @@
 //! `audit_live` as a function over its arguments, its files and its streams.
 
-ghost use Rattle.std.specs.Prelude.{◌≡◌, ◌≤◌, IfOk, false, length};
+ghost use Rattle.std.specs.Prelude.{◌≡◌, ◌≤◌, None, IfOk, IfSome, false, length};
+ghost use Rattle.simplex_live.specs.Options.{lookahead_of, window_of};
 ghost use Rattle.simplex_stream.specs.Watched.{has_failed};
 
 use crate::complaints::{Trouble, USAGE, complain, say_number};
@@ -124,7 +125,16 @@ fn words_of_file<F: Files<File = File>>(
 }
 
 /// The window that the options name, and where a state was.
-fn window_at(options: &Options<'_>, mark: Option<Mark>) -> Window {
+fn window_at(options: &Options<'_>, mark: Option<Mark>) -> Window
+    ensures first { mark ≡ None → result ≡ window_of options.now.retained options.now.ahead }
+    ensures later { IfSome mark (λ mark. result ≡ record {
+      finalized = mark.finalized;
+      current = mark.current;
+      ended = mark.ended;
+      view_retention = options.now.retained;
+      lookahead = lookahead_of options.now.ahead;
+    }) }
+{
     let first = Round::new(Epoch::new(0), View::zero());
     let (finalized, current, ended) = match mark {
         None => (first, first, first),
