@@ -10,17 +10,17 @@ from .common import ROOT, crates, written
 PAGE = ROOT / "docs/CLAUSES.md"
 HEAD = """# Clauses
 
-Every public function with the names of its clauses, by crate and by the file in which it stands. A module behind the file is
-the one that makes it public. Crates of tests are left out. Step `clauses` makes this page from the sources, and the gate
-compares the two.
+Every public function with the names of its clauses, by crate and by the file in which it stands. Crates of tests are left out.
+Step `clauses` makes this page from the sources, and the gate compares the two.
 
-- A function's name is followed by the names of its clauses in their order, and by how its `///` begins, if that is short. What
-  a clause states stands in the file.
+- The functions of a type or a trait stand behind its name. Behind a function stand its clauses in their order, and how its
+  `///` begins, if that is short. What a clause states stands in the file.
 - Clauses are `ensures`, but those between `requires` and `;`. `_` is a condition without a name.
-- "Unnamed" are functions whose clauses have no names. Those without a clause are counted; they are still proved to be safe and
-  to end.
-- A function of a trait binds each implementation. `<T as Trait>::f` is listed if that implementation has clauses beyond the
-  trait's. "Ghost" are members of a trait that are a meaning or a law.
+- A function without parentheses has a clause without a name. Those without a clause are counted; they are still proved to be
+  safe and to end.
+- A function of a trait binds each implementation. `<T as Trait>` has those with clauses beyond the trait's. "Ghost" are members
+  of a trait that are a meaning or a law.
+- A file is public as a module, or by the module of its folder or the one behind it.
 - A clause about a returned value says nothing after an allocation failure.
 """
 FUNCTION = re.compile(r"( *)(pub )?(?:const |final |unsafe |extern \"C\" )*fn (\w+)")
@@ -129,31 +129,34 @@ def names(clauses):
     return "; ".join([*([f"requires {', '.join(asked)}"] if asked else []), *([", ".join(said)] if said else [])])
 
 
-def by_owner(paths):
-    """Names, each behind those of its type or trait: `View: new, get`."""
-    owners = {}
-    for name in paths:
-        owner, _, member = name.rpartition("::")
-        owners.setdefault(owner, []).append(member)
-    return "; ".join(f"{owner}: {', '.join(of)}" if owner else ", ".join(of) for owner, of in owners.items())
+def gathered(functions):
+    """The functions of an owner, each with its clauses, and those that have the same ones together."""
+    alike = {}
+    for member, *said in functions:
+        alike.setdefault(tuple(said), []).append(member)
+    return ", ".join(
+        f"{' and '.join(members)} ({shown}){text and f' {text}'}" if shown else ", ".join(members)
+        for (shown, text), members in alike.items()
+    )
 
 
 def described(entries):
-    """The lines of a file: one for each function with named clauses or conditions, and one for all else."""
-    lines, unnamed, ghosts, without = [], [], [], 0
+    """The lines of a file: one for each type or trait with its functions and its ghost members, and one for functions alone."""
+    owners, ghosts, without = {}, {}, 0
     for kind, name, text, clauses in entries:
+        owner, _, member = name.rpartition("::")
         if kind == "ghost":
-            ghosts.append(name)
-        elif shown := names(clauses):
-            lines.append(f"- `{name}`: {shown}" + (f". {text}" if text else ""))
+            ghosts.setdefault(owner, []).append(member)
         elif clauses:
-            unnamed.append(name)
+            shown = names(clauses)
+            owners.setdefault(owner, []).append((member, shown, f'"{text}"' if text and shown else ""))
         else:
             without += 1
-    rest = [f"unnamed `{by_owner(unnamed)}`"] if unnamed else []
-    rest += [f"without a clause {without}"] if without else []
-    rest += [f"ghost `{by_owner(ghosts)}`"] if ghosts else []
-    return lines + ([f"- {', '.join(rest)}"] if rest else [])
+    lines = []
+    for owner in dict.fromkeys([*owners, *ghosts]):
+        parts = [gathered(owners.get(owner, [])), f"ghost {', '.join(ghosts[owner])}" if owner in ghosts else ""]
+        lines.append((f"- `{owner}`: " if owner else "- ") + "; ".join(filter(None, parts)))
+    return lines + ([f"- without a clause {without}"] if without else [])
 
 
 def listed(found):
@@ -194,7 +197,8 @@ def page():
         for module, files in sections.items():
             for file, entries in files.items():
                 path = file.relative_to(source).as_posix()
-                public = f" in `{module}`" if module and path != module.replace("::", "/") + ".rt" else ""
+                folder, own = path.rpartition("/")[0], path.removesuffix(".rt")
+                public = f" in `{module}`" if module and module.replace("::", "/") not in (folder, own) else ""
                 lines += [f"`{path}`{public}", *described(entries), ""]
     return "\n".join(lines).rstrip() + "\n"
 
