@@ -149,13 +149,14 @@ def described(entries):
             ghosts.setdefault(owner, []).append(member)
         elif clauses:
             shown = names(clauses)
-            owners.setdefault(owner, []).append((member, shown, f'"{text}"' if text and shown else ""))
+            said = text.replace("`", "")
+            owners.setdefault(owner, []).append((member, shown, f'"{said}"' if said and shown else ""))
         else:
             without += 1
     lines = []
     for owner in dict.fromkeys([*owners, *ghosts]):
         parts = [gathered(owners.get(owner, [])), f"ghost {', '.join(ghosts[owner])}" if owner in ghosts else ""]
-        lines.append((f"- `{owner}`: " if owner else "- ") + "; ".join(filter(None, parts)))
+        lines.append(f"- `{owner and f'{owner}: '}{'; '.join(filter(None, parts))}`")
     return lines + ([f"- without a clause {without}"] if without else [])
 
 
