@@ -51,13 +51,17 @@ ELSEWHERE = {
     "bench/compactions": "a reader with `conformance` as `make test` builds it, and a minute",
     "bench/logs": "a reader with some minutes",
     "bench/listening": "a reader with GNU time, valgrind and an hour",
+    "bench/alerts": "a reader with `audit_live` as it is built, and two minutes",
     "bench/compacting": "a reader with GNU time and some minutes",
+    "socat ": "a reader with socat",
+    "tail -n +1 -F hex": "a reader with socat",
 }
 # What blocks with these words need, and whether it is there.
 NEEDS = {
     "cargo ": lambda: run(["bash", "-c", "cargo --version"])[0] == 0,
     "-lcrypto": lambda: pathlib.Path("/usr/include/openssl/evp.h").exists(),
     "python3 ed25519.py": lambda: ctypes.util.find_library("crypto"),
+    "fallocate ": lambda: run(["bash", "-c", "it=$(mktemp) && echo > $it && fallocate --punch-hole --length 1 $it && rm $it"])[0] == 0,
     "--example ed25519": lambda: pathlib.Path("/usr/include/openssl/evp.h").exists(),
 }
 COMMAND = re.compile(r"(?m)^\$ (.*\n(?:> .*\n)*)((?:(?!\$ ).*\n)*)")
