@@ -56,12 +56,13 @@ ELSEWHERE = {
     "socat ": "a reader with socat",
     "tail -n +1 -F hex": "a reader with socat",
 }
+PUNCH = "it=$(mktemp) && echo > $it && fallocate --punch-hole --length 1 $it && rm $it"
 # What blocks with these words need, and whether it is there.
 NEEDS = {
     "cargo ": lambda: run(["bash", "-c", "cargo --version"])[0] == 0,
     "-lcrypto": lambda: pathlib.Path("/usr/include/openssl/evp.h").exists(),
     "python3 ed25519.py": lambda: ctypes.util.find_library("crypto"),
-    "fallocate ": lambda: run(["bash", "-c", "it=$(mktemp) && echo > $it && fallocate --punch-hole --length 1 $it && rm $it"])[0] == 0,
+    "fallocate ": lambda: run(["bash", "-c", PUNCH])[0] == 0,
     "--example ed25519": lambda: pathlib.Path("/usr/include/openssl/evp.h").exists(),
 }
 COMMAND = re.compile(r"(?m)^\$ (.*\n(?:> .*\n)*)((?:(?!\$ ).*\n)*)")

@@ -33,13 +33,19 @@ TABLES = {
         "simplex_cli/src/command.rt": ["fn command"],
         "simplex_cli/src/start.rt": ["fn start"],
     },
+    "monitor": {
+        "simplex_monitor/src/input.rt": ["fn monitor_input"],
+        "simplex_monitor/src/monitor.rt": ["fn evidence", "fn splits", "fn votes", "fn held", "fn shorten"],
+        "simplex_live/src/listening.rt": ["fn listen"],
+        "simplex_live/src/options.rt": ["fn parse_window", "fn parse_file"],
+    },
     "plain": {
         "simplex_schemes/src/plain.rt": ["ghost keys", "ghost good", "ghost certified", "ghost listed"],
         "simplex_schemes/src/listed.rt": ["ghost is_value", "ghost fits", "ghost reading", "ghost encoding"],
     },
 }
-# the table whose definitions are counted by files and not named
-COUNTED = "others"
+# the tables whose definitions are counted by files and not named
+COUNTED = {"others", "monitor"}
 # a relation that callers hand on and need not read
 HANDED_ON = {"Stands", "StandsFrom"}
 USE = re.compile(r"(?m)^ *(?:ghost |pub )*use Rattle\.(\w+)\.specs\.([\w.]+?)(?:\.\{([^}]*)\}| as (\w+))?;?$")
@@ -181,13 +187,13 @@ def table(cited, before, named):
         if (path, kind) not in before:
             lines[crate_of(path)] += count
             kinds.setdefault(crate_of(path), []).append(kind)
-    rows = ["| Crate | Lines | File of `specs/`: definitions | Types of `src/` |", "|---|---|---|---|"]
+    rows = ["| Crate | Lines | File of `specs/`: definitions | Types |", "|---|---|---|---|"]
     for crate in filter(lines.get, order):
         files = names.get(crate, {})
         listed = {file: f": `{', '.join(of)}`" if named else f" {len(of)}" for file, of in files.items()}
         defined = ("; " if named else ", ").join(file + listed[file] for file in sorted(files))
         types = f"`{', '.join(kinds[crate])}`" if crate in kinds else ""
-        rows.append(f"| [{crate}](../crates/{crate}) | {lines[crate]} | {defined} | {types} |")
+        rows.append(f"| {crate} | {lines[crate]} | {defined} | {types} |")
     every = [len(it) for files in names.values() for it in files.values()]
     total = f"{len(every)} files, {sum(every)} definitions"
     return "\n".join([*rows, f"| | {lines.total()} | {total} | {sum(map(len, kinds.values()))} types |"])
@@ -201,7 +207,7 @@ def page(text):
         for path, items in roots.items():
             for item in items:
                 cited.cite_root(path, item)
-        rows = table(cited, before, name != COUNTED)
+        rows = table(cited, before, name not in COUNTED)
         text, count = re.subn(rf"(?s)(<!-- {name} -->\n).*?(<!-- end -->)", lambda it: f"{it[1]}\n{rows}\n\n{it[2]}", text)
         if count != 1:
             fail(f"{PAGE.name} has no one table {name}")
