@@ -10,17 +10,17 @@ from .common import ROOT, crates, written
 PAGE = ROOT / "docs/CLAUSES.md"
 HEAD = """# Clauses
 
-Every public function with the names of its clauses, by crate and by the file in which it stands. Crates of tests are left out.
+Every public function with the names of its clauses, by crate and by file of `crates/CRATE/src/`. Crates of tests are left out.
 Step `clauses` makes this page from the sources, and the gate compares the two.
 
 - The functions of a type or a trait stand behind its name. Behind a function stand its clauses in their order, and how its
-  `///` begins, if that is short. What a clause states stands in the file.
+  `///` begins, if that is short. What a clause states stands in the file. `read_u64 and _u32` are `read_u64` and `read_u32`.
 - Clauses are `ensures`, but those between `requires` and `;`. `_` is a condition without a name.
 - A function without parentheses has a clause without a name. Those without a clause are counted; they are still proved to be
   safe and to end.
 - A function of a trait binds each implementation. `<T as Trait>` has those with clauses beyond the trait's. "Ghost" are members
   of a trait that are a meaning or a law.
-- A file is public as a module, or by the module of its folder or the one behind it.
+- A file, here without `.rt`, is public as a module, or by the module of its folder or the one behind it.
 - A clause about a returned value says nothing after an allocation failure.
 """
 FUNCTION = re.compile(r"( *)(pub )?(?:const |final |unsafe |extern \"C\" )*fn (\w+)")
@@ -129,19 +129,28 @@ def names(clauses):
     return "; ".join([*([f"requires {', '.join(asked)}"] if asked else []), *([", ".join(said)] if said else [])])
 
 
+def joined(members):
+    """Names by `and`: of one that begins as the name before it up to that one's last `_`, only what is behind that."""
+    shown = members[:1]
+    for last, it in zip(members, members[1:]):
+        stem = last.rpartition("_")[0]
+        shown.append(it.removeprefix(stem) if stem and it.startswith(f"{stem}_") else it)
+    return " and ".join(shown)
+
+
 def gathered(functions):
     """The functions of an owner, each with its clauses, and those that have the same ones together."""
     alike = {}
     for member, *said in functions:
         alike.setdefault(tuple(said), []).append(member)
     return ", ".join(
-        f"{' and '.join(members)} ({shown}){text and f' {text}'}" if shown else ", ".join(members)
+        f"{joined(members)} ({shown}){text and f' {text}'}" if shown else ", ".join(members)
         for (shown, text), members in alike.items()
     )
 
 
 def described(entries):
-    """The lines of a file: one for each type or trait with its functions and its ghost members, and one for functions alone."""
+    """What is listed of a file: each type or trait with its functions and its ghost members, and functions alone."""
     owners, ghosts, without = {}, {}, 0
     for kind, name, text, clauses in entries:
         owner, _, member = name.rpartition("::")
@@ -153,11 +162,11 @@ def described(entries):
             owners.setdefault(owner, []).append((member, shown, f'"{said}"' if said and shown else ""))
         else:
             without += 1
-    lines = []
+    spans = []
     for owner in dict.fromkeys([*owners, *ghosts]):
         parts = [gathered(owners.get(owner, [])), f"ghost {', '.join(ghosts[owner])}" if owner in ghosts else ""]
-        lines.append(f"- `{owner and f'{owner}: '}{'; '.join(filter(None, parts))}`")
-    return lines + ([f"- without a clause {without}"] if without else [])
+        spans.append(f"`{owner and f'{owner}: '}{'; '.join(filter(None, parts))}`")
+    return " ".join(spans + ([f"without a clause {without}"] if without else []))
 
 
 def listed(found):
@@ -194,13 +203,14 @@ def page():
     for crate in crates():
         source = ROOT / "crates" / crate / "src"
         sections = {} if OF_TESTS.match(crate) else listed(modules(source))
-        lines += [f"## [{crate}](../{source.relative_to(ROOT)})\n"] if sections else []
+        lines += [f"## {crate}\n"] if sections else []
         for module, files in sections.items():
             for file, entries in files.items():
                 path = file.relative_to(source).as_posix()
                 folder, own = path.rpartition("/")[0], path.removesuffix(".rt")
                 public = f" in `{module}`" if module and module.replace("::", "/") not in (folder, own) else ""
-                lines += [f"`{path}`{public}", *described(entries), ""]
+                lines.append(f"- **{own}**{public} {described(entries)}")
+        lines += [""] if sections else []
     return "\n".join(lines).rstrip() + "\n"
 
 
