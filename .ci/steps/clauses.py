@@ -10,8 +10,8 @@ from .common import ROOT, crates, written
 PAGE = ROOT / "docs/CLAUSES.md"
 HEAD = """# Clauses
 
-Every public function with the names of its clauses, by crate and by file of `crates/CRATE/src/`. Crates of tests are left out.
-Step `clauses` makes this page from the sources, and the gate compares the two.
+Every public function with the names of its clauses, by crate and by file of `crates/CRATE/src/`. Callers and crates of tests
+are left out. Step `clauses` makes this page from the sources, and the gate compares the two.
 
 - The functions of a type or a trait stand behind its name. Behind a function stand its clauses in their order, and how its
   `///` begins, if that is short. What a clause states stands in the file. `read_u64 and _u32` are `read_u64` and `read_u32`.
@@ -26,7 +26,7 @@ Step `clauses` makes this page from the sources, and the gate compares the two.
 FUNCTION = re.compile(r"( *)(pub )?(?:const |final |unsafe |extern \"C\" )*fn (\w+)")
 CLAUSE = re.compile(r" *(requires|ensures)(?: (\w+))? \{")
 GHOST = re.compile(r"    ghost (\w+): \{")
-OF_TESTS = re.compile(r"faulty_io|conformance|.*_tests$")
+LEFT_OUT = re.compile(r"faulty_io|conformance|examples|.*_tests$")
 # characters
 SHORT = 30
 
@@ -202,7 +202,7 @@ def page():
     lines = [HEAD]
     for crate in crates():
         source = ROOT / "crates" / crate / "src"
-        sections = {} if OF_TESTS.match(crate) else listed(modules(source))
+        sections = {} if LEFT_OUT.match(crate) else listed(modules(source))
         lines += [f"## {crate}\n"] if sections else []
         for module, files in sections.items():
             for file, entries in files.items():

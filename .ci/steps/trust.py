@@ -1,6 +1,7 @@
-"""`trust [check]`: writes the tables of docs/TRUST.md from the sources, or says whether they are as these have them.
+"""`trust [check|names]`: writes the tables of docs/TRUST.md from the sources, or says whether they are as these have them, or
+prints them with the names of all definitions.
 
-They list definitions and types: those that contracts cite, those that these cite, and so on down to the toolchain's own, with
+They count definitions and types: those that contracts cite, those that these cite, and so on down to the toolchain's own, with
 their lines by crate, comments aside. The page's numbers of mutants are counted, too.
 """
 
@@ -44,8 +45,6 @@ TABLES = {
         "simplex_schemes/src/listed.rt": ["ghost is_value", "ghost fits", "ghost reading", "ghost encoding"],
     },
 }
-# the tables whose definitions are counted by files and not named
-COUNTED = {"others", "monitor"}
 # a relation that callers hand on and need not read
 HANDED_ON = {"Stands", "StandsFrom"}
 USE = re.compile(r"(?m)^ *(?:ghost |pub )*use Rattle\.(\w+)\.specs\.([\w.]+?)(?:\.\{([^}]*)\}| as (\w+))?;?$")
@@ -187,7 +186,7 @@ def table(cited, before, named):
         if (path, kind) not in before:
             lines[crate_of(path)] += count
             kinds.setdefault(crate_of(path), []).append(kind)
-    rows = ["| Crate | Lines | File of `specs/`: definitions | Types |", "|---|---|---|---|"]
+    rows = ["| Crate | Lines | Definitions by file | Types |", "|---|---|---|---|"]
     for crate in filter(lines.get, order):
         files = names.get(crate, {})
         listed = {file: f": `{', '.join(of)}`" if named else f" {len(of)}" for file, of in files.items()}
@@ -199,15 +198,20 @@ def table(cited, before, named):
     return "\n".join([*rows, f"| | {lines.total()} | {total} | {sum(map(len, kinds.values()))} types |"])
 
 
-def page(text):
-    """The text of the page with its tables and its numbers as the sources have them."""
+def tables(named):
+    """The rows of each table, by its name."""
     cited = Cited()
     for name, roots in TABLES.items():
         before = {*cited.definitions, *cited.types}
         for path, items in roots.items():
             for item in items:
                 cited.cite_root(path, item)
-        rows = table(cited, before, name not in COUNTED)
+        yield name, table(cited, before, named)
+
+
+def page(text):
+    """The text of the page with its tables and its numbers as the sources have them."""
+    for name, rows in tables(named=False):
         text, count = re.subn(rf"(?s)(<!-- {name} -->\n).*?(<!-- end -->)", lambda it: f"{it[1]}\n{rows}\n\n{it[2]}", text)
         if count != 1:
             fail(f"{PAGE.name} has no one table {name}")
@@ -216,5 +220,8 @@ def page(text):
     return re.sub(r"\d+(?=\s+in\s+`mutants/`)", str(left), text)
 
 
-def main(check=""):
-    return written(PAGE, page(PAGE.read_text()), check, "trust")
+def main(word=""):
+    if word == "names":
+        print(*(f"{name}\n{rows}" for name, rows in tables(named=True)), sep="\n\n")
+        return False
+    return written(PAGE, page(PAGE.read_text()), word, "trust")
