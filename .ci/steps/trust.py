@@ -191,7 +191,8 @@ def table(cited, before, named):
         files = names.get(crate, {})
         listed = {file: f": `{', '.join(of)}`" if named else f" {len(of)}" for file, of in files.items()}
         defined = ("; " if named else ", ").join(file + listed[file] for file in sorted(files))
-        types = f"`{', '.join(kinds[crate])}`" if crate in kinds else ""
+        types = kinds.get(crate, [])
+        types = f"`{', '.join(types)}`" if named and types else len(types) or ""
         rows.append(f"| {crate} | {lines[crate]} | {defined} | {types} |")
     every = [len(it) for files in names.values() for it in files.values()]
     total = f"{len(every)} files, {sum(every)} definitions"
