@@ -15,9 +15,9 @@ are left out. Step `clauses` makes this page from the sources, and the gate comp
 
 - The functions of a type or a trait stand behind its name. Behind a function stand its clauses in their order, and how its
   `///` begins, if that is short. What a clause states stands in the file. `read_u64 and _u32` are `read_u64` and `read_u32`.
-- Clauses are `ensures`, but those between `requires` and `;`. `_` is a condition without a name.
-- A function without parentheses has a clause without a name. Those without a clause are counted; they are still proved to be
-  safe and to end.
+- Clauses are `ensures`, but those before a semicolon, which are `requires`. `_` is one without a name.
+- A function without parentheses has an `ensures` without a name. Those without a clause are counted; they are still proved to
+  be safe and to end.
 - A function of a trait binds each implementation. `<T as Trait>` has those with clauses beyond the trait's. "Ghost" are members
   of a trait that are a meaning or a law.
 - A file, here without `.rt`, is public as a module, or by the module of its folder or the one behind it.
@@ -123,10 +123,10 @@ def exported(found):
 
 
 def names(clauses):
-    """The names of clauses in their order, conditions first."""
+    """The names of clauses in their order, conditions first, before a semicolon."""
     asked = [name or "_" for word, name in clauses if word == "requires"]
     said = [name for word, name in clauses if word == "ensures" and name]
-    return "; ".join([*([f"requires {', '.join(asked)}"] if asked else []), *([", ".join(said)] if said else [])])
+    return ", ".join(asked) + ";" * bool(asked) + " " * bool(asked and said) + ", ".join(said)
 
 
 def joined(members):
