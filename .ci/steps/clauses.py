@@ -10,17 +10,17 @@ from .common import ROOT, crates, written
 PAGE = ROOT / "docs/CLAUSES.md"
 HEAD = """# Clauses
 
-Every public function with the names of its clauses, by crate and by file of `crates/CRATE/src/`. Callers and crates of tests
-are left out. Step `clauses` makes this page from the sources, and the gate compares the two.
+Every public function with the names of its clauses, by crate and by file of `crates/CRATE/src/`, here without `.rt`. Callers
+and crates of tests are left out. Step `clauses` makes this page from the sources, and the gate compares the two.
 
-- The functions of a type or a trait stand behind its name. Behind a function stand its clauses in their order, and how its
-  `///` begins, if that is short. What a clause states stands in the file. `read_u64 and _u32` are `read_u64` and `read_u32`.
+- Behind a type or a trait stand its functions, behind a function its clauses in their order, and how its `///` begins, if that
+  is short. What a clause states stands in the file. `read_u64 and _u32` are `read_u64` and `read_u32`.
 - Clauses are `ensures`, but those before a semicolon, which are `requires`. `_` is one without a name.
 - A function without parentheses has an `ensures` without a name. Those without a clause are counted; they are still proved to
   be safe and to end.
 - A function of a trait binds each implementation. `<T as Trait>` has those with clauses beyond the trait's. "Ghost" are members
   of a trait that are a meaning or a law.
-- A file, here without `.rt`, is public as a module, or by the module of its folder or the one behind it.
+- A file is public as a module, or by the module of its folder or the one behind it.
 - A clause about a returned value says nothing after an allocation failure.
 """
 FUNCTION = re.compile(r"( *)(pub )?(?:const |final |unsafe |extern \"C\" )*fn (\w+)")
@@ -28,7 +28,7 @@ CLAUSE = re.compile(r" *(requires|ensures)(?: (\w+))? \{")
 GHOST = re.compile(r"    ghost (\w+): \{")
 LEFT_OUT = re.compile(r"faulty_io|conformance|examples|.*_tests$")
 # characters
-SHORT = 30
+SHORT = 20
 
 
 def sentence(doc):
