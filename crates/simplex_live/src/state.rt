@@ -12,7 +12,7 @@ use std::alloc::{AllocError, Global};
 const KIND: &[u8; 8] = b"simplex1";
 
 /// How many bytes the head of a state has.
-pub const HEAD: usize = 40;
+const HEAD: usize = 40;
 
 /// How many bytes stand in front of a record's body: its length, and SHA-256 of it.
 const FRAME: usize = 40;
@@ -40,6 +40,16 @@ pub struct Recovered {
     pub mark: Option<Mark>,
     /// The messages of all whole records, joined.
     pub held: Vec<u8>,
+}
+
+impl Recovered {
+    /// How many bytes of the input the state covers.
+    pub fn covers(&self) -> u64 {
+        match self.mark {
+            None => 0,
+            Some(mark) => mark.covers,
+        }
+    }
 }
 
 /// What a state of the committees that these words name begins with: 40 bytes. They are the kind of the file, and SHA-256 of
@@ -117,6 +127,16 @@ fn body(bytes: &[u8]) -> Option<(&[u8], usize)>
         return None;
     }
     Some((body, FRAME + size))
+}
+
+/// What stands at the start of a state for its head: the first 40 bytes, or all if these are a state's and fewer. `None` if the
+/// bytes are no state.
+pub fn head_of(bytes: &[u8]) -> Option<&[u8]> {
+    let kind = bytes.get(..KIND.len()).unwrap_or(bytes);
+    if !KIND.starts_with(kind) {
+        return None;
+    }
+    Some(bytes.get(..HEAD).unwrap_or(bytes))
 }
 
 /// What is left of a state of the committees whose head is given: its records up to the first that is not whole. `None` if the

@@ -1,7 +1,10 @@
 //! The files of a state. A state is written anew into another file, which takes its place, and then by appending records.
 
+ghost use Rattle.std.specs.Prelude.{IfErr};
+ghost use Rattle.simplex_live.specs.Ending.{IsOfWords};
+
 use crate::complaints::Trouble;
-use crate::state::{HEAD, Mark, Recovered, record, recover};
+use crate::state::{Mark, Recovered, head_of, record, recover};
 use std::alloc::Global;
 use std::fs;
 use std::fs::{File, Files, OpenOptions};
@@ -22,7 +25,9 @@ pub struct Store<'a, F: Files<File = File>> {
 }
 
 /// A path with a word behind it.
-fn beside(alloc: Global, path: &str, word: &str) -> Result<String, Trouble> {
+fn beside(alloc: Global, path: &str, word: &str) -> Result<String, Trouble>
+    ensures { IfErr result (λ trouble. ¬ IsOfWords trouble) }
+{
     let mut name = String::from_str(alloc, path)?;
     name.push_str(word)?;
     Ok(name)
@@ -35,7 +40,9 @@ pub fn look<F: Files<File = File>>(
     files: &F,
     path: &str,
     head: Option<&[u8]>,
-) -> Result<Recovered, Trouble> {
+) -> Result<Recovered, Trouble>
+    ensures { IfErr result (λ trouble. ¬ IsOfWords trouble) }
+{
     let mut bytes = Vec::new(alloc);
     match File::open(files, path) {
         Ok(mut file) => match file.read_to_end(&mut bytes) {
@@ -45,7 +52,9 @@ pub fn look<F: Files<File = File>>(
         Err(error) if error.kind() == ErrorKind::NotFound => {}
         Err(_) => return Err(Trouble::UnreadState),
     }
-    let own = bytes.get(..HEAD).unwrap_or(&[]);
+    let Some(own) = head_of(bytes.as_slice()) else {
+        return Err(Trouble::OtherState);
+    };
     match recover(alloc, head.unwrap_or(own), bytes.as_slice())? {
         Some(recovered) => Ok(recovered),
         None => Err(Trouble::OtherState),
@@ -59,7 +68,9 @@ impl<'a, F: Files<File = File>> Store<'a, F> {
         files: &'a F,
         path: &'a str,
         head: Vec<u8>,
-    ) -> Result<(Self, Recovered), Trouble> {
+    ) -> Result<(Self, Recovered), Trouble>
+        ensures { IfErr result (λ trouble. ¬ IsOfWords trouble) }
+    {
         let lock_path = beside(alloc, path, ".lock")?;
         let mut how = OpenOptions::new();
         how.write(true).create(true);
