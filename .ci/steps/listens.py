@@ -29,13 +29,15 @@ USAGE = (
     "usage: audit_live [--retain VIEWS] [--ahead VIEWS] [--keys FILE] [--state FILE] "
     "NAMESPACE KEY...|--verdicts BYTES PARTICIPANTS"
 )
+# What is said at once of a fault that stays.
+DROPPED = ": what follows is dropped"
 KILLS = 200
 
 
 def live(words, stream=b"", **how):
     """The status, the lines and what stands on standard error, without what was read and recorded."""
     status, out, err = run([LIVE, *words], stream, **how)
-    said = [line for line in err.decode().splitlines() if " messages read, " not in line]
+    said = [line for line in err.decode().splitlines() if " messages read, " not in line and not line.endswith(DROPPED)]
     return status, out.decode().splitlines(), said
 
 
@@ -100,6 +102,15 @@ def at_once():
         assert begun.wait() == 0 and begun.stdout.read() == b"", "nothing is told twice"
 
 
+def fault_at_once(keys, stream):
+    """A fault that stays is said while the input is open."""
+    with subprocess.Popen([LIVE, *keys], stdin=subprocess.PIPE, stdout=subprocess.DEVNULL, stderr=subprocess.PIPE) as begun:
+        begun.stdin.write(stream + b"\xff")
+        begun.stdin.flush()
+        assert come(begun.stderr, 1) == f"audit_live: fault at byte {len(stream)}{DROPPED}\n".encode()
+        begun.kill()
+
+
 def covers(state):
     status, out, err = run([LIVE, "--covers", state])
     assert (status, err) == (0, b""), err
@@ -161,7 +172,13 @@ def states(keys, stream, folder):
         assert live(words, stream) == (3, [], in_use)
         first.kill()
     other = ["audit_live: --state: the file is of other committees, or no state", USAGE]
-    assert live([*WIDE, "--state", state, *keys[:-1]], stream) == (2, [], other)
+    for changed in (keys[:-1], [*keys[:-1], "ff" * 32], [*keys, "ff" * 32], ["other", *keys[1:]], [keys[0], "@0", *keys[1:]]):
+        assert live([*WIDE, "--state", state, *changed], stream) == (2, [], other), changed
+    # Committees of further epochs may be added behind.
+    grows, groups = folder / "grows", [keys[0], "@0", *keys[1:]]
+    told = live([*WIDE, "--state", grows, *groups], stream)[1]
+    assert live([*WIDE, "--state", grows, *groups, "@1", keys[1]]) == (0, [], []) and told
+    assert live([*WIDE, "--state", grows, *groups], stream) == (2, [], other)
     (folder / "no").write_bytes(b"simplex" * 100)
     assert live([*WIDE, "--state", folder / "no", *keys], stream) == (2, [], other)
     assert live(["--covers", folder / "no"]) == (2, [], other)
@@ -183,7 +200,7 @@ def states(keys, stream, folder):
     same(out.decode().splitlines(), audit(keys, stream)[1])
     place = covers(full)
     assert live([*WIDE, "--state", full, *keys], stream[place:])[0] == 0 and covers(full) == len(stream)
-    return 8
+    return 15
 
 
 def verdicts():
@@ -259,10 +276,11 @@ def main():
     narrow = live(["--ahead", "0", *keys], stream)[1]
     assert set(narrow) <= set(audit(keys, stream)[1]), "the lines of a narrow window"
     at_once()
+    fault_at_once(keys, stream)
     count += verdicts()
     with tempfile.TemporaryDirectory() as folder:
         folder = pathlib.Path(folder)
         count += refused(keys, stream, folder) + states(keys, stream, folder) + cut(keys, stream, folder)
         twice = restarted(keys, streams("votes", 7, 400), folder, KILLS)
-    print(f"{count + 2} runs of audit_live as they should be, with {lines} lines")
+    print(f"{count + 3} runs of audit_live as they should be, with {lines} lines")
     print(f"{KILLS} kills lost none of them, {twice} came twice")

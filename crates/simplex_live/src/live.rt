@@ -14,7 +14,6 @@ use crate::keeping::Keeper;
 use crate::key_file::words_of_file;
 use crate::listening::{Totals, begin, listen, resume};
 use crate::options::{Options, parse_options};
-use crate::state::head;
 use crate::store::{Store, look};
 use crate::texts::{HELP, USAGE, VERSION};
 use crate::words::wrong_word;
@@ -68,7 +67,7 @@ fn hear<S: Named + Listing<Sha256Digest>, F: Files<File = File>, R: Read, W: Wri
         let mut keeper = Keeper::<F, E>::new(alloc, None, errors, 0, 0);
         return listen(alloc, monitor, &mut keeper, 0, 0, input, output);
     };
-    let (store, recovered) = Store::take(alloc, files, path, head(alloc, words)?)?;
+    let (store, recovered) = Store::take(alloc, files, path, words)?;
     let monitor = resume::<S, Sha256Digest>(alloc, &committees, options, &recovered)?;
     let (skipped, base) = (recovered.held.len(), recovered.covers());
     let mut keeper = Keeper::new(alloc, Some(store), errors, base, skipped);

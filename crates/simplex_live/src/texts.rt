@@ -4,7 +4,8 @@
 pub const VERSION: &str = "audit_live 0.3.0\n";
 
 /// How the program is used.
-pub const USAGE: &str = "usage: audit_live [--retain VIEWS] [--ahead VIEWS] [--keys FILE] [--state FILE] \
+pub const USAGE: &str =
+    "usage: audit_live [--retain VIEWS] [--ahead VIEWS] [--keys FILE] [--state FILE] \
     NAMESPACE KEY...|--verdicts BYTES PARTICIPANTS\n";
 
 /// What `audit_live --help` writes behind the line of use.
