@@ -21,17 +21,23 @@ import tempfile
 import time
 
 from .common import ROOT, build, expect, program, run, streams
+from .inspects import with_verdicts
 
 LIVE = program("audit_live")
 WIDE = ["--retain", "18446744073709551615", "--ahead", "1000000"]
-USAGE = "usage: audit_live [--retain VIEWS] [--ahead VIEWS] [--keys FILE] [--state FILE] NAMESPACE KEY...|--verdicts BYTES PARTICIPANTS"
+USAGE = (
+    "usage: audit_live [--retain VIEWS] [--ahead VIEWS] [--keys FILE] [--state FILE] "
+    "NAMESPACE KEY...|--verdicts BYTES PARTICIPANTS"
+)
+# What is said at once of a fault that stays.
+DROPPED = ": what follows is dropped"
 KILLS = 200
 
 
 def live(words, stream=b"", **how):
     """The status, the lines and what stands on standard error, without what was read and recorded."""
     status, out, err = run([LIVE, *words], stream, **how)
-    said = [line for line in err.decode().splitlines() if " messages read, " not in line]
+    said = [line for line in err.decode().splitlines() if " messages read, " not in line and not line.endswith(DROPPED)]
     return status, out.decode().splitlines(), said
 
 
@@ -96,6 +102,15 @@ def at_once():
         assert begun.wait() == 0 and begun.stdout.read() == b"", "nothing is told twice"
 
 
+def fault_at_once(keys, stream):
+    """A fault that stays is said while the input is open."""
+    with subprocess.Popen([LIVE, *keys], stdin=subprocess.PIPE, stdout=subprocess.DEVNULL, stderr=subprocess.PIPE) as begun:
+        begun.stdin.write(stream + b"\xff")
+        begun.stdin.flush()
+        assert come(begun.stderr, 1) == f"audit_live: fault at byte {len(stream)}{DROPPED}\n".encode()
+        begun.kill()
+
+
 def covers(state):
     status, out, err = run([LIVE, "--covers", state])
     assert (status, err) == (0, b""), err
@@ -129,10 +144,10 @@ def restarted(keys, stream, folder, kills):
 def cut(keys, stream, folder):
     """A state that is cut at every byte can be read, and from where it says nothing is lost."""
     state, whole = folder / "cut", folder / "whole"
-    half = len(stream) // 2
-    for piece in (stream[:half], stream[half:]):
+    # The first run ends within a message, or behind one.
+    for end in (len(stream) // 2, len(stream)):
         place = covers(whole) if whole.exists() else 0
-        assert live([*WIDE, "--state", whole, *keys], (stream[:half] + piece if piece != stream[:half] else piece)[place:])[0] == 0
+        assert live([*WIDE, "--state", whole, *keys], stream[place:end])[0] <= (end < len(stream))
     bytes_of, lines, count = whole.read_bytes(), audit(keys, stream)[1], 0
     for size in range(0, len(bytes_of), max(1, len(bytes_of) // 200)):
         state.write_bytes(bytes_of[:size])
@@ -157,9 +172,16 @@ def states(keys, stream, folder):
         assert live(words, stream) == (3, [], in_use)
         first.kill()
     other = ["audit_live: --state: the file is of other committees, or no state", USAGE]
-    assert live([*WIDE, "--state", state, *keys[:-1]], stream) == (2, [], other)
+    for changed in (keys[:-1], [*keys[:-1], "ff" * 32], [*keys, "ff" * 32], ["other", *keys[1:]], [keys[0], "@0", *keys[1:]]):
+        assert live([*WIDE, "--state", state, *changed], stream) == (2, [], other), changed
+    # Committees of further epochs may be added behind.
+    grows, groups = folder / "grows", [keys[0], "@0", *keys[1:]]
+    told = live([*WIDE, "--state", grows, *groups], stream)[1]
+    assert live([*WIDE, "--state", grows, *groups, "@1", keys[1]]) == (0, [], []) and told
+    assert live([*WIDE, "--state", grows, *groups], stream) == (2, [], other)
     (folder / "no").write_bytes(b"simplex" * 100)
     assert live([*WIDE, "--state", folder / "no", *keys], stream) == (2, [], other)
+    assert live(["--covers", folder / "no"]) == (2, [], other)
     assert (folder / "no").read_bytes() == b"simplex" * 100, "what is no state stays"
     unread = ["audit_live: --state: the state cannot be written"]
     assert live([*WIDE, "--state", folder / "none" / "state", *keys], stream) == (3, [], unread)
@@ -178,20 +200,41 @@ def states(keys, stream, folder):
     same(out.decode().splitlines(), audit(keys, stream)[1])
     place = covers(full)
     assert live([*WIDE, "--state", full, *keys], stream[place:])[0] == 0 and covers(full) == len(stream)
-    return 8
+    return 15
+
+
+def verdicts():
+    """Lines of a stream whose signatures the caller verified: those whose verdict is 01 alone."""
+    count = 0
+    for size in (48, 64, 96):
+        data = b"".join(with_verdicts(size, 0))
+        for who in (["4"], ["@0", "4", "@7", "9"], ["@4", "4"]):
+            lines = live([*WIDE, "--verdicts", str(size), *who], data)[1]
+            accused = [f"0 3 {signer} conflicting-notarize" for signer in (0, 1) if who[0] != "@4"]
+            assert [" ".join(it.split()[:4]) for it in lines] == accused, (who, lines)
+            count += 1
+    return count
 
 
 def refused(keys, stream, folder):
     """Arguments that are not as they should be, each named; devices that fail; how many."""
-    number, key = "an option has no number or no file behind it", "neither a key nor @EPOCH"
-    none = "no committees: one has no key, a key stands in one twice, or the epochs do not rise"
+    number = "an option has no number or no file behind it"
+    order = "an option is unknown, stands twice, or stands behind one that comes later"
+    size = "--verdicts: neither 48 nor 64 nor 96"
+    none = "no committees: one is empty, a key stands in one twice, or the epochs do not rise"
+
+    def word(place):
+        return f"word {place} behind the options: neither @EPOCH nor a key, or behind --verdicts a number of participants"
+
     wrong = (
-        ([], number), (["--retain"], number), (["--ahead"], number), (["--retain", "01", *keys], number),
-        (["--retain", "-1", *keys], number), (["--ahead", "18446744073709551616", *keys], number), (["--keys"], number),
-        (["--retain", "1"], none), ([keys[0]], none), ([*keys, keys[1]], none), ([*keys, "key"], f"word {len(keys) + 1} behind the options: {key}"),
-        (["--ahead", "1", "--retain", "1", *keys], f"word 2 behind the options: {key}"),
-        (["--Retain", "1", *keys], f"word 2 behind the options: {key}"),
-        ([keys[0], "@2", keys[1], "@1", keys[2]], none),
+        ([], none), (["--retain"], number), (["--ahead"], number), (["--keys"], number), (["--state"], number),
+        (["--covers"], number), (["--retain", "01", *keys], number), (["--retain", "-1", *keys], number),
+        (["--ahead", "18446744073709551616", *keys], number), (["--ahead", "1", "--retain", "1", *keys], order),
+        (["--Retain", "1", *keys], order), (["--retain", "1", "--retain", "1", *keys], order),
+        (["--verdicts"], size), (["--verdicts", "65", "4"], size), (["--verdicts", "64", "0"], word(3)),
+        (["--verdicts", "64", "@1", "4", "x"], word(5)), (["--verdicts", "64", "4", "4"], none), (["--verdicts", "64"], none),
+        ([*keys, "key"], word(len(keys) + 1)), ([keys[0], "@x", *keys[1:]], word(2)), (["--retain", "1"], none),
+        ([keys[0]], none), ([*keys, keys[1]], none), ([keys[0], "@2", keys[1], "@1", keys[2]], none), ([keys[0], "@1"], none),
     )
     for words, said in wrong:
         assert live(words, stream) == (2, [], [f"audit_live: {said}", USAGE]), (words, live(words, stream))
@@ -233,8 +276,11 @@ def main():
     narrow = live(["--ahead", "0", *keys], stream)[1]
     assert set(narrow) <= set(audit(keys, stream)[1]), "the lines of a narrow window"
     at_once()
+    fault_at_once(keys, stream)
+    count += verdicts()
     with tempfile.TemporaryDirectory() as folder:
         folder = pathlib.Path(folder)
         count += refused(keys, stream, folder) + states(keys, stream, folder) + cut(keys, stream, folder)
         twice = restarted(keys, streams("votes", 7, 400), folder, KILLS)
-    print(f"{count + 2} runs of audit_live as they should be, with {lines} lines; {KILLS} kills lost none of them, {twice} came twice")
+    print(f"{count + 3} runs of audit_live as they should be, with {lines} lines")
+    print(f"{KILLS} kills lost none of them, {twice} came twice")

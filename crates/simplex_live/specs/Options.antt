@@ -1,9 +1,10 @@
 -- What the arguments of `audit_live` begin with.
-use Rattle.std.specs.Prelude.{◌≡◌, ◌⊎◌, ℕ, ◌-◌, ◌<◌, ◌^◌, List, ◌∷◌, Option, None, Some, codes, decimal, max, min}
+use Rattle.std.specs.Prelude.{⊥, ◌≡◌, ◌⊎◌, ℕ, ◌-◌, ◌<◌, ◌^◌, List, ◌∷◌, Option, None, Some, codes, decimal, max, min, option_map}
 use Rattle.simplex_lead.specs.declared.lookahead.Lookahead.{Lookahead}
 use Rattle.simplex_detector.specs.Independence.{first_round}
 use Rattle.simplex_monitor.specs.Window.{first_window}
 use Rattle.simplex_monitor.specs.declared.window.Window.{Window}
+use Rattle.simplex_live.specs.declared.options.Options.{Options}
 
 -- the words begin with an option
 abbrev pub BeginWith : List ℕ → List (List ℕ) → Type 0
@@ -33,3 +34,10 @@ lookahead_of ahead = record { term_length = max (min ahead (2 ^ 32 - 1)) 1; opti
 -- the window of `audit_live` as it begins
 abbrev pub window_of : ℕ → ℕ → Window
 window_of retained ahead = first_window first_round retained (lookahead_of ahead)
+
+-- the words are the options, each in its place if it is there, and words behind them
+abbrev pub AreBehindOptions : List (List ℕ) → Options → List (List ℕ) → Type 0
+AreBehindOptions words options behind =
+    (files states : List (List ℕ)) × AreBehindWindow words options.retained options.ahead files
+    × AreBehindFile (codes "--keys") files (option_map (λ f. f.now) options.keys) states
+    × AreBehindFile (codes "--state") states (option_map (λ f. f.now) options.state) behind

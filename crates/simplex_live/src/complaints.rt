@@ -1,7 +1,9 @@
 //! What `audit_live` says on standard error.
 
 ghost use Rattle.std.specs.Prelude.{◌≡◌};
+ghost use Rattle.simplex_live.specs.Ending.{status_of_trouble};
 
+use crate::texts::USAGE;
 use itoa::Buffer;
 use simplex_audit::audit::{RunError, Watched};
 use simplex_cli::command::say;
@@ -16,9 +18,11 @@ pub enum Trouble {
     Usage,
     /// Behind `--verdicts` stands no size of a signature.
     Size,
-    /// Of the words that name committees the one with this number, from 1, is neither a key nor `@` and an epoch.
+    /// The words name no committees, and the first of them begins with `--`.
+    Order,
+    /// The words name no committees: the one with this number, from 1, is neither a participant nor `@` and an epoch.
     Word(usize),
-    /// The words name no committees: a committee has no key, a key stands in it twice, or the epochs do not rise.
+    /// The words name no committees: one has no participant, a key stands in one twice, or the epochs do not rise.
     Committees,
     /// The file of keys cannot be read, or is not UTF-8.
     KeyFile,
@@ -68,13 +72,15 @@ impl From<RunError> for Trouble {
 
 impl Trouble {
     /// The status that the program ends with: `Usage` for what its arguments name, else `Failed`.
-    pub fn status(self) -> Status {
+    pub fn status(self) -> Status
+        ensures { result ≡ status_of_trouble self }
+    {
         match self {
             Trouble::Run(failure) => failure.status(),
-            Trouble::StateInUse | Trouble::UnreadState | Trouble::UnwrittenState => Status::Failed,
-            Trouble::KeyFile => Status::Failed,
-            Trouble::Usage | Trouble::Size | Trouble::Word(_) => Status::Usage,
-            Trouble::Committees | Trouble::OtherState => Status::Usage,
+            Trouble::KeyFile | Trouble::StateInUse => Status::Failed,
+            Trouble::UnreadState | Trouble::UnwrittenState => Status::Failed,
+            Trouble::Usage | Trouble::Size | Trouble::Order => Status::Usage,
+            Trouble::Word(_) | Trouble::Committees | Trouble::OtherState => Status::Usage,
         }
     }
 
@@ -83,9 +89,12 @@ impl Trouble {
         match self {
             Trouble::Usage => "an option has no number or no file behind it",
             Trouble::Size => "--verdicts: neither 48 nor 64 nor 96",
-            Trouble::Word(_) => "neither a key nor @EPOCH",
+            Trouble::Order =>
+                "an option is unknown, stands twice, or stands behind one that comes later",
+            Trouble::Word(_) =>
+                "neither @EPOCH nor a key, or behind --verdicts a number of participants",
             Trouble::Committees => {
-                "no committees: one has no key, a key stands in one twice, or the epochs do not rise"
+                "no committees: one is empty, a key stands in one twice, or the epochs do not rise"
             }
             Trouble::KeyFile => "--keys: the file cannot be read",
             Trouble::StateInUse => "--state: another program has the state",
@@ -120,10 +129,6 @@ pub fn complain<E: Write>(errors: &mut Watched<E>, trouble: Trouble) {
     say(errors, trouble.text().as_bytes());
     say(errors, b"\n");
     if trouble.status() == Status::Usage {
-        say(errors, USAGE);
+        say(errors, USAGE.as_bytes());
     }
 }
-
-/// How the program is used.
-pub const USAGE: &[u8] =
-    b"usage: audit_live [--retain VIEWS] [--ahead VIEWS] [--keys FILE] [--state FILE] NAMESPACE KEY...|--verdicts BYTES PARTICIPANTS\n";

@@ -1,4 +1,5 @@
-//! What `audit_live` does behind each look: it keeps a state on disk, and says once that no vote is valid.
+//! What `audit_live` does behind each look: it keeps a state on disk, says once that no vote is valid, and once that nothing
+//! that follows can be read.
 
 ghost use Rattle.std.specs.Prelude.{◌≡◌, List, ℕ};
 ghost use Rattle.simplex_detector.specs.Alarm.{Told};
@@ -47,6 +48,8 @@ pub struct Keeper<'a, F: Files<File = File>, E: Write> {
     short: usize,
     /// Whether enough messages came to say whether votes are valid.
     judged: bool,
+    /// Whether it was said that nothing that follows can be read.
+    over: bool,
     /// Whether a failure to write the state was said.
     said: bool,
 }
@@ -81,6 +84,7 @@ impl<'a, F: Files<File = File>, E: Write> Keeper<'a, F, E> {
             written: 0,
             short: 0,
             judged: false,
+            over: false,
             said: false,
         }
     }
@@ -103,6 +107,17 @@ impl<'a, F: Files<File = File>, E: Write> Keeper<'a, F, E> {
             self.errors,
             b" messages: is the namespace right, and are the keys?\n",
         );
+    }
+
+    /// Says once that nothing that follows can be read, and from which byte of the input on.
+    fn stop<S: Listing<D>, D: Digest>(&mut self, monitor: &Monitor<'_, S, D>) {
+        if self.over || !monitor.is_over() {
+            return;
+        }
+        self.over = true;
+        say(self.errors, b"audit_live: fault at byte ");
+        say_number(self.errors, mark(monitor, self.base, self.skipped).covers);
+        say(self.errors, b": what follows is dropped\n");
     }
 
     /// Writes to the state what is new: by appending it, or anew once what is held has doubled.
@@ -164,6 +179,7 @@ impl<'a, F: Files<File = File>, E: Write, S: Listing<D>, D: Digest> Hook<S, D>
     for Keeper<'a, F, E> {
     fn looked(&mut self, monitor: &mut Monitor<'_, S, D>, told: bool) {
         self.judge(monitor);
+        self.stop(monitor);
         if told || monitor.place().saturating_sub(self.place) >= DUE {
             self.keep(monitor);
         }

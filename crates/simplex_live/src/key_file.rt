@@ -1,10 +1,30 @@
 //! Files of keys.
 
+use crate::complaints::Trouble;
 use std::alloc::{AllocError, Global};
+use std::fs::{File, Files};
+use std::io::Read;
 
-/// Words, and then those of a text, which are parted by white space. The text's lines that begin with `#` are left out.
-/// `AllocError` only where an allocation failed.
-pub fn named_words(alloc: Global, words: &[String], text: &str) -> Result<Vec<String>, AllocError> {
+/// Words, and then those of a file: they are parted by white space, and lines that begin with `#` are left out. `KeyFile` if
+/// the file cannot be read or is not UTF-8, and `Run` if an allocation failed.
+pub fn words_of_file<F: Files<File = File>>(
+    alloc: Global,
+    files: &F,
+    path: &str,
+    words: &[String],
+) -> Result<Vec<String>, Trouble> {
+    let Ok(mut file) = File::open(files, path) else {
+        return Err(Trouble::KeyFile);
+    };
+    let mut text = String::new(alloc);
+    if file.read_to_string(&mut text).is_err() {
+        return Err(Trouble::KeyFile);
+    }
+    Ok(named_words(alloc, words, text.as_str())?)
+}
+
+/// Words, and then those of a text. `AllocError` only where an allocation failed.
+fn named_words(alloc: Global, words: &[String], text: &str) -> Result<Vec<String>, AllocError> {
     let mut named = Vec::new(alloc);
     'words: for word in words {
         named.push(String::from_str(alloc, word.as_str())?)?;

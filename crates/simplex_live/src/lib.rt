@@ -1,10 +1,12 @@
 //! The program `audit_live` as a function over its arguments, its files and any reader and writers. [`options`] has what its
-//! arguments begin with, and [`key_file`] what a file of keys names. [`listening`] listens to the input and writes each line at
-//! once; [`keeping`] does so and keeps a state on disk, whose bytes [`state`] has and whose files [`store`]. [`live`] puts them
-//! together, and [`complaints`] has what it says then.
+//! arguments begin with, [`key_file`] what a file of keys names, and [`words`] which word is wrong. [`listening`] listens to
+//! the input, with a window as it begins or from where a state was. [`keeping`] keeps the state, whose bytes [`state`] has and
+//! whose files [`store`]. [`live`] puts them together; [`complaints`] and [`texts`] have what it says. [`judging`] is for
+//! contracts alone.
 #![tactic(auto)]
 
 pub mod complaints;
+pub mod judging;
 pub mod keeping;
 pub mod key_file;
 pub mod listening;
@@ -12,3 +14,5 @@ pub mod live;
 pub mod options;
 pub mod state;
 pub mod store;
+pub mod texts;
+pub mod words;

@@ -1,25 +1,33 @@
-//! Listens to an input under committees, with a window.
+//! Listens to an input under committees: with a window as it begins, or from where a state was.
 
-ghost use Rattle.std.specs.Prelude.{◌≡◌, ◌↔◌, false, Err, IfOk, IsTrue, OnErr, OnOk};
-ghost use Rattle.simplex_stream.specs.Watched.{has_failed, is_flushed};
+ghost use Rattle.std.specs.Prelude.{◌≡◌, ◌⊎◌, [], false, true, Err, IfErr, IfOk, IfSome, IsTrue, None, OnErr, option_map};
+ghost use Rattle.std.specs.Io.KnownBytes.{Keeps};
+ghost use Rattle.simplex_live.specs.Ending.{IsOfWords};
+ghost use Rattle.simplex_live.specs.Listening.{AddsUp, IsHeard, IsHeardInPart, IsReady, behind_state, moved};
+ghost use Rattle.simplex_live.specs.Options.{lookahead_of, window_of};
+ghost use Rattle.simplex_stream.specs.Watched.{has_failed, inner_of};
 ghost use Rattle.simplex_audit.specs.Outcome.{reader_use, writer_use};
-ghost use Rattle.simplex_live.specs.Listening.{IsHeard, IsHeardInPart};
-ghost use Rattle.simplex_live.specs.Options.{window_of};
 
-use crate::options::lookahead;
-use simplex_audit::audit::{Fault, RunError, Watched};
+use crate::complaints::Trouble;
+use crate::keeping::Keeper;
+use crate::options::{Options, lookahead};
+use crate::state::{Mark, Recovered};
+use simplex_audit::audit::{Fault, Watched};
 use simplex_audit::basis::Audited;
 use simplex_base::positions::{Epoch, Round, View, ViewDelta};
-use simplex_monitor::input::{Hook, monitor_input};
+use simplex_cli::status::Failure;
+use simplex_monitor::input::monitor_input;
 use simplex_monitor::monitor::Monitor;
+use simplex_monitor::window::Window;
 use simplex_scheme::committees::Committees;
 use simplex_scheme::scheme::{Digest, Listing};
 use std::alloc::{AllocError, Global};
+use std::fs::{File, Files};
 use std::io::{Read, Write};
 
-/// What was heard of an input.
+/// What was heard of an input, in numbers.
 #[derive(Clone, Copy, Debug)]
-pub struct Heard {
+pub struct Totals {
     /// Where the input stops being messages, if it does.
     pub fault: Option<Fault>,
     /// How many messages were read.
@@ -32,55 +40,156 @@ pub struct Heard {
     pub above: u64,
 }
 
-/// Listens to the input with a window of so many retained views and so many ahead, and writes each line at once. The hook is
-/// called behind each look. Returns the monitor, which has told all that arose. `Read` exactly if a read failed, `Write` exactly if a write or a flush failed; `OutOfMemory` if an
-/// allocation failed, and `TooLong` if the input has more than 2^64 - 1 bytes.
-pub fn listen<'a, S: Listing<D>, D: Digest, R: Read, W: Write, H: Hook<S, D>>(
-    alloc: Global,
-    committees: &'a Committees<S>,
-    retained: u64,
-    ahead: u64,
-    input: &mut Watched<R>,
-    output: &mut Watched<W>,
-    hook: &mut H,
-) -> Result<Monitor<'a, S, D>, RunError>
-    requires input_well { has_failed input.old ≡ false }
-    requires output_well { has_failed output.old ≡ false }
-    ensures whole { IfOk result (IsHeard ⟦<S as Audited<D>>⟧.basis D.bytes_of
-        (window_of retained ahead) committees.now
-        (reader_use R.remaining input.old input.new)
-        (writer_use W.contents output.old output.new)) }
-    ensures begun { OnErr result (IsHeardInPart ⟦<S as Audited<D>>⟧.basis D.bytes_of
-        (window_of retained ahead) committees.now
-        (reader_use R.remaining input.old input.new)
-        (writer_use W.contents output.old output.new)) }
-    ensures flushed { OnOk result (IsTrue (is_flushed output.new)) }
-    ensures read_failed { IsTrue (has_failed input.new) ↔ (result ≡ Err RunError.Read) }
-    ensures write_failed { IsTrue (has_failed output.new) ↔ (result ≡ Err RunError.Write) }
+/// Where the window was that the options name: as it begins, or where a state was.
+fn window_at(options: &Options<'_>, mark: Option<Mark>) -> Window
+    ensures first { mark ≡ None → result ≡ window_of options.now.retained options.now.ahead }
+    ensures later { IfSome mark (λ mark. result ≡ record {
+      finalized = mark.finalized;
+      current = mark.current;
+      ended = mark.ended;
+      view_retention = options.now.retained;
+      lookahead = lookahead_of options.now.ahead;
+    }) }
+    ensures retains { result.view_retention ≡ options.now.retained }
+    ensures looks { result.lookahead ≡ lookahead_of options.now.ahead }
 {
     let first = Round::new(Epoch::new(0), View::zero());
-    let monitor = Monitor::<S, D>::new(
+    let (finalized, current, ended) = match mark {
+        None => (first, first, first),
+        Some(mark) => (mark.finalized, mark.current, mark.ended),
+    };
+    Window {
+        finalized,
+        current,
+        ended,
+        view_retention: ViewDelta::new(options.retained),
+        lookahead: lookahead(options.ahead),
+    }
+}
+
+/// A monitor that was fed nothing, with the window that the options name.
+pub fn begin<'a, S: Listing<D>, D: Digest>(
+    alloc: Global,
+    committees: &'a Committees<S>,
+    options: &Options<'_>,
+) -> Monitor<'a, S, D>
+    ensures { IsReady ⟦<S as Audited<D>>⟧.basis options.now.retained options.now.ahead false []
+        committees.now result }
+{
+    let first = Round::new(Epoch::new(0), View::zero());
+    Monitor::<S, D>::new(
         alloc,
         committees,
         first,
-        ViewDelta::new(retained),
-        lookahead(ahead),
-    );
-    let heard = monitor_input(alloc, monitor, input, output, hook)?;
-    Ok(heard)
+        ViewDelta::new(options.retained),
+        lookahead(options.ahead),
+    )
 }
 
-/// What a monitor heard. `AllocError` only if an allocation failed.
-pub fn sum<S: Listing<D>, D: Digest>(
+/// A monitor that took what a state held, with the options' window where the state was, and holds it. What arose there was
+/// told. `OtherState` if what was held are no messages of these committees, or the window is none.
+pub fn resume<'a, S: Listing<D>, D: Digest>(
+    alloc: Global,
+    committees: &'a Committees<S>,
+    options: &Options<'_>,
+    recovered: &Recovered,
+) -> Result<Monitor<'a, S, D>, Trouble>
+    ensures ready { IfOk result (IsReady ⟦<S as Audited<D>>⟧.basis options.now.retained options.now.ahead
+        true recovered.now.held.items committees.now) }
+    ensures error { IfErr result (λ trouble. ¬ IsOfWords trouble) }
+{
+    let window = window_at(options, recovered.mark);
+    if !window.is_in_order() {
+        return Err(Trouble::OtherState);
+    }
+    let monitor = Monitor::<S, D>::holding(alloc, committees, window);
+    let mut monitor = monitor.feed(recovered.held.as_slice())?;
+    monitor.news();
+    if monitor.place() != recovered.held.len() {
+        return Err(Trouble::OtherState);
+    }
+    Ok(monitor)
+}
+
+/// Listens to the input with a monitor, and writes each line at once. The keeper is called before, behind each look, and behind
+/// the last. What the monitor read before are so many bytes of a state that covers so many bytes of the input. `Run` if a read,
+/// a write, a flush or an allocation failed, or the input has more than 2^64 - 1 bytes, and `UnwrittenState` if the state could
+/// not be written at the start or at the end.
+pub fn listen<'a, S: Listing<D>, D: Digest, F: Files<File = File>, R: Read, W: Write, E: Write>(
+    alloc: Global,
+    monitor: Monitor<'a, S, D>,
+    keeper: &mut Keeper<'_, F, E>,
+    skipped: usize,
+    base: u64,
+    input: &mut Watched<R>,
+    output: &mut Watched<W>,
+) -> Result<Totals, Trouble>
+    requires input_well { has_failed input.old ≡ false }
+    requires output_well { has_failed output.old ≡ false }
+    ensures whole { IfOk result (IsHeard ⟦<S as Audited<D>>⟧.basis D.bytes_of
+        (reader_use R.remaining input.old input.new)
+        (writer_use W.contents output.old output.new) monitor.entry skipped base) }
+    ensures begun { OnErr result (Keeps (W.contents (inner_of output.old)) (W.contents (inner_of output.new))
+        ⊎ IsHeardInPart ⟦<S as Audited<D>>⟧.basis D.bytes_of
+        (reader_use R.remaining input.old input.new)
+        (writer_use W.contents output.old output.new) monitor.entry) }
+    ensures error { IfErr result (λ trouble. ¬ IsOfWords trouble) }
+    ensures read_failed { IsTrue (has_failed input.new) → result ≡ Err (Trouble.Run Failure.Read) }
+    ensures write_failed { IsTrue (has_failed output.new) → result ≡ Err (Trouble.Run Failure.Write) }
+{
+    let mut monitor = monitor;
+    let before = monitor.read();
+    if !keeper.keep(&mut monitor) {
+        return Err(Trouble::UnwrittenState);
+    }
+    let mut monitor = monitor_input(alloc, monitor, input, output, keeper)?;
+    if !keeper.keep(&mut monitor) {
+        return Err(Trouble::UnwrittenState);
+    }
+    let all = add_up(alloc, &monitor)?;
+    Ok(behind_state(all, skipped, before, base))
+}
+
+/// What a monitor heard, in numbers. `AllocError` only if an allocation failed.
+fn add_up<S: Listing<D>, D: Digest>(
     alloc: Global,
     monitor: &Monitor<'_, S, D>,
-) -> Result<Heard, AllocError> {
+) -> Result<Totals, AllocError>
+    ensures { IfOk result (AddsUp ⟦<S as Audited<D>>⟧.basis monitor.now) }
+{
     let fault = monitor.fault(alloc)?;
-    Ok(Heard {
+    Ok(Totals {
         fault,
         read: monitor.read(),
         votes: monitor.votes(),
         below: monitor.below(),
         above: monitor.above(),
     })
+}
+
+/// The totals of an input behind a state of so many bytes and messages, which covers so many bytes of it.
+fn behind_state(all: Totals, held: usize, before: usize, base: u64) -> Totals
+    ensures { result ≡ behind_state held before base all }
+{
+    Totals {
+        fault: moved(all.fault, held, base),
+        read: all.read.saturating_sub(before),
+        ..all
+    }
+}
+
+/// A fault behind a state of so many bytes, as a fault of the input, of which so many bytes were read before.
+fn moved(fault: Option<Fault>, held: usize, base: u64) -> Option<Fault>
+    ensures { result ≡ option_map (moved held base) fault }
+{
+    match fault {
+        None => None,
+        Some(fault) => Some(Fault {
+            place: fault
+                .place
+                .saturating_sub(held)
+                .saturating_add(base as usize),
+            error: fault.error,
+        }),
+    }
 }

@@ -1,32 +1,34 @@
 //! `audit_live` as a function over its arguments, its files and its streams.
 
-ghost use Rattle.std.specs.Prelude.{◌≡◌, ◌≤◌, None, IfOk, IfSome, false, length};
-ghost use Rattle.simplex_live.specs.Options.{lookahead_of, window_of};
+ghost use Rattle.std.specs.Prelude.{◌≡◌, false, Err, IfOk, IfSome, IsTrue, OnErr, map, string_bytes};
+ghost use Rattle.std.specs.Vec.Iter.{into_iter_items};
+ghost use Rattle.simplex_audit.specs.Outcome.{reader_use, writer_use};
+ghost use Rattle.simplex_cli.specs.Arguments.{words_of};
+ghost use Rattle.simplex_cli.specs.Status.{number_of};
+ghost use Rattle.simplex_live.specs.Ending.{AskForText, BehindEnd, HearingEnds, LiveEnding, LiveEnds, WordsEnd, status_of_live};
 ghost use Rattle.simplex_stream.specs.Watched.{has_failed};
 
-use crate::complaints::{Trouble, USAGE, complain, say_number};
+use crate::complaints::{Trouble, complain, say_number};
+use crate::judging::{Inputs, Judging};
 use crate::keeping::Keeper;
-use crate::key_file::named_words;
-use crate::listening::{Heard, listen, sum};
-use crate::options::{lookahead, parse_file, parse_window};
-use crate::state::{Mark, Recovered, head};
+use crate::key_file::words_of_file;
+use crate::listening::{Totals, begin, listen, resume};
+use crate::options::{Options, parse_options};
 use crate::store::{Store, look};
+use crate::texts::{HELP, USAGE, VERSION};
+use crate::words::wrong_word;
 use itoa::Buffer;
-use simplex_audit::audit::{Fault, Watched};
+use simplex_audit::audit::Watched;
+use simplex_audit::basis::Audited;
 use simplex_audit::run::write_text;
-use simplex_base::codec::fixed_bytes::Role;
-use simplex_base::positions::{Epoch, Round, View, ViewDelta};
-use simplex_cli::arguments;
 use simplex_cli::arguments::parse_committees;
 use simplex_cli::command::say;
+use simplex_cli::naming::Named;
 use simplex_cli::start::{no_arguments, without_name};
 use simplex_cli::status::{Failure, Status};
 use simplex_cli::verdicts::{SignatureSize, parse_verdicts};
-use simplex_monitor::input::monitor_input;
-use simplex_monitor::monitor::Monitor;
-use simplex_monitor::window::Window;
-use simplex_scheme::committees::Committees;
 use simplex_scheme::scheme::{Listing, Sha256Digest};
+use simplex_schemes::plain::Plain;
 use simplex_schemes::vouched::{Role48, Role64, Role96, Vouched};
 use std::alloc::Global;
 use std::env::Args;
@@ -34,248 +36,45 @@ use std::fs::{File, Files};
 use std::io;
 use std::io::{Read, Write};
 
-/// What the options of `audit_live` say.
-#[derive(Clone, Copy, Debug)]
-pub struct Options<'a> {
-    /// How many views before the finalized one are retained.
-    pub retained: u64,
-    /// How many views ahead votes are taken.
-    pub ahead: u64,
-    /// The file of keys.
-    pub keys: Option<&'a str>,
-    /// The file of the state.
-    pub state: Option<&'a str>,
-}
-
-/// What the arguments begin with, and how many these are.
-fn parse_options(words: &[String]) -> Result<(Options<'_>, usize), Failure>
-    ensures { IfOk result (λ (_, count). count ≤ length words.now) }
-{
-    let (retained, ahead, first) = parse_window(words)?;
-    let (keys, second) = parse_file(&words[first..], "--keys")?;
-    let (state, third) = parse_file(&words[first + second..], "--state")?;
-    let options = Options {
-        retained,
-        ahead,
-        keys,
-        state,
-    };
-    Ok((options, first + second + third))
-}
-
-/// What is written by `audit_live --version`.
-const VERSION: &[u8] = b"audit_live 0.3.0\n";
-
-/// What `audit_live --help` writes behind the line of use.
-const HELP: &[u8] = b"
-Listens to messages on standard input, and writes a line at once for each two votes that contradict and each split.
-
-  --retain VIEWS  how many views before the finalized one are retained; 1000 unless given
-  --ahead VIEWS   how many views ahead votes are taken; 10 unless given
-  --keys FILE     a file of keys and @EPOCH, parted by white space; lines that begin with # are left out
-  --state FILE    a file that is written behind the lines, and read at the next start
-  NAMESPACE       what the votes are signed under
-  KEY             64 hexadecimal digits; behind @EPOCH those of the committee of an epoch
-  --verdicts 48|64|96 PARTICIPANTS
-                  in place of NAMESPACE and keys: signatures of so many bytes, each with the caller's verdict behind it
-
-  audit_live --covers FILE  writes how many bytes of the input a state covers
-  audit_live --version      writes the version
-
-Options stand in this order, before the namespace. It ends with 0 if all was read, 1 at a fault of the input, 2 for wrong
-arguments and 3 if a device or an allocation failed.
-";
-
-/// Of the words that name committees the first that is neither a key nor `@` and an epoch, if there is one.
-fn wrong_word(words: &[String]) -> Trouble {
-    let mut number: usize = 1;
-    'words: for word in words.iter().skip(1) {
-        number = number.saturating_add(1);
-        if !is_key(word.as_str()) && !word.starts_with("@") {
-            return Trouble::Word(number);
-        }
-    }
-    Trouble::Committees
-}
-
-/// Whether a text has 64 hexadecimal digits.
-fn is_key(text: &str) -> bool {
-    let mut right = text.len() == 64;
-    'digits: for byte in text.as_bytes() {
-        right = right && byte.is_ascii_hexdigit();
-    }
-    right
-}
-
-/// The words that name committees: those behind the options, and then those of a file.
-fn words_of_file<F: Files<File = File>>(
-    alloc: Global,
-    files: &F,
-    path: &str,
-    behind: &[String],
-) -> Result<Vec<String>, Trouble> {
-    let Ok(mut file) = File::open(files, path) else {
-        return Err(Trouble::KeyFile);
-    };
-    let mut text = String::new(alloc);
-    if file.read_to_string(&mut text).is_err() {
-        return Err(Trouble::KeyFile);
-    }
-    Ok(named_words(alloc, behind, text.as_str())?)
-}
-
-/// The window that the options name, and where a state was.
-fn window_at(options: &Options<'_>, mark: Option<Mark>) -> Window
-    ensures first { mark ≡ None → result ≡ window_of options.now.retained options.now.ahead }
-    ensures later { IfSome mark (λ mark. result ≡ record {
-      finalized = mark.finalized;
-      current = mark.current;
-      ended = mark.ended;
-      view_retention = options.now.retained;
-      lookahead = lookahead_of options.now.ahead;
-    }) }
-{
-    let first = Round::new(Epoch::new(0), View::zero());
-    let (finalized, current, ended) = match mark {
-        None => (first, first, first),
-        Some(mark) => (mark.finalized, mark.current, mark.ended),
-    };
-    Window {
-        finalized,
-        current,
-        ended,
-        view_retention: ViewDelta::new(options.retained),
-        lookahead: lookahead(options.ahead),
-    }
-}
-
-/// Listens to the input, and keeps a state: at first that is read in front of the input.
-fn listen_from<S: Listing<Sha256Digest>, F: Files<File = File>, R: Read, W: Write, E: Write>(
-    alloc: Global,
-    store: Store<'_, F>,
-    recovered: &Recovered,
-    options: &Options<'_>,
-    committees: &Committees<S>,
-    input: &mut Watched<R>,
-    output: &mut Watched<W>,
-    errors: &mut Watched<E>,
-) -> Result<Heard, Trouble>
-    requires input_well { has_failed input.old ≡ false }
-    requires output_well { has_failed output.old ≡ false }
-{
-    let window = window_at(options, recovered.mark);
-    if !window.is_in_order() {
-        return Err(Trouble::OtherState);
-    }
-    let monitor = Monitor::<S, Sha256Digest>::holding(alloc, committees, window);
-    let mut monitor = monitor.feed(recovered.held.as_slice())?;
-    // What the state has was told.
-    monitor.news();
-    let skipped = monitor.place();
-    if skipped != recovered.held.len() {
-        return Err(Trouble::OtherState);
-    }
-    let base = match recovered.mark {
-        None => 0,
-        Some(mark) => mark.covers,
-    };
-    let read = monitor.read();
-    let mut keeper = Keeper::new(alloc, Some(store), errors, base, skipped);
-    if !keeper.keep(&mut monitor) {
-        return Err(Trouble::UnwrittenState);
-    }
-    let mut monitor = monitor_input(alloc, monitor, input, output, &mut keeper)?;
-    let kept = keeper.keep(&mut monitor);
-    if !kept {
-        return Err(Trouble::UnwrittenState);
-    }
-    let heard = sum(alloc, &monitor)?;
-    Ok(Heard {
-        fault: moved(heard.fault, skipped, base),
-        read: heard.read.saturating_sub(read),
-        ..heard
-    })
-}
-
-/// A fault behind a state of so many bytes, as a fault of the input, of which so many bytes were read before.
-fn moved(fault: Option<Fault>, skipped: usize, base: u64) -> Option<Fault> {
-    match fault {
-        None => None,
-        Some(fault) => Some(Fault {
-            place: fault
-                .place
-                .saturating_sub(skipped)
-                .saturating_add(base as usize),
-            error: fault.error,
-        }),
-    }
-}
-
-/// Listens as the options say under the committees that the words name, if they name any.
-fn hear<S: Listing<Sha256Digest> + Drop, F: Files<File = File>, R: Read, W: Write, E: Write>(
+/// Listens as the options say under the committees that texts name: those of the words behind what the scheme has in common.
+fn hear<S: Named + Listing<Sha256Digest>, F: Files<File = File>, R: Read, W: Write, E: Write>(
     alloc: Global,
     files: &F,
     options: &Options<'_>,
     words: &[String],
-    given: Result<Committees<S>, Failure>,
+    common: &S::Common,
+    texts: &[String],
     input: &mut Watched<R>,
     output: &mut Watched<W>,
     errors: &mut Watched<E>,
-) -> Result<Heard, Trouble>
+) -> Result<Totals, Trouble>
     requires input_well { has_failed input.old ≡ false }
     requires output_well { has_failed output.old ≡ false }
+    ensures ends { HearingEnds ⟦<S as Audited<Sha256Digest>>⟧.basis Sha256Digest.bytes_of
+        (S.naming common.now) (map string_bytes texts.now) options.now
+        (reader_use R.remaining input.old input.new)
+        (writer_use W.contents output.old output.new) result }
+    ensures read_failed { IsTrue (has_failed input.new) → result ≡ Err (Trouble.Run Failure.Read) }
+    ensures write_failed { IsTrue (has_failed output.new) → result ≡ Err (Trouble.Run Failure.Write) }
 {
-    let committees = match given {
+    let committees = match parse_committees::<S>(alloc, common, texts) {
         Ok(committees) => committees,
-        Err(Failure::Usage) => return Err(wrong_word(words)),
+        Err(Failure::Usage) => return Err(wrong_word::<S>(alloc, words, common, texts)),
         Err(failure) => return Err(Trouble::Run(failure)),
     };
     let Some(path) = options.state else {
-        let (retained, ahead) = (options.retained, options.ahead);
+        let monitor = begin::<S, Sha256Digest>(alloc, &committees, options);
         let mut keeper = Keeper::<F, E>::new(alloc, None, errors, 0, 0);
-        let heard = listen::<S, Sha256Digest, R, W, _>(
-            alloc,
-            &committees,
-            retained,
-            ahead,
-            input,
-            output,
-            &mut keeper,
-        )?;
-        return Ok(sum(alloc, &heard)?);
+        return listen(alloc, monitor, &mut keeper, 0, 0, input, output);
     };
-    let (store, recovered) = Store::take(alloc, files, path, head(alloc, words)?)?;
-    listen_from(
-        alloc,
-        store,
-        &recovered,
-        options,
-        &committees,
-        input,
-        output,
-        errors,
-    )
+    let (store, recovered) = Store::take(alloc, files, path, words)?;
+    let monitor = resume::<S, Sha256Digest>(alloc, &committees, options, &recovered)?;
+    let (skipped, base) = (recovered.held.len(), recovered.covers());
+    let mut keeper = Keeper::new(alloc, Some(store), errors, base, skipped);
+    listen(alloc, monitor, &mut keeper, skipped, base, input, output)
 }
 
-/// Listens as the options say under the committees of signatures that the caller verified, if the words name any.
-fn hear_verdicts<T: Role<N>, const N: usize, F: Files<File = File>, R: Read, W: Write, E: Write>(
-    alloc: Global,
-    files: &F,
-    options: &Options<'_>,
-    words: &[String],
-    input: &mut Watched<R>,
-    output: &mut Watched<W>,
-    errors: &mut Watched<E>,
-) -> Result<Heard, Trouble>
-    requires input_well { has_failed input.old ≡ false }
-    requires output_well { has_failed output.old ≡ false }
-{
-    let counts = words.get(2..).unwrap_or(&[]);
-    let given = parse_committees::<Vouched<T, N>>(alloc, &(), counts);
-    hear(alloc, files, options, words, given, input, output, errors)
-}
-
-/// Listens as the options and the words behind them say.
+/// Listens as the options and the words behind them say: a namespace and keys, or `--verdicts`, a size and numbers.
 fn hear_words<F: Files<File = File>, R: Read, W: Write, E: Write>(
     alloc: Global,
     files: &F,
@@ -284,58 +83,149 @@ fn hear_words<F: Files<File = File>, R: Read, W: Write, E: Write>(
     input: &mut Watched<R>,
     output: &mut Watched<W>,
     errors: &mut Watched<E>,
-) -> Result<Heard, Trouble>
+) -> Result<Totals, Trouble>
     requires input_well { has_failed input.old ≡ false }
     requires output_well { has_failed output.old ≡ false }
+    ensures ends { WordsEnd ⟦<Inputs as Judging>⟧.bases Sha256Digest.bytes_of
+        (map string_bytes words.now) options.now
+        (reader_use R.remaining input.old input.new)
+        (writer_use W.contents output.old output.new) result }
+    ensures read_failed { IsTrue (has_failed input.new) → result ≡ Err (Trouble.Run Failure.Read) }
+    ensures write_failed { IsTrue (has_failed output.new) → result ≡ Err (Trouble.Run Failure.Write) }
 {
-    let Ok((size, _)) = parse_verdicts(words) else {
+    let Some((namespace, texts)) = words.split_first() else {
+        return Err(Trouble::Committees);
+    };
+    let Ok((size, count)) = parse_verdicts(words) else {
         return Err(Trouble::Size);
     };
+    let counts = &words[count..];
     match size {
         None => {
-            let given = arguments::parse(alloc, words);
-            hear(alloc, files, options, words, given, input, output, errors)
+            hear::<Plain, F, R, W, E>(
+                alloc, files, options, words, namespace, texts, input, output, errors,
+            )
         }
         Some(SignatureSize::Bytes48) => {
-            hear_verdicts::<Role48, 49, F, R, W, E>(
-                alloc, files, options, words, input, output, errors,
+            hear::<Vouched<Role48, 49>, F, R, W, E>(
+                alloc,
+                files,
+                options,
+                words,
+                &(),
+                counts,
+                input,
+                output,
+                errors,
             )
         }
         Some(SignatureSize::Bytes64) => {
-            hear_verdicts::<Role64, 65, F, R, W, E>(
-                alloc, files, options, words, input, output, errors,
+            hear::<Vouched<Role64, 65>, F, R, W, E>(
+                alloc,
+                files,
+                options,
+                words,
+                &(),
+                counts,
+                input,
+                output,
+                errors,
             )
         }
         Some(SignatureSize::Bytes96) => {
-            hear_verdicts::<Role96, 97, F, R, W, E>(
-                alloc, files, options, words, input, output, errors,
+            hear::<Vouched<Role96, 97>, F, R, W, E>(
+                alloc,
+                files,
+                options,
+                words,
+                &(),
+                counts,
+                input,
+                output,
+                errors,
             )
         }
     }
 }
 
-/// Writes how many bytes of the input a state covers.
-fn write_covers<F: Files<File = File>, W: Write>(
+/// Listens as the options say, and the words behind them with those of the file of keys.
+fn hear_options<F: Files<File = File>, R: Read, W: Write, E: Write>(
+    alloc: Global,
+    files: &F,
+    options: &Options<'_>,
+    behind: &[String],
+    input: &mut Watched<R>,
+    output: &mut Watched<W>,
+    errors: &mut Watched<E>,
+) -> Result<Totals, Trouble>
+    requires input_well { has_failed input.old ≡ false }
+    requires output_well { has_failed output.old ≡ false }
+    ensures ends { BehindEnd ⟦<Inputs as Judging>⟧.bases Sha256Digest.bytes_of
+        (map string_bytes behind.now) options.now
+        (reader_use R.remaining input.old input.new)
+        (writer_use W.contents output.old output.new) result }
+    ensures read_failed { IsTrue (has_failed input.new) → result ≡ Err (Trouble.Run Failure.Read) }
+    ensures write_failed { IsTrue (has_failed output.new) → result ≡ Err (Trouble.Run Failure.Write) }
+{
+    let Some(path) = options.keys else {
+        return hear_words(alloc, files, options, behind, input, output, errors);
+    };
+    let named = words_of_file(alloc, files, path, behind)?;
+    hear_words(
+        alloc,
+        files,
+        options,
+        named.as_slice(),
+        input,
+        output,
+        errors,
+    )
+}
+
+/// What `audit_live --covers FILE` writes: how many bytes of the input the state covers.
+fn covers_text<F: Files<File = File>>(
     alloc: Global,
     files: &F,
     path: &str,
-    output: &mut Watched<W>,
-) -> Result<(), Trouble>
-    requires { has_failed output.old ≡ false }
-{
-    let mark = look(alloc, files, path, None)?.mark;
-    let covers = match mark {
-        None => 0,
-        Some(mark) => mark.covers,
-    };
+) -> Result<String, Trouble> {
+    let covers = look(alloc, files, path, None)?.covers();
     let mut digits = Buffer::new();
     let mut line = String::from_str(alloc, digits.format(covers))?;
     line.push_str("\n")?;
-    write_text(output, line.as_bytes())?;
-    Ok(())
+    Ok(line)
 }
 
-/// Does what the arguments say. `None` if they ask for help, for the version or for what a state covers, which is written.
+/// The text that words ask for by their first one: how the program is used, its version, or how far a state covers the input.
+/// `None` if they ask for none.
+fn asked<F: Files<File = File>>(
+    alloc: Global,
+    files: &F,
+    words: &[String],
+) -> Result<Option<String>, Trouble>
+    ensures asks { IfOk result (λ text. IfSome text (λ _. AskForText (map string_bytes words.now))) }
+    ensures failed { OnErr result (AskForText (map string_bytes words.now)) }
+{
+    let Some((first, rest)) = words.split_first() else {
+        return Ok(None);
+    };
+    if first.as_str() == "--help" {
+        let mut text = String::from_str(alloc, USAGE)?;
+        text.push_str(HELP)?;
+        return Ok(Some(text));
+    }
+    if first.as_str() == "--version" {
+        return Ok(Some(String::from_str(alloc, VERSION)?));
+    }
+    if first.as_str() != "--covers" {
+        return Ok(None);
+    }
+    match rest.split_first() {
+        None => Err(Trouble::Usage),
+        Some((path, _)) => Ok(Some(covers_text(alloc, files, path.as_str())?)),
+    }
+}
+
+/// Does what the words say. `None` if they ask for a text, which is written then.
 fn live<F: Files<File = File>, R: Read, W: Write, E: Write>(
     alloc: Global,
     files: &F,
@@ -343,67 +233,70 @@ fn live<F: Files<File = File>, R: Read, W: Write, E: Write>(
     input: &mut Watched<R>,
     output: &mut Watched<W>,
     errors: &mut Watched<E>,
-) -> Result<Option<Heard>, Trouble>
+) -> Result<Option<Totals>, Trouble>
     requires input_well { has_failed input.old ≡ false }
     requires output_well { has_failed output.old ≡ false }
+    ensures ends { LiveEnds ⟦<Inputs as Judging>⟧.bases Sha256Digest.bytes_of
+        (map string_bytes words.now)
+        (reader_use R.remaining input.old input.new)
+        (writer_use W.contents output.old output.new) result }
+    ensures read_failed { IsTrue (has_failed input.new) → result ≡ Err (Trouble.Run Failure.Read) }
+    ensures write_failed { IsTrue (has_failed output.new) → result ≡ Err (Trouble.Run Failure.Write) }
 {
-    let Some((first, rest)) = words.split_first() else {
+    if let Some(text) = asked(alloc, files, words)? {
+        write_text(output, text.as_bytes())?;
+        return Ok(None);
+    }
+    let Ok((options, count)) = parse_options(words) else {
         return Err(Trouble::Usage);
     };
-    if first.as_str() == "--help" {
-        write_text(output, USAGE)?;
-        write_text(output, HELP)?;
-        return Ok(None);
-    }
-    if first.as_str() == "--version" {
-        write_text(output, VERSION)?;
-        return Ok(None);
-    }
-    if first.as_str() == "--covers" {
-        let Some((path, _)) = rest.split_first() else {
-            return Err(Trouble::Usage);
-        };
-        write_covers(alloc, files, path.as_str(), output)?;
-        return Ok(None);
-    }
-    let (options, count) = match parse_options(words) {
-        Ok(parsed) => parsed,
-        Err(_) => return Err(Trouble::Usage),
-    };
-    let behind = &words[count..];
-    let heard = match options.keys {
-        None => hear_words(alloc, files, &options, behind, input, output, errors)?,
-        Some(path) => {
-            let named = words_of_file(alloc, files, path, behind)?;
-            hear_words(
-                alloc,
-                files,
-                &options,
-                named.as_slice(),
-                input,
-                output,
-                errors,
-            )?
-        }
-    };
-    Ok(Some(heard))
+    let totals = hear_options(
+        alloc,
+        files,
+        &options,
+        &words[count..],
+        input,
+        output,
+        errors,
+    )?;
+    Ok(Some(totals))
 }
 
 /// Says what was heard.
-fn sum_up<E: Write>(errors: &mut Watched<E>, heard: &Heard) {
+fn sum_up<E: Write>(errors: &mut Watched<E>, totals: &Totals) {
     say(errors, b"audit_live: ");
-    say_number(errors, heard.read as u64);
+    say_number(errors, totals.read as u64);
     say(errors, b" messages read, ");
-    say_number(errors, heard.votes as u64);
+    say_number(errors, totals.votes as u64);
     say(errors, b" votes recorded, ");
-    say_number(errors, heard.below);
+    say_number(errors, totals.below);
     say(errors, b" messages below the window, ");
-    say_number(errors, heard.above);
+    say_number(errors, totals.above);
     say(errors, b" above it\n");
-    if let Some(fault) = heard.fault {
+    if let Some(fault) = totals.fault {
         say(errors, b"audit_live: fault at byte ");
         say_number(errors, fault.place as u64);
         say(errors, b"\n");
+    }
+}
+
+/// Says how a run ended, and returns its status.
+fn conclude<E: Write>(errors: &mut Watched<E>, ended: Result<Option<Totals>, Trouble>) -> Status
+    ensures { result ≡ status_of_live ended }
+{
+    match ended {
+        Ok(None) => Status::Whole,
+        Ok(Some(totals)) => {
+            sum_up(errors, &totals);
+            match totals.fault {
+                None => Status::Whole,
+                Some(_) => Status::Fault,
+            }
+        }
+        Err(trouble) => {
+            complain(errors, trouble);
+            trouble.status()
+        }
     }
 }
 
@@ -420,27 +313,23 @@ pub fn start_live<F: Files<File = File>, R: Read, W: Write, E: Write>(
 ) -> u8
     requires input_well { has_failed input.old ≡ false }
     requires output_well { has_failed output.old ≡ false }
+    ensures ends { IfOk given (λ given. (ending : LiveEnding)
+        × (result ≡ number_of (status_of_live ending))
+        × LiveEnds ⟦<Inputs as Judging>⟧.bases Sha256Digest.bytes_of (words_of (into_iter_items given))
+        (reader_use R.remaining input.old input.new)
+        (writer_use W.contents output.old output.new) ending) }
+    // Where the input or the output failed the number is 3.
+    ensures read_failed { IsTrue (has_failed input.new) → result ≡ 3 }
+    ensures write_failed { IsTrue (has_failed output.new) → result ≡ 3 }
+    ensures unused { OnErr given ((input.new ≡ input.old) × (output.new ≡ output.old)) }
 {
-    let ended = match given {
-        Err(error) => Err(Trouble::Run(no_arguments(&error))),
-        Ok(given) => match without_name(alloc, given) {
-            Err(_) => Err(Trouble::Run(Failure::OutOfMemory)),
-            Ok(words) => live(alloc, files, words.as_slice(), input, output, errors),
-        },
+    let given = match given {
+        Ok(given) => given,
+        Err(error) => return conclude(errors, Err(Trouble::Run(no_arguments(&error)))).number(),
     };
-    match ended {
-        Ok(None) => Status::Whole.number(),
-        Ok(Some(heard)) => {
-            sum_up(errors, &heard);
-            if heard.fault.is_none() {
-                Status::Whole.number()
-            } else {
-                Status::Fault.number()
-            }
-        }
-        Err(trouble) => {
-            complain(errors, trouble);
-            trouble.status().number()
-        }
-    }
+    let ended = match without_name(alloc, given) {
+        Err(_) => Err(Trouble::Run(Failure::OutOfMemory)),
+        Ok(words) => live(alloc, files, words.as_slice(), input, output, errors),
+    };
+    conclude(errors, ended).number()
 }

@@ -12,7 +12,7 @@ use std::alloc::{AllocError, Global};
 const KIND: &[u8; 8] = b"simplex1";
 
 /// How many bytes the head of a state has.
-pub const HEAD: usize = 40;
+const HEAD: usize = 48;
 
 /// How many bytes stand in front of a record's body: its length, and SHA-256 of it.
 const FRAME: usize = 40;
@@ -42,8 +42,18 @@ pub struct Recovered {
     pub held: Vec<u8>,
 }
 
-/// What a state of the committees that these words name begins with: 40 bytes. They are the kind of the file, and SHA-256 of
-/// the words, each behind its length.
+impl Recovered {
+    /// How many bytes of the input the state covers.
+    pub fn covers(&self) -> u64 {
+        match self.mark {
+            None => 0,
+            Some(mark) => mark.covers,
+        }
+    }
+}
+
+/// What a state of the committees that these words name begins with: 48 bytes. They are the kind of the file, how many words
+/// there are, and SHA-256 of the words, each behind its length.
 pub fn head(alloc: Global, words: &[String]) -> Result<Vec<u8>, AllocError> {
     let mut text = Vec::new(alloc);
     'words: for word in words {
@@ -52,8 +62,24 @@ pub fn head(alloc: Global, words: &[String]) -> Result<Vec<u8>, AllocError> {
     }
     let mut head = Vec::new(alloc);
     head.extend_from_slice(KIND)?;
+    head.extend_from_slice(&(words.len() as u64).to_le_bytes())?;
     head.extend_from_slice(Sha256::hash(&[text.as_slice()]).as_bytes())?;
     Ok(head)
+}
+
+/// Whether a state with this head is of the committees that words name, or of those that the first words name, behind which the
+/// groups of further epochs stand.
+fn is_of(alloc: Global, own: &[u8], words: &[String]) -> Result<bool, AllocError> {
+    let count = number_at(own, KIND.len()) as usize;
+    let Some(front) = words.get(..count) else {
+        return Ok(false);
+    };
+    if let Some(next) = words.get(count) {
+        if !next.starts_with("@") {
+            return Ok(false);
+        }
+    }
+    Ok(head(alloc, front)?.as_slice() == own)
 }
 
 /// A record: 8 bytes of its length, SHA-256 of what follows, the mark, and messages.
@@ -119,17 +145,28 @@ fn body(bytes: &[u8]) -> Option<(&[u8], usize)>
     Some((body, FRAME + size))
 }
 
-/// What is left of a state of the committees whose head is given: its records up to the first that is not whole. `None` if the
-/// state is of other committees, or no state.
-pub fn recover(alloc: Global, head: &[u8], bytes: &[u8]) -> Result<Option<Recovered>, AllocError> {
+/// What is left of a state of the committees that words name, or of any if no words are given: its records up to the first that
+/// is not whole. `None` if the state is of other committees, or no state.
+pub fn recover(
+    alloc: Global,
+    words: Option<&[String]>,
+    bytes: &[u8],
+) -> Result<Option<Recovered>, AllocError> {
     let mut held = Vec::new(alloc);
     let mut mark = None;
-    if bytes.len() < head.len() && head.starts_with(bytes) {
-        return Ok(Some(Recovered { mark, held }));
-    }
-    let Some(mut rest) = bytes.strip_prefix(head) else {
+    let kind = bytes.get(..KIND.len()).unwrap_or(bytes);
+    if !KIND.starts_with(kind) {
         return Ok(None);
+    }
+    let Some(own) = bytes.get(..HEAD) else {
+        return Ok(Some(Recovered { mark, held }));
     };
+    if let Some(words) = words {
+        if !is_of(alloc, own, words)? {
+            return Ok(None);
+        }
+    }
+    let mut rest = &bytes[HEAD..];
     'records: while let Some((body, size)) = body(rest) {
         mark = Some(mark_of(body));
         held.extend_from_slice(body.get(MARK..).unwrap_or(&[]))?;

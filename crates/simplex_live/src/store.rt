@@ -1,7 +1,10 @@
 //! The files of a state. A state is written anew into another file, which takes its place, and then by appending records.
 
+ghost use Rattle.std.specs.Prelude.{IfErr};
+ghost use Rattle.simplex_live.specs.Ending.{IsOfWords};
+
 use crate::complaints::Trouble;
-use crate::state::{HEAD, Mark, Recovered, record, recover};
+use crate::state::{Mark, Recovered, head, record, recover};
 use std::alloc::Global;
 use std::fs;
 use std::fs::{File, Files, OpenOptions};
@@ -22,20 +25,24 @@ pub struct Store<'a, F: Files<File = File>> {
 }
 
 /// A path with a word behind it.
-fn beside(alloc: Global, path: &str, word: &str) -> Result<String, Trouble> {
+fn beside(alloc: Global, path: &str, word: &str) -> Result<String, Trouble>
+    ensures { IfErr result (λ trouble. ¬ IsOfWords trouble) }
+{
     let mut name = String::from_str(alloc, path)?;
     name.push_str(word)?;
     Ok(name)
 }
 
-/// What is left of a state of the committees with this head, or of any without one, which is nothing if there is no such file.
-/// No lock is taken, and nothing is written.
+/// What is left of a state of the committees that words name, or of any if no words are given: nothing if there is no such
+/// file. No lock is taken, and nothing is written.
 pub fn look<F: Files<File = File>>(
     alloc: Global,
     files: &F,
     path: &str,
-    head: Option<&[u8]>,
-) -> Result<Recovered, Trouble> {
+    words: Option<&[String]>,
+) -> Result<Recovered, Trouble>
+    ensures { IfErr result (λ trouble. ¬ IsOfWords trouble) }
+{
     let mut bytes = Vec::new(alloc);
     match File::open(files, path) {
         Ok(mut file) => match file.read_to_end(&mut bytes) {
@@ -45,21 +52,23 @@ pub fn look<F: Files<File = File>>(
         Err(error) if error.kind() == ErrorKind::NotFound => {}
         Err(_) => return Err(Trouble::UnreadState),
     }
-    let own = bytes.get(..HEAD).unwrap_or(&[]);
-    match recover(alloc, head.unwrap_or(own), bytes.as_slice())? {
+    match recover(alloc, words, bytes.as_slice())? {
         Some(recovered) => Ok(recovered),
         None => Err(Trouble::OtherState),
     }
 }
 
 impl<'a, F: Files<File = File>> Store<'a, F> {
-    /// Takes the state at a path, and returns it with what is left of it. The lock is a file beside it.
+    /// Takes the state at a path, of the committees that words name, and returns it with what is left of it. The lock is a file
+    /// beside it.
     pub fn take(
         alloc: Global,
         files: &'a F,
         path: &'a str,
-        head: Vec<u8>,
-    ) -> Result<(Self, Recovered), Trouble> {
+        words: &[String],
+    ) -> Result<(Self, Recovered), Trouble>
+        ensures { IfErr result (λ trouble. ¬ IsOfWords trouble) }
+    {
         let lock_path = beside(alloc, path, ".lock")?;
         let mut how = OpenOptions::new();
         how.write(true).create(true);
@@ -69,12 +78,12 @@ impl<'a, F: Files<File = File>> Store<'a, F> {
         if lock.try_lock().is_err() {
             return Err(Trouble::StateInUse);
         }
-        let recovered = look(alloc, files, path, Some(head.as_slice()))?;
+        let recovered = look(alloc, files, path, Some(words))?;
         let store = Store {
             files,
             path,
             next: beside(alloc, path, ".new")?,
-            head,
+            head: head(alloc, words)?,
             file: None,
             _lock: lock,
         };
