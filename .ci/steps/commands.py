@@ -51,7 +51,7 @@ ELSEWHERE = {
     "bench/compactions": "a reader with `conformance` as `make test` builds it, and a minute",
     "bench/logs": "a reader with some minutes",
     "bench/listening": "a reader with GNU time, valgrind and an hour",
-    "bench/alerts": "a reader with `audit_live` as it is built, and two minutes",
+    "bench/alerts": "a reader with `audit_live` and `audit` as they are built, GNU time and some minutes",
     "bench/compacting": "a reader with GNU time and some minutes",
     "socat ": "a reader with socat",
     "tail -n +1 -F hex": "a reader with socat",

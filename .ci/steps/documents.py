@@ -102,7 +102,7 @@ VERSIONS = {
     "README.md": r"Version (\d\S*\d)",
     "docs/BINDINGS.md": r"Version (\d\S*\d)",
     "bindings/rust/Cargo.toml": r'(?m)^version = "(.*)"$',
-    "crates/simplex_live/src/live.rt": r'b"audit_live (\d\S*\d)\\n"',
+    "crates/simplex_live/src/texts.rt": r'"audit_live (\d\S*\d)\\n"',
 }
 # and what gives that of the library's calls
 CALLS = {

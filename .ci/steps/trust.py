@@ -37,8 +37,7 @@ TABLES = {
     "monitor": {
         "simplex_monitor/src/input.rt": ["fn monitor_input"],
         "simplex_monitor/src/monitor.rt": ["fn evidence", "fn splits", "fn votes", "fn held", "fn shorten"],
-        "simplex_live/src/listening.rt": ["fn listen"],
-        "simplex_live/src/options.rt": ["fn parse_window", "fn parse_file"],
+        "simplex_live/src/live.rt": ["fn start_live"],
     },
     "plain": {
         "simplex_schemes/src/plain.rt": ["ghost keys", "ghost good", "ghost certified", "ghost listed"],
@@ -74,17 +73,19 @@ class Source:
             self.find_definitions()
 
     def find_definitions(self):
-        """A definition goes on to the next at its depth, or to an empty line. In a `module _` it cites the parameters, too."""
+        """A definition goes on to the next at its depth, or to an empty line. In a `module _`, which may stand in another, it
+        cites the parameters, too."""
         around, current = [], None
         for line in self.text.splitlines():
+            depth = (len(line) - len(line.lstrip())) // 2
             found = DEFINITION.match(line)
-            if line.startswith("module _"):
-                around, current = [line], None
-            elif found and (found[1] == "" or found[1] == "  " and around):
-                around = around if found[1] else []
+            if line.lstrip().startswith("module _"):
+                around, current = [*around[:depth], line], None
+            elif found and depth <= len(around):
+                around = around[:depth]
                 current = self.definitions.setdefault(found[2], [*around])
                 current.append(line)
-            elif not line.strip() or re.match(r"\S|  \S" if around else r"\S", line) and line.lstrip().startswith("--"):
+            elif not line.strip() or depth <= len(around) and line.lstrip().startswith("--"):
                 current = None
             elif current is not None and not line.lstrip().startswith("--"):
                 current.append(line)
@@ -150,7 +151,7 @@ class Cited:
     def define(self, source, name):
         if (source.path, name) not in self.definitions:
             lines = source.definitions[name]
-            self.definitions[source.path, name] = sum(not it.startswith("module _") for it in lines)
+            self.definitions[source.path, name] = sum(not it.lstrip().startswith("module _") for it in lines)
             self.cite(source, "\n".join(lines))
 
     def cite_root(self, path, item):
