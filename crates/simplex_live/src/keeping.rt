@@ -1,8 +1,9 @@
 //! What `audit_live` does behind each look: it keeps a state on disk, says once that no vote is valid, and once that nothing
 //! that follows can be read.
 
-ghost use Rattle.std.specs.Prelude.{◌≡◌, List, ℕ};
+ghost use Rattle.std.specs.Prelude.{◌≡◌, IfErr, List, ℕ};
 ghost use Rattle.simplex_detector.specs.Alarm.{Told};
+ghost use Rattle.simplex_live.specs.Ending.{IsOfWords};
 ghost use Rattle.simplex_monitor.specs.Hearing.{AllTold};
 ghost use Rattle.simplex_monitor.specs.Monitoring.{Listens, fed_of};
 ghost use Rattle.simplex_monitor.specs.declared.window.Window as windows;
@@ -121,7 +122,7 @@ impl<'a, F: Files<File = File>, E: Write> Keeper<'a, F, E> {
     }
 
     /// Writes to the state what is new: by appending it, or anew once what is held has doubled.
-    fn write<S: Listing<D>, D: Digest>(
+    pub fn write<S: Listing<D>, D: Digest>(
         &mut self,
         monitor: &mut Monitor<'_, S, D>,
     ) -> Result<(), Trouble>
@@ -131,6 +132,7 @@ impl<'a, F: Files<File = File>, E: Write> Keeper<'a, F, E> {
             Listens ⟦<S as Audited<D>>⟧.basis start committees told stream monitor.new }
         ensures told { AllTold monitor.old → AllTold monitor.new }
         ensures fed { fed_of monitor.new ≡ fed_of monitor.old }
+        ensures error { IfErr result (λ trouble. ¬ IsOfWords trouble) }
     {
         let Some(store) = &mut self.store else {
             return Ok(());
@@ -154,7 +156,7 @@ impl<'a, F: Files<File = File>, E: Write> Keeper<'a, F, E> {
     }
 
     /// Writes the state, and says the first failure.
-    pub fn keep<S: Listing<D>, D: Digest>(&mut self, monitor: &mut Monitor<'_, S, D>) -> bool
+    fn keep<S: Listing<D>, D: Digest>(&mut self, monitor: &mut Monitor<'_, S, D>)
         ensures listens { (start : windows.Window) (committees : Schedule S)
             (told : Told D S.Signature) (stream : List ℕ) →
             Listens ⟦<S as Audited<D>>⟧.basis start committees told stream monitor.old →
@@ -162,15 +164,11 @@ impl<'a, F: Files<File = File>, E: Write> Keeper<'a, F, E> {
         ensures told { AllTold monitor.old → AllTold monitor.new }
         ensures fed { fed_of monitor.new ≡ fed_of monitor.old }
     {
-        match self.write(monitor) {
-            Ok(()) => true,
-            Err(trouble) => {
-                if !self.said {
-                    complain(self.errors, trouble);
-                }
-                self.said = true;
-                false
+        if let Err(trouble) = self.write(monitor) {
+            if !self.said {
+                complain(self.errors, trouble);
             }
+            self.said = true;
         }
     }
 }

@@ -76,13 +76,13 @@ pub fn begin<'a, S: Listing<D>, D: Digest>(
     ensures { IsReady ⟦<S as Audited<D>>⟧.basis options.now.retained options.now.ahead false []
         committees.now result }
 {
-    let first = Round::new(Epoch::new(0), View::zero());
+    let window = window_at(options, None);
     Monitor::<S, D>::new(
         alloc,
         committees,
-        first,
-        ViewDelta::new(options.retained),
-        lookahead(options.ahead),
+        window.finalized,
+        window.view_retention,
+        window.lookahead,
     )
 }
 
@@ -139,13 +139,9 @@ pub fn listen<'a, S: Listing<D>, D: Digest, F: Files<File = File>, R: Read, W: W
 {
     let mut monitor = monitor;
     let before = monitor.read();
-    if !keeper.keep(&mut monitor) {
-        return Err(Trouble::UnwrittenState);
-    }
+    keeper.write(&mut monitor)?;
     let mut monitor = monitor_input(alloc, monitor, input, output, keeper)?;
-    if !keeper.keep(&mut monitor) {
-        return Err(Trouble::UnwrittenState);
-    }
+    keeper.write(&mut monitor)?;
     let all = add_up(alloc, &monitor)?;
     Ok(behind_state(all, skipped, before, base))
 }
