@@ -1,2 +1,3 @@
 mod OptionLemmas
 mod ListenLemmas
+mod EndingLemmas

@@ -1,18 +1,19 @@
 -- What was heard, from what a monitor heard that kept its state before and behind.
-use Rattle.std.proofs.Common.{◌≡◌, ◌∙◌, arith, ap, ℕ, ◌++◌, List, [], Option, Result, Ok, Err, append-nil, length, subst, sym, take}
+use Rattle.std.proofs.Common.{◌≡◌, arith, false, true, refl, ℕ, ◌++◌, List, [], ◌∷◌, Option, Result, Ok, Err, append-nil, length, subst, sym}
 use Rattle.std.proofs.Math.Seq.{take-length}
-use Rattle.std.specs.Io.KnownBytes.{Appends, Consumes}
+use Rattle.std.specs.Io.KnownBytes.{Appends, Consumes, IsAtEnd}
 use Rattle.std.specs.List.{flat_map}
-use Rattle.std.specs.Prelude.{OnErr}
+use Rattle.std.specs.Prelude.{IsTrue, OnErr}
 use Rattle.simplex_scheme.specs.Committees.{Schedule}
-use Rattle.simplex_detector.specs.Alarm.{Told, nothing_told}
+use Rattle.simplex_detector.specs.Alarm.{Told, nothing_told, told_then}
 use Rattle.simplex_detector.specs.declared.alarm.News.{News}
 use Rattle.simplex_stream.specs.Text.{AppendsBeginning}
 use Rattle.simplex_audit.specs.Basis.{Basis}
 use Rattle.simplex_audit.specs.Outcome.{ReaderUse, WriterUse}
-use Rattle.simplex_live.specs.Listening.{IsHeardInPart, IsReady}
-use Rattle.simplex_live.specs.Options.{window_of}
-use Rattle.simplex_monitor.specs.Hearing.{Heard, Hears, HearsBeginning, news_text, told_by}
+use Rattle.simplex_live.specs.Listening.{AddsUp, HasRead, IsHeard, IsHeardInPart, IsReady, behind_state}
+use Rattle.simplex_live.specs.declared.listening.Totals.{Totals}
+use Rattle.simplex_live.specs.Options.{lookahead_of, window_of}
+use Rattle.simplex_monitor.specs.Hearing.{AllTold, Heard, Hears, HearsBeginning, news_text, told_by}
 use Rattle.simplex_monitor.specs.Monitoring.{Listens, fed_of}
 use Rattle.simplex_monitor.specs.declared.monitor.Monitor.{Monitor}
 use Rattle.simplex_monitor.specs.declared.window.Window.{Window}
@@ -28,7 +29,7 @@ begins_whole old new text written = (length text, subst (Appends old new) (sym (
 
 module _ {S D C P G : Type 0} (basis : Schedule S → Basis S D C P G) where
   -- a monitor whatever it listened to becomes another that listened to the same
-  pub Stays : Monitor S D P G → Monitor S D P G → Type 0
+  abbrev pub Stays : Monitor S D P G → Monitor S D P G → Type 0
   Stays first next =
       (start : Window) (committees : Schedule S) (told : Told D G) (stream : List ℕ) →
       Listens basis start committees told stream first → Listens basis start committees told stream next
@@ -46,6 +47,20 @@ module _ {S D C P G : Type 0} (basis : Schedule S → Basis S D C P G) where
     anew = λ _. (refl, refl);
   }
 
+  -- behind a state, whose messages it was fed, and whose news it told
+  pub ready_again : (committees : Schedule S) (first : Monitor S D P G) (window : Window) (retained ahead : ℕ)
+      (piece held : List ℕ) (news : News S D P G) → piece ≡ held → window.view_retention ≡ retained →
+      window.lookahead ≡ lookahead_of ahead → Listens basis window committees (told_then nothing_told news) piece first →
+      IsReady basis retained ahead true held committees first
+  ready_again committees first window retained ahead piece held news same retains looks listens = record {
+    start = window;
+    known = news ∷ [];
+    listens = subst (λ (t : List ℕ). Listens basis window committees (told_then nothing_told news) t first) same listens;
+    retains = retains;
+    looks = looks;
+    anew = λ e. absurd cc;
+  }
+
   -- what a monitor hears that kept its state before and behind
   pub hears_kept : (first kept heard next : Monitor S D P G) (input : List ℕ) (looks : List (News S D P G)) →
       fed_of kept ≡ fed_of first → Stays first kept → Hears basis kept input looks heard → fed_of next ≡ fed_of heard →
@@ -58,7 +73,7 @@ module _ {S D C P G : Type 0} (basis : Schedule S → Basis S D C P G) where
   }
 
   module _ (bytes_of : D → List ℕ) (reader : ReaderUse) (writer : WriterUse) (first kept : Monitor S D P G)
-      (before : fed_of kept ≡ fed_of first) (stays : Stays first kept) where
+      (before_is : fed_of kept ≡ fed_of first) (stays : Stays first kept) where
     -- a part of the input
     pub heard_in_part : (input more : List ℕ) → Consumes reader.before reader.after (input ++ more) →
         HearsBeginning basis bytes_of kept input writer.before writer.after → IsHeardInPart basis bytes_of reader writer first
@@ -69,7 +84,7 @@ module _ {S D C P G : Type 0} (basis : Schedule S → Basis S D C P G) where
       begun = record {
         next = begun.next;
         looks = begun.looks;
-        hears = hears_kept first kept begun.next begun.next input begun.looks before stays begun.hears refl
+        hears = hears_kept first kept begun.next begun.next input begun.looks before_is stays begun.hears (λ i. fed_of begun.next)
             (λ start committees told stream listens. listens);
         written = begun.written;
       };
@@ -85,3 +100,30 @@ module _ {S D C P G : Type 0} (basis : Schedule S → Basis S D C P G) where
           hears = heard.hears;
           written = begins_whole writer.before writer.after (flat_map (news_text bytes_of) heard.looks) heard.written;
         })
+
+    -- the whole input
+    pub is_heard : (heard next : Monitor S D P G) (input : List ℕ) (skipped base before : ℕ) (all totals : Totals) →
+        Consumes reader.before reader.after input → IsAtEnd reader.after →
+        Heard basis bytes_of kept input heard writer.before writer.after → IsTrue writer.flushed →
+        fed_of next ≡ fed_of heard → Stays heard next → (AllTold heard → AllTold next) → HasRead basis first before →
+        AddsUp basis next all → totals ≡ behind_state skipped before base all →
+        IsHeard basis bytes_of reader writer first skipped base totals
+    is_heard heard next input skipped base before all totals consumed ended hears flushed same again tells has_read adds_up is =
+        record {
+          input = input;
+          next = next;
+          consumed = consumed;
+          ended = ended;
+          heard = record {
+            looks = hears.looks;
+            hears = hears_kept first kept heard next input hears.looks before_is stays hears.hears same again;
+            told = tells hears.told;
+            written = hears.written;
+          };
+          flushed = flushed;
+          before = before;
+          has_read = has_read;
+          all = all;
+          adds_up = adds_up;
+          totals_are = is;
+        }

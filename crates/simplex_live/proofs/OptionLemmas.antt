@@ -1,8 +1,9 @@
 -- Which words begin with options.
-use Rattle.std.proofs.Common.{◌≡◌, ◌⊎◌, ◌∙◌, arith, Ok, Err, Option, Result, None, Some, ap, drop, inl, inr, length, length-drop, map, refl, take, ◌-◌, ◌+◌, ℕ, suc, zero, List, [], ◌∷◌, sym, subst}
+use Rattle.std.proofs.Common.{◌≡◌, ◌∙◌, arith, Ok, Err, Option, Result, None, Some, ap, drop, inl, inr, length, length-drop, map, refl, take, ◌-◌, ◌+◌, ℕ, suc, zero, List, [], ◌∷◌, sym, subst}
 use Rattle.std.proofs.Math.Seq.{drop-nil, take-length}
 use Rattle.std.proofs.lemmas.List.{drop-map}
-use Rattle.std.specs.Prelude.{IfErr, codes, option_map}
+use Rattle.std.specs.Global.{Global}
+use Rattle.std.specs.Prelude.{IfErr, String, codes, option_map, string_bytes}
 use Rattle.simplex_live.specs.Options.{AreBehindFile, AreBehindOption, AreBehindOptions, AreBehindWindow}
 use Rattle.simplex_live.specs.declared.options.Options.{Options}
 
@@ -103,3 +104,31 @@ no_state words between later retained ahead file here there none options behind 
     (subst (λ ws. AreBehindFile (codes "--keys") ws (option_map (λ f. f.now) options.keys) states) same keys) there in
     none (option_map (λ f. f.now) options.state) behind
     (subst (λ ws. AreBehindFile (codes "--state") ws (option_map (λ f. f.now) options.state) behind) again state)
+
+-- words that name no window are no options
+pub no_window : (words : List (List ℕ)) →
+    ((retained ahead : ℕ) (behind : List (List ℕ)) → ¬ AreBehindWindow words retained ahead behind) →
+    (options : Options) (behind : List (List ℕ)) → ¬ AreBehindOptions words options behind
+no_window words none options behind (files, states, window, keys, state) =
+    none options.retained options.ahead files window
+
+module _ (option : List ℕ) (first : ℕ) where
+  -- no file among the words behind some
+  pub no_file_behind : (arguments : List (String Global)) →
+      ((file : Option (List ℕ)) (behind : List (List ℕ)) →
+      ¬ AreBehindFile option (map string_bytes (take (length arguments - first) (drop first arguments))) file behind) →
+      (file : Option (List ℕ)) (behind : List (List ℕ)) →
+      ¬ AreBehindFile option (drop first (map string_bytes arguments)) file behind
+  no_file_behind arguments =
+      subst (λ (ws : List (List ℕ)). (file : Option (List ℕ)) (behind : List (List ℕ)) → ¬ AreBehindFile option ws file behind)
+      (words_behind string_bytes first arguments)
+
+  -- a file among them
+  pub behind_file : (second : ℕ) (arguments : List (String Global)) (file : Option (List ℕ)) →
+      AreBehindFile option (map string_bytes (take (length arguments - first) (drop first arguments))) file
+      (drop second (map string_bytes (take (length arguments - first) (drop first arguments)))) →
+      AreBehindFile option (drop first (map string_bytes arguments)) file (drop (first + second) (map string_bytes arguments))
+  behind_file second arguments file is =
+      subst (AreBehindFile option (drop first (map string_bytes arguments)) file)
+      (drop_twice first second (map string_bytes arguments))
+      (subst (λ (ws : List (List ℕ)). AreBehindFile option ws file (drop second ws)) (words_behind string_bytes first arguments) is)

@@ -1,5 +1,5 @@
 -- How `audit_live` ends: what holds then of its arguments, of its input and of its output.
-use Rattle.std.specs.Prelude.{⊤, ⊥, ◌≡◌, ◌≢◌, ◌⊎◌, ◌∷◌, ℕ, List, [], Option, Some, None, Result, Ok, Err, IsTrue, codes, is_some, length}
+use Rattle.std.specs.Prelude.{⊤, ◌≡◌, ◌≢◌, ◌⊎◌, ◌∷◌, ℕ, List, [], Option, Some, None, Result, Ok, Err, IsTrue, codes, is_some, length}
 use Rattle.std.specs.Io.KnownBytes.{Appends, Keeps}
 use Rattle.simplex_schemes.specs.Plain.{PlainScheme}
 use Rattle.simplex_schemes.specs.Vouched.{VouchedScheme}
@@ -18,7 +18,7 @@ use Rattle.simplex_cli.specs.declared.status.Status.TheVariants as statuses
 use Rattle.simplex_cli.specs.declared.verdicts.SignatureSize.{SignatureSize}
 use Rattle.simplex_cli.specs.declared.verdicts.SignatureSize.TheVariants.{Bytes48, Bytes64, Bytes96}
 use Rattle.simplex_live.specs.Listening.{IsHeard, IsHeardInPart, IsReady}
-use Rattle.simplex_live.specs.Options.{AreBehindOptions, BeginWith}
+use Rattle.simplex_live.specs.Options.{AreBehindOptions}
 use Rattle.simplex_live.specs.declared.complaints.Trouble.{Trouble}
 use Rattle.simplex_live.specs.declared.complaints.Trouble.TheVariants as troubles
 use Rattle.simplex_live.specs.declared.listening.Totals.{Totals}
@@ -101,19 +101,19 @@ by_verdicts bases Bytes48 = bases.of48
 by_verdicts bases Bytes64 = bases.of64
 by_verdicts bases Bytes96 = bases.of96
 
-module _ (bases : LiveBases) (bytes_of : List ℕ → List ℕ) (words : List (List ℕ)) (options : Options) (reader : ReaderUse)
+module _ (bases : LiveBases) (words : List (List ℕ)) (options : Options) (reader : ReaderUse)
     (writer : WriterUse) (ending : Result Totals Trouble) where
   -- how a run under words ends that are a namespace and texts of plain keys
   abbrev pub PlainEnds : Type 0
   PlainEnds =
       (namespace : List ℕ) × (texts : List (List ℕ)) × (words ≡ namespace ∷ texts) × AreBehindVerdicts words None words
-      × HearingEnds bases.plain bytes_of (by_keys namespace) texts options reader writer ending
+      × HearingEnds bases.plain (λ bytes. bytes) (by_keys namespace) texts options reader writer ending
 
   -- or `--verdicts`, a size, and texts that are numbers of participants
   abbrev pub VerdictsEnd : Type 0
   VerdictsEnd =
       (size : SignatureSize) × (texts : List (List ℕ)) × AreBehindVerdicts words (Some size) texts
-      × HearingEnds (by_verdicts bases size) bytes_of by_count texts options reader writer ending
+      × HearingEnds (by_verdicts bases size) (λ bytes. bytes) by_count texts options reader writer ending
 
   -- or nothing, or `--verdicts` without a size
   abbrev pub NoWordsEnd : Type 0
@@ -127,33 +127,36 @@ module _ (bases : LiveBases) (bytes_of : List ℕ → List ℕ) (words : List (L
   abbrev pub WordsEnd : Type 0
   WordsEnd = PlainEnds ⊎ VerdictsEnd ⊎ NoWordsEnd
 
--- the words begin with one of the options that ask for a text
+-- the word is one of the options that ask for a text
+abbrev pub IsQuestion : List ℕ → Type 0
+IsQuestion word = (word ≡ codes "--help") ⊎ (word ≡ codes "--version") ⊎ (word ≡ codes "--covers")
+
+-- the words begin with one of them
 abbrev pub AskForText : List (List ℕ) → Type 0
-AskForText words =
-    BeginWith (codes "--help") words ⊎ BeginWith (codes "--version") words ⊎ BeginWith (codes "--covers") words
+AskForText words = (word : List ℕ) × (behind : List (List ℕ)) × (words ≡ word ∷ behind) × IsQuestion word
 
 -- How a run behind the options ends: without `--keys` the words behind them name committees, else these and those of a file.
-abbrev pub BehindEnd : LiveBases → (List ℕ → List ℕ) → List (List ℕ) → Options → ReaderUse → WriterUse → Result Totals Trouble →
+abbrev pub BehindEnd : LiveBases → List (List ℕ) → Options → ReaderUse → WriterUse → Result Totals Trouble →
     Type 0
-BehindEnd bases bytes_of behind options reader writer ending =
+BehindEnd bases behind options reader writer ending =
     (named : List (List ℕ)) × (options.keys ≡ None → named ≡ behind)
     × ((Keeps writer.before writer.after × (options.keys ≢ None) × ((trouble : Trouble) × (ending ≡ Err trouble)))
-    ⊎ WordsEnd bases bytes_of named options reader writer ending)
+    ⊎ WordsEnd bases named options reader writer ending)
 
 -- how a run under words that begin with options ends
-abbrev pub OptionsEnd : LiveBases → (List ℕ → List ℕ) → List (List ℕ) → ReaderUse → WriterUse → Result Totals Trouble → Type 0
-OptionsEnd bases bytes_of words reader writer ending =
+abbrev pub OptionsEnd : LiveBases → List (List ℕ) → ReaderUse → WriterUse → Result Totals Trouble → Type 0
+OptionsEnd bases words reader writer ending =
     (options : Options) × (behind : List (List ℕ)) × AreBehindOptions words options behind
-    × BehindEnd bases bytes_of behind options reader writer ending
+    × BehindEnd bases behind options reader writer ending
 
 -- how a run ends
-abbrev pub LiveEnds : LiveBases → (List ℕ → List ℕ) → List (List ℕ) → ReaderUse → WriterUse → LiveEnding → Type 0
-LiveEnds bases bytes_of words reader writer (Ok None) =
+abbrev pub LiveEnds : LiveBases → List (List ℕ) → ReaderUse → WriterUse → LiveEnding → Type 0
+LiveEnds bases words reader writer (Ok None) =
     AskForText words × ((text : List ℕ) × Appends writer.before writer.after text) × IsTrue writer.flushed
-LiveEnds bases bytes_of words reader writer (Ok (Some totals)) = OptionsEnd bases bytes_of words reader writer (Ok totals)
-LiveEnds bases bytes_of words reader writer (Err trouble) =
+LiveEnds bases words reader writer (Ok (Some totals)) = OptionsEnd bases words reader writer (Ok totals)
+LiveEnds bases words reader writer (Err trouble) =
     (AskForText words × ((text : List ℕ) × AppendsBeginning writer.before writer.after text))
     ⊎ (Keeps writer.before writer.after × (trouble ≡ troubles.Usage)
     × ((options : Options) (behind : List (List ℕ)) → ¬ AreBehindOptions words options behind))
     ⊎ (Keeps writer.before writer.after × (trouble ≡ troubles.Run OutOfMemory))
-    ⊎ OptionsEnd bases bytes_of words reader writer (Err trouble)
+    ⊎ OptionsEnd bases words reader writer (Err trouble)

@@ -1,5 +1,5 @@
 -- What is heard of an input, and what is written of it.
-use Rattle.std.specs.Prelude.{◌≡◌, ◌+◌, ◌-◌, ◌^◌, ℕ, ◌++◌, Bool, List, [], IsTrue, Option, false, length, min, option_map}
+use Rattle.std.specs.Prelude.{◌≡◌, ◌+◌, ◌-◌, ◌^◌, ℕ, ◌++◌, Bool, List, [], IsTrue, false, length, min, option_map}
 use Rattle.std.specs.Io.KnownBytes.{Consumes, IsAtEnd}
 use Rattle.simplex_scheme.specs.Committees.{Schedule}
 use Rattle.simplex_detector.specs.Alarm.{Told, nothing_told}

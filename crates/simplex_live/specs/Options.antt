@@ -1,5 +1,5 @@
 -- What the arguments of `audit_live` begin with.
-use Rattle.std.specs.Prelude.{⊥, ◌≡◌, ◌⊎◌, ℕ, ◌-◌, ◌<◌, ◌^◌, List, ◌∷◌, Option, None, Some, codes, decimal, max, min, option_map}
+use Rattle.std.specs.Prelude.{◌≡◌, ◌⊎◌, ℕ, ◌-◌, ◌<◌, ◌^◌, List, ◌∷◌, Option, None, Some, codes, decimal, max, min, option_map}
 use Rattle.simplex_lead.specs.declared.lookahead.Lookahead.{Lookahead}
 use Rattle.simplex_detector.specs.Independence.{first_round}
 use Rattle.simplex_monitor.specs.Window.{first_window}

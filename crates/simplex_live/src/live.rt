@@ -5,7 +5,7 @@ ghost use Rattle.std.specs.Vec.Iter.{into_iter_items};
 ghost use Rattle.simplex_audit.specs.Outcome.{reader_use, writer_use};
 ghost use Rattle.simplex_cli.specs.Arguments.{words_of};
 ghost use Rattle.simplex_cli.specs.Status.{number_of};
-ghost use Rattle.simplex_live.specs.Ending.{AskForText, BehindEnd, HearingEnds, LiveEnding, LiveEnds, WordsEnd, status_of_live};
+ghost use Rattle.simplex_live.specs.Ending.{AskForText, BehindEnd, IsQuestion, HearingEnds, LiveEnding, LiveEnds, WordsEnd, status_of_live};
 ghost use Rattle.simplex_stream.specs.Watched.{has_failed};
 
 use crate::complaints::{Trouble, complain, say_number};
@@ -50,7 +50,7 @@ fn hear<S: Named + Listing<Sha256Digest>, F: Files<File = File>, R: Read, W: Wri
 ) -> Result<Totals, Trouble>
     requires input_well { has_failed input.old ≡ false }
     requires output_well { has_failed output.old ≡ false }
-    ensures ends { HearingEnds ⟦<S as Audited<Sha256Digest>>⟧.basis Sha256Digest.bytes_of
+    ensures ends { HearingEnds ⟦<S as Audited<Sha256Digest>>⟧.basis (λ bytes. bytes)
         (S.naming common.now) (map string_bytes texts.now) options.now
         (reader_use R.remaining input.old input.new)
         (writer_use W.contents output.old output.new) result }
@@ -86,7 +86,7 @@ fn hear_words<F: Files<File = File>, R: Read, W: Write, E: Write>(
 ) -> Result<Totals, Trouble>
     requires input_well { has_failed input.old ≡ false }
     requires output_well { has_failed output.old ≡ false }
-    ensures ends { WordsEnd ⟦<Inputs as Judging>⟧.bases Sha256Digest.bytes_of
+    ensures ends { WordsEnd ⟦<Inputs as Judging>⟧.bases
         (map string_bytes words.now) options.now
         (reader_use R.remaining input.old input.new)
         (writer_use W.contents output.old output.new) result }
@@ -160,7 +160,7 @@ fn hear_options<F: Files<File = File>, R: Read, W: Write, E: Write>(
 ) -> Result<Totals, Trouble>
     requires input_well { has_failed input.old ≡ false }
     requires output_well { has_failed output.old ≡ false }
-    ensures ends { BehindEnd ⟦<Inputs as Judging>⟧.bases Sha256Digest.bytes_of
+    ensures ends { BehindEnd ⟦<Inputs as Judging>⟧.bases
         (map string_bytes behind.now) options.now
         (reader_use R.remaining input.old input.new)
         (writer_use W.contents output.old output.new) result }
@@ -182,21 +182,55 @@ fn hear_options<F: Files<File = File>, R: Read, W: Write, E: Write>(
     )
 }
 
-/// What `audit_live --covers FILE` writes: how many bytes of the input the state covers.
-fn covers_text<F: Files<File = File>>(
-    alloc: Global,
-    files: &F,
-    path: &str,
-) -> Result<String, Trouble> {
-    let covers = look(alloc, files, path, None)?.covers();
-    let mut digits = Buffer::new();
-    let mut line = String::from_str(alloc, digits.format(covers))?;
-    line.push_str("\n")?;
-    Ok(line)
+/// What words can ask for.
+enum Question {
+    /// How the program is used.
+    Help,
+    /// Its version.
+    Version,
+    /// How many bytes of the input a state covers.
+    Covers,
 }
 
-/// The text that words ask for by their first one: how the program is used, its version, or how far a state covers the input.
-/// `None` if they ask for none.
+/// What a word asks for, if it does.
+fn question_of(word: &str) -> Option<Question>
+    ensures { IfSome result (λ _. IsQuestion word.now) }
+{
+    match word {
+        "--help" => Some(Question::Help),
+        "--version" => Some(Question::Version),
+        "--covers" => Some(Question::Covers),
+        _ => None,
+    }
+}
+
+/// The text that is asked for, with these words behind the question.
+fn answer<F: Files<File = File>>(
+    alloc: Global,
+    files: &F,
+    question: Question,
+    behind: &[String],
+) -> Result<String, Trouble> {
+    match question {
+        Question::Help => {
+            let mut text = String::from_str(alloc, USAGE)?;
+            text.push_str(HELP)?;
+            Ok(text)
+        }
+        Question::Version => Ok(String::from_str(alloc, VERSION)?),
+        Question::Covers => {
+            let Some((path, _)) = behind.split_first() else {
+                return Err(Trouble::Usage);
+            };
+            let covers = look(alloc, files, path.as_str(), None)?.covers();
+            let mut text = String::from_str(alloc, Buffer::new().format(covers))?;
+            text.push_str("\n")?;
+            Ok(text)
+        }
+    }
+}
+
+/// The text that words ask for by their first one. `None` if they ask for none.
 fn asked<F: Files<File = File>>(
     alloc: Global,
     files: &F,
@@ -205,24 +239,13 @@ fn asked<F: Files<File = File>>(
     ensures asks { IfOk result (λ text. IfSome text (λ _. AskForText (map string_bytes words.now))) }
     ensures failed { OnErr result (AskForText (map string_bytes words.now)) }
 {
-    let Some((first, rest)) = words.split_first() else {
+    let Some((first, behind)) = words.split_first() else {
         return Ok(None);
     };
-    if first.as_str() == "--help" {
-        let mut text = String::from_str(alloc, USAGE)?;
-        text.push_str(HELP)?;
-        return Ok(Some(text));
-    }
-    if first.as_str() == "--version" {
-        return Ok(Some(String::from_str(alloc, VERSION)?));
-    }
-    if first.as_str() != "--covers" {
+    let Some(question) = question_of(first.as_str()) else {
         return Ok(None);
-    }
-    match rest.split_first() {
-        None => Err(Trouble::Usage),
-        Some((path, _)) => Ok(Some(covers_text(alloc, files, path.as_str())?)),
-    }
+    };
+    Ok(Some(answer(alloc, files, question, behind)?))
 }
 
 /// Does what the words say. `None` if they ask for a text, which is written then.
@@ -236,7 +259,7 @@ fn live<F: Files<File = File>, R: Read, W: Write, E: Write>(
 ) -> Result<Option<Totals>, Trouble>
     requires input_well { has_failed input.old ≡ false }
     requires output_well { has_failed output.old ≡ false }
-    ensures ends { LiveEnds ⟦<Inputs as Judging>⟧.bases Sha256Digest.bytes_of
+    ensures ends { LiveEnds ⟦<Inputs as Judging>⟧.bases
         (map string_bytes words.now)
         (reader_use R.remaining input.old input.new)
         (writer_use W.contents output.old output.new) result }
@@ -315,7 +338,7 @@ pub fn start_live<F: Files<File = File>, R: Read, W: Write, E: Write>(
     requires output_well { has_failed output.old ≡ false }
     ensures ends { IfOk given (λ given. (ending : LiveEnding)
         × (result ≡ number_of (status_of_live ending))
-        × LiveEnds ⟦<Inputs as Judging>⟧.bases Sha256Digest.bytes_of (words_of (into_iter_items given))
+        × LiveEnds ⟦<Inputs as Judging>⟧.bases (words_of (into_iter_items given))
         (reader_use R.remaining input.old input.new)
         (writer_use W.contents output.old output.new) ending) }
     // Where the input or the output failed the number is 3.
@@ -327,9 +350,11 @@ pub fn start_live<F: Files<File = File>, R: Read, W: Write, E: Write>(
         Ok(given) => given,
         Err(error) => return conclude(errors, Err(Trouble::Run(no_arguments(&error)))).number(),
     };
-    let ended = match without_name(alloc, given) {
-        Err(_) => Err(Trouble::Run(Failure::OutOfMemory)),
-        Ok(words) => live(alloc, files, words.as_slice(), input, output, errors),
-    };
-    conclude(errors, ended).number()
+    match without_name(alloc, given) {
+        Ok(words) => {
+            let ended = live(alloc, files, words.as_slice(), input, output, errors);
+            conclude(errors, ended).number()
+        }
+        Err(_) => conclude(errors, Err(Trouble::Run(Failure::OutOfMemory))).number(),
+    }
 }

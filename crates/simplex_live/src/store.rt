@@ -91,7 +91,9 @@ impl<'a, F: Files<File = File>> Store<'a, F> {
     }
 
     /// Writes the state anew: its file is as it was or whole.
-    pub fn write_anew(&mut self, alloc: Global, mark: &Mark, held: &[u8]) -> Result<(), Trouble> {
+    pub fn write_anew(&mut self, alloc: Global, mark: &Mark, held: &[u8]) -> Result<(), Trouble>
+        ensures { IfErr result (λ trouble. ¬ IsOfWords trouble) }
+    {
         self.file = None;
         let record = record(alloc, mark, held)?;
         let Ok(mut file) = File::create(self.files, self.next.as_str()) else {
@@ -109,7 +111,9 @@ impl<'a, F: Files<File = File>> Store<'a, F> {
     }
 
     /// Appends a record. If that fails, the state has to be written anew.
-    pub fn append(&mut self, alloc: Global, mark: &Mark, more: &[u8]) -> Result<(), Trouble> {
+    pub fn append(&mut self, alloc: Global, mark: &Mark, more: &[u8]) -> Result<(), Trouble>
+        ensures { IfErr result (λ trouble. ¬ IsOfWords trouble) }
+    {
         let record = record(alloc, mark, more)?;
         let Some(mut file) = self.file.take() else {
             return Err(Trouble::UnwrittenState);
