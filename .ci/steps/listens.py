@@ -141,6 +141,28 @@ def restarted(keys, stream, folder, kills):
     return len(told + rest) - len(once)
 
 
+def lines_first(keys, stream, folder):
+    """While the output takes nothing, the state covers nothing of what completes a line. So a run after a kill tells all."""
+    state = folder / "first"
+    words = [*WIDE, "--state", state, *keys]
+    reading, writing = os.pipe()
+    os.set_blocking(writing, False)
+    try:
+        while os.write(writing, bytes(4096)):
+            pass
+    except BlockingIOError:
+        os.set_blocking(writing, True)
+    with subprocess.Popen([LIVE, *words], stdin=subprocess.PIPE, stdout=writing, stderr=subprocess.DEVNULL) as begun:
+        begun.stdin.write(stream)
+        begun.stdin.flush()
+        time.sleep(1)
+        assert covers(state) == 0, "the state is behind the lines"
+        begun.kill()
+    os.close(reading)
+    os.close(writing)
+    same(live(words, stream)[1], audit(keys, stream)[1])
+
+
 def cut(keys, stream, folder):
     """A state that is cut at every byte can be read, and from where it says nothing is lost."""
     state, whole = folder / "cut", folder / "whole"
@@ -281,6 +303,7 @@ def main():
     with tempfile.TemporaryDirectory() as folder:
         folder = pathlib.Path(folder)
         count += refused(keys, stream, folder) + states(keys, stream, folder) + cut(keys, stream, folder)
+        lines_first(keys, stream, folder)
         twice = restarted(keys, streams("votes", 7, 400), folder, KILLS)
-    print(f"{count + 3} runs of audit_live as they should be, with {lines} lines")
+    print(f"{count + 5} runs of audit_live as they should be, with {lines} lines")
     print(f"{KILLS} kills lost none of them, {twice} came twice")
