@@ -1,0 +1,4 @@
+mod CutLemmas
+mod IndexLemmas
+mod RangeLemmas
+mod SplitLemmas
