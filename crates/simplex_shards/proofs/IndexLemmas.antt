@@ -1,5 +1,5 @@
 -- The rows of a stream's messages.
-use Rattle.std.proofs.Common.{◌≡◌, ◌+◌, ◌≤◌, ◌==◌, ℕ, Bool, true, false, cond, List, [], ◌∷◌, ◌++◌, length, take, drop, filter, Option, Some, None, refl, sym, ap, subst, ◌∙◌, arith, append_assoc, length-append, append-nil}
+use Rattle.std.proofs.Common.{◌≡◌, ◌+◌, ◌≤◌, ◌==◌, ℕ, Bool, true, false, cond, List, [], ◌∷◌, ◌++◌, length, take, drop, Option, Some, None, refl, sym, ap, subst, ◌∙◌, arith, append_assoc, length-append}
 use Rattle.std.specs.Prelude.{All}
 use Rattle.std.specs.List.{flat_map, sum_by}
 use Rattle.std.proofs.lemmas.Grind.{flat_map-append}
@@ -14,7 +14,7 @@ use Rattle.simplex_stream.specs.Fault.{IsFault}
 use Rattle.simplex_stream.specs.Progress.{IsProgress}
 use Rattle.simplex_stream.specs.declared.fault.Fault.{Fault}
 use Rattle.simplex_shards.specs.Index.{IndexesMore, IsIndex, bound_of, bytes_at, decoder_of, end_of, rows_of_class}
-use Rattle.simplex_shards.specs.Rows.{IsRow, Tabulates, row_round, rows_from}
+use Rattle.simplex_shards.specs.Rows.{IsRow, Tabulates, rows_from}
 use Rattle.simplex_shards.specs.Split.{of_class}
 use Rattle.simplex_shards.specs.declared.index.Indexer.{Indexer}
 use Rattle.simplex_shards.specs.declared.index.Row.{Row}

@@ -1,5 +1,5 @@
 -- One message that is appended to the part of its class, and the parts of a whole stream.
-use Rattle.std.proofs.Common.{◌≡◌, ◌==◌, ℕ, Bool, true, false, cond, inl, inr, List, [], ◌∷◌, ◌++◌, length, map, filter, get_or, Some, None, Option, ◌≤◌, ◌<◌, arith, IfOk, refl, sym, ap, subst, ◌∙◌, zero, suc, append-nil}
+use Rattle.std.proofs.Common.{◌≡◌, ◌==◌, ℕ, Bool, true, false, cond, inl, inr, List, [], ◌∷◌, ◌++◌, length, map, get_or, Some, Option, ◌≤◌, ◌<◌, arith, refl, sym, ap, subst, ◌∙◌, zero, suc, append-nil}
 use Rattle.std.specs.Prelude.{slice_get, slice_set, replicate, All, Vec}
 use Rattle.std.specs.List.{flat_map}
 use Rattle.std.proofs.lemmas.Bool.{cases_eq, eq-eqb, ne_eqb}

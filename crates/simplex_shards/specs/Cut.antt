@@ -1,5 +1,5 @@
 -- Which class a round is of.
-use Rattle.std.specs.Prelude.{ℕ, ◌+◌, ◌*◌, ◌/◌, ◌%◌, ◌^◌, bit_xor}
+use Rattle.std.specs.Prelude.{◌≡◌, ℕ, ◌+◌, ◌*◌, ◌/◌, ◌%◌, ◌^◌, bit_xor}
 use Rattle.std.specs.Int.NonZero.{non_zero_u32_get, non_zero_u64_get}
 use Rattle.simplex_base.specs.Positions.{Round}
 use Rattle.simplex_shards.specs.declared.cut.Cut.{Cut}
@@ -32,3 +32,11 @@ class_under (Ranges width classes) = ranged_class (non_zero_u64_get width) (non_
 abbrev pub classes_of : Cut → ℕ
 classes_of (Mixed seed classes) = non_zero_u32_get classes
 classes_of (Ranges width classes) = non_zero_u32_get classes
+
+-- the classes of some rounds at seed 0
+pub record GivesVectors (class : ℕ → ℕ → Round → ℕ) : Type 0 where
+  pub first : class 0 16 (record { epoch = 0; view = 0 }) ≡ 15
+  pub next_view : class 0 16 (record { epoch = 0; view = 1 }) ≡ 14
+  pub next_epoch : class 0 16 (record { epoch = 1; view = 0 }) ≡ 14
+  pub middle : class 0 1000 (record { epoch = 5; view = 123456789 }) ≡ 466
+  pub last : class 0 64 (record { epoch = 18446744073709551615; view = 18446744073709551615 }) ≡ 54

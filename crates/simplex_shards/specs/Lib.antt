@@ -1,5 +1,8 @@
 pub mod Cut
 pub mod Index
+pub mod Merge
+pub mod Part
+pub mod PartLaws
 pub mod Ranges
 pub mod RowLaws
 pub mod Rows

@@ -3,7 +3,7 @@
 ghost use Rattle.std.specs.Prelude.{◌≡◌, ◌<◌};
 ghost use Rattle.std.specs.Int.NonZero.{non_zero_u32_get, non_zero_u64_get};
 ghost use Rattle.simplex_base.specs.Positions as positions;
-ghost use Rattle.simplex_shards.specs.Cut.{class_under, classes_of, mixed_class, ranged_class, splitmix};
+ghost use Rattle.simplex_shards.specs.Cut.{GivesVectors, class_under, classes_of, mixed_class, ranged_class, splitmix};
 
 use simplex_base::positions::Round;
 use std::num::{NonZeroU32, NonZeroU64};
@@ -60,6 +60,8 @@ impl Cut {
 pub fn class_of(round: Round, seed: u64, classes: NonZeroU32) -> u32
     ensures value { result ≡ mixed_class seed (non_zero_u32_get classes) round }
     ensures below { result < non_zero_u32_get classes }
+    // Five rounds and their classes.
+    ensures vectors { GivesVectors mixed_class }
 {
     let word = mix(mix(seed ^ round.epoch().get()) ^ round.view().get());
     (word % u64::from(classes.get())) as u32

@@ -6,6 +6,9 @@
 
 pub mod cut;
 pub mod index;
+mod laws;
+pub mod merge;
 mod messages;
+pub mod part;
 pub mod ranges;
 pub mod split;

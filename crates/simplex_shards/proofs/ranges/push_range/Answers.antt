@@ -1,6 +1,6 @@
-use Rattle.std.proofs.Common.{◌≡◌, ◌-◌, ℕ, List, Some, length, ap, subst, sym, ◌∙◌}
+use Rattle.std.proofs.Common.{◌≡◌, ◌-◌, ℕ, List, Some, length, ap, ◌∙◌}
 use Rattle.std.specs.Prelude.{slice_get, slice_set}
-use Rattle.simplex_shards.specs.Ranges.{appended, joined}
+use Rattle.simplex_shards.specs.Ranges.{joined}
 use Rattle.simplex_shards.specs.declared.ranges.Range.{Range}
 use Rattle.simplex_shards.proofs.RangeLemmas.{pushed_apart, pushed_next}
 use Rattle.simplex_shards.proofs.ranges.push_range.Goals as goal

@@ -3,7 +3,7 @@ use Rattle.std.proofs.lemmas.List.{take_all, take_more}
 use Rattle.simplex_shards.specs.Cut.{class_under}
 use Rattle.simplex_shards.specs.Ranges.{AreRanges}
 use Rattle.simplex_shards.specs.declared.index.Row.{Row}
-use Rattle.simplex_shards.proofs.RangeLemmas.{first_rows_fit, no_ranges, ranges_fit, ranges_more}
+use Rattle.simplex_shards.proofs.RangeLemmas.{first_rows_fit, ranges_fit, ranges_more}
 use Rattle.simplex_shards.proofs.ranges.ranges.Goals as goal
 
 pub push_row-requires-clause-last : goal.push_row-requires-clause-last
