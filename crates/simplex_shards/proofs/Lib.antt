@@ -1,0 +1,10 @@
+mod AloneLemmas
+mod CountLemmas
+mod CutLemmas
+mod IndexLemmas
+mod MergeLemmas
+mod OrderLemmas
+mod PartLemmas
+mod RangeLemmas
+mod RoundOrder
+mod SplitLemmas

@@ -1,0 +1,10 @@
+pub mod Cut
+pub mod Index
+pub mod Merge
+pub mod Part
+pub mod PartLaws
+pub mod Ranges
+pub mod RowLaws
+pub mod Rows
+pub mod Split
+pub mod SplitLaws
