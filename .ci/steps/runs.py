@@ -138,7 +138,7 @@ def long(check, name, work, two, fault):
     (work / "fault").write_bytes(fault)
     (work / "large").touch()
     os.truncate(work / "large", 2**30)
-    again = fed('for _ in {1..1500}; do cat "$1"; done', work / "block")
+    again = fed('for _ in {1..1500}; do cat "$1" || exit; done', work / "block")
     beyond = fed('cat "$1" "$2"', work / "fault", work / "large")
     holds = (0, line(0), ""), (1, line(0), "audit: fault at byte 138")
     for wanted, stream in zip(holds if name == "audit" else [(3, "", "audit: out of memory")] * 2, (again, beyond)):
