@@ -187,14 +187,14 @@ def table(cited, before, named):
         if (path, kind) not in before:
             lines[crate_of(path)] += count
             kinds.setdefault(crate_of(path), []).append(kind)
-    rows = ["| Crate | Lines | Definitions by file | Types |", "|---|---|---|---|"]
+    rows = ["| `simplex_..` | Lines | Definitions by file | Types |", "|---|---|---|---|"]
     for crate in filter(lines.get, order):
         files = names.get(crate, {})
         listed = {file: f": `{', '.join(of)}`" if named else f" {len(of)}" for file, of in files.items()}
         defined = ("; " if named else ", ").join(file + listed[file] for file in sorted(files))
         types = kinds.get(crate, [])
         types = f"`{', '.join(types)}`" if named and types else len(types) or ""
-        rows.append(f"| {crate} | {lines[crate]} | {defined} | {types} |")
+        rows.append(f"| {crate.removeprefix('simplex_')} | {lines[crate]} | {defined} | {types} |")
     every = [len(it) for files in names.values() for it in files.values()]
     total = f"{len(every)} files, {sum(every)} definitions"
     return "\n".join([*rows, f"| | {lines.total()} | {total} | {sum(map(len, kinds.values()))} types |"])
