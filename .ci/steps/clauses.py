@@ -10,16 +10,16 @@ from .common import ROOT, crates, written
 PAGE = ROOT / "docs/CLAUSES.md"
 HEAD = """# Clauses
 
-Every public function with the names of its clauses, by crate and by file of `crates/CRATE/src/`, here without `.rt`. Callers
-and crates of tests are left out. Step `clauses` makes this page from the sources, and the gate compares the two.
+Every public function with the names of its clauses, by crate and by file of `crates/CRATE/src/`, without `.rt`; those of
+callers and tests are left out. Step `clauses` makes this page from the sources, and the gate compares it.
 
-- Behind a type or a trait stand its functions, behind a function its clauses in their order. What a clause states stands in
-  the file. `read_u64 and _u32` are `read_u64` and `read_u32`.
+- Behind a type or a trait stand its functions, behind a function its clauses. What a clause states stands in the file.
+  `read_u64 and _u32` are `read_u64` and `read_u32`.
 - Clauses are `ensures`, but those before a semicolon, which are `requires`. `_` is one without a name.
 - A function without parentheses has an `ensures` without a name. Those without a clause are counted; they are still proved to
   be safe and to end.
-- A function of a trait binds each implementation. `<T as Trait>` has the clauses beyond the trait's. "Ghost" are members of a
-  trait that are a meaning or a law.
+- A function of a trait binds each impl. `<T as Trait>` has the clauses beyond the trait's. "Ghost" are members of a trait that
+  are a meaning or a law.
 - A file is public as a module, or by the module of its folder or the one behind it.
 - A clause about a returned value says nothing after an allocation failure.
 """
