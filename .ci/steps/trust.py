@@ -43,6 +43,14 @@ TABLES = {
         "simplex_schemes/src/plain.rt": ["ghost keys", "ghost good", "ghost certified", "ghost listed"],
         "simplex_schemes/src/listed.rt": ["ghost is_value", "ghost fits", "ghost reading", "ghost encoding"],
     },
+    "shards": {
+        "simplex_shards/src/cut.rt": ["fn classes", "fn class_of", "fn range_of"],
+        "simplex_shards/src/split.rt": ["fn split"],
+        "simplex_shards/src/index.rt": ["fn row", "fn index", "fn feed"],
+        "simplex_shards/src/ranges.rt": ["fn ranges"],
+        "simplex_shards/src/part.rt": ["fn audit_part"],
+        "simplex_shards/src/merge.rt": ["fn merge"],
+    },
 }
 # a relation that callers hand on and need not read
 HANDED_ON = {"Stands", "StandsFrom"}
