@@ -156,8 +156,9 @@ def lines_first(keys, stream, folder):
         begun.stdin.write(stream)
         begun.stdin.flush()
         time.sleep(1)
-        assert covers(state) == 0, "the state is behind the lines"
+        place = covers(state)
         begun.kill()
+    assert place == 0, "the state is behind the lines"
     os.close(reading)
     os.close(writing)
     same(live(words, stream)[1], audit(keys, stream)[1])

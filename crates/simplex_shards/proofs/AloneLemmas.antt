@@ -3,7 +3,6 @@
 use Rattle.std.proofs.Common.{◌≡◌, ◌+◌, ℕ, Bool, true, false, cond, List, [], ◌∷◌, ◌++◌, map, filter, Option, Some, None, ⊎_elim, refl, sym, ap, subst, ◌∙◌}
 use Rattle.std.specs.Prelude.{All, IsTrue, is_some, if◌then◌else◌, ◌&&◌, ◌||◌}
 use Rattle.std.specs.List.{flat_map, list_any}
-
 use Rattle.std.proofs.lemmas.Bool.{and_parts, eqb-true, false≢true, or_cases}
 use Rattle.std.proofs.lemmas.List.Elements.{All-contains, All-head, All-map, All-tail, All-weaker, filter-append, filter_passes}
 use Rattle.simplex_base.specs.Positions.{Round, same_round}

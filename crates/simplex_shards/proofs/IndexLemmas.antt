@@ -33,8 +33,14 @@ module _ {M : Type 0} (round : M → Round) (encoding : M → List ℕ) (row_of 
   lengths_add_up place (m ∷ ms) =
       let one = (is_row place m).length_is in
       let others = lengths_add_up (place + length (encoding m)) ms in
-      omega (arith, one, others, length-append (encoding m) (flat_map encoding ms), sum_by-cons (λ (row : Row). row.length)
-      (row_of place m) (rows_from row_of encoding (place + length (encoding m)) ms))
+      omega (
+        arith,
+        one,
+        others,
+        length-append (encoding m) (flat_map encoding ms),
+        sum_by-cons (λ (row : Row). row.length)
+            (row_of place m) (rows_from row_of encoding (place + length (encoding m)) ms),
+      )
 
   -- no row ends behind the messages
   rows_within : (n place : ℕ) (ms : List M) → place + length (flat_map encoding ms) ≤ n →
@@ -152,8 +158,17 @@ module _ {M : Type 0} (format : Format M) (round : M → Round) (row_of : ℕ �
         (flat_map-append format.encoding ms d.0)) in
         let within = rows_within round format.encoding row_of is_row (length (stream ++ piece))
         (length (flat_map format.encoding ms)) d.0
-        (omega (arith, len, length-append (flat_map format.encoding ms ++ flat_map format.encoding d.0)
-        (undecoded (decoder_of new)), length-append (flat_map format.encoding ms) (flat_map format.encoding d.0))) in
-        (d.0, d.1, rows_are, subst (λ (l : List Row). All (λ row. row.place + row.length ≤ length (stream ++ piece)) l)
-        (sym rows_are) within);
+        (omega (
+          arith,
+          len,
+          length-append (flat_map format.encoding ms ++ flat_map format.encoding d.0)
+              (undecoded (decoder_of new)),
+          length-append (flat_map format.encoding ms) (flat_map format.encoding d.0),
+        )) in (
+          d.0,
+          d.1,
+          rows_are,
+          subst (λ (l : List Row). All (λ row. row.place + row.length ≤ length (stream ++ piece)) l)
+              (sym rows_are) within,
+        );
   }

@@ -184,8 +184,17 @@ module _ {S D C P G : Type 0} (basis : Basis S D C P G) (law : IsLawful basis.fo
               let few = few_messages basis.format.encoding some messages in
               let len = ap length are.whole in
               let total = all.read in
-              omega (arith, sum, counted, few, len, total, read, short,
-              length-append (flat_map basis.format.encoding messages) rest);
+              omega (
+                arith,
+                sum,
+                counted,
+                few,
+                len,
+                total,
+                read,
+                short,
+                length-append (flat_map basis.format.encoding messages) rest,
+              );
           fault_is = subst (λ (f : Option Fault). IsFault basis.format.reading
               (length (flat_map basis.format.encoding messages)) rest f) (sym same) here;
           evidence_is = add_up.evidence (map evidence_in parts)

@@ -53,9 +53,10 @@ module _ {K : Type 0} (cmp : K → K → Ordering) (total : IsTotalOrder cmp) wh
     where
       above : (ys : List K) → cmp x k ≡ Equal → All (λ y. cmp x y ≡ Less) ys → All (λ y. cmp k y ≡ Less) ys
       above [] same h = All-nil (λ z. cmp k z ≡ Less)
-      above (y ∷ ys) same h = All-from_recursion (λ z. cmp k z ≡ Less) (y ∷ ys)
-          (sym (total.congr x k y same) ∙ All-head (λ z. cmp x z ≡ Less) y ys h,
-          recursion_from_All (λ z. cmp k z ≡ Less) ys (above ys same (All-tail (λ z. cmp x z ≡ Less) y ys h)))
+      above (y ∷ ys) same h = All-from_recursion (λ z. cmp k z ≡ Less) (y ∷ ys) (
+        sym (total.congr x k y same) ∙ All-head (λ z. cmp x z ≡ Less) y ys h,
+        recursion_from_All (λ z. cmp k z ≡ Less) ys (above ys same (All-tail (λ z. cmp x z ≡ Less) y ys h)),
+      )
 
   -- keys of which no two tie stay as they are without repetitions
   dedup_same : (k : K) (xs : List K) → ((q : K) → count q (k ∷ xs) ≤ 1) → dedup_from (eq_by_cmp cmp) k xs ≡ k ∷ xs

@@ -43,12 +43,7 @@ impl Row {
 /// it ends. Fed to an auditor one after another they are the part of this class. The rows are those that
 /// [`index`](crate::index::index) returns, of the whole stream or of any neighbouring messages. `AllocError` is returned only
 /// after an allocation failed.
-pub fn ranges(
-    alloc: Global,
-    rows: &[Row],
-    cut: &Cut,
-    class: u32,
-) -> Result<Vec<Range>, AllocError>
+pub fn ranges(alloc: Global, rows: &[Row], cut: &Cut, class: u32) -> Result<Vec<Range>, AllocError>
     requires { All (λ row. row.place + row.length < 2 ^ 64) rows.now }
     ensures { IfOk result (λ ranges. AreRanges (class_under cut.now) class rows.now ranges.items) }
 {
@@ -60,12 +55,7 @@ pub fn ranges(
 }
 
 /// Appends the range of a row if its round is of a class.
-fn push_row(
-    ranges: &mut Vec<Range>,
-    row: &Row,
-    cut: &Cut,
-    class: u32,
-) -> Result<(), AllocError>
+fn push_row(ranges: &mut Vec<Range>, row: &Row, cut: &Cut, class: u32) -> Result<(), AllocError>
     requires last { All (λ r. r.place + r.length < 2 ^ 64) ranges.old.items }
     requires next { row.now.place + row.now.length < 2 ^ 64 }
     ensures { OnOk result (ranges.new.items ≡

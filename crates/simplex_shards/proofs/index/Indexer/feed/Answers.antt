@@ -20,8 +20,14 @@ returns-clause-rows g c =
     let len = ap length held.are_messages.whole in
     let fed = held.fed_is in
     let here = c.place.ensures in
-    omega (arith, len, fed, here, length-append (flat_map g.M.Encoding.encoding ms)
-    (undecoded (decoder_of c.args.self.now))) in
+    omega (
+      arith,
+      len,
+      fed,
+      here,
+      length-append (flat_map g.M.Encoding.encoding ms)
+          (undecoded (decoder_of c.args.self.now)),
+    ) in
     index_piece _ g.M.Roundable.round_of g.M.Tabular.row_of g.met.M.Tabular.row_is c.args.piece.now c.args.self.now _ _
     c.feed.new.visitor refl c.new.ensures.items
     start c.in_ok-feed.ensures.decoded
