@@ -10,16 +10,16 @@ from .common import ROOT, crates, written
 PAGE = ROOT / "docs/CLAUSES.md"
 HEAD = """# Clauses
 
-Every public function with the names of its clauses, by crate and by file of `crates/CRATE/src/`, here without `.rt`. Callers
-and crates of tests are left out. Step `clauses` makes this page from the sources, and the gate compares the two.
+Every public function with the names of its clauses, by crate and by file of `crates/CRATE/src/`, without `.rt`; those of
+callers and tests are left out. Step `clauses` makes this page from the sources, and the gate compares it.
 
-- Behind a type or a trait stand its functions, behind a function its clauses in their order, and how its `///` begins, if that
-  is short. What a clause states stands in the file. `read_u64 and _u32` are `read_u64` and `read_u32`.
+- Behind a type or a trait stand its functions, behind a function its clauses. What a clause states stands in the file.
+  `read_u64 and _u32` are `read_u64` and `read_u32`.
 - Clauses are `ensures`, but those before a semicolon, which are `requires`. `_` is one without a name.
 - A function without parentheses has an `ensures` without a name. Those without a clause are counted; they are still proved to
   be safe and to end.
-- A function of a trait binds each implementation. `<T as Trait>` has those with clauses beyond the trait's. "Ghost" are members
-  of a trait that are a meaning or a law.
+- A function of a trait binds each impl. `<T as Trait>` has the clauses beyond the trait's. "Ghost" are members of a trait that
+  are a meaning or a law.
 - A file is public as a module, or by the module of its folder or the one behind it.
 - A clause about a returned value says nothing after an allocation failure.
 """
@@ -27,16 +27,6 @@ FUNCTION = re.compile(r"( *)(pub )?(?:const |final |unsafe |extern \"C\" )*fn (\
 CLAUSE = re.compile(r" *(requires|ensures)(?: (\w+))? \{")
 GHOST = re.compile(r"    ghost (\w+): \{")
 LEFT_OUT = re.compile(r"faulty_io|conformance|examples|.*_tests$")
-# characters
-SHORT = 20
-
-
-def sentence(doc):
-    """The first sentence of a comment up to a colon, with its links as plain text, if it is short."""
-    doc = doc[: doc.index("")] if "" in doc else doc
-    text = re.sub(r"\[([^\]]*)\]\([^)]*\)|\[(`[^`]*`)\]", lambda it: it[1] or it[2], " ".join(doc))
-    text = re.split(r"(?<=\.)\s+(?=[A-Z`])|[:;] ", text)[0].rstrip(".")
-    return text if len(text) <= SHORT else ""
 
 
 def header(lines, at):
@@ -72,29 +62,24 @@ def contract(lines, at, indent):
 
 
 def items(path):
-    """What a file declares: its kind, the trait or impl around it, whether it is public, its name, its comment, its clauses."""
-    lines, owner, doc = path.read_text().splitlines(), None, []
+    """What a file declares: its kind, the trait or impl around it, whether it is public, its name, its clauses."""
+    lines, owner = path.read_text().splitlines(), None
     for at, line in enumerate(lines):
         if line.startswith("#[cfg(test)]"):
             return
-        if comment := re.match(r"(?: {4})?///(?: (.*))?$", line):
-            doc.append(comment[1] or "")
-            continue
         if re.match(r"(unsafe )?impl\b", line):
             owner = ("impl", *implemented(header(lines, at)))
         elif found := re.match(r"(pub )?trait (\w+)", line):
             owner = ("trait", found[2], bool(found[1]))
         elif found := re.match(r"(pub )?(?:struct|enum|union) (\w+)", line):
-            yield "type", None, bool(found[1]), found[2], sentence(doc), []
+            yield "type", None, bool(found[1]), found[2], []
         elif line == "}":
             owner = None
         if (found := FUNCTION.match(line)) and len(found[1]) in (0, 4):
             inside = owner if found[1] else None
-            yield "fn", inside, bool(found[2]), found[3], sentence(doc), contract(lines, at, len(found[1]))
+            yield "fn", inside, bool(found[2]), found[3], contract(lines, at, len(found[1]))
         elif (found := GHOST.match(line)) and owner and owner[0] == "trait":
-            yield "ghost", owner, True, found[1], sentence(doc), []
-        if line.strip() and not line.strip().startswith("#["):
-            doc = []
+            yield "ghost", owner, True, found[1], []
 
 
 def modules(source):
@@ -141,25 +126,20 @@ def joined(members):
 def gathered(functions):
     """The functions of an owner, each with its clauses, and those that have the same ones together."""
     alike = {}
-    for member, *said in functions:
-        alike.setdefault(tuple(said), []).append(member)
-    return ", ".join(
-        f"{joined(members)} ({shown}){text and f' {text}'}" if shown else ", ".join(members)
-        for (shown, text), members in alike.items()
-    )
+    for member, shown in functions:
+        alike.setdefault(shown, []).append(member)
+    return ", ".join(f"{joined(of)} ({shown})" if shown else ", ".join(of) for shown, of in alike.items())
 
 
 def described(entries):
     """What is listed of a file: each type or trait with its functions and its ghost members, and functions alone."""
     owners, ghosts, without = {}, {}, 0
-    for kind, name, text, clauses in entries:
+    for kind, name, clauses in entries:
         owner, _, member = name.rpartition("::")
         if kind == "ghost":
             ghosts.setdefault(owner, []).append(member)
         elif clauses:
-            shown = names(clauses)
-            said = text.replace("`", "")
-            owners.setdefault(owner, []).append((member, shown, f'"{said}"' if said and shown else ""))
+            owners.setdefault(owner, []).append((member, names(clauses)))
         else:
             without += 1
     spans = []
@@ -169,8 +149,19 @@ def described(entries):
     return " ".join(spans + ([f"without a clause {without}"] if without else []))
 
 
-def listed(found):
-    """The items of each public module, by the file in which they stand."""
+def of_traits():
+    """The clauses with a name of each function of a trait, by the trait's name and the function's."""
+    files = [file for crate in crates() for file in (ROOT / "crates" / crate / "src").rglob("*.rt")]
+    every = [it for file in files for it in items(file)]
+    return {
+        (owner[1], name): {it for it in clauses if it[1]}
+        for kind, owner, _, name, clauses in every
+        if kind == "fn" and owner and owner[0] == "trait"
+    }
+
+
+def listed(found, bound):
+    """The items of each public module, by the file in which they stand. `bound` has the clauses that traits have."""
     homes = exported(found)
     every = [(module, it) for module, (file, _) in found.items() for it in items(file)]
 
@@ -178,9 +169,9 @@ def listed(found):
         """The public module of a name that stands in this module, if there is one."""
         return module if found[module][1] else homes.get((module, name))
 
-    types = {name: home(module, name) for module, (kind, _, public, name, *_) in every if kind == "type" and public}
+    types = {name: home(module, name) for module, (kind, _, public, name, _) in every if kind == "type" and public}
     sections = {name: {} for name, (_, public) in found.items() if public}
-    for module, (kind, owner, public, name, text, clauses) in every:
+    for module, (kind, owner, public, name, clauses) in every:
         if kind == "type":
             continue
         if owner is None:
@@ -190,19 +181,20 @@ def listed(found):
             name = f"{owner[1]}::{name}"
         else:
             trait, of = owner[1:]
+            clauses = [it for it in clauses if it not in bound.get((trait, name), ())]
             place = types.get(of, home(module, of) if trait else None) if (clauses if trait else public) else None
             name = f"<{of} as {trait}>::{name}" if trait else f"{of}::{name}"
         if place is not None:
-            sections[place].setdefault(found[module][0], []).append((kind, name, text, clauses))
+            sections[place].setdefault(found[module][0], []).append((kind, name, clauses))
     return {module: files for module, files in sections.items() if files}
 
 
 def page():
     """The text of the page."""
-    lines = [HEAD]
+    lines, bound = [HEAD], of_traits()
     for crate in crates():
         source = ROOT / "crates" / crate / "src"
-        sections = {} if LEFT_OUT.match(crate) else listed(modules(source))
+        sections = {} if LEFT_OUT.match(crate) else listed(modules(source), bound)
         lines += [f"## {crate}\n"] if sections else []
         for module, files in sections.items():
             for file, entries in files.items():

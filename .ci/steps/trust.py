@@ -43,6 +43,14 @@ TABLES = {
         "simplex_schemes/src/plain.rt": ["ghost keys", "ghost good", "ghost certified", "ghost listed"],
         "simplex_schemes/src/listed.rt": ["ghost is_value", "ghost fits", "ghost reading", "ghost encoding"],
     },
+    "shards": {
+        "simplex_shards/src/cut.rt": ["fn classes", "fn class_of", "fn range_of"],
+        "simplex_shards/src/split.rt": ["fn split"],
+        "simplex_shards/src/index.rt": ["fn row", "fn index", "fn feed"],
+        "simplex_shards/src/ranges.rt": ["fn ranges"],
+        "simplex_shards/src/part.rt": ["fn audit_part"],
+        "simplex_shards/src/merge.rt": ["fn merge"],
+    },
 }
 # a relation that callers hand on and need not read
 HANDED_ON = {"Stands", "StandsFrom"}
@@ -187,14 +195,14 @@ def table(cited, before, named):
         if (path, kind) not in before:
             lines[crate_of(path)] += count
             kinds.setdefault(crate_of(path), []).append(kind)
-    rows = ["| Crate | Lines | Definitions by file | Types |", "|---|---|---|---|"]
+    rows = ["| `simplex_..` | Lines | Definitions by file | Types |", "|---|---|---|---|"]
     for crate in filter(lines.get, order):
         files = names.get(crate, {})
         listed = {file: f": `{', '.join(of)}`" if named else f" {len(of)}" for file, of in files.items()}
         defined = ("; " if named else ", ").join(file + listed[file] for file in sorted(files))
         types = kinds.get(crate, [])
         types = f"`{', '.join(types)}`" if named and types else len(types) or ""
-        rows.append(f"| {crate} | {lines[crate]} | {defined} | {types} |")
+        rows.append(f"| {crate.removeprefix('simplex_')} | {lines[crate]} | {defined} | {types} |")
     every = [len(it) for files in names.values() for it in files.values()]
     total = f"{len(every)} files, {sum(every)} definitions"
     return "\n".join([*rows, f"| | {lines.total()} | {total} | {sum(map(len, kinds.values()))} types |"])
