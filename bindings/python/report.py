@@ -51,9 +51,11 @@ def write(path, shown):
 
 
 def program(name, folder):
-    """The path of `audit` or `inspect`: in a folder that is given, in PATH, or as they are built here."""
+    """The path of `audit` or `inspect`, as `make install` names it or so: in a folder, in PATH, or as it is built here."""
     built = pathlib.Path(__file__).resolve().parent.parent.parent / "crates" / name / "out"
-    found = shutil.which(name, path=folder) if folder else shutil.which(name) or shutil.which(name, path=str(built))
+    names = (f"simplex-{name}", name)
+    places = [folder] if folder else [os.environ.get("PATH"), str(built)]
+    found = next((path for place in places for it in names if (path := shutil.which(it, path=place))), None)
     if not found:
         raise OSError(f"no program {name}: `make {name}` builds it; --programs names its folder")
     return found

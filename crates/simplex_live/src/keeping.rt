@@ -90,7 +90,7 @@ impl<'a, F: Files<File = File>, E: Write> Keeper<'a, F, E> {
         }
     }
 
-    /// Says once that no vote is valid, if so many messages came.
+    /// Says once that no vote is valid, if so many messages came, and how many of these are beside the window.
     fn judge<S: Listing<D>, D: Digest>(&mut self, monitor: &Monitor<'_, S, D>) {
         if self.judged || monitor.read() < ENOUGH {
             return;
@@ -104,9 +104,11 @@ impl<'a, F: Files<File = File>, E: Write> Keeper<'a, F, E> {
             b"audit_live: no vote that was taken is valid in ",
         );
         say_number(self.errors, monitor.read() as u64);
+        say(self.errors, b" messages, ");
+        say_number(self.errors, monitor.below().saturating_add(monitor.above()));
         say(
             self.errors,
-            b" messages: is the namespace right, and are the keys?\n",
+            b" of them beside the window: are namespace, keys and window right?\n",
         );
     }
 
