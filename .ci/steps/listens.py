@@ -172,7 +172,7 @@ def cut(keys, stream, folder):
         place = covers(whole) if whole.exists() else 0
         assert live([*WIDE, "--state", whole, *keys], stream[place:end])[0] <= (end < len(stream))
     bytes_of, lines, count = whole.read_bytes(), audit(keys, stream)[1], 0
-    for size in range(0, len(bytes_of), max(1, len(bytes_of) // 200)):
+    for size in range(len(bytes_of)):
         state.write_bytes(bytes_of[:size])
         place = covers(state)
         before = live([*WIDE, *keys], stream[:place])[1]
@@ -303,7 +303,8 @@ def main():
     count += verdicts()
     with tempfile.TemporaryDirectory() as folder:
         folder = pathlib.Path(folder)
-        count += refused(keys, stream, folder) + states(keys, stream, folder) + cut(keys, stream, folder)
+        small = streams("keys", 4, 1).decode().splitlines(), streams("fork", 4, 1)
+        count += refused(keys, stream, folder) + states(keys, stream, folder) + cut(*small, folder)
         lines_first(keys, stream, folder)
         twice = restarted(keys, streams("votes", 7, 400), folder, KILLS)
     print(f"{count + 5} runs of audit_live as they should be, with {lines} lines")
