@@ -41,7 +41,8 @@ pub failed_apart : {A : Type 0} (given : Result A Failure) (e : Failure) (a : A)
 failed_apart (Ok b) e a failed done = absurd cc
 failed_apart (Err d) e a failed done = absurd cc
 
-module _ {S D C P G : Type 0} (lines : LinesAs S D C P G) (Given : Option (Schedule S) → Type 0) (reader : ReaderUse) (writer : WriterUse) where
+module _ {S D C P G : Type 0} (lines : LinesAs S D C P G) (Given : Option (Schedule S) → Type 0) (reader : ReaderUse)
+    (writer : WriterUse) where
   -- nothing is given
   pub show_without : (failure : Failure) →
       (failure ≡ failures.Usage → (committees : Option (Schedule S)) → ¬ Given committees) →

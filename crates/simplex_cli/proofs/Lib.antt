@@ -8,3 +8,4 @@ mod NoGroups
 mod ProgramLemmas
 mod VerdictLemmas
 mod WritingLemmas
+mod OptionLemmas

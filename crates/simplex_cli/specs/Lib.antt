@@ -6,6 +6,8 @@ pub mod Answer
 pub mod Compacting
 pub mod Inspecting
 pub mod Endings
+pub mod Options
+pub mod OptionLaws
 pub mod Program
 pub mod Complaints
 pub mod Status

@@ -20,6 +20,7 @@ mod inspecting;
 pub mod keys;
 pub mod naming;
 pub mod numbers;
+pub mod options;
 pub mod program;
 pub mod showing;
 pub mod start;

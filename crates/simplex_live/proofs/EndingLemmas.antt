@@ -9,7 +9,7 @@ use Rattle.simplex_audit.specs.Outcome.{ReaderUse, WriterUse}
 use Rattle.simplex_cli.specs.Arguments.{NameCommittees, Naming}
 use Rattle.simplex_cli.specs.Verdicts.{AreBehindVerdicts}
 use Rattle.simplex_cli.specs.declared.verdicts.SignatureSize.{SignatureSize}
-use Rattle.simplex_live.proofs.OptionLemmas.{words_behind}
+use Rattle.simplex_cli.specs.OptionLaws.{words_behind}
 use Rattle.simplex_live.specs.Ending.{HearingEnds, IsOfWords, LiveBases, LiveEnding, LiveEnds, OptionsEnd}
 use Rattle.simplex_live.specs.Options.{AreBehindOptions}
 use Rattle.simplex_live.specs.Listening.{IsHeard, IsHeardInPart, IsReady}

@@ -1,3 +1,4 @@
 mod OptionLemmas
 mod ListenLemmas
 mod EndingLemmas
+mod StateLemmas

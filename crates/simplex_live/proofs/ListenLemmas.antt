@@ -84,8 +84,8 @@ module _ {S D C P G : Type 0} (basis : Schedule S → Basis S D C P G) where
       begun = record {
         next = begun.next;
         looks = begun.looks;
-        hears = hears_kept first kept begun.next begun.next input begun.looks before_is stays begun.hears (λ i. fed_of begun.next)
-            (λ start committees told stream listens. listens);
+        hears = hears_kept first kept begun.next begun.next input begun.looks before_is stays begun.hears
+            (λ i. fed_of begun.next) (λ start committees told stream listens. listens);
         written = begun.written;
       };
     }

@@ -1,10 +1,10 @@
 -- Which words begin with options.
 use Rattle.std.proofs.Common.{◌≡◌, ◌∙◌, arith, Ok, Err, Option, Result, None, Some, ap, drop, inl, inr, length, length-drop, map, refl, take, ◌-◌, ◌+◌, ℕ, suc, zero, List, [], ◌∷◌, sym, subst}
-use Rattle.std.proofs.Math.Seq.{drop-nil, take-length}
-use Rattle.std.proofs.lemmas.List.{drop-map}
 use Rattle.std.specs.Global.{Global}
 use Rattle.std.specs.Prelude.{IfErr, String, codes, option_map, string_bytes}
-use Rattle.simplex_live.specs.Options.{AreBehindFile, AreBehindOption, AreBehindOptions, AreBehindWindow}
+use Rattle.simplex_cli.specs.OptionLaws.{behind_alone, drop_twice, words_behind}
+use Rattle.simplex_cli.specs.Options.{AreBehindOption}
+use Rattle.simplex_live.specs.Options.{AreBehindFile, AreBehindOptions, AreBehindWindow}
 use Rattle.simplex_live.specs.declared.options.Options.{Options}
 
 -- no elements
@@ -16,36 +16,6 @@ none_left (x ∷ xs) e = absurd cc
 pub if_err : {X E : Type 0} (r : Result X E) (Q : Type 0) → Q → IfErr r (λ e. Q)
 if_err (Ok x) Q q = tt
 if_err (Err e) Q q = q
-
--- the words of the arguments behind the first ones
-pub words_behind : {X Y : Type 0} (f : X → Y) (n : ℕ) (xs : List X) →
-    map f (take (length xs - n) (drop n xs)) ≡ drop n (map f xs)
-words_behind f n xs =
-    ap (map f) (ap (λ k. take k (drop n xs)) (sym (length-drop n xs)) ∙ take-length (drop n xs)) ∙ sym (drop-map f n xs)
-
--- what is left without some first elements and without some more
-pub drop_twice : {X : Type 0} (n k : ℕ) (xs : List X) → drop k (drop n xs) ≡ drop (n + k) xs
-drop_twice zero k xs = ap (λ m. drop m xs) (omega arith)
-drop_twice (suc n) k [] = drop-nil k ∙ sym (drop-nil (suc n + k))
-drop_twice (suc n) k (x ∷ xs) =
-    let same : suc (n + k) ≡ suc n + k = omega arith in
-    drop_twice n k xs ∙ ap (λ m. drop m (x ∷ xs)) same
-
--- an option without a number
-pub no_number : (option : List ℕ) (otherwise : ℕ) (words : List (List ℕ)) (first : List ℕ) → words ≡ first ∷ [] →
-    first ≡ option → (number : ℕ) (behind : List (List ℕ)) → ¬ AreBehindOption option otherwise words number behind
-no_number option otherwise words first is named number behind (inl given) = let e = sym is ∙ given.0 in absurd cc
-no_number option otherwise words first is named number behind (inr none) = none.0 ([], is ∙ ap (λ word. word ∷ []) named)
-
--- the same words stand behind an option, whichever the number is
-behind_alone : (option : List ℕ) (otherwise : ℕ) (words behind others : List (List ℕ)) (number another : ℕ) →
-    AreBehindOption option otherwise words number behind → AreBehindOption option otherwise words another others →
-    behind ≡ others
-behind_alone option otherwise words behind others number another (inl given) (inl again) =
-    let same = sym given.0 ∙ again.0 in cc
-behind_alone option otherwise words behind others number another (inl given) (inr none) = absurd (none.0 (_, given.0))
-behind_alone option otherwise words behind others number another (inr none) (inl given) = absurd (none.0 (_, given.0))
-behind_alone option otherwise words behind others number another (inr none) (inr again) = none.2 ∙ sym again.2
 
 -- words without a number behind the first option name no window
 pub no_first : (words : List (List ℕ)) →
@@ -131,4 +101,5 @@ module _ (option : List ℕ) (first : ℕ) where
   behind_file second arguments file is =
       subst (AreBehindFile option (drop first (map string_bytes arguments)) file)
       (drop_twice first second (map string_bytes arguments))
-      (subst (λ (ws : List (List ℕ)). AreBehindFile option ws file (drop second ws)) (words_behind string_bytes first arguments) is)
+      (subst (λ (ws : List (List ℕ)). AreBehindFile option ws file (drop second ws))
+      (words_behind string_bytes first arguments) is)

@@ -1,3 +1,4 @@
 pub mod Options
 pub mod Listening
 pub mod Ending
+pub mod State

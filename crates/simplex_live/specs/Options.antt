@@ -1,20 +1,11 @@
 -- What the arguments of `audit_live` begin with.
-use Rattle.std.specs.Prelude.{◌≡◌, ◌⊎◌, ℕ, ◌-◌, ◌<◌, ◌^◌, List, ◌∷◌, Option, None, Some, codes, decimal, max, min, option_map}
+use Rattle.std.specs.Prelude.{◌≡◌, ℕ, ◌-◌, ◌^◌, List, ◌∷◌, Option, None, Some, codes, max, min, option_map}
 use Rattle.simplex_lead.specs.declared.lookahead.Lookahead.{Lookahead}
+use Rattle.simplex_cli.specs.Options.{AreBehindOption, BeginWith}
 use Rattle.simplex_detector.specs.Independence.{first_round}
 use Rattle.simplex_monitor.specs.Window.{first_window}
 use Rattle.simplex_monitor.specs.declared.window.Window.{Window}
 use Rattle.simplex_live.specs.declared.options.Options.{Options}
-
--- the words begin with an option
-abbrev pub BeginWith : List ℕ → List (List ℕ) → Type 0
-BeginWith option words = (behind : List (List ℕ)) × (words ≡ option ∷ behind)
-
--- the words are an option, a number and words behind it, or without the option the number is another
-abbrev pub AreBehindOption : List ℕ → ℕ → List (List ℕ) → ℕ → List (List ℕ) → Type 0
-AreBehindOption option otherwise words number behind =
-    ((words ≡ option ∷ decimal number ∷ behind) × (number < 2 ^ 64))
-    ⊎ ((BeginWith option words → ⊥) × (number ≡ otherwise) × (behind ≡ words))
 
 -- the words are how many views are retained, 1,000 unless said, how many are looked ahead, 10 unless said, and words behind
 abbrev pub AreBehindWindow : List (List ℕ) → ℕ → ℕ → List (List ℕ) → Type 0

@@ -113,13 +113,13 @@ impl Trouble {
 const NAME: &[u8] = b"audit_live: ";
 
 /// Says a number.
-pub fn say_number<E: Write>(errors: &mut Watched<E>, number: u64) {
+pub(crate) fn say_number<E: Write>(errors: &mut Watched<E>, number: u64) {
     let mut digits = Buffer::new();
     say(errors, digits.format(number).as_bytes());
 }
 
 /// Says what the trouble is, as a line, and behind one with the arguments how the program is used.
-pub fn complain<E: Write>(errors: &mut Watched<E>, trouble: Trouble) {
+pub(crate) fn complain<E: Write>(errors: &mut Watched<E>, trouble: Trouble) {
     say(errors, NAME);
     if let Trouble::Word(number) = trouble {
         say(errors, b"word ");

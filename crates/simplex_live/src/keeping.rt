@@ -68,7 +68,7 @@ fn mark<S: Listing<D>, D: Digest>(monitor: &Monitor<'_, S, D>, base: u64, skippe
 
 impl<'a, F: Files<File = File>, E: Write> Keeper<'a, F, E> {
     /// Nothing was written yet. The monitor has read so many bytes of a state, and the input begins at so many bytes.
-    pub fn new(
+    pub(crate) fn new(
         alloc: Global,
         store: Option<Store<'a, F>>,
         errors: &'a mut Watched<E>,

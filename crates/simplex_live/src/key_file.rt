@@ -7,7 +7,7 @@ use std::io::Read;
 
 /// Words, and then those of a file: they are parted by white space, and lines that begin with `#` are left out. `KeyFile` if
 /// the file cannot be read or is not UTF-8, and `Run` if an allocation failed.
-pub fn words_of_file<F: Files<File = File>>(
+pub(crate) fn words_of_file<F: Files<File = File>>(
     alloc: Global,
     files: &F,
     path: &str,
@@ -23,7 +23,7 @@ pub fn words_of_file<F: Files<File = File>>(
     Ok(named_words(alloc, words, text.as_str())?)
 }
 
-/// Words, and then those of a text. `AllocError` only where an allocation failed.
+/// Words, and then those of a text. `AllocError` only if an allocation failed.
 fn named_words(alloc: Global, words: &[String], text: &str) -> Result<Vec<String>, AllocError> {
     let mut named = Vec::new(alloc);
     'words: for word in words {

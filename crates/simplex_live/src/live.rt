@@ -341,7 +341,7 @@ pub fn start_live<F: Files<File = File>, R: Read, W: Write, E: Write>(
         × LiveEnds ⟦<Inputs as Judging>⟧.bases (words_of (into_iter_items given))
         (reader_use R.remaining input.old input.new)
         (writer_use W.contents output.old output.new) ending) }
-    // Where the input or the output failed the number is 3.
+    // If the input or the output failed, the number is 3.
     ensures read_failed { IsTrue (has_failed input.new) → result ≡ 3 }
     ensures write_failed { IsTrue (has_failed output.new) → result ≡ 3 }
     ensures unused { OnErr given ((input.new ≡ input.old) × (output.new ≡ output.old)) }

@@ -1,11 +1,11 @@
 //! What the arguments of `audit_live` begin with: the window, and files.
 
 ghost use Rattle.std.specs.Prelude.{◌≡◌, ◌≤◌, IfOk, IfErr, List, Option, ℕ, drop, length, map, option_map, string_bytes};
-ghost use Rattle.simplex_live.specs.Options.{AreBehindFile, AreBehindOption, AreBehindOptions, AreBehindWindow, lookahead_of};
+ghost use Rattle.simplex_live.specs.Options.{AreBehindFile, AreBehindOptions, AreBehindWindow, lookahead_of};
 ghost use Rattle.simplex_live.specs.declared.options.Options as declared;
 
 use simplex_base::positions::{TermLength, ViewDelta};
-use simplex_cli::numbers::parse_number;
+use simplex_cli::options::parse_option;
 use simplex_cli::status::Failure;
 use simplex_lead::Lookahead;
 
@@ -63,27 +63,6 @@ fn parse_window(arguments: &[String]) -> Result<(u64, u64, usize), Failure>
     let (retained, first) = parse_option(arguments, "--retain", RETAINED)?;
     let (ahead, second) = parse_option(&arguments[first..], "--ahead", AHEAD)?;
     Ok((retained, ahead, first + second))
-}
-
-/// The number behind an option, and how many arguments these are, or another number if the arguments do not begin with it.
-fn parse_option(arguments: &[String], option: &str, otherwise: u64) -> Result<(u64, usize), Failure>
-    ensures number { IfOk result (λ (number, count). AreBehindOption option.now otherwise
-        (map string_bytes arguments.now) number (drop count (map string_bytes arguments.now))) }
-    ensures within { IfOk result (λ (_, count). count ≤ length arguments.now) }
-    ensures usage { IfErr result (λ e. (number : ℕ) (behind : List (List ℕ)) →
-        ¬ AreBehindOption option.now otherwise (map string_bytes arguments.now) number behind) }
-    ensures failure { IfErr result (λ e. e ≡ Failure.Usage) }
-{
-    let Some((first, rest)) = arguments.split_first() else {
-        return Ok((otherwise, 0));
-    };
-    if first.as_str() != option {
-        return Ok((otherwise, 0));
-    }
-    let Some((number, _)) = rest.split_first() else {
-        return Err(Failure::Usage);
-    };
-    Ok((parse_number(number.as_str())?, 2))
 }
 
 /// The file behind an option, and how many arguments these are, or `None` if the arguments do not begin with it.

@@ -1,10 +1,12 @@
 //! The state of `audit_live` as bytes: which committees it is of, and then records. A record says how far the input was taken
 //! and where the window was, and has the messages that were held since the record before.
 
-ghost use Rattle.std.specs.Prelude.{◌<◌, ◌≤◌, IfSome, length};
+ghost use Rattle.std.specs.Prelude.{◌≡◌, ◌≢◌, ◌↔◌, ◌++◌, ◌+◌, ◌<◌, ◌≤◌, IfOk, IfSome, OnOk, IsTrue, List, ℕ, None, drop, length, map, string_bytes, take};
+ghost use Rattle.simplex_live.specs.State.{AreRecords, covered_of, IsHeadOf, IsStateOf, framed, head_bytes, mark_bytes, number_bytes, record_bytes, round_bytes, words_given};
 
 use simplex_base::codec::Fixed;
 use simplex_base::positions::{Epoch, Round, View};
+use simplex_cli::groups::count_keys;
 use simplex_scheme::scheme::{Hasher, Sha256};
 use std::alloc::{AllocError, Global};
 
@@ -43,8 +45,10 @@ pub struct Recovered {
 }
 
 impl Recovered {
-    /// How many bytes of the input the state covers.
-    pub fn covers(&self) -> u64 {
+    /// How many bytes of the input the state covers: 0 without a record.
+    pub fn covers(&self) -> u64
+        ensures { result ≡ covered_of self.now.mark }
+    {
         match self.mark {
             None => 0,
             Some(mark) => mark.covers,
@@ -54,7 +58,9 @@ impl Recovered {
 
 /// What a state of the committees that these words name begins with: 48 bytes. They are the kind of the file, how many words
 /// there are, and SHA-256 of the words, each behind its length.
-pub fn head(alloc: Global, words: &[String]) -> Result<Vec<u8>, AllocError> {
+pub fn head(alloc: Global, words: &[String]) -> Result<Vec<u8>, AllocError>
+    ensures { IfOk result (λ made. made.items ≡ head_bytes (map string_bytes words.now)) }
+{
     let mut text = Vec::new(alloc);
     'words: for word in words {
         text.extend_from_slice(&(word.len() as u64).to_le_bytes())?;
@@ -69,27 +75,39 @@ pub fn head(alloc: Global, words: &[String]) -> Result<Vec<u8>, AllocError> {
 
 /// Whether a state with this head is of the committees that words name, or of those that the first words name, behind which the
 /// groups of further epochs stand.
-fn is_of(alloc: Global, own: &[u8], words: &[String]) -> Result<bool, AllocError> {
-    let count = number_at(own, KIND.len()) as usize;
-    let Some(front) = words.get(..count) else {
+fn is_of(alloc: Global, own: &[u8], words: &[String]) -> Result<bool, AllocError>
+    requires { length own.now ≡ 48 }
+    ensures { IfOk result (λ fits. IsTrue fits ↔ IsHeadOf (map string_bytes words.now) own.now) }
+{
+    let count = number_at(own, KIND.len());
+    if count > words.len() as u64 {
         return Ok(false);
-    };
-    if let Some(next) = words.get(count) {
-        if !next.starts_with("@") {
-            return Ok(false);
-        }
+    }
+    let (front, behind) = words.split_at(count as usize);
+    if count_keys(behind) > 0 {
+        return Ok(false);
     }
     Ok(head(alloc, front)?.as_slice() == own)
 }
 
+/// Appends 8 bytes of a round's epoch and 8 of its view.
+fn push_round(bytes: &mut Vec<u8>, round: Round) -> Result<(), AllocError>
+    ensures { OnOk result (bytes.new.items ≡ bytes.old.items ++ round_bytes round) }
+{
+    bytes.extend_from_slice(&round.epoch().get().to_le_bytes())?;
+    bytes.extend_from_slice(&round.view().get().to_le_bytes())?;
+    Ok(())
+}
+
 /// A record: 8 bytes of its length, SHA-256 of what follows, the mark, and messages.
-pub fn record(alloc: Global, mark: &Mark, messages: &[u8]) -> Result<Vec<u8>, AllocError> {
+pub fn record(alloc: Global, mark: &Mark, messages: &[u8]) -> Result<Vec<u8>, AllocError>
+    ensures { IfOk result (λ made. made.items ≡ record_bytes mark.now messages.now) }
+{
     let mut body = Vec::new(alloc);
     body.extend_from_slice(&mark.covers.to_le_bytes())?;
-    'rounds: for round in [mark.finalized, mark.current, mark.ended] {
-        body.extend_from_slice(&round.epoch().get().to_le_bytes())?;
-        body.extend_from_slice(&round.view().get().to_le_bytes())?;
-    }
+    push_round(&mut body, mark.finalized)?;
+    push_round(&mut body, mark.current)?;
+    push_round(&mut body, mark.ended)?;
     body.extend_from_slice(messages)?;
     let mut record = Vec::new(alloc);
     record.extend_from_slice(&(body.len() as u64).to_le_bytes())?;
@@ -99,7 +117,9 @@ pub fn record(alloc: Global, mark: &Mark, messages: &[u8]) -> Result<Vec<u8>, Al
 }
 
 /// The number of 8 bytes at a place, the least significant byte first; 0 behind the bytes.
-fn number_at(bytes: &[u8], place: usize) -> u64 {
+fn number_at(bytes: &[u8], place: usize) -> u64
+    ensures { place + 8 ≤ length bytes.now → number_bytes result ≡ take 8 (drop place bytes.now) }
+{
     let Some(rest) = bytes.get(place..) else {
         return 0;
     };
@@ -110,14 +130,18 @@ fn number_at(bytes: &[u8], place: usize) -> u64 {
 }
 
 /// The round at a place: 8 bytes of its epoch and 8 of its view.
-fn round_at(bytes: &[u8], place: usize) -> Round {
+fn round_at(bytes: &[u8], place: usize) -> Round
+    ensures { place + 16 ≤ length bytes.now → round_bytes result ≡ take 16 (drop place bytes.now) }
+{
     let epoch = number_at(bytes, place);
     let view = number_at(bytes, place.saturating_add(8));
     Round::new(Epoch::new(epoch), View::new(view))
 }
 
 /// The mark that a record's body begins with.
-fn mark_of(body: &[u8]) -> Mark {
+fn mark_of(body: &[u8]) -> Mark
+    ensures { 56 ≤ length body.now → mark_bytes result ≡ take 56 body.now }
+{
     Mark {
         covers: number_at(body, 0),
         finalized: round_at(body, 8),
@@ -128,7 +152,12 @@ fn mark_of(body: &[u8]) -> Mark {
 
 /// The body of a whole record at the start of some bytes, and how many bytes the record has; `None` if there is none.
 fn body(bytes: &[u8]) -> Option<(&[u8], usize)>
-    ensures { IfSome result (λ (_, size). (0 < size) × (size ≤ length bytes.now)) }
+    ensures size { IfSome result (λ (_, size). (0 < size) × (size ≤ length bytes.now)) }
+    ensures marked { IfSome result (λ (body, _). 56 ≤ length body.now) }
+    ensures there { IfSome result (λ (body, size). bytes.now ≡
+        framed body.now ++ drop size bytes.now) }
+    ensures none { result ≡ None → (body behind : List ℕ) → 56 ≤ length body →
+        bytes.now ≢ framed body ++ behind }
 {
     let size = number_at(bytes, 0) as usize;
     let Some(digest) = bytes.get(8..FRAME) else {
@@ -145,32 +174,46 @@ fn body(bytes: &[u8]) -> Option<(&[u8], usize)>
     Some((body, FRAME + size))
 }
 
+/// The records that some bytes begin with, up to the first that is not whole.
+fn records(alloc: Global, bytes: &[u8]) -> Result<Recovered, AllocError>
+    ensures { IfOk result (λ recovered. AreRecords bytes.now recovered) }
+{
+    let mut held = Vec::new(alloc);
+    let mut mark = None;
+    let mut rest = bytes;
+    'records: while let Some((body, size)) = body(rest) {
+        mark = Some(mark_of(body));
+        held.extend_from_slice(&body[MARK..])?;
+        rest = &rest[size..];
+    }
+    Ok(Recovered { mark, held })
+}
+
 /// What is left of a state of the committees that words name, or of any if no words are given: its records up to the first that
 /// is not whole. `None` if the state is of other committees, or no state.
 pub fn recover(
     alloc: Global,
     words: Option<&[String]>,
     bytes: &[u8],
-) -> Result<Option<Recovered>, AllocError> {
-    let mut held = Vec::new(alloc);
-    let mut mark = None;
-    let kind = bytes.get(..KIND.len()).unwrap_or(bytes);
-    if !KIND.starts_with(kind) {
+) -> Result<Option<Recovered>, AllocError>
+    ensures own { IfOk result (λ got. IfSome got (λ _.
+        IsStateOf (words_given words.entry) bytes.now)) }
+    ensures other { IfOk result (λ got. got ≡ None →
+        ¬ IsStateOf (words_given words.entry) bytes.now) }
+    ensures records { IfOk result (λ got. IfSome got (λ recovered. AreRecords (drop 48 bytes.now) recovered)) }
+{
+    let begins = bytes.len().min(KIND.len());
+    if !KIND.starts_with(&bytes[..begins]) {
         return Ok(None);
     }
-    let Some(own) = bytes.get(..HEAD) else {
-        return Ok(Some(Recovered { mark, held }));
-    };
+    if bytes.len() < HEAD {
+        return Ok(Some(records(alloc, &[])?));
+    }
+    let (own, rest) = bytes.split_at(HEAD);
     if let Some(words) = words {
         if !is_of(alloc, own, words)? {
             return Ok(None);
         }
     }
-    let mut rest = &bytes[HEAD..];
-    'records: while let Some((body, size)) = body(rest) {
-        mark = Some(mark_of(body));
-        held.extend_from_slice(body.get(MARK..).unwrap_or(&[]))?;
-        rest = &rest[size..];
-    }
-    Ok(Some(Recovered { mark, held }))
+    Ok(Some(records(alloc, rest)?))
 }

@@ -126,7 +126,7 @@ impl<'a, F: Files<File = File>> Store<'a, F> {
     }
 
     /// Whether records can be appended.
-    pub fn can_append(&self) -> bool {
+    pub(crate) fn can_append(&self) -> bool {
         self.file.is_some()
     }
 }

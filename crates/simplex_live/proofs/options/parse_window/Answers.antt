@@ -1,6 +1,7 @@
 use Rattle.std.proofs.Common.{ℕ, List, codes, drop, map, string_bytes, subst}
-use Rattle.simplex_live.specs.Options.{AreBehindOption}
-use Rattle.simplex_live.proofs.OptionLemmas.{drop_twice, if_err, no_first, no_second, words_behind}
+use Rattle.simplex_cli.specs.Options.{AreBehindOption}
+use Rattle.simplex_cli.specs.OptionLaws.{drop_twice, words_behind}
+use Rattle.simplex_live.proofs.OptionLemmas.{if_err, no_first, no_second}
 use Rattle.simplex_live.proofs.options.parse_window.Goals as goal
 
 pub returns-in_err-retained-clause-usage : goal.returns-in_err-retained-clause-usage

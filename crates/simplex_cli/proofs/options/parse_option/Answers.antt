@@ -1,7 +1,6 @@
 use Rattle.std.proofs.Common.{rules, ◌≡◌, ◌∙◌, ◌∷◌, ap, map, string_bytes}
-use Rattle.simplex_live.proofs.OptionLemmas.{none_left}
-use Rattle.simplex_live.proofs.OptionLemmas.{no_number}
-use Rattle.simplex_live.proofs.options.parse_option.Goals as goal
+use Rattle.simplex_cli.proofs.OptionLemmas.{no_number, none_left}
+use Rattle.simplex_cli.proofs.options.parse_option.Goals as goal
 
 -- the option without a number
 pub returns-in_default-split_first-clause-usage : goal.returns-in_default-split_first-clause-usage
