@@ -1,5 +1,5 @@
--- The messages of a part of the rounds, alone, have the valid votes and the splits that all messages have where nothing of another
--- round is valid.
+-- The messages of a part of the rounds, alone, have the valid votes and the splits that all messages have where nothing of
+-- another round is valid.
 use Rattle.std.proofs.Common.{◌≡◌, ◌+◌, ℕ, Bool, true, false, cond, List, [], ◌∷◌, ◌++◌, map, filter, Option, Some, None, ⊎_elim, refl, sym, ap, subst, ◌∙◌}
 use Rattle.std.specs.Prelude.{All, IsTrue, is_some, if◌then◌else◌, ◌&&◌, ◌||◌}
 use Rattle.std.specs.List.{flat_map, list_any}

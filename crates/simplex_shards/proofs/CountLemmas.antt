@@ -14,7 +14,8 @@ sum_none : (f : ℕ → ℕ) (from k : ℕ) → ((i : ℕ) → f i ≡ 0) → su
 sum_none f from zero none = refl
 sum_none f from (suc k) none = let one = none from in let others = sum_none f (suc from) k none in omega (arith, one, others)
 
-sum_both : (f g h : ℕ → ℕ) (from k : ℕ) → ((i : ℕ) → f i ≡ g i + h i) → sum_from f from k ≡ sum_from g from k + sum_from h from k
+sum_both : (f g h : ℕ → ℕ) (from k : ℕ) → ((i : ℕ) → f i ≡ g i + h i) →
+    sum_from f from k ≡ sum_from g from k + sum_from h from k
 sum_both f g h from zero both = refl
 sum_both f g h from (suc k) both =
     let one = both from in

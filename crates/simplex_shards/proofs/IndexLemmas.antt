@@ -2,21 +2,18 @@
 use Rattle.std.proofs.Common.{◌≡◌, ◌+◌, ◌≤◌, ◌==◌, ℕ, Bool, true, false, cond, List, [], ◌∷◌, ◌++◌, length, take, drop, Option, Some, None, refl, sym, ap, subst, ◌∙◌, arith, append_assoc, length-append}
 use Rattle.std.specs.Prelude.{All}
 use Rattle.std.specs.List.{flat_map, sum_by}
-use Rattle.std.proofs.lemmas.Grind.{flat_map-append}
 use Rattle.std.proofs.lemmas.List.Elements.{All-cons, All-nil}
 use Rattle.std.proofs.lemmas.List.Sums.{sum_by-cons}
 use Rattle.std.proofs.Math.Seq.{drop-append_seam, take-append_seam}
 use Rattle.simplex_base.specs.Format.{Format}
 use Rattle.simplex_base.specs.Positions.{Round}
 use Rattle.simplex_base.specs.declared.codec.error.Error.{Error}
-use Rattle.simplex_stream.specs.Decoder.{DecodesMore, HasDecoded, undecoded}
 use Rattle.simplex_stream.specs.Fault.{IsFault}
 use Rattle.simplex_stream.specs.Progress.{IsProgress}
 use Rattle.simplex_stream.specs.declared.fault.Fault.{Fault}
-use Rattle.simplex_shards.specs.Index.{IndexesMore, IsIndex, bound_of, bytes_at, decoder_of, end_of, rows_of_class}
+use Rattle.simplex_shards.specs.Index.{IsIndex, bytes_at, end_of, rows_of_class}
 use Rattle.simplex_shards.specs.Rows.{IsRow, Tabulates, rows_from}
 use Rattle.simplex_shards.specs.Split.{of_class}
-use Rattle.simplex_shards.specs.declared.index.Indexer.{Indexer}
 use Rattle.simplex_shards.specs.declared.index.Row.{Row}
 use Rattle.simplex_shards.specs.declared.index.Table.{Table}
 use Rattle.simplex_shards.specs.declared.index.Tabulator.{Tabulator}
@@ -43,7 +40,7 @@ module _ {M : Type 0} (round : M → Round) (encoding : M → List ℕ) (row_of 
       )
 
   -- no row ends behind the messages
-  rows_within : (n place : ℕ) (ms : List M) → place + length (flat_map encoding ms) ≤ n →
+  pub rows_within : (n place : ℕ) (ms : List M) → place + length (flat_map encoding ms) ≤ n →
       All (λ row. row.place + row.length ≤ n) (rows_from row_of encoding place ms)
   rows_within n place [] room = All-nil (λ row. row.place + row.length ≤ n)
   rows_within n place (m ∷ ms) room =
@@ -138,37 +135,3 @@ module _ {M : Type 0} (format : Format M) (round : M → Round) (row_of : ℕ �
         bytes = λ class i. ap (λ (l : List Row). flat_map (bytes_at stream) (rows_of_class class i l)) rows_are ∙
             class_bytes round format.encoding row_of is_row class i stream [] rest ms whole;
       }
-
-  -- the rows of a piece were noted
-  pub index_piece : (piece : List ℕ) (old new : Indexer) (before after : Tabulator) →
-      bound_of new ≡ bound_of old → before.rows.items ≡ [] →
-      ((stream : List ℕ) (ms : List M) → HasDecoded format stream ms (decoder_of old) →
-      before.place ≡ length (flat_map format.encoding ms)) →
-      DecodesMore format (λ ms. Tabulates row_of format.encoding ms before after) piece (decoder_of old) (decoder_of new) →
-      IndexesMore format round row_of piece old new after.rows.items
-  index_piece piece old new before after bound empty start decodes = record {
-    bound_is = bound;
-    more = λ stream ms held.
-        let d = decodes stream ms held in
-        let at = start stream ms held in
-        let rows_are : after.rows.items ≡ rows_from row_of format.encoding (length (flat_map format.encoding ms)) d.0 =
-        d.2.rows_are ∙ (ap (λ (l : List Row). l ++ rows_from row_of format.encoding before.place d.0) empty ∙
-        ap (λ (n : ℕ). rows_from row_of format.encoding n d.0) at) in
-        let len = ap length (d.1.are_messages.whole ∙ ap (λ (t : List ℕ). t ++ undecoded (decoder_of new))
-        (flat_map-append format.encoding ms d.0)) in
-        let within = rows_within round format.encoding row_of is_row (length (stream ++ piece))
-        (length (flat_map format.encoding ms)) d.0
-        (omega (
-          arith,
-          len,
-          length-append (flat_map format.encoding ms ++ flat_map format.encoding d.0)
-              (undecoded (decoder_of new)),
-          length-append (flat_map format.encoding ms) (flat_map format.encoding d.0),
-        )) in (
-          d.0,
-          d.1,
-          rows_are,
-          subst (λ (l : List Row). All (λ row. row.place + row.length ≤ length (stream ++ piece)) l)
-              (sym rows_are) within,
-        );
-  }

@@ -1,10 +1,13 @@
+mod AccusedLemmas
 mod AloneLemmas
+mod CanonicalLemmas
 mod CountLemmas
 mod CutLemmas
 mod IndexLemmas
 mod MergeLemmas
 mod OrderLemmas
 mod PartLemmas
+mod PieceLemmas
 mod RangeLemmas
 mod RoundOrder
 mod SplitLemmas

@@ -169,7 +169,8 @@ module _ {S D C P G : Type 0} (basis : Basis S D C P G) (law : IsLawful basis.fo
         IsSortedByKey (λ s. s.round) round_cmp report.splits.items → report.read ≡ gathered.read →
         report.fault ≡ fault → IsReport basis stream report
     merges stream rest fault gathered report some add_up short within are here all moved sorted shifted ordered read same =
-        let evidence_moved = subst (λ (l : List (Evidence S D P G)). IsPermutation l report.evidence.items) all.evidence moved in
+        let evidence_moved =
+        subst (λ (l : List (Evidence S D P G)). IsPermutation l report.evidence.items) all.evidence moved in
         let splits_moved = subst (λ (l : List Split). IsPermutation l report.splits.items) all.splits shifted in
         record {
           messages = messages;
@@ -178,7 +179,8 @@ module _ {S D C P G : Type 0} (basis : Basis S D C P G) (law : IsLawful basis.fo
           read_is =
               let sum = reads_add_up (λ (part : Report S D P G). part.read)
               (λ i. length (of_rounds (is_class class i) messages)) 0 parts
-              (λ i part e. (each i part e).read_is ∙ ap (λ (n : ℕ). length (of_rounds (is_class class n) messages)) (omega arith)) in
+              (λ i part e. (each i part e).read_is
+              ∙ ap (λ (n : ℕ). length (of_rounds (is_class class n) messages)) (omega arith)) in
               let counted = all_counted (λ m. class (activity_round m)) (length parts) messages
               (λ m. within (activity_round m)) in
               let few = few_messages basis.format.encoding some messages in
@@ -227,8 +229,9 @@ module _ {S D C P G : Type 0} (basis : Basis S D C P G) (law : IsLawful basis.fo
       IsPartReport basis (is_class class i) cut.messages part
   merges_shards class classes stream shards parts count cut reports i part at =
       let within = slice_get_within parts i part at in
-      let whole = cut.count in
+      let whole = cut.parts_are.count in
       let here : i < length (bytes_of shards) = omega (arith, within, whole, count) in
       let some = slice_get-get_or (bytes_of shards) i [] here in
       let bytes = get_or (bytes_of shards) i [] in
-      part_alone class i bytes cut.messages part cut.are_messages.each (cut.parts i bytes some) (reports i bytes part some at)
+      part_alone class i bytes cut.messages part cut.are_messages.each (cut.parts_are.each i bytes some)
+      (reports i bytes part some at)

@@ -14,7 +14,8 @@ round_total = then_total (on_total (λ (r : Round). r.epoch) nat_cmp_total) (on_
 
 pub signer_total : IsTotalOrder signer_cmp
 signer_total =
-    then_total (on_total (λ (s : SignerInRound). s.round) round_total) (on_total (λ (s : SignerInRound). s.signer) nat_cmp_total)
+    then_total (on_total (λ (s : SignerInRound). s.round) round_total)
+    (on_total (λ (s : SignerInRound). s.signer) nat_cmp_total)
 
 pub accused_total : IsTotalOrder accused_cmp
 accused_total =
@@ -31,10 +32,9 @@ exact_signer a b h =
     ap (λ (p : _). signer_in p.0 p.1)
     (exact_pairs round_cmp nat_cmp exact_round exact_unsigned (a.round, a.signer) (b.round, b.signer) h)
 
--- accusations that tie are in one round
-pub tied_round : (a b : Accusation) → accused_cmp a b ≡ Equal → a.round ≡ b.round
-tied_round a b h =
-    ap (λ (p : SignerInRound × EquivocationKind). p.0.round)
+pub exact_accused : CmpEqualImpliesEq accused_cmp
+exact_accused a b h =
+    ap (λ (p : SignerInRound × EquivocationKind). record { round = p.0.round; signer = p.0.signer; kind = p.1 })
     (exact_pairs signer_cmp (λ k l. nat_cmp (kind_rank k) (kind_rank l)) exact_signer kinds
     (signer_in a.round a.signer, a.kind) (signer_in b.round b.signer, b.kind) h)
   where
@@ -43,3 +43,7 @@ tied_round a b h =
     kinds Conflicting_finalize Conflicting_finalize e = refl
     kinds Nullify_finalize Nullify_finalize e = refl
     kinds _ _ e = absurd cc
+
+-- accusations that tie are in one round
+pub tied_round : (a b : Accusation) → accused_cmp a b ≡ Equal → a.round ≡ b.round
+tied_round a b h = ap (λ (n : Accusation). n.round) (exact_accused a b h)

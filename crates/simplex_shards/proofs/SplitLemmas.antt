@@ -6,7 +6,7 @@ use Rattle.std.proofs.lemmas.Bool.{cases_eq, eq-eqb, ne_eqb}
 use Rattle.std.proofs.lemmas.List.{length-map}
 use Rattle.std.specs.Global.{Global}
 use Rattle.simplex_base.specs.Positions.{Round}
-use Rattle.simplex_shards.specs.Split.{IsSplit, Scatters, bytes_of, of_class, parts_of}
+use Rattle.simplex_shards.specs.Split.{AreParts, IsSplit, Scatters, bytes_of, of_class, parts_of}
 use Rattle.simplex_shards.specs.declared.split.Scatter.{Scatter}
 use Rattle.simplex_shards.specs.declared.split.Shards.{Shards}
 use Rattle.simplex_base.specs.Format.{Format}
@@ -96,14 +96,37 @@ module _ {M : Type 0} (round : M → Round) (class : Round → ℕ) (encoding : 
 -- ---- all messages of a stream
 
 -- an empty part
-empty_at : (k i : ℕ) → i < k → slice_get (replicate {A = List ℕ} k []) i ≡ Some []
+pub empty_at : (k i : ℕ) → i < k → slice_get (replicate {A = List ℕ} k []) i ≡ Some []
 empty_at zero i lt = absurd (omega (arith, lt))
 empty_at (suc k) zero lt = refl
 empty_at (suc k) (suc i) lt = empty_at k i (omega (arith, lt))
 
-empty_count : (k : ℕ) → length (replicate {A = List ℕ} k []) ≡ k
+pub empty_count : (k : ℕ) → length (replicate {A = List ℕ} k []) ≡ k
 empty_count zero = refl
 empty_count (suc k) = ap suc (empty_count k)
+
+-- what was appended to empty parts are the parts of the messages
+pub scattered : {M : Type 0} (format : Format M) (round : M → Round) (class : Round → ℕ) (classes : ℕ) (ms : List M)
+    (old new : Scatter) → IsNeverEmpty format → ((r : Round) → class r < classes) → parts_of old ≡ replicate classes [] →
+    All format.is_value ms → Scatters round class format.encoding ms old new →
+    AreParts format round class classes ms (parts_of new)
+scattered {M} format round class classes ms old new some within empty values done =
+    let count : length (parts_of new) ≡ classes = done.count ∙ (ap length empty ∙ empty_count classes) in
+    record {
+      count = count;
+      one = each_within ms;
+      each = λ i part e.
+          let in_range = slice_get_within (parts_of new) i part e in
+          let ks = of_class round class i ms in
+          let begun = ap (λ (xs : List (List ℕ)). slice_get xs i) empty ∙ empty_at classes i (omega (arith, in_range, count)) in
+          let same : part ≡ flat_map format.encoding ks = same_Some _ _ (sym e ∙ done.grown i [] begun) in
+          subst (λ (bytes : List ℕ). AreMessages format bytes ks []) (sym same)
+          (are_joined format some ks (All-filter (λ m. class (round m) == i) format.is_value ms values));
+    }
+  where
+    each_within : (ks : List M) → All (λ m. class (round m) < classes) ks
+    each_within [] = All-nil (λ m. class (round m) < classes)
+    each_within (k ∷ ks) = All-cons (λ m. class (round m) < classes) k ks (within (round k)) (each_within ks)
 
 -- what was appended of a stream to empty parts is the stream, cut
 pub split_all : {M : Type 0} (format : Format M) (round : M → Round) (class : Round → ℕ) (classes : ℕ)
@@ -113,29 +136,12 @@ pub split_all : {M : Type 0} (format : Format M) (round : M → Round) (class : 
     shards.read ≡ read → bytes_of shards ≡ parts_of new →
     IsFault format.reading (length (flat_map format.encoding p.messages)) rest shards.fault →
     IsSplit format round class classes stream shards
-split_all {M} format round class classes stream rest read stop old new shards some within empty p read_is parts fault =
-    let count : length (bytes_of shards) ≡ classes =
-    ap length parts ∙ (p.recorded.count ∙ (ap length empty ∙ empty_count classes)) in
-    record {
-      messages = p.messages;
-      rest = rest;
-      are_messages = p.are_messages;
-      read_is = read_is ∙ p.read_is;
-      fault_is = fault;
-      count = count;
-      one = each_within p.messages;
-      parts = λ i part e.
-          let in_range = slice_get_within (bytes_of shards) i part e in
-          let ms = of_class round class i p.messages in
-          let begun = ap (λ (xs : List (List ℕ)). slice_get xs i) empty ∙ empty_at classes i (omega (arith, in_range, count)) in
-          let grown = p.recorded.grown i [] begun in
-          let same : part ≡ flat_map format.encoding ms =
-          same_Some _ _ (sym e ∙ (ap (λ (xs : List (List ℕ)). slice_get xs i) parts ∙ grown)) in
-          subst (λ (bytes : List ℕ). AreMessages format bytes ms []) (sym same)
-          (are_joined format some ms (All-filter (λ m. class (round m) == i) format.is_value p.messages
-          p.are_messages.each));
-    }
-  where
-    each_within : (ms : List M) → All (λ m. class (round m) < classes) ms
-    each_within [] = All-nil (λ m. class (round m) < classes)
-    each_within (m ∷ ms) = All-cons (λ k. class (round k) < classes) m ms (within (round m)) (each_within ms)
+split_all format round class classes stream rest read stop old new shards some within empty p read_is parts fault = record {
+  messages = p.messages;
+  rest = rest;
+  are_messages = p.are_messages;
+  read_is = read_is ∙ p.read_is;
+  fault_is = fault;
+  parts_are = subst (AreParts format round class classes p.messages) (sym parts)
+      (scattered format round class classes p.messages old new some within empty p.are_messages.each p.recorded);
+}

@@ -1,17 +1,14 @@
 -- The rows of a stream.
-use Rattle.std.specs.Prelude.{◌≡◌, ◌+◌, ◌≤◌, ◌==◌, ℕ, List, [], ◌++◌, length, take, drop, filter, All, Option, Some, None}
+use Rattle.std.specs.Prelude.{◌≡◌, ◌+◌, ◌≤◌, ◌==◌, ℕ, List, length, take, drop, filter, All, Option, Some, None}
 use Rattle.std.specs.List.{flat_map, sum_by}
 use Rattle.simplex_base.specs.Format.{Format}
 use Rattle.simplex_base.specs.Positions.{Round}
-use Rattle.simplex_stream.specs.Decoder.{HasDecoded, bytes_fed, undecoded}
 use Rattle.simplex_stream.specs.Fault.{IsFault}
 use Rattle.simplex_stream.specs.Messages.{AreMessages}
-use Rattle.simplex_stream.specs.declared.decoder.Decoder.{Decoder}
 use Rattle.simplex_stream.specs.declared.fault.Fault.{Fault}
 use Rattle.simplex_shards.specs.Rows.{row_round, rows_from}
 use Rattle.simplex_shards.specs.Split.{of_class}
 use Rattle.simplex_shards.specs.declared.index.Table.{Table}
-use Rattle.simplex_shards.specs.declared.index.Indexer.{Indexer}
 use Rattle.simplex_shards.specs.declared.index.Row.{Row}
 
 -- the bytes of a stream where a row says
@@ -27,9 +24,9 @@ abbrev pub end_of : Option Fault → ℕ → ℕ
 end_of None size = size
 end_of (Some fault) size = fault.place
 
--- The rows are those of the stream's messages, in their order, up to its end or first fault: each begins where the one before it
--- ends, and their lengths add up to the fault's place, or else to the stream's length. The bytes there are the messages: of each
--- class of rounds the rows give its messages, in their order.
+-- The rows are those of the stream's messages, in their order, up to its end or first fault: each begins where the one before
+-- it ends, and their lengths add up to the fault's place, or else to the stream's length. The bytes there are the messages: of
+-- each class of rounds the rows give its messages, in their order.
 pub record IsIndex {M : Type 0} (format : Format M) (round : M → Round) (row_of : ℕ → M → Row) (stream : List ℕ)
     (table : Table) : Type 0 where
   pub messages : List M
@@ -41,38 +38,3 @@ pub record IsIndex {M : Type 0} (format : Format M) (round : M → Round) (row_o
   pub within : All (λ row. row.place + row.length ≤ length stream) table.rows.items
   pub bytes : (class : Round → ℕ) (i : ℕ) → flat_map (bytes_at stream) (rows_of_class class i table.rows.items)
       ≡ flat_map format.encoding (of_class round class i messages)
-
--- ---- in pieces
-
--- the bound under which an indexer reads
-abbrev pub bound_of : Indexer → ℕ
-bound_of indexer = indexer.bound
-
--- what it has decoded
-abbrev pub decoder_of : Indexer → Decoder
-decoder_of indexer = indexer.decoder
-
--- how many bytes it was fed
-abbrev pub fed_by : Indexer → ℕ
-fed_by indexer = bytes_fed indexer.decoder
-
--- it reads under this bound, and was fed nothing
-pub record StartsIndexing {M : Type 0} (format : Format M) (bound : ℕ) (indexer : Indexer) : Type 0 where
-  pub bound_is : bound_of indexer ≡ bound
-  pub decoded : HasDecoded format [] [] (decoder_of indexer)
-
--- An indexer that was fed a stream becomes that of the stream with a piece appended. The rows are those of the messages that
--- the piece completes, from behind the messages before it on, and lie in the longer stream.
-pub record IndexesMore {M : Type 0} (format : Format M) (round : M → Round) (row_of : ℕ → M → Row) (piece : List ℕ)
-    (old new : Indexer) (rows : List Row) : Type 0 where
-  pub bound_is : bound_of new ≡ bound_of old
-  pub more : (stream : List ℕ) (messages : List M) → HasDecoded format stream messages (decoder_of old) →
-      (further : List M) × HasDecoded format (stream ++ piece) (messages ++ further) (decoder_of new)
-      × (rows ≡ rows_from row_of format.encoding (length (flat_map format.encoding messages)) further)
-      × All (λ row. row.place + row.length ≤ length (stream ++ piece)) rows
-
--- where the stream that an indexer was fed stops being messages
-abbrev pub EndsIndexing : {M : Type 0} → Format M → Indexer → Option Fault → Type 0
-EndsIndexing {M} format indexer fault =
-    (stream : List ℕ) (messages : List M) → HasDecoded format stream messages (decoder_of indexer) →
-    IsFault format.reading (length (flat_map format.encoding messages)) (undecoded (decoder_of indexer)) fault

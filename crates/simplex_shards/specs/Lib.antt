@@ -1,8 +1,12 @@
+pub mod Accused
+pub mod Canonical
+pub mod CanonicalLaws
 pub mod Cut
 pub mod Index
 pub mod Merge
 pub mod Part
 pub mod PartLaws
+pub mod Pieces
 pub mod Ranges
 pub mod RowLaws
 pub mod Rows

@@ -29,8 +29,8 @@ sort_key n = (signer_in n.round n.signer, way_rank (way_of n.kind))
 
 module _ {S D C P G : Type 0} (basis : Schedule S → Basis S D C P G) (parts : List (Report S D P G)) (fault : Option Fault)
     (report : Report S D P G) where
-  -- Each round is of one of the classes. If each part is the report of the stream's messages in its class, and the fault that of
-  -- the stream, the report is that of the stream.
+  -- Each round is of one of the classes. If each part is the report of the stream's messages in its class, and the fault that
+  -- of the stream, the report is that of the stream.
   abbrev pub MergesParts : Type 0
   MergesParts =
       (committees : Schedule S) (class : Round → ℕ) (stream rest : List ℕ) (messages : List (Activity S D C P G)) →

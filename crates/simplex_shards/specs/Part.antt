@@ -20,8 +20,8 @@ use Rattle.simplex_shards.specs.declared.part.PartRecorder.{PartRecorder}
 abbrev pub is_class : (Round → ℕ) → ℕ → Round → Bool
 is_class class i round = class round == i
 
--- A report of some messages in a part of the rounds: as many messages as are of these rounds, and the evidence and the splits that
--- all messages have if nothing of another round is valid.
+-- A report of some messages in a part of the rounds: as many messages as are of these rounds, and the evidence and the splits
+-- that all messages have if nothing of another round is valid.
 pub record IsPartReport {S D C P G : Type 0} (basis : Basis S D C P G) (part : Round → Bool)
     (messages : List (Activity S D C P G)) (report : Report S D P G) : Type 0 where
   pub read_is : report.read ≡ length (of_rounds part messages)

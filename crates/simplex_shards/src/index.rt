@@ -2,14 +2,12 @@
 
 ghost use Rattle.std.specs.Prelude.{◌≡◌, ◌+◌, ◌<◌, ◌^◌, ℕ, IfOk, length};
 ghost use Rattle.simplex_base.specs.Format.{format_under};
-ghost use Rattle.simplex_stream.specs.Decoder.{decoding_over};
-ghost use Rattle.simplex_shards.specs.Index.{IsIndex, IndexesMore, StartsIndexing, EndsIndexing, bound_of, decoder_of, fed_by};
+ghost use Rattle.simplex_shards.specs.Index.{IsIndex};
 
 use simplex_base::codec::{Encoding, Read};
 use simplex_base::positions::Roundable;
-use simplex_stream::decoder::Decoder;
 use simplex_stream::fault::{Fault, fault_at};
-use simplex_stream::messages::{Message, Visitor, for_each_message, stop_of};
+use simplex_stream::messages::{Message, Visitor, for_each_message};
 use std::alloc::{AllocError, Global};
 
 /// A message of a stream.
@@ -119,60 +117,4 @@ pub fn index<M: Tabular + Drop>(
         rows: tabulator.rows,
         fault: fault_at(place, progress.stop),
     })
-}
-
-/// Makes the rows of a stream that comes in pieces. It holds the bytes after the last whole message, and not the stream.
-#[derive(Drop)]
-pub struct Indexer {
-    pub(crate) bound: u32,
-    pub(crate) decoder: Decoder,
-}
-
-impl Indexer {
-    /// An indexer that was fed nothing, and reads certificates under a bound.
-    pub fn new<M: Message>(alloc: Global, bound: u32) -> Self
-        ensures fed { fed_by result ≡ 0 }
-        ensures stands { StartsIndexing (format_under ⟦<M as Read>⟧ bound) bound result }
-    {
-        Indexer {
-            bound,
-            decoder: Decoder::new::<M>(alloc),
-        }
-    }
-
-    /// Appends a piece to the stream, and returns the rows of the messages that it completes. The pieces have fewer than 2^64
-    /// bytes together. `AllocError` is returned only after an allocation failed; the indexer then stands for no stream.
-    pub fn feed<M: Tabular + Drop>(&mut self, piece: &[u8]) -> Result<Vec<Row>, AllocError>
-        requires { fed_by self.old + length piece.now < 2 ^ 64 }
-        ensures fed { IfOk result (λ _. fed_by self.new ≡ fed_by self.old + length piece.now) }
-        ensures rows { IfOk result (λ rows.
-            IndexesMore (format_under ⟦<M as Read>⟧ (bound_of self.old)) M.round_of M.row_of
-            piece.now self.old self.new rows.items) }
-    {
-        let mut tabulator = Tabulator {
-            rows: Vec::new(self.decoder.allocator()),
-            place: self.decoder.place(),
-        };
-        self.decoder
-            .feed::<M, Tabulator>(&(), self.bound, piece, &mut tabulator)?;
-        Ok(tabulator.rows)
-    }
-
-    /// Where the stream so far stops being messages, if it does; a last message that is incomplete is a fault too.
-    /// `AllocError` is returned only after an allocation failed.
-    pub fn fault<M: Message + Drop>(&self) -> Result<Option<Fault>, AllocError>
-        ensures { IfOk result (λ fault.
-            EndsIndexing (format_under ⟦<M as Read>⟧ (bound_of self.now)) self.now fault) }
-    {
-        let alloc = self.decoder.allocator();
-        let stop = stop_of::<M>(alloc, self.bound, self.decoder.rest())?;
-        Ok(fault_at(self.decoder.place(), stop))
-    }
-
-    /// Whether nothing that follows can be read, so that nothing more needs to be fed.
-    pub fn is_over(&self) -> bool
-        ensures { result ≡ decoding_over (decoder_of self.now) }
-    {
-        self.decoder.is_over()
-    }
 }

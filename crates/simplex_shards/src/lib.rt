@@ -4,11 +4,13 @@
 //! [`cut`] says which class a round is of; [`split`] has the messages of each class.
 #![tactic(auto)]
 
+pub mod canonical;
 pub mod cut;
 pub mod index;
 mod laws;
 pub mod merge;
 mod messages;
 pub mod part;
+pub mod pieces;
 pub mod ranges;
 pub mod split;

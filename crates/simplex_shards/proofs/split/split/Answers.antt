@@ -10,7 +10,8 @@ pub returns : goal.returns
 returns g c =
     let p = c.in_ok-progress in
     split_all _ g.M.Roundable.round_of (class_under c.args.cut.now) (classes_of c.args.cut.now) c.args.stream.now
-    p.progress.rest.now p.progress.read p.progress.stop _ c.for_each_message.new.visitor _ g.met.M.Message.never_empty (class_below c.args.cut.now)
+    p.progress.rest.now p.progress.read p.progress.stop _ c.for_each_message.new.visitor _ g.met.M.Message.never_empty
+    (class_below c.args.cut.now)
     (c.in_ok-empty_parts.ensures ∙ ap (λ (k : ℕ). replicate {A = List ℕ} k []) c.classes.ensures.value)
     p.ensures.progress refl refl
     (fault_is _ c.args.stream.now p.progress.rest.now p.ensures.progress.messages

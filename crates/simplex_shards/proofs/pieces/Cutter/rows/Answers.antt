@@ -2,9 +2,9 @@ use Rattle.std.proofs.Common.{◌≡◌, ℕ, List, length, arith, refl, ap, len
 use Rattle.std.specs.List.{flat_map}
 use Rattle.simplex_base.specs.Format.{format_under}
 use Rattle.simplex_stream.specs.Decoder.{HasDecoded, undecoded}
-use Rattle.simplex_shards.specs.Index.{decoder_of}
-use Rattle.simplex_shards.proofs.IndexLemmas.{index_piece}
-use Rattle.simplex_shards.proofs.index.Indexer.feed.Goals as goal
+use Rattle.simplex_shards.specs.Pieces.{decoder_of}
+use Rattle.simplex_shards.proofs.PieceLemmas.{index_piece}
+use Rattle.simplex_shards.proofs.pieces.Cutter.rows.Goals as goal
 
 pub returns-clause-rows : goal.returns-clause-rows
 returns-clause-rows g c =
