@@ -1,4 +1,4 @@
-.PHONY: run audit audit_stored audit_compact audit_live inspect library install test quick check try
+.PHONY: run audit audit_stored audit_compact audit_live audit_split inspect library install test quick check try
 
 PREFIX ?= /usr/local
 
@@ -23,6 +23,10 @@ audit_compact:
 audit_live:
 	@python3 .ci built audit_live
 
+# Proves and builds the program that cuts streams into parts, crates/audit_split/out/audit_split, and runs it on the sample.
+audit_split:
+	@python3 .ci built audit_split
+
 # Proves and builds the program that shows what is in a stream, crates/inspect/out/inspect, and runs it on the same stream.
 inspect:
 	@python3 .ci built inspect
@@ -32,10 +36,10 @@ library:
 	@python3 .ci library
 
 # Copies to PREFIX/bin what is built of the programs, by a target above or by `make test`, as simplex-audit, simplex-audit-stored,
-# simplex-audit-compact, simplex-audit-live and simplex-inspect, and says which. The short names are links to them, if no other
-# program has the name.
+# simplex-audit-compact, simplex-audit-live, simplex-audit-split and simplex-inspect, and says which. The short names are links to
+# them, if no other program has the name.
 install:
-	@some=; bin="$(DESTDIR)$(PREFIX)/bin"; for it in audit audit_stored audit_compact audit_live inspect; do \
+	@some=; bin="$(DESTDIR)$(PREFIX)/bin"; for it in audit audit_stored audit_compact audit_live audit_split inspect; do \
 	    test -x crates/$$it/out/$$it || continue; \
 	    name=simplex-$$(echo $$it | tr _ -); \
 	    install -D -m 755 crates/$$it/out/$$it "$$bin/$$name" || exit 1; \
@@ -45,7 +49,7 @@ install:
 	    ln -s $$name "$$bin/$$it" || exit 1; \
 	    echo "$$bin/$$it -> $$name"; \
 	done; \
-	test -n "$$some" || { echo 'No program is built yet: make audit, make audit_stored, make audit_compact, make audit_live or make inspect' >&2; exit 1; }
+	test -n "$$some" || { echo 'No program is built yet: make audit, make audit_stored, make audit_compact, make audit_live, make audit_split or make inspect' >&2; exit 1; }
 
 # The gate: proves everything, tries the mutants, runs the tests and the programs, and then tries what was
 # built as its users would, and with each of its allocations made to fail.

@@ -7,10 +7,11 @@
   UndefinedBehaviorSanitizer, and under valgrind.
 - The calls that list records and suspects hold no more than bench/places says, over streams of ten megabytes.
 - The tests and the examples of the Rust crate and of the Python module pass, and those of the page for people.
+- Audits in parts have the report of the whole, in threads, in processes that are killed, and on a cluster of Dask.
 - Test vectors of crates/conformance have the same answer through the calls of the library (step `vectors_in_c`).
 
 With LIBRARY set it takes the library that is built, and else has step `library` build it. A C compiler is needed. What needs
-OpenSSL's header, sanitizers, valgrind, a C++ compiler or cargo is left out if they are not found, and said to be.
+OpenSSL's header, sanitizers, valgrind, a C++ compiler, cargo or Dask is left out if they are not found, and said to be.
 """
 
 import ctypes.util
@@ -49,6 +50,13 @@ RELEASE = f"""14 messages
 3 10 2 conflicting-notarize 5 {SIX} 5 {SEVEN}
 3 10 2 conflicting-finalize 5 {SIX} 5 {SEVEN}
 3 10 split 3 2"""
+# What bindings/python/dask_files.py prints, and under which Python: Dask may be a package of the system's alone.
+ON_DASK = b"""2999 messages of 3 files, 1 with a fault
+200 lines of evidence
+on four workers the same
+with 2 workers killed the same
+"""
+PYTHONS = [sys.executable, "/usr/bin/python3"]
 # what is left out
 left = []
 
@@ -200,12 +208,23 @@ def rust(work, signed):
 def python(signed):
     """The Python module, and the page for people."""
     python3, folder = [sys.executable], ROOT / "bindings/python"
-    for it in ("tests.py", "report_tests.py"):
+    for it in ("tests.py", "shard_tests.py", "report_tests.py"):
         succeeds(*python3, folder / it)
     of_sample(*python3, folder / "audit.py")
     expect([*python3, folder / "audit.py", WORDS[0]], 2, err=USAGE)
     if found("ed25519.py", ctypes.util.find_library("crypto")):
         shows(signed, *python3, folder / "ed25519.py")
+    dask(folder / "dask_files.py")
+
+
+def dask(script):
+    """Files on a cluster of Dask. What its workers say as they are killed is not compared."""
+    pythons = [it for it in PYTHONS if shutil.which(it) and run([it, "-c", "import distributed"])[0] == 0]
+    if found("Dask", pythons):
+        status, out, said = run([pythons[0], script])
+        if (status, out) != (0, ON_DASK):
+            fail(f"{script} ended with status {status}", out.decode(), *said.decode().splitlines()[-30:])
+        passed.append(script)
 
 
 def main():

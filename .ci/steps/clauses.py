@@ -201,7 +201,7 @@ def page():
                 path = file.relative_to(source).as_posix()
                 folder, own = path.rpartition("/")[0], path.removesuffix(".rt")
                 public = f" in `{module}`" if module and module.replace("::", "/") not in (folder, own) else ""
-                lines.append(f"- **{own}**{public} {described(entries)}")
+                lines.append(f"- {own}{public} {described(entries)}")
         lines += [""] if sections else []
     return "\n".join(lines).rstrip() + "\n"
 

@@ -45,6 +45,7 @@ ELSEWHERE = {
     "bench/floods": "a reader with GNU time and some minutes",
     "bench/costs": "a reader with valgrind and some minutes",
     "bench/pieces": "a reader with valgrind and some minutes",
+    "bench/shards": "a reader with `rustc`, the static library, two gigabytes of disk and some minutes",
     "bench/fuzz": "a reader with `rustc`, the static library and a minute",
     "bench/wrong": "a reader with `rustc`, the static library and half an hour",
     "bench/places": "step bindings",

@@ -4,8 +4,9 @@ The first run has the first allocation refused, the next the second, and so on u
 its name.
 
 A program is run so on its stored run, or on as many first lines of it as there are allocations for in a minute. If one
-is refused `audit` and `audit_stored` end with status 3 and `audit: out of memory` and write nothing; `inspect` ends
-so after a beginning of its lines; any other program fails and has written a beginning of what is stored, or writes all of it.
+is refused `audit` and `audit_stored` end with status 3 and `audit: out of memory` and write nothing; `inspect` and
+`audit_split` end so after a beginning of their lines; any other program fails and has written a beginning of what is stored,
+or writes all of it.
 If none is, it writes what is stored. For `audit` the same is done with its key in groups, and then, for large allocations
 alone, on a large stream.
 
@@ -53,7 +54,7 @@ class Refusing:
         os.lseek(9, 0, os.SEEK_SET)
         around = os.environ | {"LD_PRELOAD": self.library, **{name: str(it) for name, it in names.items()}}
         with open(stdin, "rb") as given:
-            done = subprocess.run(command, stdin=given, capture_output=True, env=around, pass_fds=[9])
+            done = subprocess.run(command, stdin=given, capture_output=True, env=around, pass_fds=[9], cwd=self.room)
         return Run(done.returncode, done.stdout, done.stderr, os.fstat(9).st_size)
 
     def each(self, judge, command, stdin=os.devnull, **names):
@@ -116,7 +117,7 @@ def judged(crate, stored):
 
     if crate in ("audit", "audit_stored"):
         return lambda it: is_out_of_memory(it, "audit") and not it.out
-    return (lambda it: is_out_of_memory(it) and stops_short(it)) if crate == "inspect" else stops_short
+    return (lambda it: is_out_of_memory(it) and stops_short(it)) if crate in ("inspect", "audit_split") else stops_short
 
 
 def stored_run(refusing, crate, judge, stored, words, stdin, what):

@@ -46,7 +46,9 @@ TABLES = {
     "shards": {
         "simplex_shards/src/cut.rt": ["fn classes", "fn class_of", "fn range_of"],
         "simplex_shards/src/split.rt": ["fn split"],
-        "simplex_shards/src/index.rt": ["fn row", "fn index", "fn feed"],
+        "simplex_shards/src/index.rt": ["fn row", "fn index"],
+        "simplex_shards/src/pieces.rt": ["fn rows", "fn parts"],
+        "simplex_shards/src/canonical.rt": ["fn canonical", "fn accuses_same"],
         "simplex_shards/src/ranges.rt": ["fn ranges"],
         "simplex_shards/src/part.rt": ["fn audit_part"],
         "simplex_shards/src/merge.rt": ["fn merge"],

@@ -1,0 +1,6 @@
+mod PartLemmas
+mod CutLemmas
+mod OptionLemmas
+mod LineLemmas
+mod FileLemmas
+mod EndingLemmas
