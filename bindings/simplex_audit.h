@@ -8,11 +8,11 @@
  * Ownership: every buffer is the caller's. No call keeps a pointer, and none returns memory that
  *   has to be freed.
  * Pointers: none may be NULL, not even that of an empty slice, and each has the alignment of its
- *   type. What is written (text, evidence, records, summary, size, needed, floor, number)
- *   overlaps nothing else that is passed. Nothing checks this at run time; GCC and Clang warn of a
- *   NULL that they can see.
- * Lengths: the length of a slice counts its elements: bytes, epochs, sizes, records. A slice may be
- *   empty.
+ *   type. What is written (text, evidence, records, rows, ranges, summary, size, needed, floor,
+ *   number) overlaps nothing else that is passed. Nothing checks this at run time; GCC and Clang
+ *   warn of a NULL that they can see.
+ * Lengths: the length of a slice counts its elements: bytes, epochs, sizes, records, rows, ranges.
+ *   A slice may be empty.
  * Threads: the library has no state. Calls may run in several threads at once if no buffer that is
  *   written is shared, but not in a signal handler, nor in the forked child of a process with
  *   threads.
@@ -48,11 +48,12 @@ extern "C" {
 #define SIMPLEX_VERSION 1u
 uint32_t simplex_version(void);
 
-/* How a call ended that audits, stores, lists or elects. */
+/* How a call ended that audits, stores, lists, cuts or elects. */
 #define SIMPLEX_WHOLE 0u     /* Success. The buffer is written, and an audit found no fault. */
 #define SIMPLEX_FAULT 1u     /* The byte at `fault_place` starts no message. The messages before it
-                                were audited, and the buffer is written. */
-#define SIMPLEX_ARGUMENTS 2u /* The arguments are no committees. Nothing was written. */
+                                were audited or listed, and the buffer is written. */
+#define SIMPLEX_ARGUMENTS 2u /* The arguments are no committees, or what the call says. Nothing was
+                                written. */
 #define SIMPLEX_MEMORY 3u    /* An allocation failed. Nothing was written. */
 #define SIMPLEX_SHORT 4u     /* The buffer is too short, and as before. The length that is needed is
                                 written: call again. */
@@ -259,6 +260,102 @@ uint32_t simplex_store_plain(const uint8_t *name, size_t name_len, const uint8_t
                              size_t keys_len, const uint8_t *stored, size_t stored_len,
                              const uint8_t *batch, size_t batch_len, uint8_t *evidence,
                              size_t evidence_len, size_t *size);
+
+/*
+ * An audit in parts (docs/SHARDS.md): list the messages of a stream as rows, take the ranges of each
+ * class of rounds, and audit those of each class apart, in threads or processes that share the
+ * bytes. An audit never compares votes of two rounds, so the reports of all classes together are
+ * that of the stream: the same lines, those of evidence in the order of rounds, signers and kinds,
+ * and then those of splits in the order of rounds.
+ */
+
+/* The kind of a message in a row: the tag with which it is encoded. */
+#define SIMPLEX_ROW_NOTARIZE 0u
+#define SIMPLEX_ROW_NOTARIZATION 1u
+#define SIMPLEX_ROW_CERTIFICATION 2u
+#define SIMPLEX_ROW_NULLIFY 3u
+#define SIMPLEX_ROW_NULLIFICATION 4u
+#define SIMPLEX_ROW_FINALIZE 5u
+#define SIMPLEX_ROW_FINALIZATION 6u
+#define SIMPLEX_ROW_CONFLICTING_NOTARIZE 7u
+#define SIMPLEX_ROW_CONFLICTING_FINALIZE 8u
+#define SIMPLEX_ROW_NULLIFY_FINALIZE 9u
+
+/* A message of a stream. */
+struct simplex_row {
+    uint64_t epoch;      /* of its round */
+    uint64_t view;       /* of its round */
+    size_t place;        /* the 0-based offset of its first byte */
+    size_t length;       /* its bytes */
+    size_t attestations; /* 1 of a vote, 2 of evidence, and those that a certificate lists */
+    uint32_t kind;       /* SIMPLEX_ROW_.. */
+};
+
+/* Bytes of a stream that stand together. */
+struct simplex_range {
+    size_t place;  /* the 0-based offset of the first of them */
+    size_t length; /* how many there are */
+};
+
+/*
+ * Lists the messages of a stream, up to its end or first fault: a row for each, in their order.
+ * `signature` is the bytes of a signature: 32 under the plain scheme; or 48, 64 or 96, each with a
+ * verdict behind it. `bound` is the number of participants of the greatest committee in any epoch,
+ * and one bound serves a whole audit. Nothing is verified.
+ *
+ * The first `summary->read` rows are then written; those behind them are as before. `faulted` and
+ * `fault_place` are the stream's, and `evidence`, `splits` and `length` are 0. Where `rows` is too
+ * short the status is SIMPLEX_SHORT: the summary is written and the rows are as before. The first
+ * row begins at 0 and each other where the one before it ends. SIMPLEX_ARGUMENTS: `signature` is
+ * none of these, or `bound` is 0. While it runs it holds up to 144 bytes for each
+ * message, and 200 more.
+ */
+SIMPLEX_NONNULL
+uint32_t simplex_index(uint32_t signature, uint32_t bound, const uint8_t *stream, size_t stream_len,
+                       struct simplex_row *rows, size_t rows_len, struct simplex_summary *summary);
+
+/*
+ * The class of a round, from 0 on, of so many classes: all parts of an audit take one seed and one
+ * number of classes. Rounds are spread evenly, but a sender who knows the seed can send rounds of
+ * one class alone, so draw it anew. 0 where `classes` is 0.
+ */
+uint32_t simplex_class_of(uint64_t epoch, uint64_t view, uint64_t seed, uint32_t classes);
+
+/*
+ * The bytes of the class `which` of `classes`, as ranges of the stream that the rows are of, in
+ * their order, neighbours joined: one after another they are exactly the messages whose rounds are
+ * of this class. The rows are those of simplex_index, all or any neighbouring ones.
+ *
+ * The first `*needed` ranges are written; those behind them are as before. The status is
+ * SIMPLEX_WHOLE, SIMPLEX_ARGUMENTS, SIMPLEX_MEMORY or SIMPLEX_SHORT; where `ranges` is too short
+ * `*needed` is written, and nothing else. There are at most as many ranges as rows.
+ * SIMPLEX_ARGUMENTS: `classes` is 0, `which` is not below it, or a row ends at 2^64 or behind.
+ */
+SIMPLEX_NONNULL
+uint32_t simplex_ranges(const struct simplex_row *rows, size_t rows_len, uint64_t seed,
+                        uint32_t classes, uint32_t which, struct simplex_range *ranges,
+                        size_t ranges_len, size_t *needed);
+
+/*
+ * Audits the bytes of the ranges of a stream, one range after another, as simplex_audit_vouched_..
+ * and simplex_audit_plain do a stream. Offsets in the summary count these bytes. None is copied but
+ * those of a message that stands in several ranges. `signature` is 48, 64 or 96.
+ *
+ * SIMPLEX_ARGUMENTS also: `signature` is none of these, a range is not within the stream, or the
+ * ranges have 2^64 bytes or more together. They may overlap and stand in any order.
+ */
+SIMPLEX_NONNULL
+uint32_t simplex_audit_ranges(uint32_t signature, const uint64_t *epochs, size_t epochs_len,
+                              const uint32_t *sizes, size_t sizes_len, const uint8_t *stream,
+                              size_t stream_len, const struct simplex_range *ranges,
+                              size_t ranges_len, uint8_t *text, size_t text_len,
+                              struct simplex_summary *summary);
+SIMPLEX_NONNULL
+uint32_t simplex_audit_ranges_plain(const uint8_t *name, size_t name_len, const uint8_t *keys,
+                                    size_t keys_len, const uint8_t *stream, size_t stream_len,
+                                    const struct simplex_range *ranges, size_t ranges_len,
+                                    uint8_t *text, size_t text_len,
+                                    struct simplex_summary *summary);
 
 /*
  * How many of n participants may lie, the greatest f with 3f + 1 <= n, and how many are a quorum,

@@ -2,7 +2,8 @@
  * Tries what the contracts of the calls say of buffers and refusals, from C: buffers that fit, that
  * are a byte too short or empty, empty slices, arguments that are no committees, verdicts, stored
  * evidence with faulty batches and faulty stored bytes, each kind of record, records that are new,
- * a committee of 65,536, calls at once in several threads, and each allocation failing in turn.
+ * audits in parts, rows and ranges that are invalid, a committee of 65,536, calls at once in several
+ * threads, and each allocation failing in turn.
  * Every buffer is a block of its own, so that AddressSanitizer and valgrind see an access outside.
  *
  *     border < STREAM             STREAM: the sample of crates/audit
@@ -30,6 +31,8 @@ static int checks, failed;
 
 #define RECORD sizeof(struct simplex_suspect)
 #define EVIDENCE sizeof(struct simplex_record)
+#define ROW sizeof(struct simplex_row)
+#define RANGE sizeof(struct simplex_range)
 
 /* Allocations: how many may still succeed (-1: all), and how many blocks the library holds. */
 static _Thread_local long allowed = -1, blocks;
@@ -165,6 +168,28 @@ static uint32_t enlist(const struct input *in, struct simplex_record *records, s
     }
 }
 
+/* The rows of the stream, under the bound of the greatest committee. */
+static uint32_t tabulate(const struct input *in, struct simplex_row *rows, size_t room,
+                         struct simplex_summary *summary)
+{
+    uint32_t size = in->signature ? (uint32_t)in->signature : 32, bound = 0;
+    for (size_t i = 0; in->signature && i < in->sizes_len; i++)
+        bound = in->sizes[i] > bound ? in->sizes[i] : bound;
+    if (!in->signature)
+        bound = (uint32_t)(in->keys_len / 32);
+    return simplex_index(size, bound, STREAM, rows, room, summary);
+}
+
+static uint32_t audit_ranges(const struct input *in, const struct simplex_range *ranges,
+                             size_t ranges_len, uint8_t *text, size_t room,
+                             struct simplex_summary *summary)
+{
+    if (!in->signature)
+        return simplex_audit_ranges_plain(KEYS, STREAM, ranges, ranges_len, text, room, summary);
+    return simplex_audit_ranges((uint32_t)in->signature, SIZES, STREAM, ranges, ranges_len, text,
+                                room, summary);
+}
+
 static const struct simplex_summary untouched = {99, 99, 99, 99, 99, 99};
 
 static int is_untouched(const struct simplex_summary *summary)
@@ -184,6 +209,9 @@ static void refuses(const struct input *in)
     CHECK(is_untouched(&summary));
     CHECK(store(in, buffer, 500, &size) == SIMPLEX_ARGUMENTS);
     CHECK(size == 99);
+    const struct simplex_range whole = {0, in->stream_len};
+    CHECK(audit_ranges(in, &whole, 1, buffer, 500, &summary) == SIMPLEX_ARGUMENTS);
+    CHECK(is_untouched(&summary));
     if (in->signature) {
         CHECK(suspects(in, (struct simplex_suspect *)buffer, 500 / RECORD, &size) == SIMPLEX_ARGUMENTS);
         CHECK(size == 99);
@@ -427,12 +455,235 @@ static size_t defers(const struct input *in, const size_t *verdicts, size_t verd
     return n;
 }
 
+/* Rows are compared field by field: what is behind the last field is no part of them. */
+static int same_rows(const struct simplex_row *one, const struct simplex_row *other, size_t n)
+{
+    for (size_t i = 0; i < n; i++)
+        if (one[i].epoch != other[i].epoch || one[i].view != other[i].view
+            || one[i].place != other[i].place || one[i].length != other[i].length
+            || one[i].attestations != other[i].attestations || one[i].kind != other[i].kind)
+            return 0;
+    return 1;
+}
+
+/* The rows of the stream, with buffers as above: each begins where the one before it ends, the first
+ * byte of its message is its kind, and all end at the fault or with the stream. */
+static struct simplex_row *tabulates(const struct input *in, uint32_t wanted, size_t *rows_len)
+{
+    struct simplex_summary summary = untouched, again = untouched;
+    uint8_t *buffer = block(0, 7);
+    uint32_t status = tabulate(in, (struct simplex_row *)buffer, 0, &summary);
+    size_t n = summary.read, spare = 2, place = 0;
+    free(buffer);
+    CHECK(status == (n ? SIMPLEX_SHORT : wanted));
+    CHECK(!summary.evidence && !summary.splits && !summary.length);
+    CHECK(summary.faulted == (wanted == SIMPLEX_FAULT));
+    struct simplex_row *rows = (struct simplex_row *)block((n + spare) * ROW, 7);
+    CHECK(tabulate(in, rows, n + spare, &again) == wanted);
+    CHECK(!memcmp(&summary, &again, sizeof summary));
+    CHECK(all((const uint8_t *)(rows + n), spare * ROW, 7));
+    struct simplex_row *fitting = (struct simplex_row *)block(n * ROW, 7);
+    CHECK(tabulate(in, fitting, n, &again) == wanted && same_rows(rows, fitting, n));
+    free(fitting);
+    if (n) {
+        buffer = block((n - 1) * ROW, 7);
+        again = untouched;
+        CHECK(tabulate(in, (struct simplex_row *)buffer, n - 1, &again) == SIMPLEX_SHORT);
+        CHECK(!memcmp(&summary, &again, sizeof summary) && all(buffer, (n - 1) * ROW, 7));
+        free(buffer);
+    }
+    for (size_t i = 0; i < n; i++) {
+        CHECK(rows[i].place == place && rows[i].kind == in->stream[place]);
+        place += rows[i].length;
+    }
+    CHECK(place == (summary.faulted ? summary.fault_place : in->stream_len));
+    *rows_len = n;
+    return rows;
+}
+
+/* The ranges of a class, with buffers as above. */
+static struct simplex_range *cuts(const struct simplex_row *rows, size_t rows_len, uint32_t classes,
+                                  uint32_t which, size_t *ranges_len)
+{
+    size_t n = 99, needed = 99, spare = 2;
+    uint8_t *buffer = block(0, 7);
+    uint32_t status = simplex_ranges(rows, rows_len, 5, classes, which,
+                                     (struct simplex_range *)buffer, 0, &n);
+    free(buffer);
+    CHECK(status == (n ? SIMPLEX_SHORT : SIMPLEX_WHOLE) && n <= rows_len);
+    struct simplex_range *ranges = (struct simplex_range *)block((n + spare) * RANGE, 7);
+    status = simplex_ranges(rows, rows_len, 5, classes, which, ranges, n + spare, &needed);
+    CHECK(status == SIMPLEX_WHOLE && needed == n);
+    CHECK(all((const uint8_t *)(ranges + n), spare * RANGE, 7));
+    struct simplex_range *fitting = (struct simplex_range *)block(n * RANGE, 7);
+    CHECK(simplex_ranges(rows, rows_len, 5, classes, which, fitting, n, &needed) == SIMPLEX_WHOLE);
+    CHECK(needed == n && !memcmp(ranges, fitting, n * RANGE));
+    free(ranges);
+    if (n) {
+        buffer = block((n - 1) * RANGE, 7);
+        needed = 99;
+        CHECK(simplex_ranges(rows, rows_len, 5, classes, which, (struct simplex_range *)buffer,
+                             n - 1, &needed) == SIMPLEX_SHORT);
+        CHECK(needed == n && all(buffer, (n - 1) * RANGE, 7));
+        free(buffer);
+    }
+    *ranges_len = n;
+    return fitting;
+}
+
+/* The audit of ranges, with buffers as above: it is that of their bytes, one range after another. */
+static struct simplex_summary audits_ranges(const struct input *in,
+                                            const struct simplex_range *ranges, size_t ranges_len)
+{
+    struct simplex_summary summary = untouched, joined;
+    struct input part = *in;
+    size_t size = 0;
+    for (size_t i = 0; i < ranges_len; i++)
+        size += ranges[i].length;
+    uint8_t *bytes = block(size, 0), *at = bytes, text[5000];
+    for (size_t i = 0; i < ranges_len; at += ranges[i++].length)
+        memcpy(at, in->stream + ranges[i].place, ranges[i].length);
+    part.stream = bytes;
+    part.stream_len = size;
+    uint32_t wanted = audit(&part, text, sizeof text, &joined);
+    size_t n = joined.length;
+    for (size_t spare = 0; spare < 3; spare += 2) {
+        uint8_t *fitting = block(n + spare, 7);
+        CHECK(audit_ranges(in, ranges, ranges_len, fitting, n + spare, &summary) == wanted);
+        CHECK(!memcmp(&summary, &joined, sizeof summary) && !memcmp(fitting, text, n));
+        CHECK(all(fitting + n, spare, 7));
+        free(fitting);
+    }
+    if (n) {
+        uint8_t *shorter = block(n - 1, 7);
+        summary = untouched;
+        CHECK(audit_ranges(in, ranges, ranges_len, shorter, n - 1, &summary) == SIMPLEX_SHORT);
+        CHECK(!memcmp(&summary, &joined, sizeof summary) && all(shorter, n - 1, 7));
+        free(shorter);
+    }
+    free(bytes);
+    return joined;
+}
+
+/* A range that is not within the stream is refused, and nothing is written. */
+static void refuses_range(const struct input *in, size_t place, size_t length)
+{
+    struct simplex_summary summary = untouched;
+    struct simplex_range *ranges = (struct simplex_range *)block(2 * RANGE, 0);
+    uint8_t *text = block(500, 7);
+    for (size_t i = 0; i < 2; i++) {
+        ranges[i].place = place;
+        ranges[i].length = length;
+        ranges[1 - i].place = 0;
+        ranges[1 - i].length = in->stream_len;
+        CHECK(audit_ranges(in, ranges, 2, text, 500, &summary) == SIMPLEX_ARGUMENTS);
+        CHECK(is_untouched(&summary) && all(text, 500, 7));
+    }
+    free(text);
+    free(ranges);
+}
+
+/* Sizes of signatures, classes, rows and ranges that are refused, and nothing is written. */
+static void refuses_parts(const struct input *in)
+{
+    struct simplex_summary summary = untouched;
+    const struct simplex_range whole = {0, in->stream_len};
+    uint8_t *buffer = block(500, 7);
+    struct simplex_row *rows = (struct simplex_row *)buffer;
+    struct simplex_range *ranges = (struct simplex_range *)buffer;
+    const size_t n = in->stream_len;
+    size_t needed = 99;
+    for (uint32_t size = 0; size < 300; size++) {
+        const int is_vouched = size == 48 || size == 64 || size == 96;
+        if (in->signature && !is_vouched)
+            CHECK(simplex_audit_ranges(size, SIZES, STREAM, &whole, 1, buffer, 500, &summary)
+                  == SIMPLEX_ARGUMENTS);
+        if (size != 32 && !is_vouched)
+            CHECK(simplex_index(size, 9, STREAM, rows, 500 / ROW, &summary) == SIMPLEX_ARGUMENTS);
+        CHECK(simplex_index(size, 0, STREAM, rows, 500 / ROW, &summary) == SIMPLEX_ARGUMENTS);
+    }
+    const struct simplex_row over = {4, 10, SIZE_MAX - 8, 9, 1, 0};
+    const struct simplex_row last = {4, 10, SIZE_MAX - 9, 9, 1, 0};
+    for (uint32_t classes = 0; classes < 4; classes++)
+        for (uint32_t which = classes; which < classes + 3; which++)
+            CHECK(simplex_ranges(&last, 1, 5, classes, which, ranges, 9, &needed) == SIMPLEX_ARGUMENTS);
+    for (uint32_t which = 0; which < 3; which++)
+        CHECK(simplex_ranges(&over, 1, 5, 3, which, ranges, 9, &needed) == SIMPLEX_ARGUMENTS);
+    CHECK(needed == 99 && is_untouched(&summary) && all(buffer, 500, 7));
+    CHECK(simplex_ranges(&last, 1, 5, 1, 0, ranges, 9, &needed) == SIMPLEX_WHOLE && needed == 1);
+    CHECK(ranges->place == SIZE_MAX - 9 && ranges->length == 9);
+    free(buffer);
+    refuses_range(in, n, 1);
+    refuses_range(in, n + 1, 0);
+    refuses_range(in, 0, n + 1);
+    refuses_range(in, 1, n);
+    refuses_range(in, SIZE_MAX, 0);
+    refuses_range(in, SIZE_MAX, 1);
+    refuses_range(in, 1, SIZE_MAX);
+    if (n > 1)
+        refuses_range(in, n / 2, SIZE_MAX - n / 2 + 1);
+}
+
+/* An audit in parts: cut into so many classes, each message is in the ranges of its class, and all
+ * classes together have the evidence and the splits of the stream. */
+static void audits_parts(const struct input *in, uint32_t wanted)
+{
+    struct simplex_summary whole;
+    uint8_t text[5000];
+    size_t rows_len, ranges_len;
+    CHECK(audit(in, text, sizeof text, &whole) == wanted);
+    struct simplex_row *rows = tabulates(in, wanted, &rows_len);
+    CHECK(rows_len == whole.read);
+    for (uint32_t classes = 1; classes < 6; classes++) {
+        size_t read = 0, evidence = 0, splits = 0, length = 0, bytes = 0;
+        for (uint32_t which = 0; which < classes; which++) {
+            struct simplex_range *ranges = cuts(rows, rows_len, classes, which, &ranges_len);
+            struct simplex_summary part = audits_ranges(in, ranges, ranges_len);
+            CHECK(!part.faulted);
+            read += part.read;
+            evidence += part.evidence;
+            splits += part.splits;
+            length += part.length;
+            for (size_t i = 0; i < rows_len; i++) {
+                uint32_t class = simplex_class_of(rows[i].epoch, rows[i].view, 5, classes);
+                size_t covering = 0;
+                for (size_t k = 0; k < ranges_len; k++)
+                    covering += ranges[k].place <= rows[i].place
+                                && rows[i].place - ranges[k].place < ranges[k].length;
+                CHECK(class < classes && covering == (class == which));
+            }
+            for (size_t k = 0; k < ranges_len; k++)
+                bytes += ranges[k].length;
+            free(ranges);
+        }
+        CHECK(read == whole.read && evidence == whole.evidence && splits == whole.splits);
+        CHECK(length == whole.length);
+        CHECK(bytes == (whole.faulted ? whole.fault_place : in->stream_len));
+    }
+    free(rows);
+    refuses_parts(in);
+    /* ranges of any bytes: none, the stream twice, its halves, and all bytes one by one */
+    const struct simplex_range twice[] = {{0, in->stream_len}, {0, in->stream_len}};
+    const size_t half = in->stream_len / 2;
+    const struct simplex_range turned[] = {{half, in->stream_len - half}, {0, half}, {half, 0}};
+    audits_ranges(in, twice, 0);
+    audits_ranges(in, twice, 2);
+    audits_ranges(in, turned, 3);
+    struct simplex_range *single = (struct simplex_range *)block(in->stream_len * RANGE, 0);
+    for (size_t i = 0; i < in->stream_len; i++)
+        single[i] = (struct simplex_range){i, 1};
+    audits_ranges(in, single, in->stream_len);
+    free(single);
+}
+
 /* With its k-th allocation and all later ones made to fail a call ends with SIMPLEX_MEMORY, writes
  * nothing and frees what it allocated, until k is more than the allocations that it makes. */
 static void without_memory(const struct input *in)
 {
+    const struct simplex_range whole = {0, in->stream_len};
+    const struct simplex_row row = {4, 10, 0, in->stream_len, 1, 0};
     long before = blocks;
-    for (int call = in->signature ? 0 : 1; call < 4; call++)
+    for (int call = in->signature ? 0 : 1; call < 7; call++)
         for (long k = 1;; k++) {
             struct simplex_summary summary = untouched;
             size_t size = 99;
@@ -440,6 +691,8 @@ static void without_memory(const struct input *in)
                 uint8_t bytes[500];
                 struct simplex_suspect suspects[500 / RECORD];
                 struct simplex_record records[500 / EVIDENCE];
+                struct simplex_row rows[500 / ROW];
+                struct simplex_range ranges[500 / RANGE];
             } to;
             uint8_t *buffer = to.bytes;
             memset(&to, 7, sizeof to);
@@ -447,7 +700,10 @@ static void without_memory(const struct input *in)
             uint32_t status = call == 0   ? suspects(in, to.suspects, 500 / RECORD, &size)
                               : call == 1 ? audit(in, buffer, 500, &summary)
                               : call == 2 ? store(in, buffer, 500, &size)
-                                          : enlist(in, to.records, 500 / EVIDENCE, &summary);
+                              : call == 3 ? enlist(in, to.records, 500 / EVIDENCE, &summary)
+                              : call == 4 ? tabulate(in, to.rows, 500 / ROW, &summary)
+                              : call == 5 ? simplex_ranges(&row, 1, 5, 1, 0, to.ranges, 9, &size)
+                                          : audit_ranges(in, &whole, 1, buffer, 500, &summary);
             int over = allowed > 0;
             allowed = -1;
             CHECK(blocks == before);
@@ -472,15 +728,18 @@ static void plain(const uint8_t *sample, size_t len)
     stores(&in);
     precedes(&in);
     enlists(&in);
+    audits_parts(&in, SIMPLEX_WHOLE);
     without_memory(&in);
     in.stream_len = 137;
     CHECK(audits(&in, SIMPLEX_FAULT, 1, 69) == 0);
     stores(&in);
     enlists(&in);
+    audits_parts(&in, SIMPLEX_FAULT);
     in.stream_len = 0;
     CHECK(audits(&in, SIMPLEX_WHOLE, 0, 0) == 0);
     stores(&in);
     enlists(&in);
+    audits_parts(&in, SIMPLEX_WHOLE);
     in.stream_len = len;
     in.name_len = 0;
     CHECK(audits(&in, SIMPLEX_WHOLE, 2, 0) == 0);
@@ -612,7 +871,60 @@ static void vouched(int signature)
     in.sizes_len = 1;
     CHECK(audits(&in, SIMPLEX_FAULT, 1, n / 2) == 0);
     enlists(&in);
+    audits_parts(&in, SIMPLEX_FAULT);
     free((void *)no_epochs);
+    free(stream);
+    free(none);
+}
+
+/* A notarization in view 10 of an epoch, with valid signatures of participants 0, 1 and 2. */
+static uint8_t *put_notarization(uint8_t *at, uint8_t epoch, uint8_t payload, size_t signature)
+{
+    const uint8_t head[] = {1, epoch, 10, 5};
+    memcpy(at, head, 4);
+    memset(at + 4, payload, 32);
+    at[36] = 3;
+    at += 37;
+    for (uint32_t signer = 0; signer < 3; signer++)
+        at = put_attestation(at, signer, signature, 1);
+    return at;
+}
+
+/* Nine rounds whose messages alternate: in each two notarizes that contradict, a nullify and an
+ * evidence; in each third two certificates that contradict as well. */
+static void in_parts(size_t signature)
+{
+    static const uint32_t four[] = {4};
+    static const uint64_t epoch[] = {0};
+    const size_t vote = 38 + signature;
+    uint8_t room[20000], votes[400], *end = room, *none = block(0, 0);
+    for (uint8_t kind = 0; kind < 6; kind++)
+        for (uint8_t i = 0; i < 9; i++) {
+            const uint32_t signer = i % 4;
+            two(votes, i, signer, signature, 1);
+            if (kind < 2)
+                end = put_notarize(end, i, signer, 6 + kind, signature, 1);
+            else if (kind == 2)
+                end = put_nullify(end, i, 3, signature);
+            else if (kind == 3)
+                end = put_conflict(end, votes, votes + vote, vote);
+            else if (i % 3 == 0)
+                end = put_notarization(end, i, kind, signature);
+        }
+    uint8_t *stream = copy(room, (size_t)(end - room));
+    struct input in = {.stored = none, .stream = stream, .stream_len = (size_t)(end - room),
+                       .signature = (int)signature, .epochs = epoch, .sizes = four, .sizes_len = 1};
+    /* each certificate's signers are accused in the rounds that have both */
+    CHECK(audits(&in, SIMPLEX_WHOLE, 42, 0) == 6 + 3 * 3 + 1);
+    audits_parts(&in, SIMPLEX_WHOLE);
+    struct simplex_summary summary;
+    struct simplex_row rows[42];
+    CHECK(tabulate(&in, rows, 42, &summary) == SIMPLEX_WHOLE && summary.read == 42);
+    CHECK(rows[10].epoch == 1 && rows[10].view == 10 && rows[10].place == 10 * vote);
+    CHECK(rows[10].length == vote && rows[10].attestations == 1);
+    CHECK(rows[20].attestations == 1 && rows[20].kind == SIMPLEX_ROW_NULLIFY);
+    CHECK(rows[30].attestations == 2 && rows[30].kind == SIMPLEX_ROW_CONFLICTING_NOTARIZE);
+    CHECK(rows[40].attestations == 3 && rows[40].kind == SIMPLEX_ROW_NOTARIZATION);
     free(stream);
     free(none);
 }
@@ -879,6 +1191,12 @@ static void many_lead(void)
 static void numbers(void)
 {
     CHECK(simplex_version() == SIMPLEX_VERSION);
+    CHECK(simplex_class_of(0, 0, 0, 0) == 0 && simplex_class_of(3, 10, 5, 0) == 0);
+    CHECK(simplex_class_of(0, 0, 0, 1) == 0 && simplex_class_of(0, 0, 0, 16) == 15);
+    CHECK(simplex_class_of(0, 1, 0, 16) == 14 && simplex_class_of(1, 0, 0, 16) == 14);
+    CHECK(simplex_class_of(5, 123456789, 0, 1000) == 466);
+    CHECK(simplex_class_of(UINT64_MAX, UINT64_MAX, 0, 64) == 54);
+    CHECK(simplex_class_of(5, 123456789, 1, 1000) != simplex_class_of(123456789, 5, 1, 1000));
     CHECK(simplex_max_faults(0) == 0 && simplex_quorum(0) == 0);
     CHECK(simplex_max_faults(1) == 0 && simplex_quorum(1) == 1);
     CHECK(simplex_max_faults(4) == 1 && simplex_quorum(4) == 3);
@@ -993,6 +1311,9 @@ int main(int argc, char **argv)
     vouched(48);
     vouched(64);
     vouched(96);
+    in_parts(48);
+    in_parts(64);
+    in_parts(96);
     deferred(48);
     deferred(64);
     deferred(96);

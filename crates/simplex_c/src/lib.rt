@@ -1,22 +1,22 @@
 //! The auditor for callers that speak the C ABI (bindings/simplex_audit.h). Each export calls a
 //! function of `simplex_ffi` and has its contract.
 //!
-//! A call that audits, stores, lists or elects returns a status:
+//! A call that audits, stores, lists, cuts or elects returns a status:
 //!
 //! - 0: success. The buffer is written, and an audit found no fault.
-//! - 1, of audits and of records alone: the byte at `fault_place` starts no message. The messages
-//!   before it were audited, and the buffer is written.
-//! - 2: the arguments are no committees; of leaders, there is no participant or a term has no view.
-//!   Nothing was written.
+//! - 1, of audits, records and rows alone: the byte at `fault_place` starts no message. The messages
+//!   before it were audited or listed, and the buffer is written.
+//! - 2: the arguments are no committees; of leaders, there is no participant or a term has no view;
+//!   of audits in parts, a size, a class, a row or a range is invalid. Nothing was written.
 //! - 3: an allocation failed. Nothing was written.
 //! - 4, of calls with a buffer: it is too short, and as before. The length that is needed is
-//!   written, for audits and records with the rest of the summary.
+//!   written, for audits, records and rows with the rest of the summary.
 //!
 //! Where the buffer is written it begins with the result, and the bytes or records behind that are
 //! as before.
 #![tactic(auto)]
 
-ghost use Rattle.std.specs.Prelude.{◌≡◌, ◌≢◌, ◌⊎◌, ◌-◌, ◌≤◌, ◌++◌, None, Some, length};
+ghost use Rattle.std.specs.Prelude.{◌≡◌, ◌≢◌, ◌⊎◌, ◌-◌, ◌<◌, ◌≤◌, ◌++◌, None, Some, length};
 ghost use Rattle.simplex_base.specs.Terms.{term_start};
 ghost use Rattle.simplex_scheme.specs.Committee.{faults_of, quorum_of};
 ghost use Rattle.simplex_lead.specs.Windows.{FitsWindow, IsAdmitted, IsOutbound};
@@ -26,13 +26,19 @@ ghost use Rattle.simplex_schemes.specs.Vouched.{VouchedScheme};
 ghost use Rattle.simplex_ffi.specs.Answer.{AreRecorded, AreStored, AreAttestationsGiven, IsAudited};
 ghost use Rattle.simplex_ffi.specs.Keys.{AreKeys, AreOfKeys, IsLengthOfKeys};
 ghost use Rattle.simplex_ffi.specs.Leaders.{LeadsRound};
+ghost use Rattle.simplex_ffi.specs.Rows.{AreRangesGiven, AreRowsGiven, AreWithin, RowsFit, bytes_of_ranges};
+ghost use Rattle.simplex_ffi.specs.Signatures.{ForSizes, IsSignatureSize, IsVouchedSize};
 ghost use Rattle.simplex_ffi.specs.Sizes.{AreSizes, AreCommitteeSizes};
+ghost use Rattle.simplex_shards.specs.Cut.{mixed_class};
 
 use simplex_audit::basis::Audited;
 use simplex_base::codec::Fixed;
 use simplex_ffi::answer::ReportSummary;
+use simplex_ffi::classes::{class_of, ranges_of_class};
+use simplex_ffi::parts::{ranges_of_size, ranges_plain};
 use simplex_ffi::plain::{answer_plain, store_plain};
 use simplex_ffi::records::{records_plain, records_vouched};
+use simplex_ffi::rows::{Indexed, rows_of_stream};
 use simplex_ffi::suspects::suspects_vouched;
 use simplex_ffi::vouched::{answer_vouched, store_vouched};
 use simplex_ffi::{leaders, numbers};
@@ -42,6 +48,8 @@ use simplex_places::records::Record;
 use simplex_scheme::scheme::{Hasher, Sha256, Sha256Digest};
 use simplex_schemes::plain::Plain;
 use simplex_schemes::vouched::{Role48, Role64, Role96, Vouched};
+use simplex_shards::index::Row;
+use simplex_shards::ranges::Range;
 use std::alloc::Global;
 
 /// The version of these calls: 1.
@@ -434,6 +442,137 @@ pub extern "C" fn simplex_store_plain(
         (evidence.new ≡ evidence.old) × (size.new ≡ size.old) }
 {
     store_plain(alloc, name, keys, stored, batch, evidence, size)
+}
+
+/// Lists the messages of a stream as rows: of which round each is, where it stands, and what it is.
+/// Signatures have so many bytes: 32 under the plain scheme; or 48, 64 or 96, each with the caller's
+/// verdict behind it. Certificates are read under `bound`, the number of participants of the
+/// greatest committee. Nothing is verified. Returns a status as above, 2 if signatures have no such
+/// size or the bound is 0.
+#[unsafe(no_mangle)]
+pub extern "C" fn simplex_index(
+    alloc: Global,
+    signature: u32,
+    bound: u32,
+    stream: &[u8],
+    rows: &mut [Row],
+    summary: &mut ReportSummary,
+) -> u32
+    ensures plain { signature ≡ 32 → result ≢ 2 → result ≢ 3 →
+        AreRowsGiven (⟦<Plain as Indexed<Sha256Digest>>⟧.is_index bound stream.now)
+        rows.old rows.new summary.new result }
+    ensures vouched { signature ≢ 32 → result ≢ 2 → result ≢ 3 → ForSizes signature
+        (AreRowsGiven (⟦<Vouched<Role48, 49> as Indexed<Sha256Digest>>⟧.is_index bound stream.now)
+        rows.old rows.new summary.new result)
+        (AreRowsGiven (⟦<Vouched<Role64, 65> as Indexed<Sha256Digest>>⟧.is_index bound stream.now)
+        rows.old rows.new summary.new result)
+        (AreRowsGiven (⟦<Vouched<Role96, 97> as Indexed<Sha256Digest>>⟧.is_index bound stream.now)
+        rows.old rows.new summary.new result) }
+    ensures taken { result ≢ 2 → IsSignatureSize signature × (1 ≤ bound) }
+    ensures refused { result ≡ 2 → ¬ (IsSignatureSize signature × (1 ≤ bound)) }
+    ensures untouched { (result ≡ 2) ⊎ (result ≡ 3) →
+        (rows.new ≡ rows.old) × (summary.new ≡ summary.old) }
+{
+    rows_of_stream(alloc, signature, bound, stream, rows, summary)
+}
+
+/// The class of a round, of so many from 0 on, into which rounds are spread evenly; 0 if there are
+/// no classes.
+#[unsafe(no_mangle)]
+pub extern "C" fn simplex_class_of(epoch: u64, view: u64, seed: u64, classes: u32) -> u32
+    ensures value { 1 ≤ classes →
+        result ≡ mixed_class seed classes (record { epoch = epoch; view = view }) }
+    ensures below { 1 ≤ classes → result < classes }
+    ensures none { classes ≡ 0 → result ≡ 0 }
+{
+    class_of(epoch, view, seed, classes)
+}
+
+/// Lists the ranges of the bytes of one class of rounds, of so many classes, from rows. Returns a
+/// status as above, never 1, and 2 if there is no such class or a row ends at 2^64 or behind.
+#[unsafe(no_mangle)]
+pub extern "C" fn simplex_ranges(
+    alloc: Global,
+    rows: &[Row],
+    seed: u64,
+    classes: u32,
+    which: u32,
+    ranges: &mut [Range],
+    needed: &mut usize,
+) -> u32
+    ensures given { result ≢ 2 → result ≢ 3 → AreRangesGiven (mixed_class seed classes) which
+        rows.now ranges.old ranges.new needed.new result }
+    ensures taken { result ≢ 2 → (which < classes) × RowsFit rows.now }
+    ensures refused { result ≡ 2 → ¬ ((which < classes) × RowsFit rows.now) }
+    ensures untouched { (result ≡ 2) ⊎ (result ≡ 3) →
+        (ranges.new ≡ ranges.old) × (needed.new ≡ needed.old) }
+{
+    ranges_of_class(alloc, rows, seed, classes, which, ranges, needed)
+}
+
+/// Audits the bytes of some ranges of a stream, one range after another, as
+/// `simplex_audit_vouched_..` does a stream whose signatures have so many bytes: 48, 64 or 96.
+/// Returns a status as above, 2 also if signatures have no such size, a range is not within the
+/// stream, or the ranges have 2^64 bytes or more together.
+#[unsafe(no_mangle)]
+pub extern "C" fn simplex_audit_ranges(
+    alloc: Global,
+    signature: u32,
+    epochs: &[u64],
+    sizes: &[u32],
+    stream: &[u8],
+    ranges: &[Range],
+    text: &mut [u8],
+    summary: &mut ReportSummary,
+) -> u32
+    ensures audited { result ≢ 2 → result ≢ 3 → (committees : Schedule VouchedScheme) ×
+        AreSizes epochs.now sizes.now committees × ForSizes signature
+        (IsAudited (⟦<Vouched<Role48, 49> as Audited<Sha256Digest>>⟧.basis committees)
+        ⟦<Sha256Digest as Fixed>⟧.bytes_of (bytes_of_ranges stream.now ranges.now)
+        text.old text.new summary.new result)
+        (IsAudited (⟦<Vouched<Role64, 65> as Audited<Sha256Digest>>⟧.basis committees)
+        ⟦<Sha256Digest as Fixed>⟧.bytes_of (bytes_of_ranges stream.now ranges.now)
+        text.old text.new summary.new result)
+        (IsAudited (⟦<Vouched<Role96, 97> as Audited<Sha256Digest>>⟧.basis committees)
+        ⟦<Sha256Digest as Fixed>⟧.bytes_of (bytes_of_ranges stream.now ranges.now)
+        text.old text.new summary.new result) }
+    ensures taken { result ≢ 2 → IsVouchedSize signature ×
+        AreWithin (length stream.now) ranges.now × AreCommitteeSizes epochs.now sizes.now }
+    ensures refused { result ≡ 2 → ¬ (IsVouchedSize signature ×
+        AreWithin (length stream.now) ranges.now × AreCommitteeSizes epochs.now sizes.now) }
+    ensures untouched { (result ≡ 2) ⊎ (result ≡ 3) →
+        (text.new ≡ text.old) × (summary.new ≡ summary.old) }
+{
+    ranges_of_size(
+        alloc, signature, epochs, sizes, stream, ranges, text, summary,
+    )
+}
+
+/// Audits the bytes of some ranges of a stream of the plain scheme, one range after another, as
+/// `simplex_audit_plain` does a stream. Returns a status as above, 2 also if a range is not within
+/// the stream, or the ranges have 2^64 bytes or more together.
+#[unsafe(no_mangle)]
+pub extern "C" fn simplex_audit_ranges_plain(
+    alloc: Global,
+    name: &[u8],
+    keys: &[u8],
+    stream: &[u8],
+    ranges: &[Range],
+    text: &mut [u8],
+    summary: &mut ReportSummary,
+) -> u32
+    ensures audited { result ≢ 2 → result ≢ 3 → (committees : Schedule PlainScheme) ×
+        AreOfKeys name.now keys.now committees ×
+        IsAudited (⟦<Plain as Audited<Sha256Digest>>⟧.basis committees)
+        ⟦<Sha256Digest as Fixed>⟧.bytes_of (bytes_of_ranges stream.now ranges.now)
+        text.old text.new summary.new result }
+    ensures taken { result ≢ 2 →
+        AreWithin (length stream.now) ranges.now × IsLengthOfKeys (length keys.now) }
+    ensures refused { result ≡ 2 → ¬ (AreWithin (length stream.now) ranges.now × AreKeys keys.now) }
+    ensures untouched { (result ≡ 2) ⊎ (result ≡ 3) →
+        (text.new ≡ text.old) × (summary.new ≡ summary.old) }
+{
+    ranges_plain(alloc, name, keys, stream, ranges, text, summary)
 }
 
 /// How many of `n` participants may lie: the greatest f with 3f + 1 ≤ n, and 0 for none.

@@ -3,7 +3,7 @@
 ghost use Rattle.std.specs.Prelude.{◌≡◌, ◌≢◌, ◌<◌, ◌≤◌, ◌++◌, IsTrue, IfOk, false, drop, length, string_bytes};
 ghost use Rattle.simplex_audit.specs.Guarantees.{IsAudit};
 ghost use Rattle.simplex_audit.specs.Run.{report_text};
-ghost use Rattle.simplex_ffi.specs.Answer.{IsAudited, IsSummary, ended_of, place_of_fault};
+ghost use Rattle.simplex_ffi.specs.Answer.{IsAudited, IsPut, IsSummary, ended_of, place_of_fault};
 
 use simplex_audit::audit::{Committees, Fault, Report, audit};
 use simplex_audit::basis::Audited;
@@ -57,7 +57,7 @@ pub(crate) fn ended(fault: Option<Fault>) -> u32
 }
 
 /// The 0-based offset of the fault, or 0 if there is none.
-fn place(fault: Option<Fault>) -> usize
+pub(crate) fn place(fault: Option<Fault>) -> usize
     ensures { result ≡ place_of_fault fault }
 {
     match fault {
@@ -114,6 +114,27 @@ pub(crate) fn account<S: Listing<D>, D: Digest>(
     Ok((report, lines))
 }
 
+/// Writes the summary of a report, and puts its text at the start of a buffer. The status is [`WHOLE`], [`FAULT`] or [`SHORT`].
+pub(crate) fn write_report<S: SchemeTypes, D: Digest>(
+    report: &Report<S, D>,
+    text: &[u8],
+    buffer: &mut [u8],
+    summary: &mut ReportSummary,
+) -> u32
+    requires { text.now ≡ report_text D.bytes_of report.now }
+    ensures summary { IsSummary D.bytes_of report.now summary.new }
+    ensures text { IsPut (report_text D.bytes_of report.now) buffer.old buffer.new result
+        (ended_of report.now.fault) }
+    ensures status { (result ≢ 2) × (result ≢ 3) }
+{
+    *summary = summarize(report, text.len());
+    if put(text, buffer) {
+        ended(report.fault)
+    } else {
+        SHORT
+    }
+}
+
 /// Audits a stream, and puts the text of the report at the start of a buffer. The status is
 /// [`WHOLE`], [`FAULT`], [`MEMORY`] or [`SHORT`]. Where an allocation failed nothing is written;
 /// where the buffer is too short it is as before, and the summary has the length that is needed.
@@ -133,10 +154,5 @@ pub fn answer<S: Listing<D>, D: Digest>(
     let Ok((report, text)) = account::<S, D>(alloc, committees, stream) else {
         return MEMORY;
     };
-    *summary = summarize(&report, text.len());
-    if put(text.as_bytes(), buffer) {
-        ended(report.fault)
-    } else {
-        SHORT
-    }
+    write_report(&report, text.as_bytes(), buffer, summary)
 }

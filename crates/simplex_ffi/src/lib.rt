@@ -2,20 +2,28 @@
 //! and states how many bytes or items that are; a buffer that is too short is as before.
 //!
 //! Audits: [`answer`] puts a report into a buffer, [`records`] its evidence as records, [`suspects`] the attestations that have
-//! to be verified first, and [`store`] what a ledger stores. Committees: [`keys`] and [`plain`] have those of the plain scheme,
-//! [`sizes`] and [`vouched`] those whose signatures the caller verified. Numbers alone: [`leaders`] and [`numbers`].
+//! to be verified first, and [`store`] what a ledger stores. Audits in parts: [`rows`] has the messages of a stream,
+//! [`classes`] the ranges of a class of rounds, and [`parts`] the report of ranges. Committees: [`keys`] and [`plain`] have
+//! those of the plain scheme, [`sizes`] and [`vouched`] those whose signatures the caller verified; [`signatures`] says how
+//! long these are. Numbers alone: [`leaders`] and [`numbers`].
 //!
 //! `simplex_c` exports these, each under its contract.
 #![tactic(auto)]
 
 pub mod answer;
+pub mod classes;
 mod derived;
 pub mod keys;
+pub mod laws;
 pub mod leaders;
 pub mod numbers;
+pub mod parts;
 pub mod plain;
 pub mod records;
+pub mod rows;
+pub mod signatures;
 pub mod sizes;
 pub mod store;
 pub mod suspects;
 pub mod vouched;
+mod within;
