@@ -138,11 +138,25 @@ def _numbers(of, bits, numbers):
     return (of * max(1, len(numbers)))(*numbers), len(numbers)
 
 
-def _refused(status):
+def _refused(status, refusal):
     if status == _ARGUMENTS:
-        raise ValueError("no committees")
+        raise ValueError(refusal)
     if status == _MEMORY:
         raise MemoryError
+
+
+def _filled(function, arguments, of, most, written, needed, refusal="no committees"):
+    """The items that a function of the library writes into a buffer, at most so many. It is called again only if so many could
+    not be reserved."""
+    buffer, room = _reserved(of, most)
+    while True:
+        status = function(*arguments, ctypes.byref(of.from_buffer(buffer)), room, ctypes.byref(written))
+        if status != _SHORT:
+            break
+        room = needed(written)
+        buffer = _mapped(of, room)
+    _refused(status, refusal)
+    return (of * needed(written)).from_buffer(buffer)
 
 
 class Committees:
@@ -176,6 +190,12 @@ class Committees:
         keys = b"".join(keys)
         return Committees("plain", [namespace, len(namespace), keys, len(keys)])
 
+    def __reduce__(self):
+        first, count, second, length = self._arguments
+        if self._size is None:
+            return Committees.plain, (first, [second[at : at + 32] for at in range(0, length, 32)])
+        return Committees._vouched, (self._size, first[:count], second[:length])
+
     @staticmethod
     def _vouched(size, epochs, sizes):
         if size not in (48, 64, 96):
@@ -203,20 +223,11 @@ class Committees:
 
     def _fill(self, call, given, of, most, written, needed):
         """The items that a call writes into a buffer. `most` says how many they are at most, by the number of bytes that are
-        given. The call is made again only if so many could not be reserved."""
+        given."""
         function = getattr(_library, f"simplex_{call}_{self._suffix}")
         with contextlib.ExitStack() as stack:
             slices = [part for data in given for part in stack.enter_context(_borrowed(data))]
-            buffer, room = _reserved(of, most(sum(slices[1::2])))
-            while True:
-                to = ctypes.byref(of.from_buffer(buffer))
-                status = function(*self._arguments, *slices, to, room, ctypes.byref(written))
-                if status != _SHORT:
-                    break
-                room = needed(written)
-                buffer = _mapped(of, room)
-        _refused(status)
-        return (of * needed(written)).from_buffer(buffer)
+            return _filled(function, [*self._arguments, *slices], of, most(sum(slices[1::2])), written, needed)
 
     def _store(self, stored, batch):
         """The evidence of what was stored and of a batch behind it, as messages."""
@@ -242,7 +253,10 @@ def audit(committees, stream):
     """The report of a stream."""
     summary = _Summary()
     text = committees._fill("audit", [stream], ctypes.c_char, committees._most_text, summary, lambda it: it.length)
-    text = text.raw.decode()
+    return _report(text.raw.decode(), summary)
+
+
+def _report(text, summary):
     lines = text.splitlines()
     evidence = [_evidence(line) for line in lines[: summary.evidence]]
     splits = [_split(line) for line in lines[summary.evidence :]]
@@ -503,7 +517,5 @@ def leader(participants, term_length, epoch, view, seed=None):
     else:
         seed = bytes(seed)
         status = _library.simplex_leader_shuffled(seed, len(seed), *terms, *place, ctypes.byref(number))
-    if status == _ARGUMENTS:
-        raise ValueError("no participant, or terms have no views")
-    _refused(status)
+    _refused(status, "no participant, or terms have no views")
     return number.value

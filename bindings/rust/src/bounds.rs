@@ -14,6 +14,7 @@ const SIGNER: usize = 5;
 pub(crate) struct Bounds {
     /// The bytes of a signature, with its verdict if there is one.
     signature: usize,
+    length: usize,
     votes: usize,
 }
 
@@ -24,7 +25,12 @@ impl Bounds {
             Members::Vouched { size, .. } => size.bytes() + 1,
             Members::Plain { .. } => 32,
         };
-        Bounds { signature, votes: length / (1 + signature) }
+        Bounds { signature, length, votes: length / (1 + signature) }
+    }
+
+    /// The messages. The shortest is a nullify: a byte each for its tag, epoch, view and signer, and the signature.
+    pub fn rows(&self) -> usize {
+        self.length / (4 + self.signature)
     }
 
     /// The votes, each as often as a message carries it.
@@ -82,6 +88,7 @@ mod tests {
                 assert_eq!((summary.evidence, summary.splits), (2 * participants as usize, 1));
                 assert!(summary.evidence <= bounds.evidence() && text.len() <= bounds.text());
                 assert!(ffi::suspects(&committees, &stream).unwrap().len() <= bounds.votes());
+                assert_eq!(ffi::index(&committees, &stream).unwrap().0.len(), 3);
                 let stored = ffi::store(&committees, &[], &stream).unwrap();
                 assert!(stored.len() <= bounds.messages());
                 // what is stored fits again: with nothing behind it, and with the stream
@@ -92,6 +99,19 @@ mod tests {
                 // no more is reserved than twice what the densest stream of many signers needs
                 assert!(participants < 100 || (bounds.text() < 2 * text.len() && bounds.messages() < 2 * stored.len()));
             }
+        }
+    }
+
+    #[test]
+    fn the_shortest_messages_fit() {
+        for size in [Size::Bytes48, Size::Bytes64, Size::Bytes96] {
+            let committees = Committees::every(size, 1).unwrap();
+            let mut stream = Encoder::new(size);
+            for view in 0..100 {
+                stream.vote(&Vote::Nullify { epoch: 0, view }, 0, &vec![9; size.bytes()], &every).unwrap();
+            }
+            let (rows, summary) = ffi::index(&committees, stream.as_bytes()).unwrap();
+            assert_eq!((rows.len(), summary.read), (Bounds::of(&committees, stream.as_bytes().len()).rows(), 100));
         }
     }
 

@@ -34,17 +34,23 @@ impl Verifier for Deferred {
 /// # Ok::<(), simplex_audit::Error>(())
 /// ```
 pub fn audit_deferred(committees: &Committees, stream: &[u8], verifier: &dyn Verifier) -> Result<Report, Error> {
-    let Members::Vouched { size, .. } = &committees.members else {
-        return audit(committees, stream);
-    };
-    let mut verified = stream.to_vec();
-    for suspect in ffi::suspects(committees, stream)? {
-        let subject = &stream[suspect.subject_place..][..suspect.subject_length];
-        let signature = &stream[suspect.verdict_place - size.bytes()..suspect.verdict_place];
-        let vote = vote_of(suspect.kind, subject).ok_or(Error::Arguments)?;
-        verified[suspect.verdict_place] = u8::from(verifier.verify(&vote, suspect.signer, signature));
+    match &committees.members {
+        Members::Vouched { .. } => audit_verified(committees, stream.to_vec(), verifier),
+        Members::Plain { .. } => audit(committees, stream),
     }
-    audit(committees, &verified)
+}
+
+/// The deferred audit of a stream in which the verdicts may be written.
+pub(crate) fn audit_verified(committees: &Committees, mut stream: Vec<u8>, verifier: &dyn Verifier) -> Result<Report, Error> {
+    if let Members::Vouched { size, .. } = &committees.members {
+        for suspect in ffi::suspects(committees, &stream)? {
+            let subject = &stream[suspect.subject_place..][..suspect.subject_length];
+            let signature = &stream[suspect.verdict_place - size.bytes()..suspect.verdict_place];
+            let vote = vote_of(suspect.kind, subject).ok_or(Error::Arguments)?;
+            stream[suspect.verdict_place] = u8::from(verifier.verify(&vote, suspect.signer, signature));
+        }
+    }
+    audit(committees, &stream)
 }
 
 /// The vote of this kind with this subject.

@@ -37,6 +37,34 @@ pub(crate) struct Record {
     pub kind: u32,
 }
 
+/// A message of a stream: `struct simplex_row`.
+#[repr(C)]
+#[derive(Clone, Copy, Debug, Default, PartialEq, Eq)]
+pub struct Row {
+    /// The epoch of its round.
+    pub epoch: u64,
+    /// The view of its round.
+    pub view: u64,
+    /// The offset of its first byte in the stream.
+    pub place: usize,
+    /// The number of its bytes.
+    pub length: usize,
+    /// How many attestations it has: one of a vote, two of evidence, and those that a certificate lists.
+    pub attestations: usize,
+    /// The number of its kind, 0 to 9: the tag with which it is encoded.
+    pub kind: u32,
+}
+
+/// Bytes of a stream that stand together: `struct simplex_range`.
+#[repr(C)]
+#[derive(Clone, Copy, Debug, Default, PartialEq, Eq)]
+pub struct Range {
+    /// The offset of the first of them in the stream.
+    pub place: usize,
+    /// How many there are.
+    pub length: usize,
+}
+
 #[rustfmt::skip]
 extern "C" {
     pub(crate) fn simplex_version() -> u32;
@@ -99,6 +127,23 @@ extern "C" {
     pub(crate) fn simplex_records_plain(
         name: *const u8, name_len: usize, keys: *const u8, keys_len: usize, stream: *const u8, stream_len: usize,
         records: *mut Record, records_len: usize, summary: *mut Summary,
+    ) -> u32;
+    pub(crate) fn simplex_index(
+        signature: u32, bound: u32, stream: *const u8, stream_len: usize, rows: *mut Row, rows_len: usize,
+        summary: *mut Summary,
+    ) -> u32;
+    pub(crate) fn simplex_class_of(epoch: u64, view: u64, seed: u64, classes: u32) -> u32;
+    pub(crate) fn simplex_ranges(
+        rows: *const Row, rows_len: usize, seed: u64, classes: u32, which: u32, ranges: *mut Range, ranges_len: usize,
+        needed: *mut usize,
+    ) -> u32;
+    pub(crate) fn simplex_audit_ranges(
+        signature: u32, epochs: *const u64, epochs_len: usize, sizes: *const u32, sizes_len: usize, stream: *const u8,
+        stream_len: usize, ranges: *const Range, ranges_len: usize, text: *mut u8, text_len: usize, summary: *mut Summary,
+    ) -> u32;
+    pub(crate) fn simplex_audit_ranges_plain(
+        name: *const u8, name_len: usize, keys: *const u8, keys_len: usize, stream: *const u8, stream_len: usize,
+        ranges: *const Range, ranges_len: usize, text: *mut u8, text_len: usize, summary: *mut Summary,
     ) -> u32;
     pub(crate) fn simplex_max_faults(n: u32) -> u32;
     pub(crate) fn simplex_quorum(n: u32) -> u32;

@@ -9,11 +9,15 @@ use crate::committees::{Committees, Members, Size};
 use crate::exports::*;
 use crate::Error;
 use std::mem::MaybeUninit;
+use std::num::NonZeroU32;
 
 const WHOLE: u32 = 0;
 const FAULT: u32 = 1;
 const MEMORY: u32 = 3;
 const SHORT: u32 = 4;
+/// The bytes of a signature, and of a key, under the plain scheme.
+const PLAIN: u32 = 32;
+const KEY: usize = 32;
 const NO: u32 = 0;
 const YES: u32 = 1;
 pub(crate) const NOTARIZE: u32 = 0;
@@ -64,7 +68,7 @@ type StoreVouched = unsafe extern "C" fn(
 
 /// A vector with capacity for this many items, or, if an allocation of so many fails, for half as many, and so on. Systems that
 /// give memory by the page, when it is written, give none for the rest.
-fn reserved<T>(most: usize) -> Vec<T> {
+pub(crate) fn reserved<T>(most: usize) -> Vec<T> {
     let (mut buffer, mut room) = (Vec::new(), most);
     while buffer.try_reserve_exact(room).is_err() {
         room /= 2;
@@ -182,6 +186,82 @@ pub(crate) fn audit(committees: &Committees, stream: &[u8]) -> Result<(Vec<u8>, 
     let most = Bounds::of(committees, stream.len()).text();
     let text = filled(most, |text| (AUDIT.call(committees, stream, text, &mut summary), summary.length))?;
     Ok((text, summary))
+}
+
+/// The text of the report of some ranges of a stream, one after another, and its numbers.
+pub(crate) fn audit_ranges(committees: &Committees, stream: &[u8], ranges: &[Range]) -> Result<(Vec<u8>, Summary), Error> {
+    let length = ranges.iter().fold(0_usize, |sum, range| sum.saturating_add(range.length));
+    let mut summary = Summary::default();
+    let text = filled(Bounds::of(committees, length).text(), |text| {
+        let status = match &committees.members {
+            // SAFETY: see this module.
+            Members::Vouched { size, epochs, sizes } => unsafe {
+                simplex_audit_ranges(
+                    size.bytes() as u32,
+                    epochs.as_ptr(),
+                    epochs.len(),
+                    sizes.as_ptr(),
+                    sizes.len(),
+                    stream.as_ptr(),
+                    stream.len(),
+                    ranges.as_ptr(),
+                    ranges.len(),
+                    text.as_mut_ptr().cast(),
+                    text.len(),
+                    &mut summary,
+                )
+            },
+            // SAFETY: see this module.
+            Members::Plain { name, keys } => unsafe {
+                simplex_audit_ranges_plain(
+                    name.as_ptr(),
+                    name.len(),
+                    keys.as_ptr(),
+                    keys.len(),
+                    stream.as_ptr(),
+                    stream.len(),
+                    ranges.as_ptr(),
+                    ranges.len(),
+                    text.as_mut_ptr().cast(),
+                    text.len(),
+                    &mut summary,
+                )
+            },
+        };
+        (status, summary.length)
+    })?;
+    Ok((text, summary))
+}
+
+/// A row for each message of a stream, and the numbers of the reading.
+pub(crate) fn index(committees: &Committees, stream: &[u8]) -> Result<(Vec<Row>, Summary), Error> {
+    let (signature, bound) = match &committees.members {
+        Members::Vouched { size, sizes, .. } => (size.bytes() as u32, sizes.iter().max().copied().unwrap_or(0)),
+        Members::Plain { keys, .. } => (PLAIN, u32::try_from(keys.len() / KEY).map_err(|_| Error::Arguments)?),
+    };
+    let mut summary = Summary::default();
+    let rows = filled(Bounds::of(committees, stream.len()).rows(), |rows| {
+        let (to, room) = (rows.as_mut_ptr().cast(), rows.len());
+        // SAFETY: see this module.
+        let status = unsafe { simplex_index(signature, bound, stream.as_ptr(), stream.len(), to, room, &mut summary) };
+        (status, summary.read)
+    })?;
+    Ok((rows, summary))
+}
+
+/// The ranges of one class of rounds, of so many.
+pub(crate) fn ranges(rows: &[Row], seed: u64, classes: NonZeroU32, class: u32) -> Result<Vec<Range>, Error> {
+    filled(rows.len(), |ranges| {
+        let (mut needed, to, room) = (0, ranges.as_mut_ptr().cast(), ranges.len());
+        // SAFETY: see this module.
+        let status = unsafe { simplex_ranges(rows.as_ptr(), rows.len(), seed, classes.get(), class, to, room, &mut needed) };
+        (status, needed)
+    })
+}
+
+pub(crate) fn class_of(epoch: u64, view: u64, seed: u64, classes: NonZeroU32) -> u32 {
+    // SAFETY: only numbers are passed.
+    unsafe { simplex_class_of(epoch, view, seed, classes.get()) }
 }
 
 /// What a ledger stores that held `stored` and was fed `batch`.

@@ -1,5 +1,6 @@
 //! The proved auditor of `simplex_messages`: it reads a stream of consensus messages and reports exactly the participants who
-//! signed two contradictory votes. The caller verifies signatures by a library of its own ([`Verifier`]).
+//! signed two contradictory votes. The caller verifies signatures by a library of its own ([`Verifier`]). Streams can be audited
+//! in parts and in threads ([`shards`]).
 //!
 //! ```
 //! use simplex_audit::{audit, Committees, Encoder, Size, Vote};
@@ -28,6 +29,7 @@ mod ledger;
 mod records;
 mod report;
 
+pub mod shards;
 pub mod views;
 
 pub use committees::{Committees, Size};

@@ -1,7 +1,8 @@
+use crate::exports::Summary;
 use crate::{ffi, Committees, Error};
 
-/// How two votes of one signer contradict.
-#[derive(Clone, Copy, Debug, PartialEq, Eq)]
+/// How two votes of one signer contradict, in the order of the report.
+#[derive(Clone, Copy, Debug, PartialEq, Eq, PartialOrd, Ord)]
 pub enum Kind {
     /// Two notarizes for different proposals.
     ConflictingNotarize,
@@ -68,12 +69,17 @@ pub struct Report {
 /// ```
 pub fn audit(committees: &Committees, stream: &[u8]) -> Result<Report, Error> {
     let (text, summary) = ffi::audit(committees, stream)?;
-    let text = String::from_utf8_lossy(&text).into_owned();
+    Ok(report(&text, &summary))
+}
+
+/// The report that a call wrote.
+pub(crate) fn report(text: &[u8], summary: &Summary) -> Report {
+    let text = String::from_utf8_lossy(text).into_owned();
     let mut lines = text.lines();
     let evidence = lines.by_ref().take(summary.evidence).map(|line| evidence(line).expect("a line of evidence")).collect();
     let splits = lines.map(|line| split(line).expect("a line of a split")).collect();
     let fault = (summary.faulted != 0).then_some(summary.fault_place);
-    Ok(Report { evidence, splits, read: summary.read, fault, text })
+    Report { evidence, splits, read: summary.read, fault, text }
 }
 
 /// The evidence of a line: an epoch, a view, a signer, a kind, and the votes.
