@@ -16,10 +16,14 @@ mod library;
 #[allow(dead_code)]
 #[path = "right/fuzz_by_hand.rs"]
 mod library;
+#[cfg(not(alone))]
+#[path = "fuzz_shards.rs"]
+mod shards;
 #[path = "fuzz_streams.rs"]
 mod streams;
 
 use calls::Committees;
+use exports::Range;
 use std::fmt::{Debug, Write};
 use std::sync::atomic::{AtomicBool, AtomicU64, Ordering};
 use std::time::{Duration, Instant};
@@ -28,13 +32,18 @@ use streams::{Random, mutate};
 /// How many streams are tried of the same committees.
 const STREAMS: u64 = 8;
 
-/// How many streams were compared, and of how many the reports have lines, splits or a fault.
+/// One in so many streams is audited by the Rust crate too, which starts threads.
+#[cfg(not(alone))]
+const BY_CRATE: u64 = 4;
+
+/// How many streams were compared, of how many the reports have lines, splits or a fault, and how many the crate audited.
 #[derive(Default)]
 struct Counts {
     streams: AtomicU64,
     lines: AtomicU64,
     splits: AtomicU64,
     faults: AtomicU64,
+    by_crate: AtomicU64,
 }
 
 fn hexadecimal(bytes: &[u8]) -> String {
@@ -106,6 +115,47 @@ fn compare_suspects(random: &mut Random, committees: &Committees, stream: &[u8])
     equal("audit with other verdicts", library::audit(committees, &others), by_hand::audit(committees, stream))
 }
 
+/// The rows, the ranges of each class and their reports; and the report of ranges that cut messages or come twice.
+fn compare_parts(random: &mut Random, committees: &Committees, stream: &[u8]) -> Result<(), String> {
+    let (rows, summary) = library::index(committees, stream);
+    equal("index", (rows.clone(), summary), by_hand::index(committees, stream))?;
+    let (seed, classes) = (random.next(), if random.one_in(16) { 64 } else { 1 + random.below(5) as u32 });
+    for row in &rows {
+        let class = by_hand::class_of(row.epoch, row.view, seed, classes);
+        equal("class_of", library::class_of(row.epoch, row.view, seed, classes), class)?;
+    }
+    for which in 0..classes {
+        let ranges = library::ranges(&rows, seed, classes, which);
+        equal("ranges", &ranges, &by_hand::ranges(&rows, seed, classes, which))?;
+        let report = by_hand::audit_ranges(committees, stream, &ranges);
+        equal("audit_ranges", library::audit_ranges(committees, stream, &ranges), report)?;
+    }
+    let any: Vec<Range> = (0..random.below(5)).map(|_| any_range(random, stream.len())).collect();
+    let report = by_hand::audit_ranges(committees, stream, &any);
+    equal("audit_ranges of any", library::audit_ranges(committees, stream, &any), report).map_err(|it| format!("{any:?} {it}"))
+}
+
+fn any_range(random: &mut Random, length: usize) -> Range {
+    let place = random.below(length as u64 + 1) as usize;
+    Range { place, length: random.below((length - place) as u64 + 1) as usize }
+}
+
+/// What the Rust crate makes of the library.
+#[cfg(not(alone))]
+fn compare_crate(random: &mut Random, committees: &Committees, stream: &[u8], counts: &Counts) -> Result<(), String> {
+    if !random.one_in(BY_CRATE) {
+        return Ok(());
+    }
+    counts.by_crate.fetch_add(1, Ordering::Relaxed);
+    shards::compare(random, committees, stream)
+}
+
+/// Without the library there is no crate.
+#[cfg(alone)]
+fn compare_crate(_: &mut Random, _: &Committees, _: &[u8], _: &Counts) -> Result<(), String> {
+    Ok(())
+}
+
 /// Compares until there is a difference, which it returns, or it is over.
 fn compare(seed: u64, is_over: impl Fn() -> bool, counts: &Counts) -> Result<(), String> {
     let mut random = Random(seed);
@@ -116,6 +166,8 @@ fn compare(seed: u64, is_over: impl Fn() -> bool, counts: &Counts) -> Result<(),
             compare_report(&committees, &stream, counts)
                 .and_then(|()| compare_batches(&mut random, &committees, &stream))
                 .and_then(|()| compare_suspects(&mut random, &committees, &stream))
+                .and_then(|()| compare_parts(&mut random, &committees, &stream))
+                .and_then(|()| compare_crate(&mut random, &committees, &stream, counts))
                 .map_err(|difference| format!("{difference}\n{committees:?}\n{}", hexadecimal(&stream)))?;
         }
     }
@@ -138,8 +190,9 @@ fn main() {
             });
         }
     });
-    let [streams, lines, splits, faults] =
-        [&counts.streams, &counts.lines, &counts.splits, &counts.faults].map(|count| count.load(Ordering::Relaxed));
+    let [streams, lines, splits, faults, by_crate] =
+        [&counts.streams, &counts.lines, &counts.splits, &counts.faults, &counts.by_crate].map(|it| it.load(Ordering::Relaxed));
     println!("{streams} streams, of which {lines} have lines of evidence, {splits} lines of splits and {faults} a fault");
+    println!("{by_crate} of them audited in parts and in threads by the Rust crate too");
     std::process::exit(i32::from(differs.load(Ordering::Relaxed)));
 }

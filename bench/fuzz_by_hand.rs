@@ -6,7 +6,7 @@
 mod by_hand;
 
 use super::calls::{Committees, Report};
-use super::exports::{Record, Summary, AttestationPlace};
+use super::exports::{AttestationPlace, Range, Record, Row, Summary};
 use by_hand::{Attestation, Auditor, Message, Plain, Reader, Round, Scheme, Subject, VoteKind};
 use std::collections::{BTreeMap, HashMap, HashSet};
 
@@ -222,4 +222,58 @@ pub fn store(of: &Committees, stored: &[u8], batch: &[u8]) -> Vec<u8> {
         }
     }
     messages
+}
+
+/// The messages of a stream as rows, and the numbers of the reading.
+pub fn index(of: &Committees, stream: &[u8]) -> (Vec<Row>, Summary) {
+    let committees = committees(of);
+    let (mut reader, mut rows, mut place) = (committees.reader(stream), Vec::new(), 0);
+    while let Some(message) = reader.next() {
+        let ((epoch, view), attestations) = match message {
+            Message::Vote(subject, _) => (subject.round, 1),
+            Message::Certificate(subject, listed) => (subject.round, listed.len()),
+            Message::Evidence([(subject, _), _]) => (subject.round, 2),
+        };
+        let length = stream.len() - reader.rest.len() - place;
+        rows.push(Row { epoch, view, place, length, attestations, kind: u32::from(stream[place]) });
+        place += length;
+    }
+    let faulted = usize::from(place < stream.len());
+    let summary = Summary { read: rows.len(), faulted, fault_place: faulted * place, ..Summary::default() };
+    (rows, summary)
+}
+
+/// The word that SplitMix64 gives from a state.
+fn mix(state: u64) -> u64 {
+    let mut z = state.wrapping_add(0x9e3779b97f4a7c15);
+    z = (z ^ (z >> 30)).wrapping_mul(0xbf58476d1ce4e5b9);
+    z = (z ^ (z >> 27)).wrapping_mul(0x94d049bb133111eb);
+    z ^ (z >> 31)
+}
+
+/// The class of a round.
+pub fn class_of(epoch: u64, view: u64, seed: u64, classes: u32) -> u32 {
+    (mix(mix(seed ^ epoch) ^ view) % u64::from(classes)) as u32
+}
+
+/// Where the messages of a class stand, neighbours joined.
+pub fn ranges(rows: &[Row], seed: u64, classes: u32, which: u32) -> Vec<Range> {
+    let mut ranges: Vec<Range> = Vec::new();
+    for row in rows.iter().filter(|row| class_of(row.epoch, row.view, seed, classes) == which) {
+        match ranges.last_mut() {
+            Some(last) if last.place + last.length == row.place => last.length += row.length,
+            _ => ranges.push(Range { place: row.place, length: row.length }),
+        }
+    }
+    ranges
+}
+
+/// The bytes of some ranges, one after another.
+pub fn joined(stream: &[u8], ranges: &[Range]) -> Vec<u8> {
+    ranges.iter().flat_map(|range| &stream[range.place..range.place + range.length]).copied().collect()
+}
+
+/// The report of the bytes of some ranges.
+pub fn audit_ranges(of: &Committees, stream: &[u8], ranges: &[Range]) -> Report {
+    audit(of, &joined(stream, ranges))
 }

@@ -110,3 +110,56 @@ pub fn store(committees: &Committees, stored: &[u8], batch: &[u8]) -> Vec<u8> {
         }
     }
 }
+
+/// A row for each message, read under the bound of the greatest committee.
+pub fn index(committees: &Committees, stream: &[u8]) -> (Vec<Row>, Summary) {
+    let signature = match committees {
+        Committees::Plain { .. } => 32,
+        Committees::Vouched { signature, .. } => *signature as u32,
+    };
+    let (bound, mut summary) = (committees.greatest_size(), Summary::default());
+    let (status, rows) = written(5, |rows: &mut [Row]| {
+        let (stream, length, to, room) = (stream.as_ptr(), stream.len(), rows.as_mut_ptr(), rows.len());
+        let status = unsafe { simplex_index(signature, bound, stream, length, to, room, &mut summary) };
+        (status, summary.read)
+    });
+    assert!(status == summary.faulted as u32 && status < 2, "status {status}");
+    (rows, summary)
+}
+
+pub fn class_of(epoch: u64, view: u64, seed: u64, classes: u32) -> u32 {
+    unsafe { simplex_class_of(epoch, view, seed, classes) }
+}
+
+pub fn ranges(rows: &[Row], seed: u64, classes: u32, which: u32) -> Vec<Range> {
+    let (status, ranges) = written(2, |ranges: &mut [Range]| {
+        let (to, room, mut needed) = (ranges.as_mut_ptr(), ranges.len(), 0);
+        let status = unsafe { simplex_ranges(rows.as_ptr(), rows.len(), seed, classes, which, to, room, &mut needed) };
+        (status, needed)
+    });
+    assert_eq!(status, 0);
+    ranges
+}
+
+pub fn audit_ranges(committees: &Committees, stream: &[u8], ranges: &[Range]) -> Report {
+    let mut summary = Summary::default();
+    let (status, text) = written(20, |text: &mut [u8]| {
+        let (stream, length, to, room) = (stream.as_ptr(), stream.len(), text.as_mut_ptr(), text.len());
+        let (at, count) = (ranges.as_ptr(), ranges.len());
+        let status = match committees {
+            Committees::Plain { base, keys } => unsafe {
+                let (base, bytes, keys) = (base.as_ptr(), base.len(), keys.as_flattened());
+                let (keys, size) = (keys.as_ptr(), keys.len());
+                simplex_audit_ranges_plain(base, bytes, keys, size, stream, length, at, count, to, room, &mut summary)
+            },
+            Committees::Vouched { signature, epochs, sizes } => unsafe {
+                let (epochs, listed, sizes, many) = (epochs.as_ptr(), epochs.len(), sizes.as_ptr(), sizes.len());
+                let size = *signature as u32;
+                simplex_audit_ranges(size, epochs, listed, sizes, many, stream, length, at, count, to, room, &mut summary)
+            },
+        };
+        (status, summary.length)
+    });
+    assert!(status == summary.faulted as u32 && status < 2, "status {status}");
+    Report { text: String::from_utf8(text).unwrap(), summary }
+}
