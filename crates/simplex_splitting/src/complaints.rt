@@ -67,7 +67,7 @@ impl Trouble {
 }
 
 /// Says which trouble it is, with the name of the file that it is of. The parts have this prefix, and these are the files.
-pub fn complain<E: Write>(
+pub(crate) fn complain<E: Write>(
     errors: &mut Watched<E>,
     prefix: &str,
     files: &[String],
