@@ -1,6 +1,9 @@
-.PHONY: run audit audit_stored audit_compact audit_live audit_split inspect library install test quick check try
+.PHONY: run audit audit_stored audit_compact audit_live audit_split inspect library install uninstall test quick check try
 
 PREFIX ?= /usr/local
+LIBDIR ?= $(PREFIX)/lib
+INCLUDEDIR ?= $(PREFIX)/include
+PLACES = PREFIX="$(PREFIX)" LIBDIR="$(LIBDIR)" INCLUDEDIR="$(INCLUDEDIR)" DESTDIR="$(DESTDIR)"
 
 # Runs the program on the sample stream of crates/audit, without proving anything.
 run:
@@ -31,25 +34,20 @@ audit_split:
 inspect:
 	@python3 .ci built inspect
 
-# Proves and builds the library of bindings/, for C and Rust bindings/out/libsimplex_audit.a, and for Python simplex_audit.so there.
+# Proves and builds the library of bindings/: libsimplex_audit.a in bindings/out, and linked from it simplex_audit.so.
 library:
 	@python3 .ci library
 
-# Copies to PREFIX/bin what is built of the programs, by a target above or by `make test`, as simplex-audit, simplex-audit-stored,
-# simplex-audit-compact, simplex-audit-live, simplex-audit-split and simplex-inspect, and says which. The short names are links to
-# them, if no other program has the name.
+# Copies what is built, by a target above or by `make test`, and says which: the programs to PREFIX/bin, as simplex-audit,
+# simplex-audit-stored and so on, with links by the short names that no other program has; and of the library the header to
+# INCLUDEDIR, the static and the shared one to LIBDIR, and to LIBDIR/pkgconfig what pkg-config reads. DESTDIR stands before each
+# path that is written to.
 install:
-	@some=; bin="$(DESTDIR)$(PREFIX)/bin"; for it in audit audit_stored audit_compact audit_live audit_split inspect; do \
-	    test -x crates/$$it/out/$$it || continue; \
-	    name=simplex-$$(echo $$it | tr _ -); \
-	    install -D -m 755 crates/$$it/out/$$it "$$bin/$$name" || exit 1; \
-	    echo "$$bin/$$name"; \
-	    some=1; \
-	    if test -e "$$bin/$$it" || command -v $$it >/dev/null 2>&1; then continue; fi; \
-	    ln -s $$name "$$bin/$$it" || exit 1; \
-	    echo "$$bin/$$it -> $$name"; \
-	done; \
-	test -n "$$some" || { echo 'No program is built yet: make audit, make audit_stored, make audit_compact, make audit_live, make audit_split or make inspect' >&2; exit 1; }
+	@env $(PLACES) python3 .ci install
+
+# Removes what `make install` with the same variables has copied.
+uninstall:
+	@env $(PLACES) python3 .ci install remove
 
 # The gate: proves everything, tries the mutants, runs the tests and the programs, and then tries what was
 # built as its users would, and with each of its allocations made to fail.

@@ -2,6 +2,9 @@
 //! with status 1 at the first stream on which they differ, and prints it. Built with `--cfg alone` it compares the auditor by
 //! hand with that of the folder `right`, so that a wrong auditor can be tried without the library.
 
+#[cfg(not(alone))]
+#[path = "fuzz_batches.rs"]
+mod batches;
 #[path = "fuzz_by_hand.rs"]
 mod by_hand;
 #[path = "fuzz_calls.rs"]
@@ -32,7 +35,7 @@ use streams::{Random, mutate};
 /// How many streams are tried of the same committees.
 const STREAMS: u64 = 8;
 
-/// One in so many streams is audited by the Rust crate too, which starts threads.
+/// One in so many streams is audited by the Rust crate too, in threads and in batches.
 #[cfg(not(alone))]
 const BY_CRATE: u64 = 4;
 
@@ -147,7 +150,8 @@ fn compare_crate(random: &mut Random, committees: &Committees, stream: &[u8], co
         return Ok(());
     }
     counts.by_crate.fetch_add(1, Ordering::Relaxed);
-    shards::compare(random, committees, stream)
+    shards::compare(random, committees, stream)?;
+    batches::compare(random, committees, stream)
 }
 
 /// Without the library there is no crate.
@@ -193,6 +197,6 @@ fn main() {
     let [streams, lines, splits, faults, by_crate] =
         [&counts.streams, &counts.lines, &counts.splits, &counts.faults, &counts.by_crate].map(|it| it.load(Ordering::Relaxed));
     println!("{streams} streams, of which {lines} have lines of evidence, {splits} lines of splits and {faults} a fault");
-    println!("{by_crate} of them audited in parts and in threads by the Rust crate too");
+    println!("{by_crate} of them audited in parts, in threads and in batches by the Rust crate too");
     std::process::exit(i32::from(differs.load(Ordering::Relaxed)));
 }

@@ -65,7 +65,7 @@ pub fn audit(committees: &Committees, stream: &[u8]) -> Report {
     let (text, summary) = match committees {
         Committees::Plain { base, keys } => read(simplex_audit_plain, (base, keys.as_flattened()), stream, count),
         Committees::Vouched { signature, epochs, sizes } => {
-            let calls: [Read<_, _, _>; 3] = [simplex_audit_vouched_48, simplex_audit_vouched_64, simplex_audit_vouched_96];
+            let calls: [Read<_, _, _>; 3] = [audit_of::<48>, audit_of::<64>, audit_of::<96>];
             read(of_size(*signature, calls), (epochs, sizes), stream, count)
         }
     };
@@ -77,8 +77,7 @@ pub fn records(committees: &Committees, stream: &[u8]) -> (Vec<Record>, Summary)
     match committees {
         Committees::Plain { base, keys } => read(simplex_records_plain, (base, keys.as_flattened()), stream, count),
         Committees::Vouched { signature, epochs, sizes } => {
-            let calls: [Read<_, _, _>; 3] =
-                [simplex_records_vouched_48, simplex_records_vouched_64, simplex_records_vouched_96];
+            let calls: [Read<_, _, _>; 3] = [records_of::<48>, records_of::<64>, records_of::<96>];
             read(of_size(*signature, calls), (epochs, sizes), stream, count)
         }
     }
@@ -89,7 +88,7 @@ pub fn suspects(committees: &Committees, stream: &[u8]) -> Vec<AttestationPlace>
     let Committees::Vouched { signature, epochs, sizes } = committees else {
         return Vec::new();
     };
-    let calls: [List; 3] = [simplex_suspects_vouched_48, simplex_suspects_vouched_64, simplex_suspects_vouched_96];
+    let calls: [List; 3] = [suspects_of::<48>, suspects_of::<64>, suspects_of::<96>];
     let call = of_size(*signature, calls);
     let (status, suspects) = written(20, |buffer: &mut [AttestationPlace]| {
         let (epochs, epochs_length, sizes, sizes_length) = (epochs.as_ptr(), epochs.len(), sizes.as_ptr(), sizes.len());
@@ -105,7 +104,7 @@ pub fn store(committees: &Committees, stored: &[u8], batch: &[u8]) -> Vec<u8> {
     match committees {
         Committees::Plain { base, keys } => store_by(simplex_store_plain, (base, keys.as_flattened()), stored, batch),
         Committees::Vouched { signature, epochs, sizes } => {
-            let calls: [Store<_, _>; 3] = [simplex_store_vouched_48, simplex_store_vouched_64, simplex_store_vouched_96];
+            let calls: [Store<_, _>; 3] = [store_of::<48>, store_of::<64>, store_of::<96>];
             store_by(of_size(*signature, calls), (epochs, sizes), stored, batch)
         }
     }
@@ -162,4 +161,37 @@ pub fn audit_ranges(committees: &Committees, stream: &[u8], ranges: &[Range]) ->
     });
     assert!(status == summary.faulted as u32 && status < 2, "status {status}");
     Report { text: String::from_utf8(text).unwrap(), summary }
+}
+
+/// The calls for signatures of this many bytes.
+#[rustfmt::skip]
+unsafe extern "C" fn audit_of<const N: u32>(
+    epochs: *const u64, epochs_len: usize, sizes: *const u32, sizes_len: usize, stream: *const u8, stream_len: usize,
+    text: *mut u8, text_len: usize, summary: *mut Summary,
+) -> u32 {
+    simplex_audit(N, epochs, epochs_len, sizes, sizes_len, stream, stream_len, text, text_len, summary)
+}
+
+#[rustfmt::skip]
+unsafe extern "C" fn records_of<const N: u32>(
+    epochs: *const u64, epochs_len: usize, sizes: *const u32, sizes_len: usize, stream: *const u8, stream_len: usize,
+    records: *mut Record, records_len: usize, summary: *mut Summary,
+) -> u32 {
+    simplex_records(N, epochs, epochs_len, sizes, sizes_len, stream, stream_len, records, records_len, summary)
+}
+
+#[rustfmt::skip]
+unsafe extern "C" fn suspects_of<const N: u32>(
+    epochs: *const u64, epochs_len: usize, sizes: *const u32, sizes_len: usize, stream: *const u8, stream_len: usize,
+    records: *mut AttestationPlace, records_len: usize, needed: *mut usize,
+) -> u32 {
+    simplex_suspects(N, epochs, epochs_len, sizes, sizes_len, stream, stream_len, records, records_len, needed)
+}
+
+#[rustfmt::skip]
+unsafe extern "C" fn store_of<const N: u32>(
+    epochs: *const u64, epochs_len: usize, sizes: *const u32, sizes_len: usize, stored: *const u8, stored_len: usize,
+    batch: *const u8, batch_len: usize, evidence: *mut u8, evidence_len: usize, size: *mut usize,
+) -> u32 {
+    simplex_store(N, epochs, epochs_len, sizes, sizes_len, stored, stored_len, batch, batch_len, evidence, evidence_len, size)
 }

@@ -3,10 +3,10 @@
 use super::calls::Committees;
 use super::equal;
 use super::streams::Random;
-use simplex_audit::shards::{audit_deferred_parallel, audit_parallel, audit_ranges, index, merge, ranges, Cut};
+use simplex_audit::shards::{audit_deferred_parallel, audit_parallel, audit_ranges, class_ranges, index, merge, ranges, Cut};
 use simplex_audit::{audit, audit_deferred, Error, Report, Size, Vote};
 
-fn of(committees: &Committees) -> Result<simplex_audit::Committees, Error> {
+pub fn of(committees: &Committees) -> Result<simplex_audit::Committees, Error> {
     let (signature, epochs, sizes) = match committees {
         Committees::Plain { base, keys } => return simplex_audit::Committees::plain(base, keys),
         Committees::Vouched { signature, epochs, sizes } => (*signature, epochs, sizes),
@@ -32,10 +32,11 @@ fn verify(_: &Vote, _: u32, signature: &[u8]) -> bool {
 fn reports(random: &mut Random, committees: &simplex_audit::Committees, stream: &[u8]) -> Result<[Report; 4], Error> {
     let threads = (1 + random.below(4) as usize).try_into().unwrap();
     let cut = Cut { seed: random.next(), classes: (1 + random.below(8) as u32).try_into().unwrap() };
-    let table = index(committees, stream)?;
+    let (table, found) = (index(committees, stream)?, class_ranges(committees, stream, &cut)?);
     let (mut in_place, mut copied) = (Vec::new(), Vec::new());
     for class in 0..cut.classes.get() {
         let ranges = ranges(&table.rows, &cut, class)?;
+        assert_eq!((&found.ranges[class as usize], found.read, found.fault), (&ranges, table.rows.len(), table.fault));
         in_place.push(audit_ranges(committees, stream, &ranges)?);
         let part: Vec<u8> = ranges.iter().flat_map(|range| &stream[range.place..][..range.length]).copied().collect();
         copied.push(audit(committees, &part)?);

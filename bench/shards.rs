@@ -1,7 +1,7 @@
 //! What `bench/shards` runs. `make SCHEME MEGABYTES` writes a stream of 100 participants to standard output.
 //! `SCHEME CALL THREADS FILE` reads one, makes a call of the Rust crate, and prints how many seconds that took, how many
-//! messages were read and lines found, and a hash of the lines. SCHEME is `plain` or `vouched`, CALL is `index`, `audit` or
-//! `deferred`.
+//! messages were read and lines found, and a hash of the lines. SCHEME is `plain` or `vouched`, CALL is `classes`, `audit`,
+//! `deferred` or `by_hand`.
 
 #[allow(dead_code)]
 #[path = "by_hand.rs"]
@@ -11,7 +11,7 @@ mod by_hand;
 mod key;
 
 use by_hand::{push_number, sha256};
-use simplex_audit::shards::{Cut, audit_deferred_parallel, audit_parallel, index, ranges};
+use simplex_audit::shards::{Cut, audit_deferred_parallel, audit_parallel, class_ranges};
 use simplex_audit::{Committees, Error, Report, Size, Verifier, Vote};
 use std::io::Write;
 use std::num::NonZeroUsize;
@@ -22,7 +22,7 @@ const QUORUM: usize = 67;
 /// In one round of so many a participant notarizes two payloads.
 const LIES: u64 = 10;
 const BASE: &[u8] = b"bench";
-/// What an index is cut into.
+/// How many classes there are.
 const CLASSES: u32 = 16;
 
 /// The key of a participant, and the seed of its Ed25519 key.
@@ -129,10 +129,48 @@ fn make(scheme: &str, megabytes: usize) {
     }
 }
 
-/// The report of a call, or of `index` no more than how many messages were read.
+/// A committee whose signatures have verdicts, for the auditor by hand.
+struct Verdicts;
+
+impl by_hand::Scheme for Verdicts {
+    fn signature_bytes(&self) -> usize {
+        65
+    }
+
+    fn participants(&self) -> usize {
+        PARTICIPANTS as usize
+    }
+
+    fn is_good(&self, _: &mut Vec<u8>, _: &by_hand::Subject, (_, signature): by_hand::Attestation) -> bool {
+        signature[64] == 1
+    }
+}
+
+/// The report of the auditor by hand, which is fed pieces as by a pipe.
+fn audited_by_hand<S: by_hand::Scheme>(committee: S, stream: &[u8]) -> Report {
+    let (mut auditor, mut held) = (by_hand::Auditor::new(by_hand::Committees::Every(committee)), Vec::new());
+    for piece in stream.chunks(1 << 16) {
+        held.extend_from_slice(piece);
+        auditor.advance(&mut held);
+    }
+    Report { text: auditor.text(), read: auditor.read, ..nothing() }
+}
+
+fn nothing() -> Report {
+    Report { evidence: Vec::new(), splits: Vec::new(), read: 0, fault: None, text: String::new() }
+}
+
+/// The report of a call, or of `classes` no more than how many messages were read.
 fn called(scheme: &str, call: &str, threads: NonZeroUsize, stream: &[u8]) -> Result<Report, Error> {
+    let keys: Vec<_> = (0..PARTICIPANTS).map(key).collect();
+    if call == "by_hand" {
+        return Ok(match scheme {
+            "plain" => audited_by_hand(by_hand::plain(BASE, keys).unwrap(), stream),
+            _ => audited_by_hand(Verdicts, stream),
+        });
+    }
     let committees = match scheme {
-        "plain" => Committees::plain(BASE, &(0..PARTICIPANTS).map(key).collect::<Vec<_>>())?,
+        "plain" => Committees::plain(BASE, &keys)?,
         _ => Committees::every(Size::Bytes64, PARTICIPANTS)?,
     };
     if call == "audit" {
@@ -141,12 +179,8 @@ fn called(scheme: &str, call: &str, threads: NonZeroUsize, stream: &[u8]) -> Res
     if call == "deferred" {
         return audit_deferred_parallel(&committees, stream, &Signers::of(scheme), threads);
     }
-    let (table, cut) = (index(&committees, stream)?, Cut::random(CLASSES.try_into().unwrap()));
-    for class in 0..CLASSES {
-        ranges(&table.rows, &cut, class)?;
-    }
-    let read = table.rows.len();
-    Ok(Report { evidence: Vec::new(), splits: Vec::new(), read, fault: table.fault, text: String::new() })
+    let found = class_ranges(&committees, stream, &Cut::random(CLASSES.try_into().unwrap()))?;
+    Ok(Report { read: found.read, fault: found.fault, ..nothing() })
 }
 
 fn main() {
@@ -160,7 +194,8 @@ fn main() {
             let seconds = start.elapsed().as_secs_f64();
             assert_eq!(report.fault, None);
             let hash = by_hand::sha256(report.text.as_bytes());
-            println!("{seconds} {} {} {:02x}{:02x}", report.read, report.evidence.len(), hash[0], hash[1]);
+            let lines = report.text.lines().count();
+            println!("{seconds} {} {lines} {:02x}{:02x}", report.read, hash[0], hash[1]);
         }
         _ => panic!("make SCHEME MEGABYTES, or SCHEME CALL THREADS FILE"),
     }

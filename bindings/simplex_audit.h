@@ -6,7 +6,7 @@
  * Link libsimplex_audit.a, which `make library` builds in bindings/out (docs/BINDINGS.md).
  *
  * Ownership: every buffer is the caller's. No call keeps a pointer, and none returns memory that
- *   has to be freed.
+ *   has to be freed, but for simplex_auditor_new and .._new_plain: simplex_auditor_free frees it.
  * Pointers: none may be NULL, not even that of an empty slice, and each has the alignment of its
  *   type. What is written (text, evidence, records, rows, ranges, summary, size, needed, floor,
  *   number) overlaps nothing else that is passed. Nothing checks this at run time; GCC and Clang
@@ -42,10 +42,11 @@ extern "C" {
 #endif
 
 /*
- * The version of these calls. A later version may add calls, and never changes what one of these
- * returns.
+ * The version of these calls. It rises where a call is renamed or returns something else; calls may be
+ * added without. Version 2 has the size of a signature as an argument: what was
+ * simplex_audit_vouched_64 is simplex_audit, whose first argument is 64, and so with the others.
  */
-#define SIMPLEX_VERSION 1u
+#define SIMPLEX_VERSION 2u
 uint32_t simplex_version(void);
 
 /* How a call ended that audits, stores, lists, cuts or elects. */
@@ -70,30 +71,24 @@ struct simplex_summary {
 
 /*
  * Audits a stream whose signatures the caller verified (docs/SIGNATURES.md). In the stream each
- * signature has 48, 64 or 96 bytes (BLS12-381 in G1, Ed25519, BLS12-381 in G2) and one byte more,
- * the caller's verdict: 01 where the caller found the signature valid for this signer and this
+ * signature has `signature` bytes, 48, 64 or 96 (BLS12-381 in G1, Ed25519, BLS12-381 in G2), and one
+ * byte more, the caller's verdict: 01 where the caller found the signature valid for this signer and this
  * vote, and 00 where it did not. With any other byte the signature is not valid. Payloads have 32
  * bytes.
  *
  * `sizes` are the numbers of participants of the committees, each at least 1. Without epochs there
  * is one size, that of the committee for every epoch; else the epochs rise strictly, and each has
  * the size at its place. Other epochs have no committee, and nothing is valid in them.
+ * SIMPLEX_ARGUMENTS also, here and in the calls below: `signature` is none of these.
  *
  * The first `summary->length` bytes of `text` are then the lines of the report (docs/FORMAT.md),
  * with no zero byte behind them; the bytes behind them are as before.
  */
 SIMPLEX_NONNULL
-uint32_t simplex_audit_vouched_48(const uint64_t *epochs, size_t epochs_len, const uint32_t *sizes,
-                                  size_t sizes_len, const uint8_t *stream, size_t stream_len,
-                                  uint8_t *text, size_t text_len, struct simplex_summary *summary);
-SIMPLEX_NONNULL
-uint32_t simplex_audit_vouched_64(const uint64_t *epochs, size_t epochs_len, const uint32_t *sizes,
-                                  size_t sizes_len, const uint8_t *stream, size_t stream_len,
-                                  uint8_t *text, size_t text_len, struct simplex_summary *summary);
-SIMPLEX_NONNULL
-uint32_t simplex_audit_vouched_96(const uint64_t *epochs, size_t epochs_len, const uint32_t *sizes,
-                                  size_t sizes_len, const uint8_t *stream, size_t stream_len,
-                                  uint8_t *text, size_t text_len, struct simplex_summary *summary);
+uint32_t simplex_audit(uint32_t signature, const uint64_t *epochs, size_t epochs_len,
+                       const uint32_t *sizes, size_t sizes_len, const uint8_t *stream,
+                       size_t stream_len, uint8_t *text, size_t text_len,
+                       struct simplex_summary *summary);
 
 /* The kind of an evidence in a record, in the order of the report. */
 #define SIMPLEX_CONFLICTING_NOTARIZE 0u /* two notarizes for different proposals */
@@ -112,7 +107,7 @@ struct simplex_record {
 };
 
 /*
- * Audits a stream as simplex_audit_vouched_.. does, and writes the evidence of the report as
+ * Audits a stream as simplex_audit does, and writes the evidence of the report as
  * records, one for each line of evidence and in the same order. A message carries a vote if it is
  * the vote, if its certificate lists the vote, or if it is evidence with the vote; votes are the
  * same with the same kind, proposal or round, signer and signature. The place of a vote is the
@@ -120,27 +115,17 @@ struct simplex_record {
  * first, and both may be the same: evidence carries two votes.
  *
  * `summary` is that of the audit: `evidence` is the number of records, `length` the bytes of the
- * text that simplex_audit_vouched_.. writes. The first `summary->evidence` records are written;
+ * text that simplex_audit writes. The first `summary->evidence` records are written;
  * those behind them are as before. Where `records` is too short the status is SIMPLEX_SHORT: the
  * summary is written and the records are as before. After SIMPLEX_ARGUMENTS and SIMPLEX_MEMORY both
  * are as before. Where there is evidence the stream is read twice; the second reading verifies
  * nothing.
  */
 SIMPLEX_NONNULL
-uint32_t simplex_records_vouched_48(const uint64_t *epochs, size_t epochs_len,
-                                    const uint32_t *sizes, size_t sizes_len, const uint8_t *stream,
-                                    size_t stream_len, struct simplex_record *records,
-                                    size_t records_len, struct simplex_summary *summary);
-SIMPLEX_NONNULL
-uint32_t simplex_records_vouched_64(const uint64_t *epochs, size_t epochs_len,
-                                    const uint32_t *sizes, size_t sizes_len, const uint8_t *stream,
-                                    size_t stream_len, struct simplex_record *records,
-                                    size_t records_len, struct simplex_summary *summary);
-SIMPLEX_NONNULL
-uint32_t simplex_records_vouched_96(const uint64_t *epochs, size_t epochs_len,
-                                    const uint32_t *sizes, size_t sizes_len, const uint8_t *stream,
-                                    size_t stream_len, struct simplex_record *records,
-                                    size_t records_len, struct simplex_summary *summary);
+uint32_t simplex_records(uint32_t signature, const uint64_t *epochs, size_t epochs_len,
+                         const uint32_t *sizes, size_t sizes_len, const uint8_t *stream,
+                         size_t stream_len, struct simplex_record *records, size_t records_len,
+                         struct simplex_summary *summary);
 
 /* The kind of a vote in a record. */
 #define SIMPLEX_NOTARIZE 0u
@@ -160,7 +145,7 @@ struct simplex_suspect {
 
 /*
  * The first of two steps of deferred verification: lists the attestations of a stream that have to
- * be verified before the stream is audited. The stream is as simplex_audit_vouched_.. reads it,
+ * be verified before the stream is audited. The stream is as simplex_audit reads it,
  * but its verdicts may still be any bytes, such as zeros. For an honest stream nothing is listed.
  *
  * A signer of a committee is suspect in a round where two votes that claim to be that signer's
@@ -181,23 +166,10 @@ struct simplex_suspect {
  * from untrusted senders: the only vote of a round takes some 900 bytes and 8 for each participant.
  */
 SIMPLEX_NONNULL
-uint32_t simplex_suspects_vouched_48(const uint64_t *epochs, size_t epochs_len,
-                                     const uint32_t *sizes, size_t sizes_len,
-                                     const uint8_t *stream, size_t stream_len,
-                                     struct simplex_suspect *records, size_t records_len,
-                                     size_t *needed);
-SIMPLEX_NONNULL
-uint32_t simplex_suspects_vouched_64(const uint64_t *epochs, size_t epochs_len,
-                                     const uint32_t *sizes, size_t sizes_len,
-                                     const uint8_t *stream, size_t stream_len,
-                                     struct simplex_suspect *records, size_t records_len,
-                                     size_t *needed);
-SIMPLEX_NONNULL
-uint32_t simplex_suspects_vouched_96(const uint64_t *epochs, size_t epochs_len,
-                                     const uint32_t *sizes, size_t sizes_len,
-                                     const uint8_t *stream, size_t stream_len,
-                                     struct simplex_suspect *records, size_t records_len,
-                                     size_t *needed);
+uint32_t simplex_suspects(uint32_t signature, const uint64_t *epochs, size_t epochs_len,
+                          const uint32_t *sizes, size_t sizes_len, const uint8_t *stream,
+                          size_t stream_len, struct simplex_suspect *records, size_t records_len,
+                          size_t *needed);
 
 /*
  * Writes the evidence of `stored` and of the messages of `batch` behind it, as messages. `stored`
@@ -219,25 +191,15 @@ uint32_t simplex_suspects_vouched_96(const uint64_t *epochs, size_t epochs_len,
  * and append what each call writes to a file: each batch is then read once, and the evidence in the
  * file is the same, in the order of the batches.
  *
- * To learn what is new, call simplex_records_.. on `stored` with `batch` behind it: a record with
+ * To learn what is new, call simplex_records on `stored` with `batch` behind it: a record with
  * at least one place of `stored_len` or more is new, and any other was stored before. This too
  * reads all of `stored`, however short the batch is.
  */
 SIMPLEX_NONNULL
-uint32_t simplex_store_vouched_48(const uint64_t *epochs, size_t epochs_len, const uint32_t *sizes,
-                                  size_t sizes_len, const uint8_t *stored, size_t stored_len,
-                                  const uint8_t *batch, size_t batch_len, uint8_t *evidence,
-                                  size_t evidence_len, size_t *size);
-SIMPLEX_NONNULL
-uint32_t simplex_store_vouched_64(const uint64_t *epochs, size_t epochs_len, const uint32_t *sizes,
-                                  size_t sizes_len, const uint8_t *stored, size_t stored_len,
-                                  const uint8_t *batch, size_t batch_len, uint8_t *evidence,
-                                  size_t evidence_len, size_t *size);
-SIMPLEX_NONNULL
-uint32_t simplex_store_vouched_96(const uint64_t *epochs, size_t epochs_len, const uint32_t *sizes,
-                                  size_t sizes_len, const uint8_t *stored, size_t stored_len,
-                                  const uint8_t *batch, size_t batch_len, uint8_t *evidence,
-                                  size_t evidence_len, size_t *size);
+uint32_t simplex_store(uint32_t signature, const uint64_t *epochs, size_t epochs_len,
+                       const uint32_t *sizes, size_t sizes_len, const uint8_t *stored,
+                       size_t stored_len, const uint8_t *batch, size_t batch_len, uint8_t *evidence,
+                       size_t evidence_len, size_t *size);
 
 /*
  * Audits, lists records and stores evidence, as the calls above, for the plain scheme, whose
@@ -337,7 +299,26 @@ uint32_t simplex_ranges(const struct simplex_row *rows, size_t rows_len, uint64_
                         size_t ranges_len, size_t *needed);
 
 /*
- * Audits the bytes of the ranges of a stream, one range after another, as simplex_audit_vouched_..
+ * The ranges of all classes, of as many as `ends` has room for, in one reading of a stream, of which
+ * nothing is copied: those of a class are what simplex_ranges writes for it from the rows of
+ * simplex_index, where `signature` and `bound` are explained. They stand one class after another:
+ * those of class i begin where those of class i - 1 end, and end at `ends[i]`.
+ *
+ * The first `summary->length` ranges are written, and all of `ends`; the ranges behind them are as
+ * before. `read`, `faulted` and `fault_place` are the stream's, and `evidence` and `splits` are 0.
+ * Where `ranges` is too short the status is SIMPLEX_SHORT: the summary is written, and `ranges` and
+ * `ends` are as before. There are at most as many ranges as messages. SIMPLEX_ARGUMENTS:
+ * `signature` is none of these, `bound` is 0, or `ends_len` is 0 or 2^32 or more. While it runs it
+ * holds up to 96 bytes for each range, and 100 for each class.
+ */
+SIMPLEX_NONNULL
+uint32_t simplex_class_ranges(uint32_t signature, uint32_t bound, const uint8_t *stream,
+                              size_t stream_len, uint64_t seed, struct simplex_range *ranges,
+                              size_t ranges_len, size_t *ends, size_t ends_len,
+                              struct simplex_summary *summary);
+
+/*
+ * Audits the bytes of the ranges of a stream, one range after another, as simplex_audit
  * and simplex_audit_plain do a stream. Offsets in the summary count these bytes. None is copied but
  * those of a message that stands in several ranges. `signature` is 48, 64 or 96.
  *
@@ -356,6 +337,118 @@ uint32_t simplex_audit_ranges_plain(const uint8_t *name, size_t name_len, const 
                                     const struct simplex_range *ranges, size_t ranges_len,
                                     uint8_t *text, size_t text_len,
                                     struct simplex_summary *summary);
+
+/*
+ * Messages in bytes: what a signer signs, votes and certificates as messages, the message at the
+ * front of some bytes, and one piece of evidence by itself.
+ *
+ * What a vote says is given by its kind (SIMPLEX_NOTARIZE, SIMPLEX_NULLIFY or SIMPLEX_FINALIZE), the
+ * epoch and the view of its round, the view of the proposal's parent, and the 32 bytes of its
+ * payload. A nullify has neither: `parent` is 0 and `payload_len` 0. `signature` is the bytes of a
+ * signature: 32 under the plain scheme; or 48, 64 or 96, and then one byte more stands behind each
+ * signature, the caller's verdict, also in what is given to these calls. No call writes a verdict of
+ * its own.
+ *
+ * Where the buffer is too short the status is SIMPLEX_SHORT, and the length that is needed is
+ * written. With room for 63 bytes and 5 more for each number of a signer and for their count, behind
+ * the signatures, it never is; of signed bytes, for 81 more than the name.
+ */
+
+/*
+ * The bytes that a signer signs: how long the namespace is, as a number, the namespace, and the
+ * proposal or the round. The namespace is `name`, the base of the application's, and behind it
+ * _NOTARIZE, _NULLIFY or _FINALIZE. The first `*size` bytes of `bytes` are then these, and those
+ * behind them as before. SIMPLEX_ARGUMENTS: the numbers are of no vote.
+ */
+SIMPLEX_NONNULL
+uint32_t simplex_signed_bytes(const uint8_t *name, size_t name_len, uint32_t kind, uint64_t epoch,
+                              uint64_t view, uint64_t parent, const uint8_t *payload,
+                              size_t payload_len, uint8_t *bytes, size_t bytes_len, size_t *size);
+
+/*
+ * A vote as a message. `attested` is the signature, and behind it its verdict if it has one.
+ * SIMPLEX_ARGUMENTS: `signature` is no such size, `attested` has not its bytes, or the numbers are
+ * of no vote.
+ */
+SIMPLEX_NONNULL
+uint32_t simplex_write_vote(uint32_t signature, uint32_t kind, uint64_t epoch, uint64_t view,
+                            uint64_t parent, const uint8_t *payload, size_t payload_len,
+                            uint32_t signer, const uint8_t *attested, size_t attested_len,
+                            uint8_t *message, size_t message_len, size_t *size);
+
+/*
+ * A certificate as a message. `kind` is SIMPLEX_ROW_NOTARIZATION, .._CERTIFICATION (a notarization
+ * that a node accepted), .._NULLIFICATION or .._FINALIZATION. The signers ascend, and there is at
+ * least one; `signatures` are theirs one after another, each as simplex_write_vote takes it.
+ * SIMPLEX_ARGUMENTS: `signature` is no such size, `kind` is none of these, the signers do not ascend
+ * or there is none, there is not one signature for each, or the numbers are of no such certificate.
+ */
+SIMPLEX_NONNULL
+uint32_t simplex_write_certificate(uint32_t signature, uint32_t kind, uint64_t epoch, uint64_t view,
+                                   uint64_t parent, const uint8_t *payload, size_t payload_len,
+                                   const uint32_t *signers, size_t signers_len,
+                                   const uint8_t *signatures, size_t signatures_len,
+                                   uint8_t *message, size_t message_len, size_t *size);
+
+/* What a message is. */
+struct simplex_message {
+    uint64_t epoch;         /* of its round */
+    uint64_t view;          /* of its round */
+    uint64_t parent;        /* of the proposal that is voted for or certified, or of the first vote of
+                               evidence; 0 of a round */
+    uint64_t second_parent; /* of the second vote of evidence, else 0 */
+    size_t length;          /* its bytes */
+    size_t attestations;    /* 1 of a vote, 2 of evidence, and those that a certificate lists */
+    uint32_t kind;          /* SIMPLEX_ROW_.. */
+};
+
+/*
+ * Reads the message at the front of some bytes; the next one begins `message->length` bytes further.
+ * Each attestation is listed with the places of its subject and its signature in the bytes. The last
+ * byte of the signature is at `verdict_place`; if there are verdicts, that is the verdict. The last
+ * 32 bytes of a subject are the payload, but of a nullify. `bound` is as in simplex_index. Nothing
+ * is verified.
+ *
+ * The first `message->attestations` records are written; those behind them are as before. The status
+ * is SIMPLEX_WHOLE; SIMPLEX_FAULT: no message is at the front, and nothing was written; SIMPLEX_SHORT:
+ * `message` alone was written; SIMPLEX_MEMORY; or SIMPLEX_ARGUMENTS: `signature` is no such size, or
+ * `bound` is 0.
+ */
+SIMPLEX_NONNULL
+uint32_t simplex_read_message(uint32_t signature, uint32_t bound, const uint8_t *bytes,
+                              size_t bytes_len, struct simplex_suspect *attestations,
+                              size_t attestations_len, struct simplex_message *message);
+
+/* Whom an evidence accuses. */
+struct simplex_accusation {
+    uint64_t epoch;  /* of the round of both votes */
+    uint64_t view;   /* of that round */
+    uint32_t signer; /* of both votes */
+    uint32_t kind;   /* SIMPLEX_CONFLICTING_NOTARIZE, .._CONFLICTING_FINALIZE or
+                        SIMPLEX_NULLIFY_FINALIZE */
+    uint32_t proved; /* 1 where both signatures are valid, else 0 */
+};
+
+/*
+ * Judges one piece of evidence by itself: one message with two votes that contradict, as
+ * simplex_store writes them. It is proved where both votes are valid under the committee of their
+ * epoch: where an audit of this message alone accuses the signer. Who is to judge whom needs no more
+ * than the message, and the name and keys, or the sizes and signatures that the caller verified.
+ * `signature` is 48, 64 or 96.
+ *
+ * The status is SIMPLEX_WHOLE, and then the accusation is written, whether it is proved or not.
+ * SIMPLEX_FAULT: the bytes are not exactly one message that is evidence. SIMPLEX_ARGUMENTS:
+ * `signature` is none of these, or the arguments are no committees. After these and SIMPLEX_MEMORY
+ * nothing was written.
+ */
+SIMPLEX_NONNULL
+uint32_t simplex_verify_evidence(uint32_t signature, const uint64_t *epochs, size_t epochs_len,
+                                 const uint32_t *sizes, size_t sizes_len, const uint8_t *evidence,
+                                 size_t evidence_len, struct simplex_accusation *accusation);
+SIMPLEX_NONNULL
+uint32_t simplex_verify_evidence_plain(const uint8_t *name, size_t name_len, const uint8_t *keys,
+                                       size_t keys_len, const uint8_t *evidence,
+                                       size_t evidence_len, struct simplex_accusation *accusation);
 
 /*
  * How many of n participants may lie, the greatest f with 3f + 1 <= n, and how many are a quorum,
@@ -404,6 +497,103 @@ SIMPLEX_NONNULL
 uint32_t simplex_leader_shuffled(const uint8_t *seed, size_t seed_len, uint32_t participants,
                                  uint32_t term_length, uint64_t epoch, uint64_t view,
                                  uint32_t *number);
+
+/*
+ * An auditor that the library owns, for a node that runs for long. It is fed a stream as it comes,
+ * at the cost of the new bytes, and returns what each piece completes. The struct is a handle: set
+ * `state` to NULL, have one of the two calls below make an auditor, and free it at the end. Only
+ * these calls change a handle, and a copy of it is never used. A handle is used by one call at a
+ * time, in any thread.
+ *
+ * Each of these calls returns a status. SIMPLEX_ARGUMENTS, but of the two that make an auditor: the
+ * handle owns none, such as after it was freed, and nothing changed. SIMPLEX_MEMORY: an allocation
+ * failed; nothing that was fed is lost, and the call can be made again.
+ */
+struct simplex_auditor {
+    void *state;
+};
+
+/* The stream would have 2^64 bytes. */
+#define SIMPLEX_LONG 5u
+
+/*
+ * Makes an auditor of a stream whose signatures the caller verified, with 48, 64 or 96 bytes each
+ * and the verdict behind it; or of one of the plain scheme. Committees are those of an audit.
+ *
+ * `held` is what simplex_auditor_held gave of another auditor, or no bytes. The new auditor was fed
+ * these bytes, so it accuses everyone whom the other one would accuse after any further bytes, from
+ * the other one's floor on. Two things differ: the evidence in `held` is news again, and the floor is
+ * the first round, so prune it to the floor of the other one. If `held` has a fault nothing more can
+ * be fed: feed no bytes, and the status says so.
+ *
+ * What the handle owned before is freed. SIMPLEX_ARGUMENTS: there are no such committees, or
+ * `signature` is none of these. After it and SIMPLEX_MEMORY the handle is as before.
+ */
+SIMPLEX_NONNULL
+uint32_t simplex_auditor_new(uint32_t signature, const uint64_t *epochs, size_t epochs_len,
+                             const uint32_t *sizes, size_t sizes_len, const uint8_t *held,
+                             size_t held_len, struct simplex_auditor *auditor);
+SIMPLEX_NONNULL
+uint32_t simplex_auditor_new_plain(const uint8_t *name, size_t name_len, const uint8_t *keys,
+                                   size_t keys_len, const uint8_t *held, size_t held_len,
+                                   struct simplex_auditor *auditor);
+
+/*
+ * Feeds the next bytes of the stream, cut anywhere: SIMPLEX_WHOLE. With any other status no byte was
+ * fed. SIMPLEX_FAULT: a byte before these starts no message, and nothing behind it is read; its
+ * offset is in the report. SIMPLEX_LONG: the stream would have 2^64 bytes.
+ */
+SIMPLEX_NONNULL
+uint32_t simplex_auditor_feed(struct simplex_auditor *auditor, const uint8_t *bytes,
+                              size_t bytes_len);
+
+/*
+ * The report of all that was fed, from the floor on, with the statuses of an audit. Messages and
+ * offsets are counted from what the auditor was made with. After SIMPLEX_MEMORY of a feed they are
+ * counted from what was held then, which stands for all that was fed before.
+ */
+SIMPLEX_NONNULL
+uint32_t simplex_auditor_report(struct simplex_auditor *auditor, uint8_t *text, size_t text_len,
+                                struct simplex_summary *summary);
+
+/*
+ * What arose since the last look, as lines of a report: the evidence, each once however the stream
+ * was cut, and then the splits, a round again when more participants are accused there. After
+ * SIMPLEX_WHOLE the first `*length` bytes of `text` are written, and what they say is no news any
+ * more. After SIMPLEX_SHORT `*length` bytes are needed, and all of it is still news.
+ */
+SIMPLEX_NONNULL
+uint32_t simplex_auditor_news(struct simplex_auditor *auditor, uint8_t *text, size_t text_len,
+                              size_t *length);
+
+/*
+ * Gives up all rounds below a floor: what is known of them is dropped, and their messages are read
+ * and not judged from now on. News of them that were not looked at stay. A floor below the present
+ * one changes nothing.
+ */
+SIMPLEX_NONNULL
+uint32_t simplex_auditor_prune(struct simplex_auditor *auditor, uint64_t epoch, uint64_t view);
+
+/*
+ * How many valid votes are recorded, from the floor on: for each signer and round the earliest of
+ * each kind, and of notarizes and finalizes also the earliest with another proposal.
+ */
+SIMPLEX_NONNULL
+uint32_t simplex_auditor_votes(struct simplex_auditor *auditor, size_t *votes);
+
+/*
+ * Few messages that can stand for all that was fed, from the floor on, and behind them the bytes
+ * after the last whole message: what a node stores to go on after a restart. For a round of n
+ * participants they are at most 5n messages without a certificate and three with one. It reads all
+ * that is held. SIMPLEX_SHORT: `*length` bytes are needed.
+ */
+SIMPLEX_NONNULL
+uint32_t simplex_auditor_held(struct simplex_auditor *auditor, uint8_t *bytes, size_t bytes_len,
+                              size_t *length);
+
+/* Frees the auditor. The handle owns none then, and can be used again. */
+SIMPLEX_NONNULL
+uint32_t simplex_auditor_free(struct simplex_auditor *auditor);
 
 #ifdef __cplusplus
 }

@@ -23,7 +23,7 @@ import subprocess
 import sys
 import tempfile
 
-from . import library
+from . import library, live_nodes
 from .common import ROOT, SAMPLE, arguments, expect, fail, passed, run, say
 
 WORDS = arguments("audit")
@@ -82,27 +82,30 @@ def found(what, is_there):
     return is_there
 
 
-def names(*flags):
-    """What `nm` lists of the library, as words a line."""
-    status, listed, said = run(["nm", *flags, OUT / "libsimplex_audit.a"])
+def names(*flags, of=OUT / "libsimplex_audit.a"):
+    """What `nm` lists of a library, as words a line."""
+    status, listed, said = run(["nm", *flags, of])
     return [line.split() for line in listed.decode().splitlines() if line] if status == 0 else fail(said.decode())
+
+
+def declared():
+    """The calls that the header declares."""
+    return re.findall(r"(simplex_[a-z0-9_]*)\(", library.HEADER.read_text())
 
 
 def header():
     """The header, and the names of the library."""
-    path = ROOT / "bindings/simplex_audit.h"
-    succeeds("cc", *STRICT, "-fsyntax-only", "-std=c99", "-x", "c", path)
+    succeeds("cc", *STRICT, "-fsyntax-only", "-std=c99", "-x", "c", library.HEADER)
     if found("C++", shutil.which("c++")):
-        succeeds("c++", *STRICT, "-fsyntax-only", "-x", "c++", path)
+        succeeds("c++", *STRICT, "-fsyntax-only", "-x", "c++", library.HEADER)
     null = '#include "bindings/simplex_audit.h"\nuint32_t f(void) { return simplex_leader(4, 1, 3, 10, NULL); }\n'
     done, said = compiles(null, f"-I{ROOT}", "-Wall", "-Werror", "-fsyntax-only")
     if done or "nonnull" not in said:
         fail("no compiler warning of NULL", said)
     defined = {it[2]: it[1] for it in names("-g", "--defined-only") if len(it) == 3}
     calls = {it for it, kind in defined.items() if kind == "T" and it.startswith("simplex_")}
-    declared = re.findall(r"(simplex_[a-z0-9_]*)\(", path.read_text())
-    if sorted(calls) != sorted(declared):
-        fail("the calls of the library are not those of the header:", *sorted(calls ^ set(declared)))
+    if sorted(calls) != sorted(declared()):
+        fail("the calls of the library are not those of the header:", *sorted(calls ^ {*declared()}))
     if others := [it for it in defined if not it.startswith(("simplex_", "rattle_"))]:
         fail("names of the library that are neither simplex_ nor rattle_:", *others)
     memory = {"malloc", "realloc", "free", "memcpy", "memmove", "memset", "memcmp", "_GLOBAL_OFFSET_TABLE_"}
@@ -152,6 +155,11 @@ def border(to, *command):
         print(f"{to}: {succeeds(*command, *(['--limit'] if to == 'as it is' else []), stdin=stdin)}", end="")
 
 
+def auditor(to, *command):
+    """Random streams that an auditor of the library is fed, with failing allocations and restarts."""
+    print(f"{to}: {succeeds(*command, '60' if to == 'under valgrind' else '3000')}", end="")
+
+
 def demonstration(_, *command):
     expect(command, out=DEMONSTRATION)
 
@@ -162,6 +170,8 @@ def programs_in_c(work):
     found("valgrind", shutil.which("valgrind"))
     in_c(work, "audit", example)
     in_c(work, "border", border, *WRAPPED)
+    in_c(work, "auditor", auditor, *WRAPPED)
+    in_c(work, "live", lambda _, *command: live_nodes.listens(work, *command))
     say("memory")
     succeeds(ROOT / "bench/places")
     if not found("ed25519", compiles("#include <openssl/evp.h>\n", "-fsyntax-only")[0]):
@@ -177,21 +187,18 @@ def shows(signed, *command):
         expect([*command, "stream"], out=signed)
 
 
+def copied(package, work):
+    """A copy of a package of bindings/ outside the repository, without what tools leave in it."""
+    left = shutil.ignore_patterns("target", "Cargo.lock", "build", "*.egg-info", "__pycache__")
+    return shutil.copytree(ROOT / "bindings" / package, work / package, ignore=left)
+
+
 def rust(work, signed):
     """The Rust crate, built outside the repository."""
-    crate, target = work / "rust", work / "target"
-    for it in ("src", "tests", "examples"):
-        shutil.copytree(ROOT / "bindings/rust" / it, crate / it)
-    for it in ("Cargo.toml", "build.rs"):
-        shutil.copy(ROOT / "bindings/rust" / it, crate)
+    crate, target = copied("rust", work), work / "target"
     env = os.environ | {"CARGO_TARGET_DIR": str(target), "SIMPLEX_AUDIT_LIB": str(OUT), "RUSTFLAGS": "-D warnings"}
     build = ["cargo", "build", "--offline", "--quiet"]
-    # Without the library it is not built, and says what builds the library.
-    nowhere = env | {"SIMPLEX_AUDIT_LIB": str(work / "nowhere")}
-    without = subprocess.run(build, cwd=crate, env=nowhere, capture_output=True, text=True)
-    if without.returncode == 0 or "run `make library`" not in without.stderr:
-        fail("built without a library", without.stderr)
-    examples = ["audit", "release"] + ["ed25519"] * (signed is not None)
+    examples = ["audit", "live", "release"] + ["ed25519"] * (signed is not None)
     for words in ([], *(["--example", it] for it in examples)):
         succeeds(*build, *words, cwd=crate, env=env)
     for words in (["--lib", "--tests"], ["--doc"]):
@@ -201,20 +208,39 @@ def rust(work, signed):
     expect([built / "audit"], 2, err=USAGE)
     expect([built / "audit", *WORDS], 3, err="audit: read failed", stdin=work)
     expect([built / "release"], out=RELEASE)
+    live_nodes.listens(work, built / "live")
     if signed is not None:
         shows(signed, built / "ed25519")
 
 
-def python(signed):
-    """The Python module, and the page for people."""
+def python(work, signed):
+    """The Python modules, and the page for people."""
     python3, folder = [sys.executable], ROOT / "bindings/python"
-    for it in ("tests.py", "shard_tests.py", "report_tests.py"):
+    for it in ("tests.py", "shard_tests.py", "monitor_tests.py", "report_tests.py"):
         succeeds(*python3, folder / it)
     of_sample(*python3, folder / "audit.py")
+    live_nodes.listens(work, *python3, folder / "live.py")
     expect([*python3, folder / "audit.py", WORDS[0]], 2, err=USAGE)
+    judges(work, *python3, folder / "evidence.py")
     if found("ed25519.py", ctypes.util.find_library("crypto")):
         shows(signed, *python3, folder / "ed25519.py")
     dask(folder / "dask_files.py")
+
+
+def judges(work, *command):
+    """One piece of evidence by itself: the sample's two notarizes behind one tag, as bytes and as digits; with a signature that
+    is not valid, and with a byte more."""
+    two, file = SAMPLE.read_bytes(), work / "evidence"
+    evidence = b"\x07" + two[1:69] + two[70:]
+    for given in (evidence, evidence.hex().encode() + b"\n"):
+        file.write_bytes(given)
+        expect([*command, file, *WORDS], out=LINE)
+    file.write_bytes(evidence[:-1] + bytes([evidence[-1] ^ 1]))
+    accused = " ".join(LINE.split(" ")[:4])
+    expect([*command, file, *WORDS], 1, err=f"evidence: not proved: {accused}")
+    for given in (evidence + b"\x00", two, b""):
+        expect([*command, "-", *WORDS], 2, err="evidence: this is not exactly one evidence message", stdin=given)
+    expect([*command, file], 2, err="usage: evidence.py FILE NAMESPACE KEY...")
 
 
 def dask(script):
@@ -240,7 +266,7 @@ def main():
         if found("Rust", shutil.which("cargo") and run(["cargo", "--version"])[0] == 0):
             rust(work, signed)
         say("the Python module")
-        python(signed)
+        python(work, signed)
     from . import vectors_in_c
 
     if vectors_in_c.main():

@@ -26,7 +26,7 @@ import shutil
 import subprocess
 import tempfile
 
-from .common import ROOT, SAMPLE, arguments, crates, program, run, say
+from .common import ROOT, SAMPLE, arguments, crates, program, programs, run, say
 from .common import pages as every_page
 from .documents import FENCED
 
@@ -34,6 +34,11 @@ from .documents import FENCED
 ELSEWHERE = {
     "make test": "the gate itself",
     "make library": "step library",
+    "sudo make install": "step packages, to a folder of its own",
+    "sudo ldconfig": "a reader who installs for all users",
+    "cc example.c": "step packages",
+    "cc -static example.c": "step packages",
+    "pip install ./bindings/python": "step packages, of the wheel that pip makes",
     "rt run < stdin": "`rt ci`, as both compilers build the program",
     # step documents runs `rt version`, and `make run` is run here for README.md
     "export PATH=": "a reader with a kit of one's own",
@@ -135,9 +140,9 @@ def never_run(page):
 
 
 def installed(command):
-    """What is built is copied to PREFIX/bin with a link by its short name, each is said, and the program does there what it
-    does here."""
-    here = [program(it) for it in crates() if "main.rt" in os.listdir(ROOT / f"crates/{it}/src") and it not in ("conformance",)]
+    """Each program that is built is copied to PREFIX/bin with a link by its short name, both are said, and `audit` does there
+    what it does here. Step `packages` installs the library."""
+    here = [program(it) for it in programs()]
     with tempfile.TemporaryDirectory() as room:
         said, _ = shell(f"PATH={shlex.quote(os.environ['PATH'])} {command.replace(' PREFIX=..', '')} PREFIX={room}")
         lines, same = [], True
@@ -146,7 +151,8 @@ def installed(command):
             lines += [f"{to}"] + ([] if shutil.which(it.name) else [f"{to.with_name(it.name)} -> {to.name}"])
             same = same and os.access(to, os.X_OK) and to.read_bytes() == it.read_bytes()
         done = run([f"{room}/bin/simplex-audit", *arguments("audit")], SAMPLE)
-        return said.splitlines() == lines and same and done == (0, (ROOT / "crates/audit/stdout").read_bytes(), b"")
+        of_programs = [line for line in said.splitlines() if line.startswith(f"{room}/bin/")]
+        return of_programs == lines and same and done == (0, (ROOT / "crates/audit/stdout").read_bytes(), b"")
 
 
 def is_there(command):

@@ -32,8 +32,8 @@ def fail(*said):
 
 
 def pages():
-    """The documents, in the order of their names."""
-    return [page for path in ("*.md", "docs/*.md", "bench/*.md") for page in sorted(ROOT.glob(path))]
+    """The documents, in the order of their names, and those of packages."""
+    return [page for path in ("*.md", "docs/*.md", "bench/*.md", "bindings/*/*.md") for page in sorted(ROOT.glob(path))]
 
 
 def crates():
@@ -61,6 +61,11 @@ def written(page, made, check, step):
 
 def program(name):
     return ROOT / f"crates/{name}/out/{name}"
+
+
+def programs():
+    """The programs for users, in the order of crates.txt."""
+    return [it for it in crates() if (ROOT / f"crates/{it}/src/main.rt").exists() and it != "conformance"]
 
 
 def arguments(name):

@@ -19,7 +19,7 @@ from .refusals import PROTOCOL
 
 PAGES = every_page()
 # a block without a language is text
-LANGUAGES = {"", "console", "sh", "toml", "rust", "antt", "mermaid"}
+LANGUAGES = {"", "console", "sh", "toml", "rust", "c", "python", "go", "antt", "mermaid"}
 FENCED = re.compile(r"(?ms)^( *)```(\w*)\n(.*?)^ *```$")
 LINK = re.compile(r"\[[^\]]*\]\(([^)\s]+)\)")
 TARGET = re.compile(r"(?m)^\[([^\]]+)\]: (\S+)$")
@@ -102,12 +102,14 @@ VERSIONS = {
     "README.md": r"Version (\d\S*\d)",
     "docs/BINDINGS.md": r"Version (\d\S*\d)",
     "bindings/rust/Cargo.toml": r'(?m)^version = "(.*)"$',
+    "bindings/python/pyproject.toml": r'(?m)^version = "(.*)"$',
     "crates/simplex_live/src/texts.rt": r'"audit_live (\d\S*\d)\\n"',
 }
 # and what gives that of the library's calls
 CALLS = {
     "crates/simplex_c/src/lib.rt": r"fn simplex_version\(\) -> u32\s+ensures \{ result ≡ (\d+) \}",
     "bindings/simplex_audit.h": r"#define SIMPLEX_VERSION (\d+)u",
+    "bindings/python/simplex_audit/__init__.py": r"(?m)^_CALLS = (\d+)$",
     "README.md": r"calls of the\s+library:\s+version (\d+)",
     "docs/BINDINGS.md": r"calls of the\s+library:\s+version (\d+)",
 }

@@ -20,6 +20,7 @@ from .proving import prove
 STEPS = [
     "library",
     "bindings",
+    "packages",
     "commands",
     "runs audit",
     "runs audit_stored",
@@ -41,7 +42,7 @@ STEPS = [
     "refusals conformance 200",
 ]
 # These call the library, and begin when it is built.
-OVER_LIBRARY = {"bindings", "commands"}
+OVER_LIBRARY = {"bindings", "packages", "commands"}
 DONE = re.compile(r"rt: (\w+)(?:'s tests)? (?:proved|is kept|are kept)")
 FAILED = re.compile(r"(note: )?[^ ]+:[0-9:]+ (error|it is not proved)|.*(NOT (PROVED|REFUSED|TRIED)|FAILED)")
 

@@ -1,8 +1,10 @@
 """Proves and builds the static library of bindings/, bindings/out/libsimplex_audit.a, and of it the shared library.
 
-It is that of crates/simplex_c, and with it the toolchain's C file by which it allocates. If the gate has just built the
-libraries below, the compiler takes them as they are: `rt ci` leaves no stamp of them, so `rt lib` would prove each again. On a
-terminal it says which crate it is at.
+The static library is that of crates/simplex_c, and with it the toolchain's C file by which it allocates. If the gate has just
+built the libraries below, the compiler takes them as they are: `rt ci` leaves no stamp of them, so `rt lib` would prove each
+again. On a terminal it says which crate it is at.
+
+The shared library is linked from it. It shows the names that bindings/simplex_audit.map lists, and no others.
 """
 
 import os
@@ -19,6 +21,9 @@ from .proving import prove
 NAME = "simplex_c"
 CRATE = ROOT / "crates" / NAME
 ARCHIVE = ROOT / "bindings/out/libsimplex_audit.a"
+SHARED = ARCHIVE.with_name("simplex_audit.so")
+HEADER = ROOT / "bindings/simplex_audit.h"
+NAMES = ROOT / "bindings/simplex_audit.map"
 PROVED = re.compile(r"crate (\w+): ")
 
 
@@ -48,14 +53,21 @@ def join(kit):
         shutil.move(f"{at}/both.a", ARCHIVE)
 
 
-def share(shared):
-    """The archive as a shared library, which Python can load."""
-    subprocess.run(["cc", "-shared", "-o", shared, "-Wl,--whole-archive", ARCHIVE, "-Wl,--no-whole-archive"], check=True)
+def soname():
+    """The name by which programs ask for the shared library. Another version of the calls has another."""
+    return f"libsimplex_audit.so.{re.search('#define SIMPLEX_VERSION ([0-9]+)u', HEADER.read_text())[1]}"
+
+
+def share():
+    """The archive as a shared library."""
+    names = [f"-Wl,-soname,{soname()}", f"-Wl,--version-script,{NAMES}", "-Wl,-z,defs"]
+    whole = ["-Wl,--whole-archive", ARCHIVE, "-Wl,--no-whole-archive"]
+    subprocess.run(["cc", "-shared", "-o", SHARED, *names, *whole], check=True)
 
 
 def main():
     page = subprocess.run(["rt", "doc"], capture_output=True, text=True, check=True).stdout.strip()
-    kit, shared = pathlib.Path(page).parent, ARCHIVE.with_name("simplex_audit.so")
+    kit = pathlib.Path(page).parent
     (CRATE / "out").mkdir(exist_ok=True)
     for command in commands(kit):
         status, said = prove(command, below(NAME), PROVED, cwd=CRATE)
@@ -65,7 +77,7 @@ def main():
         sys.stderr.writelines(said[-20:])
         return status
     join(kit)
-    share(shared)
-    for it in (ARCHIVE, shared):
+    share()
+    for it in (ARCHIVE, SHARED):
         print(f"{it.relative_to(ROOT)}, {it.stat().st_size} bytes")
     return 0

@@ -15,7 +15,7 @@ ADVICE = {"black"}
 
 def scripts():
     """The scripts of the repository: those in Python, and those in bash."""
-    files = [it for path in (".ci/**/*", "bench/*", "bindings/python/*") for it in sorted(ROOT.glob(path)) if it.is_file()]
+    files = [it for path in (".ci/**/*", "bench/*", "bindings/python/**/*") for it in sorted(ROOT.glob(path)) if it.is_file()]
     heads = {it: it.open(errors="replace").readline().strip() for it in files}
     python = [it for it, head in heads.items() if it.suffix == ".py" or head.endswith(" python3")]
     return python, [it for it, head in heads.items() if head == "#!/usr/bin/env bash"]

@@ -49,9 +49,14 @@ TABLES = {
         "simplex_shards/src/index.rt": ["fn row", "fn index"],
         "simplex_shards/src/pieces.rt": ["fn rows", "fn parts"],
         "simplex_shards/src/canonical.rt": ["fn canonical", "fn accuses_same"],
-        "simplex_shards/src/ranges.rt": ["fn ranges"],
+        "simplex_shards/src/ranges.rt": ["fn ranges", "fn ranges_are_parts"],
+        "simplex_shards/src/classes.rt": ["fn class_ranges"],
         "simplex_shards/src/part.rt": ["fn audit_part"],
         "simplex_shards/src/merge.rt": ["fn merge"],
+    },
+    "handle": {
+        "simplex_handle/src/calls.rt": ["fn new_vouched", "fn new_plain", "fn feed", "fn prune", "fn report", "fn votes", "fn held",
+                                        "fn news", "fn free"],
     },
 }
 # a relation that callers hand on and need not read
@@ -148,7 +153,8 @@ class Cited:
         """Cites a name that is imported: of a type of the code, or of a definition. What the kit defines ends the search."""
         if not (ROOT / "crates" / crate).is_dir() or name in HANDED_ON:
             return
-        if module.startswith("declared."):
+        # what the toolchain derives of a type of the code is cited as the type
+        if module.startswith(("declared.", "contracts.")):
             *parts, kind = [it for it in module.split(".")[1:] if it != "TheVariants"]
             self.type(ROOT / "crates" / crate / "src" / ("/".join(parts) + ".rt"), kind)
             return

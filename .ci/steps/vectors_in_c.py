@@ -21,7 +21,7 @@ from .decoder import streams as model
 
 if not (ROOT / "bindings/out/simplex_audit.so").exists():
     fail("There is no bindings/out/simplex_audit.so yet: make library")
-c = module(ROOT / "bindings/python/simplex_audit.py")
+c = module(ROOT / "bindings/python/simplex_audit")
 LEAST = {"audit": 1303, "feed": 2127, "store": 10, "admits": 219, "outbound": 117, "floor": 105, "leader": 318}
 STREAMS = ("audit", "feed", "store")
 # those of the streams that have one committee for every epoch, and so are audited under the plain scheme too

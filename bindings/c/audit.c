@@ -64,7 +64,7 @@ static uint8_t *read_all(size_t *len)
 }
 
 /* Audits with a buffer that the text fits into: a vote takes at least 33 bytes of the stream, and
- * the text has at most 200 for each (docs/BINDINGS.md). What is not written of it takes no memory
+ * the text has at most 200 for each (README.md). What is not written of it takes no memory
  * where the system gives memory by the page. NULL where an allocation failed, or with keys that are
  * refused. */
 static uint8_t *report(const char *name, const uint8_t *keys, size_t keys_len,

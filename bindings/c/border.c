@@ -2,8 +2,9 @@
  * Tries what the contracts of the calls say of buffers and refusals, from C: buffers that fit, that
  * are a byte too short or empty, empty slices, arguments that are no committees, verdicts, stored
  * evidence with faulty batches and faulty stored bytes, each kind of record, records that are new,
- * audits in parts, rows and ranges that are invalid, a committee of 65,536, calls at once in several
- * threads, and each allocation failing in turn.
+ * audits in parts, rows and ranges that are invalid, messages that are written and read again, one
+ * piece of evidence by itself, a committee of 65,536, calls at once in several threads, and each
+ * allocation failing in turn.
  * Every buffer is a block of its own, so that AddressSanitizer and valgrind see an access outside.
  *
  *     border < STREAM             STREAM: the sample of crates/audit
@@ -93,7 +94,7 @@ static int all(const uint8_t *p, size_t n, uint8_t filler)
     return 1;
 }
 
-/* The arguments of a call except its buffer. The three sizes of signatures have one interface. */
+/* The arguments of a call except its buffer. */
 struct input {
     const uint8_t *name, *keys;
     size_t name_len, keys_len;
@@ -114,70 +115,55 @@ struct input {
 static uint32_t audit(const struct input *in, uint8_t *text, size_t room,
                       struct simplex_summary *summary)
 {
-    switch (in->signature) {
-    case 0:
+    if (!in->signature)
         return simplex_audit_plain(KEYS, STREAM, text, room, summary);
-    case 48:
-        return simplex_audit_vouched_48(SIZES, STREAM, text, room, summary);
-    case 64:
-        return simplex_audit_vouched_64(SIZES, STREAM, text, room, summary);
-    default:
-        return simplex_audit_vouched_96(SIZES, STREAM, text, room, summary);
-    }
+    return simplex_audit((uint32_t)in->signature, SIZES, STREAM, text, room, summary);
 }
 
 static uint32_t store(const struct input *in, uint8_t *evidence, size_t room, size_t *size)
 {
-    switch (in->signature) {
-    case 0:
+    if (!in->signature)
         return simplex_store_plain(KEYS, STORED, STREAM, evidence, room, size);
-    case 48:
-        return simplex_store_vouched_48(SIZES, STORED, STREAM, evidence, room, size);
-    case 64:
-        return simplex_store_vouched_64(SIZES, STORED, STREAM, evidence, room, size);
-    default:
-        return simplex_store_vouched_96(SIZES, STORED, STREAM, evidence, room, size);
-    }
+    return simplex_store((uint32_t)in->signature, SIZES, STORED, STREAM, evidence, room, size);
 }
 
 static uint32_t suspects(const struct input *in, struct simplex_suspect *records, size_t room,
                          size_t *needed)
 {
-    switch (in->signature) {
-    case 48:
-        return simplex_suspects_vouched_48(SIZES, STREAM, records, room, needed);
-    case 64:
-        return simplex_suspects_vouched_64(SIZES, STREAM, records, room, needed);
-    default:
-        return simplex_suspects_vouched_96(SIZES, STREAM, records, room, needed);
-    }
+    return simplex_suspects((uint32_t)in->signature, SIZES, STREAM, records, room, needed);
 }
 
 static uint32_t enlist(const struct input *in, struct simplex_record *records, size_t room,
                        struct simplex_summary *summary)
 {
-    switch (in->signature) {
-    case 0:
+    if (!in->signature)
         return simplex_records_plain(KEYS, STREAM, records, room, summary);
-    case 48:
-        return simplex_records_vouched_48(SIZES, STREAM, records, room, summary);
-    case 64:
-        return simplex_records_vouched_64(SIZES, STREAM, records, room, summary);
-    default:
-        return simplex_records_vouched_96(SIZES, STREAM, records, room, summary);
-    }
+    return simplex_records((uint32_t)in->signature, SIZES, STREAM, records, room, summary);
+}
+
+/* The number of participants of the greatest committee. */
+static uint32_t greatest(const struct input *in)
+{
+    uint32_t bound = 0;
+    for (size_t i = 0; in->signature && i < in->sizes_len; i++)
+        bound = in->sizes[i] > bound ? in->sizes[i] : bound;
+    return in->signature ? bound : (uint32_t)(in->keys_len / 32);
 }
 
 /* The rows of the stream, under the bound of the greatest committee. */
 static uint32_t tabulate(const struct input *in, struct simplex_row *rows, size_t room,
                          struct simplex_summary *summary)
 {
-    uint32_t size = in->signature ? (uint32_t)in->signature : 32, bound = 0;
-    for (size_t i = 0; in->signature && i < in->sizes_len; i++)
-        bound = in->sizes[i] > bound ? in->sizes[i] : bound;
-    if (!in->signature)
-        bound = (uint32_t)(in->keys_len / 32);
-    return simplex_index(size, bound, STREAM, rows, room, summary);
+    uint32_t size = in->signature ? (uint32_t)in->signature : 32;
+    return simplex_index(size, greatest(in), STREAM, rows, room, summary);
+}
+
+/* The ranges of all classes of the stream, with seed 5. */
+static uint32_t cut_all(const struct input *in, struct simplex_range *ranges, size_t room,
+                        size_t *ends, size_t classes, struct simplex_summary *summary)
+{
+    uint32_t size = in->signature ? (uint32_t)in->signature : 32;
+    return simplex_class_ranges(size, greatest(in), STREAM, 5, ranges, room, ends, classes, summary);
 }
 
 static uint32_t audit_ranges(const struct input *in, const struct simplex_range *ranges,
@@ -531,6 +517,42 @@ static struct simplex_range *cuts(const struct simplex_row *rows, size_t rows_le
     return fitting;
 }
 
+/* The ranges of all classes at once, with buffers as above, are those of each class from the rows. */
+static void cuts_all(const struct input *in, const struct simplex_row *rows, size_t rows_len,
+                     uint32_t classes)
+{
+    struct simplex_summary summary = untouched, again = untouched;
+    size_t *ends = (size_t *)block((classes + 1) * sizeof *ends, 7), begin = 0, spare = 2;
+    uint8_t *buffer = block(0, 7);
+    uint32_t status = cut_all(in, (struct simplex_range *)buffer, 0, ends, classes, &summary);
+    free(buffer);
+    const size_t n = summary.length;
+    const uint32_t wanted = summary.faulted ? SIMPLEX_FAULT : SIMPLEX_WHOLE;
+    CHECK(status == (n ? SIMPLEX_SHORT : wanted) && n <= rows_len && summary.read == rows_len);
+    CHECK(!n || all((uint8_t *)ends, (classes + 1) * sizeof *ends, 7));
+    struct simplex_range *ranges = (struct simplex_range *)block((n + spare) * RANGE, 7);
+    CHECK(cut_all(in, ranges, n + spare, ends, classes, &again) == wanted);
+    CHECK(!memcmp(&summary, &again, sizeof again) && all((uint8_t *)(ends + classes), sizeof *ends, 7));
+    CHECK(all((const uint8_t *)(ranges + n), spare * RANGE, 7));
+    for (uint32_t which = 0; which < classes; begin = ends[which++]) {
+        size_t count;
+        struct simplex_range *alone = cuts(rows, rows_len, classes, which, &count);
+        CHECK(ends[which] - begin == count && !memcmp(ranges + begin, alone, count * RANGE));
+        free(alone);
+    }
+    CHECK(begin == n);
+    free(ranges);
+    if (n) {
+        memset(ends, 7, (classes + 1) * sizeof *ends);
+        ranges = (struct simplex_range *)block((n - 1) * RANGE, 7);
+        CHECK(cut_all(in, ranges, n - 1, ends, classes, &again) == SIMPLEX_SHORT);
+        CHECK(!memcmp(&summary, &again, sizeof again) && all((uint8_t *)ranges, (n - 1) * RANGE, 7));
+        CHECK(all((uint8_t *)ends, (classes + 1) * sizeof *ends, 7));
+        free(ranges);
+    }
+    free(ends);
+}
+
 /* The audit of ranges, with buffers as above: it is that of their bytes, one range after another. */
 static struct simplex_summary audits_ranges(const struct input *in,
                                             const struct simplex_range *ranges, size_t ranges_len)
@@ -601,6 +623,12 @@ static void refuses_parts(const struct input *in)
         if (size != 32 && !is_vouched)
             CHECK(simplex_index(size, 9, STREAM, rows, 500 / ROW, &summary) == SIMPLEX_ARGUMENTS);
         CHECK(simplex_index(size, 0, STREAM, rows, 500 / ROW, &summary) == SIMPLEX_ARGUMENTS);
+        if (size != 32 && !is_vouched)
+            CHECK(simplex_class_ranges(size, 9, STREAM, 5, ranges, 9, &needed, 1, &summary)
+                  == SIMPLEX_ARGUMENTS);
+        for (uint32_t bound = 0; bound < 2; bound++)
+            CHECK(simplex_class_ranges(size, bound, STREAM, 5, ranges, 9, &needed, bound ^ 1, &summary)
+                  == SIMPLEX_ARGUMENTS);
     }
     const struct simplex_row over = {4, 10, SIZE_MAX - 8, 9, 1, 0};
     const struct simplex_row last = {4, 10, SIZE_MAX - 9, 9, 1, 0};
@@ -636,6 +664,7 @@ static void audits_parts(const struct input *in, uint32_t wanted)
     CHECK(rows_len == whole.read);
     for (uint32_t classes = 1; classes < 6; classes++) {
         size_t read = 0, evidence = 0, splits = 0, length = 0, bytes = 0;
+        cuts_all(in, rows, rows_len, classes);
         for (uint32_t which = 0; which < classes; which++) {
             struct simplex_range *ranges = cuts(rows, rows_len, classes, which, &ranges_len);
             struct simplex_summary part = audits_ranges(in, ranges, ranges_len);
@@ -683,7 +712,7 @@ static void without_memory(const struct input *in)
     const struct simplex_range whole = {0, in->stream_len};
     const struct simplex_row row = {4, 10, 0, in->stream_len, 1, 0};
     long before = blocks;
-    for (int call = in->signature ? 0 : 1; call < 7; call++)
+    for (int call = in->signature ? 0 : 1; call < 8; call++)
         for (long k = 1;; k++) {
             struct simplex_summary summary = untouched;
             size_t size = 99;
@@ -703,6 +732,7 @@ static void without_memory(const struct input *in)
                               : call == 3 ? enlist(in, to.records, 500 / EVIDENCE, &summary)
                               : call == 4 ? tabulate(in, to.rows, 500 / ROW, &summary)
                               : call == 5 ? simplex_ranges(&row, 1, 5, 1, 0, to.ranges, 9, &size)
+                              : call == 6 ? cut_all(in, to.ranges, 500 / RANGE, &size, 1, &summary)
                                           : audit_ranges(in, &whole, 1, buffer, 500, &summary);
             int over = allowed > 0;
             allowed = -1;
@@ -1061,6 +1091,347 @@ static void placed(size_t signature)
     CHECK(stands_at(room, (size_t)(end - room), signature, SIMPLEX_NULLIFY_FINALIZE, vote, 0));
 }
 
+/* What a call is given that writes a message, or the bytes that are signed. */
+struct said {
+    uint32_t signature, kind, signer;
+    uint64_t epoch, view, parent;
+    const uint8_t *name, *payload, *attested;
+    size_t name_len, payload_len, attested_len;
+    const uint32_t *signers;
+    size_t signers_len;
+};
+
+#define VOTE it->kind, it->epoch, it->view, it->parent, it->payload, it->payload_len
+#define ATTESTED it->attested, it->attested_len
+
+typedef uint32_t writer(const struct said *it, uint8_t *to, size_t room, size_t *size);
+
+static uint32_t signs(const struct said *it, uint8_t *to, size_t room, size_t *size)
+{
+    return simplex_signed_bytes(it->name, it->name_len, VOTE, to, room, size);
+}
+
+static uint32_t votes(const struct said *it, uint8_t *to, size_t room, size_t *size)
+{
+    return simplex_write_vote(it->signature, VOTE, it->signer, ATTESTED, to, room, size);
+}
+
+static uint32_t certifies(const struct said *it, uint8_t *to, size_t room, size_t *size)
+{
+    return simplex_write_certificate(it->signature, VOTE, it->signers, it->signers_len, ATTESTED, to,
+                                     room, size);
+}
+
+/* The call writes these bytes into a buffer that is long enough, and nothing into a shorter one nor
+ * where an allocation fails. */
+static void writes(writer *call, const struct said *it, const uint8_t *wanted, size_t len)
+{
+    const size_t rooms[] = {0, len - 1, len, len + 3};
+    for (size_t i = 0; i < 4; i++) {
+        size_t room = rooms[i], size = 99;
+        uint8_t *to = block(room, 0xaa);
+        uint32_t status = call(it, to, room, &size);
+        CHECK(size == len);
+        if (room < len)
+            CHECK(status == SIMPLEX_SHORT && all(to, room, 0xaa));
+        else
+            CHECK(status == SIMPLEX_WHOLE && !memcmp(to, wanted, len) &&
+                  all(to + len, room - len, 0xaa));
+        free(to);
+    }
+    uint8_t *to = block(len, 0xaa);
+    long before = blocks;
+    for (long k = 1;; k++) {
+        size_t size = 99;
+        allowed = k;
+        uint32_t status = call(it, to, len, &size);
+        int over = allowed > 0;
+        allowed = -1;
+        CHECK(blocks == before);
+        if (over) {
+            CHECK(status == SIMPLEX_WHOLE && k > 1);
+            break;
+        }
+        CHECK(status == SIMPLEX_MEMORY && size == 99 && all(to, len, 0xaa));
+    }
+    free(to);
+}
+
+/* The call refuses its arguments, and writes nothing. */
+static void declines(writer *call, struct said it)
+{
+    uint8_t to[700];
+    size_t size = 99;
+    memset(to, 7, sizeof to);
+    CHECK(call(&it, to, sizeof to, &size) == SIMPLEX_ARGUMENTS);
+    CHECK(size == 99 && all(to, sizeof to, 7));
+}
+
+#define DECLINES(call, it, field, value)                                                           \
+    do {                                                                                           \
+        struct said other = it;                                                                    \
+        other.field = value;                                                                       \
+        declines(call, other);                                                                     \
+    } while (0)
+
+/* The message at the front of the bytes is of this kind, has this length and these attestations.
+ * Each is a signature of `signature` bytes that ends at its verdict. */
+static void reads(uint32_t signature, const uint8_t *bytes, size_t len, uint32_t kind, size_t length,
+                  size_t attestations)
+{
+    static const struct simplex_message old = {99, 99, 99, 99, 99, 99, 99};
+    uint8_t *whole = copy(bytes, len);
+    for (size_t room = 0; room <= attestations + 1; room++) {
+        struct simplex_suspect *found = (void *)block(room * RECORD, 7);
+        struct simplex_message message = old;
+        uint32_t status = simplex_read_message(signature, 4, whole, len, found, room, &message);
+        CHECK(message.epoch == 4 && message.view == 10 && message.kind == kind);
+        CHECK(message.length == length && message.attestations == attestations);
+        CHECK(message.parent == (kind == 3 || kind == 9 ? 0 : 5));
+        CHECK(message.second_parent == (kind < 7 ? 0 : 5));
+        if (room < attestations) {
+            CHECK(status == SIMPLEX_SHORT && all((uint8_t *)found, room * RECORD, 7));
+        } else {
+            CHECK(status == SIMPLEX_WHOLE);
+            for (size_t i = 0; i < attestations; i++) {
+                const struct simplex_suspect *it = &found[i];
+                const uint8_t *verdict = whole + it->verdict_place;
+                CHECK(it->epoch == 4 && it->view == 10);
+                CHECK(it->subject_length == (it->kind == SIMPLEX_NULLIFY ? 2 : 35));
+                CHECK(whole[it->subject_place] == 4 && whole[it->subject_place + 1] == 10);
+                if (signature != 32)
+                    CHECK(*verdict <= 1 && all(verdict - signature, signature, 0xee));
+                CHECK(*(verdict - signature - (signature == 32 ? 0 : 1)) == it->signer);
+            }
+            CHECK(all((uint8_t *)(found + attestations), (room - attestations) * RECORD, 7));
+        }
+        free(found);
+    }
+    /* a byte too short, and arguments that are refused */
+    struct simplex_suspect none[1];
+    struct simplex_message message;
+    memcpy(&message, &old, sizeof old); /* its padding too, which is compared */
+    memset(none, 7, sizeof none);
+    CHECK(simplex_read_message(signature, 4, whole, length - 1, none, 1, &message) == SIMPLEX_FAULT);
+    CHECK(simplex_read_message(signature, 4, whole, 0, none, 1, &message) == SIMPLEX_FAULT);
+    CHECK(simplex_read_message(signature, 0, whole, len, none, 1, &message) == SIMPLEX_ARGUMENTS);
+    CHECK(simplex_read_message(33, 4, whole, len, none, 1, &message) == SIMPLEX_ARGUMENTS);
+    CHECK(!memcmp(&message, &old, sizeof old) && all((uint8_t *)none, sizeof none, 7));
+    long before = blocks;
+    for (long k = 1;; k++) {
+        allowed = k;
+        uint32_t status = simplex_read_message(signature, 4, whole, len, none, 0, &message);
+        int over = allowed > 0;
+        allowed = -1;
+        CHECK(blocks == before);
+        if (over) {
+            CHECK(status == SIMPLEX_SHORT && k > 1);
+            break;
+        }
+        CHECK(status == SIMPLEX_MEMORY && !memcmp(&message, &old, sizeof old));
+    }
+    free(whole);
+}
+
+/* Messages that are written are those that the other tests put together by hand, and are read again. */
+static void messages(size_t signature)
+{
+    uint8_t wanted[700], payload[32], attested[300], *end;
+    const uint32_t three[] = {0, 1, 2}, falling[] = {0, 2, 1}, twice[] = {1, 1, 2};
+    memset(payload, 6, 32);
+    memset(attested, 0xee, sizeof attested);
+    for (size_t i = 1; i <= 3; i++)
+        attested[i * (signature + 1) - 1] = 1;
+    struct said it = {.signature = (uint32_t)signature, .epoch = 4, .view = 10, .parent = 5,
+                      .name = payload, .payload = payload, .payload_len = 32, .signer = 2,
+                      .attested = attested, .attested_len = signature + 1};
+    /* votes: each kind, a signer of three bytes, and every verdict as it is given */
+    end = put_notarize(wanted, 4, 2, 6, signature, 1);
+    writes(votes, &it, wanted, (size_t)(end - wanted));
+    reads(it.signature, wanted, (size_t)(end - wanted), 0, (size_t)(end - wanted), 1);
+    it.kind = SIMPLEX_FINALIZE;
+    end = put_finalize(wanted, 4, 2, 6, signature);
+    writes(votes, &it, wanted, (size_t)(end - wanted));
+    it.kind = SIMPLEX_NOTARIZE;
+    it.signer = 70000;
+    for (unsigned verdict = 0; verdict < 256; verdict += 51) {
+        attested[signature] = (uint8_t)verdict;
+        end = put_notarize(wanted, 4, 70000, 6, signature, (uint8_t)verdict);
+        writes(votes, &it, wanted, (size_t)(end - wanted));
+    }
+    attested[signature] = 1;
+    it.signer = 2;
+    struct said nullify = it;
+    nullify.kind = SIMPLEX_NULLIFY;
+    nullify.parent = nullify.payload_len = 0;
+    end = put_nullify(wanted, 4, 2, signature);
+    writes(votes, &nullify, wanted, (size_t)(end - wanted));
+    reads(it.signature, wanted, (size_t)(end - wanted), 3, (size_t)(end - wanted), 1);
+    /* what is signed */
+    it.name_len = 32;
+    wanted[0] = 41;
+    memset(wanted + 1, 6, 32);
+    memcpy(wanted + 33, "_NOTARIZE\x04\x0a\x05", 12);
+    memset(wanted + 45, 6, 32);
+    writes(signs, &it, wanted, 77);
+    nullify.name_len = 0;
+    writes(signs, &nullify, (const uint8_t *)"\x08_NULLIFY\x04\x0a", 11);
+    /* certificates */
+    it.signers = three;
+    it.signers_len = 3;
+    it.attested_len = 3 * (signature + 1);
+    it.kind = 1;
+    end = put_notarization(wanted, 4, 6, signature);
+    writes(certifies, &it, wanted, (size_t)(end - wanted));
+    reads(it.signature, wanted, (size_t)(end - wanted), 1, (size_t)(end - wanted), 3);
+    it.kind = wanted[0] = 2;
+    writes(certifies, &it, wanted, (size_t)(end - wanted));
+    it.kind = wanted[0] = 6;
+    writes(certifies, &it, wanted, (size_t)(end - wanted));
+    /* refusals */
+    DECLINES(certifies, it, kind, 0);
+    DECLINES(certifies, it, kind, 3);
+    DECLINES(certifies, it, kind, 4); /* a nullification has neither parent nor payload */
+    DECLINES(certifies, it, kind, 7);
+    DECLINES(certifies, it, signature, 49);
+    DECLINES(certifies, it, signers, falling);
+    DECLINES(certifies, it, signers, twice);
+    DECLINES(certifies, it, signers_len, 2);
+    DECLINES(certifies, it, attested_len, it.attested_len - 1);
+    DECLINES(certifies, it, payload_len, 31);
+    it.signers_len = it.attested_len = 0;
+    declines(certifies, it);
+    it.kind = SIMPLEX_NOTARIZE;
+    it.attested_len = signature + 1;
+    DECLINES(votes, it, kind, 3);
+    DECLINES(votes, it, signature, 0);
+    DECLINES(votes, it, attested_len, signature);
+    DECLINES(votes, it, payload_len, 0);
+    DECLINES(votes, nullify, parent, 5);
+    DECLINES(votes, nullify, payload_len, 32);
+    DECLINES(signs, it, kind, 3);
+    DECLINES(signs, it, payload_len, 31);
+    DECLINES(signs, nullify, parent, 1);
+}
+
+/* The evidence is judged so, and no other arguments are. */
+static void judges(size_t signature, const uint8_t *evidence, size_t len, uint32_t kind,
+                   uint32_t proved)
+{
+    static const uint64_t epochs[] = {4, 5};
+    static const uint32_t four[] = {4, 4};
+    static const struct simplex_accusation old = {99, 99, 99, 99, 99};
+    const uint32_t size = (uint32_t)signature;
+    uint8_t *whole = copy(evidence, len);
+    struct simplex_accusation it = old;
+    CHECK(simplex_verify_evidence(size, epochs, 0, four, 1, whole, len, &it) == SIMPLEX_WHOLE);
+    CHECK(it.epoch == 4 && it.view == 10 && it.signer == 2 && it.kind == kind);
+    CHECK(it.proved == proved);
+    it = old;
+    CHECK(simplex_verify_evidence(size, epochs, 2, four, 2, whole, len, &it) == SIMPLEX_WHOLE);
+    CHECK(it.proved == proved);
+    /* under no committee of the epoch, and under one without the signer, nothing is proved */
+    CHECK(simplex_verify_evidence(size, epochs + 1, 1, four, 1, whole, len, &it) == SIMPLEX_WHOLE);
+    CHECK(it.signer == 2 && it.proved == 0);
+    static const uint32_t two[] = {2};
+    CHECK(simplex_verify_evidence(size, epochs, 0, two, 1, whole, len, &it) == SIMPLEX_WHOLE);
+    CHECK(it.proved == 0);
+    memcpy(&it, &old, sizeof old); /* its padding too, which is compared */
+    CHECK(simplex_verify_evidence(size, epochs, 0, four, 1, whole, len - 1, &it) == SIMPLEX_FAULT);
+    CHECK(simplex_verify_evidence(size, epochs, 0, four, 1, whole, 0, &it) == SIMPLEX_FAULT);
+    CHECK(simplex_verify_evidence(32, epochs, 0, four, 1, whole, len, &it) == SIMPLEX_ARGUMENTS);
+    CHECK(simplex_verify_evidence(size, epochs, 0, four, 2, whole, len, &it) == SIMPLEX_ARGUMENTS);
+    CHECK(!memcmp(&it, &old, sizeof old));
+    long before = blocks;
+    for (long k = 1;; k++) {
+        allowed = k;
+        uint32_t status = simplex_verify_evidence(size, epochs, 0, four, 1, whole, len, &it);
+        int over = allowed > 0;
+        allowed = -1;
+        CHECK(blocks == before);
+        if (over) {
+            CHECK(status == SIMPLEX_WHOLE && k > 1);
+            break;
+        }
+        CHECK(status == SIMPLEX_MEMORY && !memcmp(&it, &old, sizeof old));
+    }
+    free(whole);
+}
+
+/* Evidence of each kind by itself; with a byte behind it; and messages that are none. */
+static void accuses(size_t signature)
+{
+    static const uint32_t four[] = {4};
+    static const uint64_t epoch[] = {0};
+    const size_t vote = 38 + signature;
+    uint8_t cast[400], room[700], *end;
+    struct simplex_accusation it = {99, 99, 99, 99, 99};
+    for (uint32_t verdict = 0; verdict < 2; verdict++) {
+        size_t n = two(cast, 4, 2, signature, (uint8_t)verdict);
+        end = put_conflict(room, cast, cast + n / 2, n / 2);
+        judges(signature, room, (size_t)(end - room), SIMPLEX_CONFLICTING_NOTARIZE, verdict);
+        reads((uint32_t)signature, room, (size_t)(end - room), 7, (size_t)(end - room), 2);
+        room[0] = 8;
+        judges(signature, room, (size_t)(end - room), SIMPLEX_CONFLICTING_FINALIZE, verdict);
+    }
+    const size_t len = (size_t)(end - room);
+    CHECK(simplex_verify_evidence((uint32_t)signature, epoch, 0, four, 1, room, len + 1, &it) ==
+          SIMPLEX_FAULT);
+    /* a nullify and a finalize, each without its tag */
+    end = put_nullify(cast, 4, 2, signature);
+    const size_t first = (size_t)(end - cast), both = first + vote - 1;
+    room[0] = 9;
+    memcpy(room + 1, cast + 1, first - 1);
+    put_finalize(cast, 4, 2, 6, signature);
+    memcpy(room + first, cast + 1, vote - 1);
+    judges(signature, room, both, SIMPLEX_NULLIFY_FINALIZE, 1);
+    reads((uint32_t)signature, room, both, 9, both, 2);
+    end = put_notarize(room, 4, 2, 6, signature, 1);
+    CHECK(simplex_verify_evidence((uint32_t)signature, epoch, 0, four, 1, room,
+                                  (size_t)(end - room), &it) == SIMPLEX_FAULT);
+    end = put_notarization(room, 4, 6, signature);
+    CHECK(simplex_verify_evidence((uint32_t)signature, epoch, 0, four, 1, room,
+                                  (size_t)(end - room), &it) == SIMPLEX_FAULT);
+    CHECK(it.epoch == 99 && it.proved == 99);
+}
+
+/* The sample's two notarizes as evidence, under the plain scheme. */
+static void accuses_plain(const uint8_t *sample)
+{
+    uint8_t *keys = block(64, 0), room[200];
+    size_t len = (size_t)(put_conflict(room, sample, sample + 69, 69) - room);
+    struct simplex_accusation it = {99, 99, 99, 99, 99};
+    const uint8_t *name = (const uint8_t *)"test";
+    CHECK(simplex_verify_evidence_plain(name, 4, keys, 32, room, len, &it) == SIMPLEX_WHOLE);
+    CHECK(it.epoch == sample[1] && it.view == sample[2] && it.signer == 0 && it.proved == 1);
+    CHECK(it.kind == SIMPLEX_CONFLICTING_NOTARIZE);
+    CHECK(simplex_verify_evidence_plain(name, 3, keys, 32, room, len, &it) == SIMPLEX_WHOLE);
+    CHECK(it.proved == 0);
+    it.proved = 99;
+    CHECK(simplex_verify_evidence_plain(name, 4, keys, 64, room, len, &it) == SIMPLEX_ARGUMENTS);
+    CHECK(simplex_verify_evidence_plain(name, 4, keys, 0, room, len, &it) == SIMPLEX_ARGUMENTS);
+    CHECK(simplex_verify_evidence_plain(name, 4, keys, 32, sample, 69, &it) == SIMPLEX_FAULT);
+    CHECK(it.proved == 99);
+    /* the sample's first vote, written anew */
+    struct said vote = {.signature = 32, .epoch = sample[1], .view = sample[2],
+                        .parent = sample[3], .payload = sample + 4, .payload_len = 32,
+                        .name = name, .name_len = 4, .attested = sample + 37, .attested_len = 32};
+    writes(votes, &vote, sample, 69);
+    const uint32_t first[] = {0};
+    uint8_t wanted[70];
+    memcpy(wanted, sample, 36);
+    wanted[0] = 1;
+    wanted[36] = 1;
+    memcpy(wanted + 37, sample + 36, 33);
+    vote.kind = 1;
+    vote.signers = first;
+    vote.signers_len = 1;
+    writes(certifies, &vote, wanted, 70);
+    vote.attested_len = 33;
+    declines(certifies, vote);
+    free(keys);
+}
+
 /* The records of what was stored with the stream behind it, as a batch: those with at least one
  * place in the batch are those that what was stored does not have. Returns how many they are. */
 static size_t renewed(const struct input *in)
@@ -1257,7 +1628,7 @@ static void limited(const uint8_t *sample, size_t len)
     for (size_t epochs = 0; epochs < 2; epochs++) {
         struct simplex_summary summary = untouched;
         uint8_t text[9] = {7, 7, 7, 7, 7, 7, 7, 7, 7};
-        uint32_t status = simplex_audit_vouched_64(epoch, epochs, most, 1, sample, len, text,
+        uint32_t status = simplex_audit(64, epoch, epochs, most, 1, sample, len, text,
                                                    sizeof text, &summary);
         CHECK(status == SIMPLEX_MEMORY && is_untouched(&summary) && all(text, sizeof text, 7));
     }
@@ -1326,6 +1697,13 @@ int main(int argc, char **argv)
     renews(48);
     renews(64);
     renews(96);
+    messages(48);
+    messages(64);
+    messages(96);
+    accuses(48);
+    accuses(64);
+    accuses(96);
+    accuses_plain(sample);
     many();
     many_lead();
     numbers();

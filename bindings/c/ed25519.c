@@ -130,7 +130,7 @@ static const uint32_t sizes[] = {MEMBERS};
 static void audit(const struct bytes *stream, char *text, size_t room,
                   struct simplex_summary *summary)
 {
-    uint32_t status = simplex_audit_vouched_64(epochs, 1, sizes, 1, stream->at, stream->len,
+    uint32_t status = simplex_audit(64, epochs, 1, sizes, 1, stream->at, stream->len,
                                                (uint8_t *)text, room, summary);
     if (status != SIMPLEX_WHOLE) {
         fprintf(stderr, "status %u\n", (unsigned)status);
@@ -143,7 +143,7 @@ static void print_places(const struct bytes *stream)
 {
     struct simplex_record records[10];
     struct simplex_summary summary;
-    uint32_t status = simplex_records_vouched_64(epochs, 1, sizes, 1, stream->at, stream->len,
+    uint32_t status = simplex_records(64, epochs, 1, sizes, 1, stream->at, stream->len,
                                                  records, 10, &summary);
     if (status != SIMPLEX_WHOLE)
         abort();
@@ -158,7 +158,7 @@ static size_t verify_suspects(EVP_PKEY **keys, struct bytes *stream)
 {
     struct simplex_suspect records[100];
     size_t needed;
-    uint32_t status = simplex_suspects_vouched_64(epochs, 1, sizes, 1, stream->at, stream->len,
+    uint32_t status = simplex_suspects(64, epochs, 1, sizes, 1, stream->at, stream->len,
                                                   records, 100, &needed);
     if (status != SIMPLEX_WHOLE)
         abort();

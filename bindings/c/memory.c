@@ -108,13 +108,13 @@ int main(int argc, char **argv)
     struct simplex_suspect suspects[1];
     struct simplex_summary summary = {0};
     before = begin();
-    uint32_t status = simplex_audit_vouched_48(epochs, 0, sizes, 1, stream, len, text, 0, &summary);
+    uint32_t status = simplex_audit(48, epochs, 0, sizes, 1, stream, len, text, 0, &summary);
     int is_well = shown("audit", status, summary.evidence, before);
     before = begin();
-    status = simplex_records_vouched_48(epochs, 0, sizes, 1, stream, len, records, 0, &summary);
+    status = simplex_records(48, epochs, 0, sizes, 1, stream, len, records, 0, &summary);
     is_well &= shown("records", status, summary.evidence, before);
     before = begin();
-    status = simplex_suspects_vouched_48(epochs, 0, sizes, 1, stream, len, suspects, 0, &needed);
+    status = simplex_suspects(48, epochs, 0, sizes, 1, stream, len, suspects, 0, &needed);
     is_well &= shown("suspects", status, needed, before);
     free(stream);
     return !is_well;

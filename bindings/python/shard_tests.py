@@ -19,7 +19,8 @@ import unittest.mock
 import simplex_audit
 import simplex_shards
 from simplex_audit import Committees, Encoder, Vote, audit
-from simplex_shards import Range, Row, audit_files, audit_parallel, audit_ranges, class_of, index, join, merge, ranges, split
+from simplex_shards import (Range, Row, audit_files, audit_parallel, audit_ranges, class_of, class_ranges, index, join, merge,
+                            ranges, split)
 from tests import certificates, plain_vote, valid
 
 PARTICIPANTS = 7
@@ -160,7 +161,7 @@ class Tests(unittest.TestCase):
 
     def test_ranges(self):
         for who, stream in streams():
-            rows = index(who, stream).rows
+            rows, fault = index(who, stream)
             for classes in (1, 2, 64):
                 wanted = [[] for _ in range(classes)]
                 for it in rows:
@@ -170,6 +171,10 @@ class Tests(unittest.TestCase):
                     of_class.append((place, it.place + it.length))
                 found = [ranges(rows, 7, classes, which) for which in range(classes)]
                 self.assertEqual([[(it.place, it.place + it.length) for it in each] for each in found], wanted)
+                # and so in one reading
+                once = class_ranges(who, stream, 7, classes)
+                self.assertEqual([*map(bytes, once.ranges)], [*map(bytes, found)])
+                self.assertEqual((once.read, once.fault), (len(rows), fault))
 
     def test_merged_reports_are_that_of_the_stream(self):
         for who, stream in streams():
@@ -242,6 +247,9 @@ class Tests(unittest.TestCase):
             lambda: ranges(rows, 0, 3, 3),
             lambda: ranges((Row * 1)(beyond), 0, 1, 0),
             lambda: ranges(bytes(47), 0, 1, 0),
+            lambda: class_ranges(who, stream, 0, 0),
+            lambda: class_ranges(who, stream, 1 << 64, 1),
+            lambda: class_ranges(Committees.every(64, 0), stream, 0, 1),
             lambda: audit_ranges(who, stream, (Range * 1)(Range(len(stream), 1))),
             lambda: audit_ranges(who, stream, (Range * 1)(Range((1 << 64) - 1, 2))),
             lambda: audit_ranges(Committees.every(64, 0), stream, (Range * 0)()),

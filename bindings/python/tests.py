@@ -5,12 +5,14 @@ import ctypes
 import doctest
 import hashlib
 import mmap
+import random
 import tempfile
 import unittest
 import unittest.mock
 
 import simplex_audit
-from simplex_audit import Committees, Encoder, Vote, audit, audit_deferred, new_records, records, store
+from simplex_audit import (Committees, Encoder, Vote, audit, audit_deferred, new_records, read_message, records, store,
+                           verify_evidence)
 
 
 def valid(vote, signer, signature):
@@ -203,18 +205,47 @@ class Tests(unittest.TestCase):
             ):
                 self.assertRaises(error, call)
 
+    def test_messages_are_read_as_they_were_written(self):
+        chance = random.Random(5)
+        notarize, nullify, finalize = (Vote("notarize", 3, 300, 5, bytes([6] * 32)), Vote("nullify", 3, 300),
+                                       Vote("finalize", 3, 300, 7, bytes([8] * 32)))
+        for size in (48, 64, 96):
+            committees = Committees.every(size, 9)
+            for vote, kind in ((notarize, 0), (nullify, 3), (finalize, 5)):
+                alone, listed = Encoder(size), Encoder(size)
+                signed = [(signer, chance.randbytes(size)) for signer in (0, 3, 8)]
+                alone.vote(vote, *signed[1])
+                listed.certificate(vote, signed)
+                for stream, number, of in ((alone, kind, signed[1:2]), (listed, kind + 1, signed)):
+                    data = stream.encoded()
+                    message = read_message(committees, data + b"behind")
+                    self.assertEqual(message[:4], (3, 300, number, len(data)))
+                    self.assertEqual([(it.vote, it.signer, data[it.signature]) for it in message.attestations],
+                                     [(vote, *it) for it in of])
+                    self.assertIsNone(read_message(committees, data[:-1]))
+            stored = store(committees, b"", two_votes(10) if size == 64 else b"")
+            if stored:
+                first, second = read_message(committees, stored).attestations
+                self.assertEqual((first.vote.kind, second.vote.kind, first.signer), ("notarize", "notarize", second.signer))
+                self.assertNotEqual(first.vote.payload, second.vote.payload)
+        notarize = bytes([0, 0, 10, 5]) + bytes([6] * 32) + bytes([0]) + bytes([9] * 32)
+        plain = read_message(Committees.plain(b"test", [bytes(32)]), notarize)
+        self.assertEqual((plain.length, plain.attestations[0].signature), (69, slice(37, 69)))
+        self.assertIsNone(read_message(Committees.every(64, 4), b""))
+        self.assertRaises(ValueError, read_message, Committees.every(64, 0), b"")
+
     def test_streams_are_not_copied_and_not_held(self):
         committees, stream = Committees.every(64, 4), bytearray(two_votes(10))
         seen = []
 
         def call(*arguments):
-            seen.append(arguments[4])
+            seen.append(arguments[5])
             # during the call the stream cannot be resized
             self.assertRaises(BufferError, stream.append, 0)
-            return library.simplex_audit_vouched_64(*arguments)
+            return library.simplex_audit(*arguments)
 
         library = simplex_audit._library
-        with unittest.mock.patch.object(simplex_audit, "_library", unittest.mock.Mock(simplex_audit_vouched_64=call)):
+        with unittest.mock.patch.object(simplex_audit, "_library", unittest.mock.Mock(simplex_audit=call)):
             self.assertEqual(len(audit(committees, stream).evidence), 1)
             self.assertEqual(len(audit(committees, memoryview(stream)[102:].toreadonly()).evidence), 0)
         self.assertEqual(seen, [address(stream), address(stream) + 102])
@@ -236,7 +267,7 @@ class Tests(unittest.TestCase):
                     if size:
                         self.assertEqual(len(committees._suspects(stream)), 3 * n)
                 made = ["audit", "records", "store", "store"] + ["suspects"] * bool(size)
-                self.assertEqual(calls, [f"simplex_{it}_{committees._suffix}" for it in made])
+                self.assertEqual(calls, [f"simplex_{it}{committees._suffix}" for it in made])
                 # with many signers no more is reserved than twice what is needed
                 text, messages = committees._most_text(len(stream)), committees._most_messages(len(stream))
                 self.assertTrue(n < 100 or (text < 2 * len(report.text) and messages < 2 * len(stored)))
@@ -328,6 +359,34 @@ class Tests(unittest.TestCase):
             self.assertEqual((new.kind, sorted(it < len(stored) for it in new[4:])), (kind, [False, True]))
         self.assertEqual(len(new_records(committees, stored, two_votes(11) + two_votes(12, signer=1))), 2)
 
+    def test_evidence_by_itself(self):
+        for committees, first, second in contradictions():
+            evidence = store(committees, first, second)
+            (wanted,) = audit(committees, evidence).evidence
+            found = verify_evidence(committees, evidence)
+            self.assertEqual(found, (wanted.epoch, wanted.view, wanted.signer, wanted.kind, True))
+            for other in (first, evidence[1:], evidence[:-1], evidence + b"\0", b""):
+                self.assertIsNone(verify_evidence(committees, other))
+            if committees._size:
+                # the verdict of the second vote
+                self.assertFalse(verify_evidence(committees, evidence[:-1] + b"\0").proved)
+            else:
+                self.assertFalse(verify_evidence(Committees.plain(b"other", [bytes(32)]), evidence).proved)
+        self.assertRaises(ValueError, verify_evidence, Committees.every(64, 0), b"")
+
+    def test_numbers_of_votes(self):
+        for number in (0, 127, 128, 300, (1 << 63), (1 << 64) - 1):
+            vote = Vote("finalize", number, number, number, bytes(32))
+            groups = number.bit_length() // 7 + (number.bit_length() % 7 > 0) or 1
+            self.assertEqual(len(vote.message()), 3 * groups + 32)
+            stream, seen = Encoder(48), []
+            for payload in (bytes([6] * 32), bytes([7] * 32)):
+                stream.vote(vote._replace(payload=payload), 1, bytes(48))
+            audit_deferred(Committees.every(48, 4), stream.encoded(), lambda vote, signer, signature: seen.append(vote))
+            self.assertEqual([it[:4] for it in seen], [vote[:4]] * 2)
+        self.assertRaises(ValueError, Vote("nullify", 1 << 64, 0).message)
+        self.assertRaises(ValueError, Vote("nullify", 0, -1).signed_bytes, b"")
+
     def test_refusals(self):
         for refused in (
             lambda: audit(Committees.every(64, 0), b""),
@@ -344,6 +403,8 @@ class Tests(unittest.TestCase):
             lambda: Encoder(64).certificate(Vote("nullify", 3, 10), [(1, bytes(64)), (0, bytes(64))], valid),
             lambda: Encoder(64).certification(Vote("finalize", 3, 10, 5, bytes(32)), [(0, bytes(64))], valid),
             lambda: Encoder(64).vote(Vote("notarise", 3, 10, 5, bytes(32)), 0, bytes(64), valid),
+            lambda: Encoder(64).certificate(Vote("notarise", 3, 10, 5, bytes(32)), [(0, bytes(64))], valid),
+            lambda: Encoder(65).vote(Vote("nullify", 3, 10), 0, bytes(65), valid),
             lambda: Encoder(64).vote(Vote("notarize", 3, 10, 5, bytes(31)), 0, bytes(64), valid),
             lambda: Encoder(64).vote(Vote("finalize", 3, 10, 5, bytes(106)), 0, bytes(64), valid),
             lambda: Encoder(64).vote(Vote("nullify", 3, 10), 0, array.array("I", bytes(256)), valid),
@@ -355,7 +416,7 @@ class Tests(unittest.TestCase):
             self.assertRaises(ValueError, refused)
 
     def test_views(self):
-        self.assertEqual((simplex_audit.max_faults(4), simplex_audit.quorum(4), simplex_audit.version()), (1, 3, 1))
+        self.assertEqual((simplex_audit.max_faults(4), simplex_audit.quorum(4), simplex_audit.version()), (1, 3, 2))
         self.assertEqual([simplex_audit.admits(1, 0, 10, it) for it in (11, 14)], [True, False])
         self.assertTrue(simplex_audit.admits_outbound(1, 0, 10, 10))
         self.assertEqual(simplex_audit.leader(4, 1, 3, 10), 1)
@@ -363,8 +424,16 @@ class Tests(unittest.TestCase):
         self.assertIn(simplex_audit.issuance_floor(1, 0, 10), (None, *range(11)))
 
 
+    def test_the_shared_library_is_loaded_once(self):
+        simplex_audit.version()
+        self.assertRaises(RuntimeError, simplex_audit.load, simplex_audit._library._loaded._name)
+        # the process itself has no such calls
+        self.assertRaises(OSError, simplex_audit._Library().load, ctypes.CDLL(None))
+        self.assertRaises(AttributeError, getattr, simplex_audit._library, "simplex_no_such_call")
+
+
 def load_tests(loader, tests, pattern):
-    tests.addTests(doctest.DocTestSuite(simplex_audit))
+    tests.addTests([doctest.DocTestSuite(simplex_audit), doctest.DocFileSuite("README.md")])
     return tests
 
 

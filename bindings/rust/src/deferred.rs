@@ -1,5 +1,5 @@
 use crate::committees::Members;
-use crate::{audit, ffi, Committees, Error, Report, Verifier, Vote};
+use crate::{audit, ffi, read_message, Committees, Error, Report, Size, Verifier, Vote};
 
 /// Verifies nothing: with it an [`Encoder`](crate::Encoder) writes a stream whose signatures [`audit_deferred`] verifies.
 #[derive(Clone, Copy, Debug)]
@@ -46,39 +46,25 @@ pub(crate) fn audit_verified(committees: &Committees, mut stream: Vec<u8>, verif
         for suspect in ffi::suspects(committees, &stream)? {
             let subject = &stream[suspect.subject_place..][..suspect.subject_length];
             let signature = &stream[suspect.verdict_place - size.bytes()..suspect.verdict_place];
-            let vote = vote_of(suspect.kind, subject).ok_or(Error::Arguments)?;
+            let vote = vote_of(committees, *size, suspect.kind, subject)?;
             stream[suspect.verdict_place] = u8::from(verifier.verify(&vote, suspect.signer, signature));
         }
     }
     audit(committees, &stream)
 }
 
-/// The vote of this kind with this subject.
-fn vote_of(kind: u32, mut subject: &[u8]) -> Option<Vote> {
-    let bytes = &mut subject;
-    let (epoch, view) = (take_number(bytes)?, take_number(bytes)?);
-    if kind == ffi::NULLIFY {
-        return Some(Vote::Nullify { epoch, view });
-    }
-    let parent = take_number(bytes)?;
-    let payload = (*bytes).try_into().ok()?;
-    match kind {
-        ffi::NOTARIZE => Some(Vote::Notarize { epoch, view, parent, payload }),
-        ffi::FINALIZE => Some(Vote::Finalize { epoch, view, parent, payload }),
-        _ => None,
-    }
-}
-
-/// Takes a number from the start of some bytes: seven bits a byte, the least significant first.
-fn take_number(bytes: &mut &[u8]) -> Option<u64> {
-    let mut number = 0;
-    for shift in (0..64).step_by(7) {
-        let (byte, rest) = bytes.split_first()?;
-        *bytes = rest;
-        number |= u64::from(byte & 127) << shift;
-        if *byte < 128 {
-            return Some(number);
-        }
-    }
-    None
+/// The vote of this kind with this subject: the message of which it is, signer and signature being zeros, is read.
+fn vote_of(committees: &Committees, size: Size, kind: u32, subject: &[u8]) -> Result<Vote, Error> {
+    let tag = match kind {
+        ffi::NOTARIZE => 0,
+        ffi::NULLIFY => 3,
+        _ => 5,
+    };
+    let mut message = [&[tag], subject].concat();
+    message.resize(message.len() + 1 + size.bytes() + 1, 0);
+    let read = read_message(committees, &message)?.ok_or(Error::Arguments)?;
+    let [attestation] = read.attestations.as_slice() else {
+        return Err(Error::Arguments);
+    };
+    Ok(attestation.vote)
 }

@@ -1,4 +1,5 @@
-use crate::{Error, Size};
+use crate::{ffi, Error, Size};
+use std::alloc::{handle_alloc_error, Layout};
 
 /// A vote, without its signer and signature.
 #[derive(Clone, Copy, Debug, PartialEq, Eq)]
@@ -15,41 +16,20 @@ impl Vote {
     /// The bytes that are signed: the length of the namespace as a number, the namespace, and the vote's message. The namespace
     /// is the base and behind it `_NOTARIZE`, `_NULLIFY` or `_FINALIZE`.
     pub fn signed_bytes(&self, base: &[u8]) -> Vec<u8> {
-        let kind: &[u8] = match self {
-            Vote::Notarize { .. } => b"_NOTARIZE",
-            Vote::Nullify { .. } => b"_NULLIFY",
-            Vote::Finalize { .. } => b"_FINALIZE",
-        };
-        let mut bytes = Vec::new();
-        put_number(&mut bytes, (base.len() + kind.len()) as u64);
-        bytes.extend_from_slice(base);
-        bytes.extend_from_slice(kind);
-        self.put_message(&mut bytes);
-        bytes
+        // Any numbers and payload are those of a vote, so only memory can fail, as it can for any vector.
+        ffi::signed_bytes(base, &self.said()).unwrap_or_else(|_| handle_alloc_error(Layout::new::<Vote>()))
     }
 
-    /// Appends the proposal, or the round of a nullify.
-    fn put_message(&self, bytes: &mut Vec<u8>) {
+    /// What it says, as the calls of the library take it.
+    fn said(&self) -> ffi::Said<'_> {
         match *self {
-            Vote::Nullify { epoch, view } => {
-                put_number(bytes, epoch);
-                put_number(bytes, view);
+            Vote::Notarize { epoch, view, parent, ref payload } => {
+                ffi::Said { kind: ffi::NOTARIZE, epoch, view, parent, payload }
             }
-            Vote::Notarize { epoch, view, parent, payload } | Vote::Finalize { epoch, view, parent, payload } => {
-                put_number(bytes, epoch);
-                put_number(bytes, view);
-                put_number(bytes, parent);
-                bytes.extend_from_slice(&payload);
+            Vote::Nullify { epoch, view } => ffi::Said { kind: ffi::NULLIFY, epoch, view, parent: 0, payload: &[] },
+            Vote::Finalize { epoch, view, parent, ref payload } => {
+                ffi::Said { kind: ffi::FINALIZE, epoch, view, parent, payload }
             }
-        }
-    }
-
-    /// The tag of a vote of this kind.
-    fn tag(&self) -> u8 {
-        match self {
-            Vote::Notarize { .. } => 0,
-            Vote::Nullify { .. } => 3,
-            Vote::Finalize { .. } => 5,
         }
     }
 }
@@ -81,18 +61,20 @@ impl Encoder {
 
     /// Appends a vote. `Error::Arguments` where the signature has another size; nothing is written then.
     pub fn vote(&mut self, vote: &Vote, signer: u32, signature: &[u8], verifier: &dyn Verifier) -> Result<(), Error> {
-        self.check(signature)?;
-        let mut message = vec![vote.tag()];
-        vote.put_message(&mut message);
-        put_attestation(&mut message, vote, signer, signature, verifier);
-        self.bytes.append(&mut message);
-        Ok(())
+        let mut attested = Vec::new();
+        self.attest(&mut attested, vote, signer, signature, verifier)?;
+        ffi::write_vote(self.size, &vote.said(), signer, &attested, &mut self.bytes)
     }
 
     /// Appends a certificate that lists these signers, in ascending order, with the signatures. `Error::Arguments` if there is
     /// no signer, they do not ascend, or a signature has another size; nothing is written then.
     pub fn certificate(&mut self, vote: &Vote, listed: &[(u32, &[u8])], verifier: &dyn Verifier) -> Result<(), Error> {
-        self.put_certificate(certificate_tag(vote), vote, listed, verifier)
+        let kind = match vote {
+            Vote::Notarize { .. } => ffi::NOTARIZATION,
+            Vote::Nullify { .. } => ffi::NULLIFICATION,
+            Vote::Finalize { .. } => ffi::FINALIZATION,
+        };
+        self.list(kind, vote, listed, verifier)
     }
 
     /// Appends a certification, a notarization that a node accepted: what [`certificate`](Self::certificate) writes for a
@@ -115,27 +97,19 @@ impl Encoder {
     /// ```
     pub fn certification(&mut self, vote: &Vote, listed: &[(u32, &[u8])], verifier: &dyn Verifier) -> Result<(), Error> {
         match vote {
-            Vote::Notarize { .. } => self.put_certificate(2, vote, listed, verifier),
+            Vote::Notarize { .. } => self.list(ffi::CERTIFICATION, vote, listed, verifier),
             Vote::Nullify { .. } | Vote::Finalize { .. } => Err(Error::Arguments),
         }
     }
 
-    fn put_certificate(&mut self, tag: u8, vote: &Vote, listed: &[(u32, &[u8])], verifier: &dyn Verifier) -> Result<(), Error> {
-        let ascending = listed.windows(2).all(|pair| pair[0].0 < pair[1].0);
-        if listed.is_empty() || !ascending {
-            return Err(Error::Arguments);
-        }
-        for (_, signature) in listed {
-            self.check(signature)?;
-        }
-        let mut message = vec![tag];
-        vote.put_message(&mut message);
-        put_number(&mut message, listed.len() as u64);
+    /// Appends a certificate of this kind.
+    fn list(&mut self, kind: u32, vote: &Vote, listed: &[(u32, &[u8])], verifier: &dyn Verifier) -> Result<(), Error> {
+        let mut attested = Vec::with_capacity(listed.len() * (self.size.bytes() + 1));
         for (signer, signature) in listed {
-            put_attestation(&mut message, vote, *signer, signature, verifier);
+            self.attest(&mut attested, vote, *signer, signature, verifier)?;
         }
-        self.bytes.append(&mut message);
-        Ok(())
+        let signers: Vec<u32> = listed.iter().map(|one| one.0).collect();
+        ffi::write_certificate(self.size, kind, &vote.said(), &signers, &attested, &mut self.bytes)
     }
 
     /// The size of its signatures.
@@ -148,36 +122,20 @@ impl Encoder {
         &self.bytes
     }
 
-    fn check(&self, signature: &[u8]) -> Result<(), Error> {
-        if signature.len() == self.size.bytes() {
-            Ok(())
-        } else {
-            Err(Error::Arguments)
+    /// Appends a signature and the verdict on it.
+    fn attest(
+        &self,
+        attested: &mut Vec<u8>,
+        vote: &Vote,
+        signer: u32,
+        signature: &[u8],
+        verifier: &dyn Verifier,
+    ) -> Result<(), Error> {
+        if signature.len() != self.size.bytes() {
+            return Err(Error::Arguments);
         }
+        attested.extend_from_slice(signature);
+        attested.push(u8::from(verifier.verify(vote, signer, signature)));
+        Ok(())
     }
-}
-
-/// Appends a signer, its signature and the verdict.
-fn put_attestation(bytes: &mut Vec<u8>, vote: &Vote, signer: u32, signature: &[u8], verifier: &dyn Verifier) {
-    put_number(bytes, u64::from(signer));
-    bytes.extend_from_slice(signature);
-    bytes.push(u8::from(verifier.verify(vote, signer, signature)));
-}
-
-/// The tag of a certificate for such votes.
-fn certificate_tag(vote: &Vote) -> u8 {
-    match vote {
-        Vote::Notarize { .. } => 1,
-        Vote::Nullify { .. } => 4,
-        Vote::Finalize { .. } => 6,
-    }
-}
-
-/// Appends a number: seven bits a byte, the least significant first, each byte but the last with its top bit set.
-fn put_number(bytes: &mut Vec<u8>, mut number: u64) {
-    while number >= 128 {
-        bytes.push(number as u8 | 128);
-        number >>= 7;
-    }
-    bytes.push(number as u8);
 }

@@ -65,64 +65,56 @@ pub struct Range {
     pub length: usize,
 }
 
+/// `struct simplex_message`.
+#[repr(C)]
+#[derive(Clone, Copy, Debug, Default, PartialEq)]
+pub(crate) struct MessageHead {
+    pub epoch: u64,
+    pub view: u64,
+    pub parent: u64,
+    pub second_parent: u64,
+    pub length: usize,
+    pub attestations: usize,
+    pub kind: u32,
+}
+
+/// `struct simplex_accusation`.
+#[repr(C)]
+#[derive(Clone, Copy, Debug, Default, PartialEq)]
+pub(crate) struct AccusationRecord {
+    pub epoch: u64,
+    pub view: u64,
+    pub signer: u32,
+    pub kind: u32,
+    pub proved: u32,
+}
+
 #[rustfmt::skip]
 extern "C" {
     pub(crate) fn simplex_version() -> u32;
-    pub(crate) fn simplex_audit_vouched_48(
-        epochs: *const u64, epochs_len: usize, sizes: *const u32, sizes_len: usize, stream: *const u8, stream_len: usize,
-        text: *mut u8, text_len: usize, summary: *mut Summary,
-    ) -> u32;
-    pub(crate) fn simplex_audit_vouched_64(
-        epochs: *const u64, epochs_len: usize, sizes: *const u32, sizes_len: usize, stream: *const u8, stream_len: usize,
-        text: *mut u8, text_len: usize, summary: *mut Summary,
-    ) -> u32;
-    pub(crate) fn simplex_audit_vouched_96(
-        epochs: *const u64, epochs_len: usize, sizes: *const u32, sizes_len: usize, stream: *const u8, stream_len: usize,
-        text: *mut u8, text_len: usize, summary: *mut Summary,
+    pub(crate) fn simplex_audit(
+        signature: u32, epochs: *const u64, epochs_len: usize, sizes: *const u32, sizes_len: usize, stream: *const u8,
+        stream_len: usize, text: *mut u8, text_len: usize, summary: *mut Summary,
     ) -> u32;
     pub(crate) fn simplex_audit_plain(
         name: *const u8, name_len: usize, keys: *const u8, keys_len: usize, stream: *const u8, stream_len: usize,
         text: *mut u8, text_len: usize, summary: *mut Summary,
     ) -> u32;
-    pub(crate) fn simplex_store_vouched_48(
-        epochs: *const u64, epochs_len: usize, sizes: *const u32, sizes_len: usize, stored: *const u8, stored_len: usize,
-        batch: *const u8, batch_len: usize, evidence: *mut u8, evidence_len: usize, size: *mut usize,
-    ) -> u32;
-    pub(crate) fn simplex_store_vouched_64(
-        epochs: *const u64, epochs_len: usize, sizes: *const u32, sizes_len: usize, stored: *const u8, stored_len: usize,
-        batch: *const u8, batch_len: usize, evidence: *mut u8, evidence_len: usize, size: *mut usize,
-    ) -> u32;
-    pub(crate) fn simplex_store_vouched_96(
-        epochs: *const u64, epochs_len: usize, sizes: *const u32, sizes_len: usize, stored: *const u8, stored_len: usize,
-        batch: *const u8, batch_len: usize, evidence: *mut u8, evidence_len: usize, size: *mut usize,
+    pub(crate) fn simplex_store(
+        signature: u32, epochs: *const u64, epochs_len: usize, sizes: *const u32, sizes_len: usize, stored: *const u8,
+        stored_len: usize, batch: *const u8, batch_len: usize, evidence: *mut u8, evidence_len: usize, size: *mut usize,
     ) -> u32;
     pub(crate) fn simplex_store_plain(
         name: *const u8, name_len: usize, keys: *const u8, keys_len: usize, stored: *const u8, stored_len: usize,
         batch: *const u8, batch_len: usize, evidence: *mut u8, evidence_len: usize, size: *mut usize,
     ) -> u32;
-    pub(crate) fn simplex_suspects_vouched_48(
-        epochs: *const u64, epochs_len: usize, sizes: *const u32, sizes_len: usize, stream: *const u8, stream_len: usize,
-        records: *mut AttestationPlace, records_len: usize, needed: *mut usize,
+    pub(crate) fn simplex_suspects(
+        signature: u32, epochs: *const u64, epochs_len: usize, sizes: *const u32, sizes_len: usize, stream: *const u8,
+        stream_len: usize, records: *mut AttestationPlace, records_len: usize, needed: *mut usize,
     ) -> u32;
-    pub(crate) fn simplex_suspects_vouched_64(
-        epochs: *const u64, epochs_len: usize, sizes: *const u32, sizes_len: usize, stream: *const u8, stream_len: usize,
-        records: *mut AttestationPlace, records_len: usize, needed: *mut usize,
-    ) -> u32;
-    pub(crate) fn simplex_suspects_vouched_96(
-        epochs: *const u64, epochs_len: usize, sizes: *const u32, sizes_len: usize, stream: *const u8, stream_len: usize,
-        records: *mut AttestationPlace, records_len: usize, needed: *mut usize,
-    ) -> u32;
-    pub(crate) fn simplex_records_vouched_48(
-        epochs: *const u64, epochs_len: usize, sizes: *const u32, sizes_len: usize, stream: *const u8, stream_len: usize,
-        records: *mut Record, records_len: usize, summary: *mut Summary,
-    ) -> u32;
-    pub(crate) fn simplex_records_vouched_64(
-        epochs: *const u64, epochs_len: usize, sizes: *const u32, sizes_len: usize, stream: *const u8, stream_len: usize,
-        records: *mut Record, records_len: usize, summary: *mut Summary,
-    ) -> u32;
-    pub(crate) fn simplex_records_vouched_96(
-        epochs: *const u64, epochs_len: usize, sizes: *const u32, sizes_len: usize, stream: *const u8, stream_len: usize,
-        records: *mut Record, records_len: usize, summary: *mut Summary,
+    pub(crate) fn simplex_records(
+        signature: u32, epochs: *const u64, epochs_len: usize, sizes: *const u32, sizes_len: usize, stream: *const u8,
+        stream_len: usize, records: *mut Record, records_len: usize, summary: *mut Summary,
     ) -> u32;
     pub(crate) fn simplex_records_plain(
         name: *const u8, name_len: usize, keys: *const u8, keys_len: usize, stream: *const u8, stream_len: usize,
@@ -137,6 +129,10 @@ extern "C" {
         rows: *const Row, rows_len: usize, seed: u64, classes: u32, which: u32, ranges: *mut Range, ranges_len: usize,
         needed: *mut usize,
     ) -> u32;
+    pub(crate) fn simplex_class_ranges(
+        signature: u32, bound: u32, stream: *const u8, stream_len: usize, seed: u64, ranges: *mut Range, ranges_len: usize,
+        ends: *mut usize, ends_len: usize, summary: *mut Summary,
+    ) -> u32;
     pub(crate) fn simplex_audit_ranges(
         signature: u32, epochs: *const u64, epochs_len: usize, sizes: *const u32, sizes_len: usize, stream: *const u8,
         stream_len: usize, ranges: *const Range, ranges_len: usize, text: *mut u8, text_len: usize, summary: *mut Summary,
@@ -144,6 +140,31 @@ extern "C" {
     pub(crate) fn simplex_audit_ranges_plain(
         name: *const u8, name_len: usize, keys: *const u8, keys_len: usize, stream: *const u8, stream_len: usize,
         ranges: *const Range, ranges_len: usize, text: *mut u8, text_len: usize, summary: *mut Summary,
+    ) -> u32;
+    pub(crate) fn simplex_signed_bytes(
+        name: *const u8, name_len: usize, kind: u32, epoch: u64, view: u64, parent: u64, payload: *const u8,
+        payload_len: usize, bytes: *mut u8, bytes_len: usize, size: *mut usize,
+    ) -> u32;
+    pub(crate) fn simplex_write_vote(
+        signature: u32, kind: u32, epoch: u64, view: u64, parent: u64, payload: *const u8, payload_len: usize, signer: u32,
+        attested: *const u8, attested_len: usize, message: *mut u8, message_len: usize, size: *mut usize,
+    ) -> u32;
+    pub(crate) fn simplex_write_certificate(
+        signature: u32, kind: u32, epoch: u64, view: u64, parent: u64, payload: *const u8, payload_len: usize,
+        signers: *const u32, signers_len: usize, attested: *const u8, attested_len: usize, message: *mut u8,
+        message_len: usize, size: *mut usize,
+    ) -> u32;
+    pub(crate) fn simplex_read_message(
+        signature: u32, bound: u32, bytes: *const u8, bytes_len: usize, attestations: *mut AttestationPlace,
+        attestations_len: usize, message: *mut MessageHead,
+    ) -> u32;
+    pub(crate) fn simplex_verify_evidence(
+        signature: u32, epochs: *const u64, epochs_len: usize, sizes: *const u32, sizes_len: usize, evidence: *const u8,
+        evidence_len: usize, accusation: *mut AccusationRecord,
+    ) -> u32;
+    pub(crate) fn simplex_verify_evidence_plain(
+        name: *const u8, name_len: usize, keys: *const u8, keys_len: usize, evidence: *const u8, evidence_len: usize,
+        accusation: *mut AccusationRecord,
     ) -> u32;
     pub(crate) fn simplex_max_faults(n: u32) -> u32;
     pub(crate) fn simplex_quorum(n: u32) -> u32;
@@ -154,4 +175,31 @@ extern "C" {
     pub(crate) fn simplex_leader_shuffled(
         seed: *const u8, seed_len: usize, participants: u32, term_length: u32, epoch: u64, view: u64, number: *mut u32,
     ) -> u32;
+}
+
+/// `struct simplex_auditor`: a handle, which only the calls below change.
+#[repr(C)]
+pub(crate) struct Auditor {
+    pub state: *mut std::ffi::c_void,
+}
+
+#[rustfmt::skip]
+extern "C" {
+    pub(crate) fn simplex_auditor_new(
+        signature: u32, epochs: *const u64, epochs_len: usize, sizes: *const u32, sizes_len: usize, held: *const u8,
+        held_len: usize, auditor: *mut Auditor,
+    ) -> u32;
+    pub(crate) fn simplex_auditor_new_plain(
+        name: *const u8, name_len: usize, keys: *const u8, keys_len: usize, held: *const u8, held_len: usize,
+        auditor: *mut Auditor,
+    ) -> u32;
+    pub(crate) fn simplex_auditor_feed(auditor: *mut Auditor, bytes: *const u8, bytes_len: usize) -> u32;
+    pub(crate) fn simplex_auditor_report(
+        auditor: *mut Auditor, text: *mut u8, text_len: usize, summary: *mut Summary,
+    ) -> u32;
+    pub(crate) fn simplex_auditor_news(auditor: *mut Auditor, text: *mut u8, text_len: usize, length: *mut usize) -> u32;
+    pub(crate) fn simplex_auditor_prune(auditor: *mut Auditor, epoch: u64, view: u64) -> u32;
+    pub(crate) fn simplex_auditor_votes(auditor: *mut Auditor, votes: *mut usize) -> u32;
+    pub(crate) fn simplex_auditor_held(auditor: *mut Auditor, bytes: *mut u8, bytes_len: usize, length: *mut usize) -> u32;
+    pub(crate) fn simplex_auditor_free(auditor: *mut Auditor) -> u32;
 }

@@ -25,9 +25,20 @@ pub(crate) const NULLIFY: u32 = 1;
 pub(crate) const FINALIZE: u32 = 2;
 pub(crate) const CONFLICTING_NOTARIZE: u32 = 0;
 pub(crate) const CONFLICTING_FINALIZE: u32 = 1;
+pub(crate) const NOTARIZATION: u32 = 1;
+pub(crate) const CERTIFICATION: u32 = 2;
+pub(crate) const NULLIFICATION: u32 = 4;
+pub(crate) const FINALIZATION: u32 = 6;
+/// The longest tag and subject of a message; the longest number, that of a length included; the longest suffix of a namespace.
+const HEAD: usize = 1 + 62;
+const NUMBER: usize = 10;
+const SUFFIX: usize = 9;
+/// The longest number of a participant, or of attestations.
+const SIGNER: usize = 5;
 
 /// A call over a stream under committees of these sizes, which fills a buffer and writes how much that is.
 type ByNumbers<T, W> = unsafe extern "C" fn(
+    signature: u32,
     epochs: *const u64,
     epochs_len: usize,
     sizes: *const u32,
@@ -50,20 +61,6 @@ type ByKeys<T, W> = unsafe extern "C" fn(
     buffer: *mut T,
     buffer_len: usize,
     written: *mut W,
-) -> u32;
-
-type StoreVouched = unsafe extern "C" fn(
-    epochs: *const u64,
-    epochs_len: usize,
-    sizes: *const u32,
-    sizes_len: usize,
-    stored: *const u8,
-    stored_len: usize,
-    batch: *const u8,
-    batch_len: usize,
-    evidence: *mut u8,
-    evidence_len: usize,
-    size: *mut usize,
 ) -> u32;
 
 /// A vector with capacity for this many items, or, if an allocation of so many fails, for half as many, and so on. Systems that
@@ -96,55 +93,30 @@ fn filled<T>(most: usize, mut call: impl FnMut(&mut [MaybeUninit<T>]) -> (u32, u
     }
 }
 
-/// The calls over a stream, one for each size of signatures.
-struct BySize<T, W> {
-    bytes48: ByNumbers<T, W>,
-    bytes64: ByNumbers<T, W>,
-    bytes96: ByNumbers<T, W>,
-}
-
-impl<T, W> BySize<T, W> {
-    fn call(
-        &self,
-        size: Size,
-        epochs: &[u64],
-        sizes: &[u32],
-        stream: &[u8],
-        buffer: &mut [MaybeUninit<T>],
-        written: &mut W,
-    ) -> u32 {
-        let call = match size {
-            Size::Bytes48 => self.bytes48,
-            Size::Bytes64 => self.bytes64,
-            Size::Bytes96 => self.bytes96,
-        };
-        // SAFETY: see this module.
-        unsafe {
-            call(
-                epochs.as_ptr(),
-                epochs.len(),
-                sizes.as_ptr(),
-                sizes.len(),
-                stream.as_ptr(),
-                stream.len(),
-                buffer.as_mut_ptr().cast(),
-                buffer.len(),
-                written,
-            )
-        }
-    }
-}
-
-/// These calls, and that of the plain scheme.
+/// A call over a stream of vouched signatures, and that of the plain scheme.
 struct ByScheme<T, W> {
-    vouched: BySize<T, W>,
+    vouched: ByNumbers<T, W>,
     plain: ByKeys<T, W>,
 }
 
 impl<T, W> ByScheme<T, W> {
     fn call(&self, committees: &Committees, stream: &[u8], buffer: &mut [MaybeUninit<T>], written: &mut W) -> u32 {
         match &committees.members {
-            Members::Vouched { size, epochs, sizes } => self.vouched.call(*size, epochs, sizes, stream, buffer, written),
+            // SAFETY: see this module.
+            Members::Vouched { size, epochs, sizes } => unsafe {
+                (self.vouched)(
+                    size.bytes() as u32,
+                    epochs.as_ptr(),
+                    epochs.len(),
+                    sizes.as_ptr(),
+                    sizes.len(),
+                    stream.as_ptr(),
+                    stream.len(),
+                    buffer.as_mut_ptr().cast(),
+                    buffer.len(),
+                    written,
+                )
+            },
             // SAFETY: see this module.
             Members::Plain { name, keys } => unsafe {
                 (self.plain)(
@@ -163,22 +135,9 @@ impl<T, W> ByScheme<T, W> {
     }
 }
 
-const AUDIT: ByScheme<u8, Summary> = ByScheme {
-    vouched: BySize { bytes48: simplex_audit_vouched_48, bytes64: simplex_audit_vouched_64, bytes96: simplex_audit_vouched_96 },
-    plain: simplex_audit_plain,
-};
+const AUDIT: ByScheme<u8, Summary> = ByScheme { vouched: simplex_audit, plain: simplex_audit_plain };
 
-const RECORDS: ByScheme<Record, Summary> = ByScheme {
-    vouched: BySize {
-        bytes48: simplex_records_vouched_48,
-        bytes64: simplex_records_vouched_64,
-        bytes96: simplex_records_vouched_96,
-    },
-    plain: simplex_records_plain,
-};
-
-const SUSPECTS: BySize<AttestationPlace, usize> =
-    BySize { bytes48: simplex_suspects_vouched_48, bytes64: simplex_suspects_vouched_64, bytes96: simplex_suspects_vouched_96 };
+const RECORDS: ByScheme<Record, Summary> = ByScheme { vouched: simplex_records, plain: simplex_records_plain };
 
 /// The text of a stream's report, and its numbers.
 pub(crate) fn audit(committees: &Committees, stream: &[u8]) -> Result<(Vec<u8>, Summary), Error> {
@@ -235,10 +194,7 @@ pub(crate) fn audit_ranges(committees: &Committees, stream: &[u8], ranges: &[Ran
 
 /// A row for each message of a stream, and the numbers of the reading.
 pub(crate) fn index(committees: &Committees, stream: &[u8]) -> Result<(Vec<Row>, Summary), Error> {
-    let (signature, bound) = match &committees.members {
-        Members::Vouched { size, sizes, .. } => (size.bytes() as u32, sizes.iter().max().copied().unwrap_or(0)),
-        Members::Plain { keys, .. } => (PLAIN, u32::try_from(keys.len() / KEY).map_err(|_| Error::Arguments)?),
-    };
+    let (signature, bound) = signature_and_bound(committees)?;
     let mut summary = Summary::default();
     let rows = filled(Bounds::of(committees, stream.len()).rows(), |rows| {
         let (to, room) = (rows.as_mut_ptr().cast(), rows.len());
@@ -247,6 +203,27 @@ pub(crate) fn index(committees: &Committees, stream: &[u8]) -> Result<(Vec<Row>,
         (status, summary.read)
     })?;
     Ok((rows, summary))
+}
+
+/// The ranges of as many classes of rounds as there are ends, one class after another, and the numbers of the reading. Of each
+/// class it is written where its ranges end.
+pub(crate) fn class_ranges(
+    committees: &Committees,
+    stream: &[u8],
+    seed: u64,
+    ends: &mut [usize],
+) -> Result<(Vec<Range>, Summary), Error> {
+    let (signature, bound) = signature_and_bound(committees)?;
+    let mut summary = Summary::default();
+    let ranges = filled(Bounds::of(committees, stream.len()).rows(), |ranges| {
+        let (to, room) = (ranges.as_mut_ptr().cast(), ranges.len());
+        let (at, length, last) = (stream.as_ptr(), stream.len(), ends.as_mut_ptr());
+        // SAFETY: see this module.
+        let status =
+            unsafe { simplex_class_ranges(signature, bound, at, length, seed, to, room, last, ends.len(), &mut summary) };
+        (status, summary.length)
+    })?;
+    Ok((ranges, summary))
 }
 
 /// The ranges of one class of rounds, of so many.
@@ -269,29 +246,23 @@ pub(crate) fn store(committees: &Committees, stored: &[u8], batch: &[u8]) -> Res
     filled(Bounds::of(committees, stored.len() + batch.len()).messages(), |evidence| {
         let mut length = 0;
         let status = match &committees.members {
-            Members::Vouched { size, epochs, sizes } => {
-                let call: StoreVouched = match size {
-                    Size::Bytes48 => simplex_store_vouched_48,
-                    Size::Bytes64 => simplex_store_vouched_64,
-                    Size::Bytes96 => simplex_store_vouched_96,
-                };
-                // SAFETY: see this module.
-                unsafe {
-                    call(
-                        epochs.as_ptr(),
-                        epochs.len(),
-                        sizes.as_ptr(),
-                        sizes.len(),
-                        stored.as_ptr(),
-                        stored.len(),
-                        batch.as_ptr(),
-                        batch.len(),
-                        evidence.as_mut_ptr().cast(),
-                        evidence.len(),
-                        &mut length,
-                    )
-                }
-            }
+            // SAFETY: see this module.
+            Members::Vouched { size, epochs, sizes } => unsafe {
+                simplex_store(
+                    size.bytes() as u32,
+                    epochs.as_ptr(),
+                    epochs.len(),
+                    sizes.as_ptr(),
+                    sizes.len(),
+                    stored.as_ptr(),
+                    stored.len(),
+                    batch.as_ptr(),
+                    batch.len(),
+                    evidence.as_mut_ptr().cast(),
+                    evidence.len(),
+                    &mut length,
+                )
+            },
             // SAFETY: see this module.
             Members::Plain { name, keys } => unsafe {
                 simplex_store_plain(
@@ -319,8 +290,23 @@ pub(crate) fn suspects(committees: &Committees, stream: &[u8]) -> Result<Vec<Att
         return Ok(Vec::new());
     };
     filled(Bounds::of(committees, stream.len()).votes(), |records| {
-        let mut needed = 0;
-        (SUSPECTS.call(*size, epochs, sizes, stream, records, &mut needed), needed)
+        let (mut needed, to, room) = (0, records.as_mut_ptr().cast(), records.len());
+        // SAFETY: see this module.
+        let status = unsafe {
+            simplex_suspects(
+                size.bytes() as u32,
+                epochs.as_ptr(),
+                epochs.len(),
+                sizes.as_ptr(),
+                sizes.len(),
+                stream.as_ptr(),
+                stream.len(),
+                to,
+                room,
+                &mut needed,
+            )
+        };
+        (status, needed)
     })
 }
 
@@ -330,6 +316,176 @@ pub(crate) fn records(committees: &Committees, stream: &[u8]) -> Result<Vec<Reco
         let mut summary = Summary::default();
         (RECORDS.call(committees, stream, records, &mut summary), summary.evidence)
     })
+}
+
+/// What a vote says.
+pub(crate) struct Said<'a> {
+    pub kind: u32,
+    pub epoch: u64,
+    pub view: u64,
+    pub parent: u64,
+    pub payload: &'a [u8],
+}
+
+/// Appends what a call writes, at most so many bytes.
+fn appended(bytes: &mut Vec<u8>, most: usize, call: impl FnOnce(*mut u8, usize, &mut usize) -> u32) -> Result<(), Error> {
+    bytes.try_reserve(most).map_err(|_| Error::OutOfMemory)?;
+    let (spare, mut size) = (bytes.spare_capacity_mut(), 0);
+    match call(spare.as_mut_ptr().cast(), spare.len(), &mut size) {
+        WHOLE => {
+            // SAFETY: the call wrote this many bytes behind those that are there.
+            unsafe { bytes.set_len(bytes.len() + size) };
+            Ok(())
+        }
+        MEMORY => Err(Error::OutOfMemory),
+        _ => Err(Error::Arguments),
+    }
+}
+
+/// The bytes that are signed.
+pub(crate) fn signed_bytes(name: &[u8], said: &Said) -> Result<Vec<u8>, Error> {
+    let mut bytes = Vec::new();
+    // SAFETY: see this module.
+    appended(&mut bytes, NUMBER + name.len() + SUFFIX + HEAD, |to, room, size| unsafe {
+        simplex_signed_bytes(
+            name.as_ptr(),
+            name.len(),
+            said.kind,
+            said.epoch,
+            said.view,
+            said.parent,
+            said.payload.as_ptr(),
+            said.payload.len(),
+            to,
+            room,
+            size,
+        )
+    })?;
+    Ok(bytes)
+}
+
+/// Appends a vote with this signature, behind which its verdict stands.
+pub(crate) fn write_vote(size: Size, said: &Said, signer: u32, attested: &[u8], bytes: &mut Vec<u8>) -> Result<(), Error> {
+    // SAFETY: see this module.
+    appended(bytes, HEAD + SIGNER + attested.len(), |to, room, written| unsafe {
+        simplex_write_vote(
+            size.bytes() as u32,
+            said.kind,
+            said.epoch,
+            said.view,
+            said.parent,
+            said.payload.as_ptr(),
+            said.payload.len(),
+            signer,
+            attested.as_ptr(),
+            attested.len(),
+            to,
+            room,
+            written,
+        )
+    })
+}
+
+/// Appends a certificate of this kind that lists these signers, with signatures behind each of which its verdict stands.
+pub(crate) fn write_certificate(
+    size: Size,
+    kind: u32,
+    said: &Said,
+    signers: &[u32],
+    attested: &[u8],
+    bytes: &mut Vec<u8>,
+) -> Result<(), Error> {
+    let most = HEAD + SIGNER + SIGNER * signers.len() + attested.len();
+    // SAFETY: see this module.
+    appended(bytes, most, |to, room, written| unsafe {
+        simplex_write_certificate(
+            size.bytes() as u32,
+            kind,
+            said.epoch,
+            said.view,
+            said.parent,
+            said.payload.as_ptr(),
+            said.payload.len(),
+            signers.as_ptr(),
+            signers.len(),
+            attested.as_ptr(),
+            attested.len(),
+            to,
+            room,
+            written,
+        )
+    })
+}
+
+/// The bytes of a signature, and the bound of certificates: the number of participants of the greatest committee.
+pub(crate) fn signature_and_bound(committees: &Committees) -> Result<(u32, u32), Error> {
+    Ok(match &committees.members {
+        Members::Vouched { size, sizes, .. } => (size.bytes() as u32, sizes.iter().max().copied().unwrap_or(0)),
+        Members::Plain { keys, .. } => (PLAIN, u32::try_from(keys.len() / KEY).map_err(|_| Error::Arguments)?),
+    })
+}
+
+/// The message at the front of some bytes, and its attestations.
+pub(crate) fn read_message(
+    committees: &Committees,
+    bytes: &[u8],
+) -> Result<Option<(MessageHead, Vec<AttestationPlace>)>, Error> {
+    let (signature, bound) = signature_and_bound(committees)?;
+    let (mut head, mut found) = (MessageHead::default(), Vec::new());
+    loop {
+        let spare: &mut [MaybeUninit<AttestationPlace>] = found.spare_capacity_mut();
+        let (to, room) = (spare.as_mut_ptr().cast(), spare.len());
+        // SAFETY: see this module.
+        match unsafe { simplex_read_message(signature, bound, bytes.as_ptr(), bytes.len(), to, room, &mut head) } {
+            WHOLE => {
+                // SAFETY: the call wrote this many records.
+                unsafe { found.set_len(head.attestations) };
+                return Ok(Some((head, found)));
+            }
+            FAULT => return Ok(None),
+            SHORT => found.try_reserve_exact(head.attestations).map_err(|_| Error::OutOfMemory)?,
+            MEMORY => return Err(Error::OutOfMemory),
+            _ => return Err(Error::Arguments),
+        }
+    }
+}
+
+/// Whom one piece of evidence accuses.
+pub(crate) fn verify_evidence(committees: &Committees, evidence: &[u8]) -> Result<Option<AccusationRecord>, Error> {
+    let mut found = AccusationRecord::default();
+    let status = match &committees.members {
+        // SAFETY: see this module.
+        Members::Vouched { size, epochs, sizes } => unsafe {
+            simplex_verify_evidence(
+                size.bytes() as u32,
+                epochs.as_ptr(),
+                epochs.len(),
+                sizes.as_ptr(),
+                sizes.len(),
+                evidence.as_ptr(),
+                evidence.len(),
+                &mut found,
+            )
+        },
+        // SAFETY: see this module.
+        Members::Plain { name, keys } => unsafe {
+            simplex_verify_evidence_plain(
+                name.as_ptr(),
+                name.len(),
+                keys.as_ptr(),
+                keys.len(),
+                evidence.as_ptr(),
+                evidence.len(),
+                &mut found,
+            )
+        },
+    };
+    match status {
+        WHOLE => Ok(Some(found)),
+        FAULT => Ok(None),
+        MEMORY => Err(Error::OutOfMemory),
+        _ => Err(Error::Arguments),
+    }
 }
 
 pub(crate) fn version() -> u32 {

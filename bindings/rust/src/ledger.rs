@@ -1,6 +1,7 @@
 use crate::{audit, ffi, Committees, Error, Report};
 
-/// Holds the evidence of a stream that comes in batches, each of which holds every vote of its rounds.
+/// Holds the evidence of a stream that comes in batches, each of which holds every vote of its rounds. A
+/// [`Monitor`](crate::Monitor) needs no such batches.
 ///
 /// Each [`feed`](Self::feed) and each [`new_records`](crate::new_records) reads all stored evidence again. So n batches with an
 /// evidence each take time in n^2. If no round comes in two batches, give each batch a ledger of its own and append what it

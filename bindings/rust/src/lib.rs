@@ -1,6 +1,6 @@
 //! The proved auditor of `simplex_messages`: it reads a stream of consensus messages and reports exactly the participants who
-//! signed two contradictory votes. The caller verifies signatures by a library of its own ([`Verifier`]). Streams can be audited
-//! in parts and in threads ([`shards`]).
+//! signed two contradictory votes. The caller verifies signatures by a library of its own ([`Verifier`]). A node feeds a stream
+//! as it comes ([`Monitor`]), and streams can be audited in parts and in threads ([`shards`]).
 //!
 //! ```
 //! use simplex_audit::{audit, Committees, Encoder, Size, Vote};
@@ -26,6 +26,8 @@ mod error;
 mod exports;
 mod ffi;
 mod ledger;
+mod messages;
+mod monitor;
 mod records;
 mod report;
 
@@ -37,6 +39,8 @@ pub use deferred::{audit_deferred, Deferred};
 pub use encoder::{Encoder, Verifier, Vote};
 pub use error::Error;
 pub use ledger::Ledger;
+pub use messages::{read_message, verify_evidence, Accusation, Attestation, Message};
+pub use monitor::Monitor;
 pub use records::{new_records, records, Record};
 pub use report::{audit, Evidence, Kind, Report, Split};
 
@@ -44,3 +48,7 @@ pub use report::{audit, Evidence, Kind, Report, Split};
 pub fn version() -> u32 {
     ffi::version()
 }
+
+#[cfg(doctest)]
+#[doc = include_str!("../README.md")]
+struct Readme;

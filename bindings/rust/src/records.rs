@@ -77,12 +77,17 @@ fn record(of: &exports::Record) -> Record {
         epoch: of.epoch,
         view: of.view,
         signer: of.signer,
-        kind: match of.kind {
-            ffi::CONFLICTING_NOTARIZE => Kind::ConflictingNotarize,
-            ffi::CONFLICTING_FINALIZE => Kind::ConflictingFinalize,
-            _ => Kind::NullifyFinalize,
-        },
+        kind: kind_of(of.kind),
         first_place: of.first_place,
         second_place: of.second_place,
+    }
+}
+
+/// The kind of this number.
+pub(crate) fn kind_of(number: u32) -> Kind {
+    match number {
+        ffi::CONFLICTING_NOTARIZE => Kind::ConflictingNotarize,
+        ffi::CONFLICTING_FINALIZE => Kind::ConflictingFinalize,
+        _ => Kind::NullifyFinalize,
     }
 }

@@ -83,7 +83,7 @@ pub(crate) fn report(text: &[u8], summary: &Summary) -> Report {
 }
 
 /// The evidence of a line: an epoch, a view, a signer, a kind, and the votes.
-fn evidence(line: &str) -> Option<Evidence> {
+pub(crate) fn evidence(line: &str) -> Option<Evidence> {
     let mut words = line.split(' ');
     Some(Evidence {
         epoch: words.next()?.parse().ok()?,
@@ -100,7 +100,7 @@ fn evidence(line: &str) -> Option<Evidence> {
 }
 
 /// The split of a line: an epoch, a view, the word `split`, and two numbers.
-fn split(line: &str) -> Option<Split> {
+pub(crate) fn split(line: &str) -> Option<Split> {
     let mut words = line.split(' ');
     Some(Split {
         epoch: words.next()?.parse().ok()?,

@@ -3,10 +3,7 @@
 use simplex_audit::shards::{
     audit_deferred_parallel, audit_parallel, audit_ranges, index, merge, ranges, Cut, Index, Range, Row,
 };
-use simplex_audit::{
-    audit, audit_deferred, Committees, Deferred, Encoder, Error, Evidence, Kind, Ledger, Record, Report, Size, Split, Verifier,
-    Vote,
-};
+use simplex_audit::{audit, audit_deferred, Committees, Deferred, Encoder, Error, Kind, Size, Verifier, Vote};
 use std::collections::BTreeSet;
 use std::num::{NonZeroU32, NonZeroUsize};
 use std::panic::{catch_unwind, AssertUnwindSafe};
@@ -241,12 +238,4 @@ fn what_is_refused() {
     let (one, two) = (Range { place: rows[1].place, length: rows[1].length }, Range { place: 0, length: 3 });
     let report = audit_ranges(&committees, &stream, &[one, two]).unwrap();
     assert_eq!((report.read, report.fault), (1, Some(rows[1].length)));
-}
-
-#[test]
-fn what_threads_share() {
-    fn shared<T: Send + Sync>() {}
-    shared::<(Committees, Size, Encoder, Deferred, Vote, Error)>();
-    shared::<(Report, Evidence, Split, Kind, Record, Ledger)>();
-    shared::<(Cut, Index, Row, Range)>();
 }

@@ -1,8 +1,8 @@
 //! Streams that an `Encoder` writes, and what is refused.
 
 use simplex_audit::{
-    audit, audit_deferred, new_records, records, version, views, Committees, Deferred, Encoder, Error, Kind, Ledger, Size,
-    Split, Vote,
+    audit, audit_deferred, new_records, read_message, records, verify_evidence, version, views, Attestation, Committees,
+    Deferred, Encoder, Error, Kind, Ledger, Size, Split, Vote,
 };
 use std::cell::RefCell;
 
@@ -276,6 +276,53 @@ fn new_evidence_with_a_stored_vote() {
 }
 
 #[test]
+fn messages_are_read_again() {
+    let committees = Committees::every(Size::Bytes96, 4).unwrap();
+    let big = u64::MAX;
+    let payload = [6; 32];
+    let votes = [
+        Vote::Notarize { epoch: big, view: 10, parent: 300, payload },
+        Vote::Nullify { epoch: 3, view: big },
+        Vote::Finalize { epoch: 127, view: 128, parent: big, payload },
+    ];
+    for (vote, [one, several]) in votes.iter().zip([[0, 1], [3, 4], [5, 6]]) {
+        let mut stream = Encoder::new(Size::Bytes96);
+        stream.vote(vote, 3, &[7; 96], &every).unwrap();
+        let second = stream.as_bytes().len();
+        stream.certificate(vote, &[(0, &[8; 96]), (2, &[9; 96])], &Deferred).unwrap();
+        let first = read_message(&committees, stream.as_bytes()).unwrap().unwrap();
+        assert_eq!((first.kind, first.length), (one, second));
+        let Attestation { vote: read, signer, signature } = &first.attestations[0];
+        assert_eq!((read, *signer, &stream.as_bytes()[signature.clone()]), (vote, 3, &[7; 96][..]));
+        assert_eq!(stream.as_bytes()[signature.end], 1);
+        let behind = &stream.as_bytes()[second..];
+        let certificate = read_message(&committees, behind).unwrap().unwrap();
+        assert_eq!((certificate.kind, certificate.length, certificate.attestations.len()), (several, behind.len(), 2));
+        let last = &certificate.attestations[1];
+        assert_eq!((&last.vote, last.signer, &behind[last.signature.clone()]), (vote, 2, &[9; 96][..]));
+        assert_eq!(behind[last.signature.end], 0);
+        assert_eq!(read_message(&committees, &behind[..behind.len() - 1]), Ok(None));
+    }
+    assert_eq!(read_message(&committees, &[]), Ok(None));
+}
+
+#[test]
+fn evidence_by_itself() {
+    for (committees, batches) in contradictions() {
+        let mut ledger = Ledger::resume(committees.clone(), Vec::new()).unwrap();
+        ledger.feed(&batches.concat()).unwrap();
+        let report = ledger.report().unwrap();
+        let it = verify_evidence(&committees, ledger.stored()).unwrap().unwrap();
+        let of = &report.evidence[0];
+        assert_eq!((it.epoch, it.view, it.signer, it.kind, it.proved), (of.epoch, of.view, of.signer, of.kind, true));
+        let message = read_message(&committees, ledger.stored()).unwrap().unwrap();
+        assert_eq!((message.attestations.len(), message.length), (2, ledger.stored().len()));
+        assert_eq!(verify_evidence(&committees, &ledger.stored()[1..]), Ok(None));
+        assert_eq!(verify_evidence(&committees, &batches[0]), Ok(None));
+    }
+}
+
+#[test]
 fn what_is_refused() {
     assert_eq!(Committees::every(Size::Bytes64, 0), Err(Error::Arguments));
     assert_eq!(Committees::listed(Size::Bytes64, &[]), Err(Error::Arguments));
@@ -295,7 +342,7 @@ fn what_is_refused() {
 
 #[test]
 fn numbers() {
-    assert_eq!(version(), 1);
+    assert_eq!(version(), 2);
     assert_eq!((views::max_faults(0), views::quorum(0)), (0, 0));
     assert_eq!(views::admits_outbound(1, 0, 10, 12), Ok(false));
     assert_eq!(views::admits(0, 0, 10, 11), Err(Error::Arguments));

@@ -1,11 +1,12 @@
 //! The auditor for callers that speak the C ABI (bindings/simplex_audit.h). Each export calls a
-//! function of `simplex_ffi` and has its contract.
+//! function of `simplex_ffi`, for signatures of a size that of the size, and has its contract.
 //!
-//! A call that audits, stores, lists, cuts or elects returns a status:
+//! A call that audits, stores, lists, cuts, elects, writes, reads or verifies returns a status:
 //!
 //! - 0: success. The buffer is written, and an audit found no fault.
-//! - 1, of audits, records and rows alone: the byte at `fault_place` starts no message. The messages
-//!   before it were audited or listed, and the buffer is written.
+//! - 1, of audits, records and rows: the byte at `fault_place` starts no message. The messages before it
+//!   were audited or listed, and the buffer is written. Of a message that is read and of an evidence that
+//!   is verified: the bytes are none, and nothing was written.
 //! - 2: the arguments are no committees; of leaders, there is no participant or a term has no view;
 //!   of audits in parts, a size, a class, a row or a range is invalid. Nothing was written.
 //! - 3: an allocation failed. Nothing was written.
@@ -15,6 +16,8 @@
 //! Where the buffer is written it begins with the result, and the bytes or records behind that are
 //! as before.
 #![tactic(auto)]
+
+mod messages;
 
 ghost use Rattle.std.specs.Prelude.{◌≡◌, ◌≢◌, ◌⊎◌, ◌-◌, ◌<◌, ◌≤◌, ◌++◌, None, Some, length};
 ghost use Rattle.simplex_base.specs.Terms.{term_start};
@@ -26,22 +29,26 @@ ghost use Rattle.simplex_schemes.specs.Vouched.{VouchedScheme};
 ghost use Rattle.simplex_ffi.specs.Answer.{AreRecorded, AreStored, AreAttestationsGiven, IsAudited};
 ghost use Rattle.simplex_ffi.specs.Keys.{AreKeys, AreOfKeys, IsLengthOfKeys};
 ghost use Rattle.simplex_ffi.specs.Leaders.{LeadsRound};
-ghost use Rattle.simplex_ffi.specs.Rows.{AreRangesGiven, AreRowsGiven, AreWithin, RowsFit, bytes_of_ranges};
+ghost use Rattle.simplex_ffi.specs.Rows.{AreClasses, AreClassesGiven, AreRangesGiven, AreRowsGiven, RowsFit};
+ghost use Rattle.simplex_shards.specs.Ranges.{AreWithin, bytes_of_ranges};
 ghost use Rattle.simplex_ffi.specs.Signatures.{ForSizes, IsSignatureSize, IsVouchedSize};
 ghost use Rattle.simplex_ffi.specs.Sizes.{AreSizes, AreCommitteeSizes};
 ghost use Rattle.simplex_shards.specs.Cut.{mixed_class};
 
+mod auditor;
+
 use simplex_audit::basis::Audited;
 use simplex_base::codec::Fixed;
 use simplex_ffi::answer::ReportSummary;
-use simplex_ffi::classes::{class_of, ranges_of_class};
+use simplex_ffi::classes::{class_of, classes_of_stream, ranges_of_class};
 use simplex_ffi::parts::{ranges_of_size, ranges_plain};
 use simplex_ffi::plain::{answer_plain, store_plain};
 use simplex_ffi::records::{records_plain, records_vouched};
 use simplex_ffi::rows::{Indexed, rows_of_stream};
+use simplex_ffi::signatures::{VouchedSize, vouched_size};
 use simplex_ffi::suspects::suspects_vouched;
 use simplex_ffi::vouched::{answer_vouched, store_vouched};
-use simplex_ffi::{leaders, numbers};
+use simplex_ffi::{answer, leaders, numbers};
 use simplex_places::located::Located;
 use simplex_places::places::AttestationPlace;
 use simplex_places::records::Record;
@@ -52,20 +59,22 @@ use simplex_shards::index::Row;
 use simplex_shards::ranges::Range;
 use std::alloc::Global;
 
-/// The version of these calls: 1.
+/// The version of these calls: 2.
 #[unsafe(no_mangle)]
 pub extern "C" fn simplex_version() -> u32
-    ensures { result ≡ 1 }
+    ensures { result ≡ 2 }
 {
-    1
+    2
 }
 
-/// Audits a stream whose signatures have 48 bytes, such as those of BLS12-381 in G1, each with the
-/// caller's verdict behind it, under the committees of these sizes. The text of the report is put
-/// into `text`. Returns a status as above.
+/// Audits a stream whose signatures have so many bytes, 48, 64 or 96 (BLS12-381 in G1, Ed25519,
+/// BLS12-381 in G2), each with the caller's verdict behind it, under the committees of these sizes. The
+/// text of the report is put into `text`. Returns a status as above, 2 also if signatures have no such
+/// size.
 #[unsafe(no_mangle)]
-pub extern "C" fn simplex_audit_vouched_48(
+pub extern "C" fn simplex_audit(
     alloc: Global,
+    signature: u32,
     epochs: &[u64],
     sizes: &[u32],
     stream: &[u8],
@@ -73,24 +82,39 @@ pub extern "C" fn simplex_audit_vouched_48(
     summary: &mut ReportSummary,
 ) -> u32
     ensures audited { result ≢ 2 → result ≢ 3 → (committees : Schedule VouchedScheme) ×
-        AreSizes epochs.now sizes.now committees ×
-        IsAudited (⟦<Vouched<Role48, 49> as Audited<Sha256Digest>>⟧.basis committees)
-        ⟦<Sha256Digest as Fixed>⟧.bytes_of stream.now text.old text.new summary.new result }
-    ensures refused { result ≡ 2 → (committees : Schedule VouchedScheme) →
-        ¬ AreSizes epochs.now sizes.now committees }
-    ensures memory { result ≡ 3 → AreCommitteeSizes epochs.now sizes.now }
+        AreSizes epochs.now sizes.now committees × ForSizes signature
+        (IsAudited (⟦<Vouched<Role48, 49> as Audited<Sha256Digest>>⟧.basis committees)
+        ⟦<Sha256Digest as Fixed>⟧.bytes_of stream.now text.old text.new summary.new result)
+        (IsAudited (⟦<Vouched<Role64, 65> as Audited<Sha256Digest>>⟧.basis committees)
+        ⟦<Sha256Digest as Fixed>⟧.bytes_of stream.now text.old text.new summary.new result)
+        (IsAudited (⟦<Vouched<Role96, 97> as Audited<Sha256Digest>>⟧.basis committees)
+        ⟦<Sha256Digest as Fixed>⟧.bytes_of stream.now text.old text.new summary.new result) }
+    ensures refused { result ≡ 2 →
+        ¬ (IsVouchedSize signature × AreCommitteeSizes epochs.now sizes.now) }
+    ensures memory { result ≡ 3 → IsVouchedSize signature × AreCommitteeSizes epochs.now sizes.now }
     ensures untouched { (result ≡ 2) ⊎ (result ≡ 3) →
         (text.new ≡ text.old) × (summary.new ≡ summary.old) }
 {
-    answer_vouched::<Role48, 49>(alloc, epochs, sizes, stream, text, summary)
+    match vouched_size(signature) {
+        Some(VouchedSize::Of48) => {
+            answer_vouched::<Role48, 49>(alloc, epochs, sizes, stream, text, summary)
+        }
+        Some(VouchedSize::Of64) => {
+            answer_vouched::<Role64, 65>(alloc, epochs, sizes, stream, text, summary)
+        }
+        Some(VouchedSize::Of96) => {
+            answer_vouched::<Role96, 97>(alloc, epochs, sizes, stream, text, summary)
+        }
+        None => answer::ARGUMENTS,
+    }
 }
 
-/// Audits a stream whose signatures have 48 bytes, each with the caller's verdict behind it, under
-/// the committees of these sizes, and writes the evidence of the report as records, each with the
-/// places of its two votes in the stream. Returns a status as above.
+/// Audits a stream as `simplex_audit` does, and writes the evidence of the report as records, each with
+/// the places of its two votes in the stream. Returns a status as above.
 #[unsafe(no_mangle)]
-pub extern "C" fn simplex_records_vouched_48(
+pub extern "C" fn simplex_records(
     alloc: Global,
+    signature: u32,
     epochs: &[u64],
     sizes: &[u32],
     stream: &[u8],
@@ -98,26 +122,43 @@ pub extern "C" fn simplex_records_vouched_48(
     summary: &mut ReportSummary,
 ) -> u32
     ensures recorded { result ≢ 2 → result ≢ 3 → (committees : Schedule VouchedScheme) ×
-        AreSizes epochs.now sizes.now committees ×
-        AreRecorded (⟦<Vouched<Role48, 49> as Audited<Sha256Digest>>⟧.basis committees)
-        ⟦<Sha256Digest as Fixed>⟧.bytes_of
-        ⟦<Vouched<Role48, 49> as Located<Sha256Digest>>⟧.carries
-        stream.now records.old records.new summary.new result }
-    ensures refused { result ≡ 2 → (committees : Schedule VouchedScheme) →
-        ¬ AreSizes epochs.now sizes.now committees }
-    ensures memory { result ≡ 3 → AreCommitteeSizes epochs.now sizes.now }
+        AreSizes epochs.now sizes.now committees × ForSizes signature
+        (AreRecorded (⟦<Vouched<Role48, 49> as Audited<Sha256Digest>>⟧.basis committees)
+        ⟦<Sha256Digest as Fixed>⟧.bytes_of ⟦<Vouched<Role48, 49> as Located<Sha256Digest>>⟧.carries
+        stream.now records.old records.new summary.new result)
+        (AreRecorded (⟦<Vouched<Role64, 65> as Audited<Sha256Digest>>⟧.basis committees)
+        ⟦<Sha256Digest as Fixed>⟧.bytes_of ⟦<Vouched<Role64, 65> as Located<Sha256Digest>>⟧.carries
+        stream.now records.old records.new summary.new result)
+        (AreRecorded (⟦<Vouched<Role96, 97> as Audited<Sha256Digest>>⟧.basis committees)
+        ⟦<Sha256Digest as Fixed>⟧.bytes_of ⟦<Vouched<Role96, 97> as Located<Sha256Digest>>⟧.carries
+        stream.now records.old records.new summary.new result) }
+    ensures refused { result ≡ 2 →
+        ¬ (IsVouchedSize signature × AreCommitteeSizes epochs.now sizes.now) }
+    ensures memory { result ≡ 3 → IsVouchedSize signature × AreCommitteeSizes epochs.now sizes.now }
     ensures untouched { (result ≡ 2) ⊎ (result ≡ 3) →
         (records.new ≡ records.old) × (summary.new ≡ summary.old) }
 {
-    records_vouched::<Role48, 49>(alloc, epochs, sizes, stream, records, summary)
+    match vouched_size(signature) {
+        Some(VouchedSize::Of48) => {
+            records_vouched::<Role48, 49>(alloc, epochs, sizes, stream, records, summary)
+        }
+        Some(VouchedSize::Of64) => {
+            records_vouched::<Role64, 65>(alloc, epochs, sizes, stream, records, summary)
+        }
+        Some(VouchedSize::Of96) => {
+            records_vouched::<Role96, 97>(alloc, epochs, sizes, stream, records, summary)
+        }
+        None => answer::ARGUMENTS,
+    }
 }
 
-/// Stores the evidence of what was stored and of a batch behind it, whose signatures have 48 bytes
-/// and the caller's verdict, under the committees of these sizes. What is behind a fault is
-/// ignored. Returns a status as above, never 1.
+/// Stores the evidence of what was stored and of a batch behind it, whose signatures have so many bytes,
+/// 48, 64 or 96, and the caller's verdict, under the committees of these sizes. What is behind a fault is
+/// ignored. Returns a status as above, never 1, and 2 also if signatures have no such size.
 #[unsafe(no_mangle)]
-pub extern "C" fn simplex_store_vouched_48(
+pub extern "C" fn simplex_store(
     alloc: Global,
+    signature: u32,
     epochs: &[u64],
     sizes: &[u32],
     stored: &[u8],
@@ -126,24 +167,41 @@ pub extern "C" fn simplex_store_vouched_48(
     size: &mut usize,
 ) -> u32
     ensures stored { result ≢ 2 → result ≢ 3 → (committees : Schedule VouchedScheme) ×
-        AreSizes epochs.now sizes.now committees ×
-        AreStored (⟦<Vouched<Role48, 49> as Audited<Sha256Digest>>⟧.basis committees)
-        (stored.now ++ batch.now) evidence.old evidence.new size.new result }
-    ensures refused { result ≡ 2 → (committees : Schedule VouchedScheme) →
-        ¬ AreSizes epochs.now sizes.now committees }
-    ensures memory { result ≡ 3 → AreCommitteeSizes epochs.now sizes.now }
+        AreSizes epochs.now sizes.now committees × ForSizes signature
+        (AreStored (⟦<Vouched<Role48, 49> as Audited<Sha256Digest>>⟧.basis committees)
+        (stored.now ++ batch.now) evidence.old evidence.new size.new result)
+        (AreStored (⟦<Vouched<Role64, 65> as Audited<Sha256Digest>>⟧.basis committees)
+        (stored.now ++ batch.now) evidence.old evidence.new size.new result)
+        (AreStored (⟦<Vouched<Role96, 97> as Audited<Sha256Digest>>⟧.basis committees)
+        (stored.now ++ batch.now) evidence.old evidence.new size.new result) }
+    ensures refused { result ≡ 2 →
+        ¬ (IsVouchedSize signature × AreCommitteeSizes epochs.now sizes.now) }
+    ensures memory { result ≡ 3 → IsVouchedSize signature × AreCommitteeSizes epochs.now sizes.now }
     ensures untouched { (result ≡ 2) ⊎ (result ≡ 3) →
         (evidence.new ≡ evidence.old) × (size.new ≡ size.old) }
 {
-    store_vouched::<Role48, 49>(alloc, epochs, sizes, stored, batch, evidence, size)
+    match vouched_size(signature) {
+        Some(VouchedSize::Of48) => {
+            store_vouched::<Role48, 49>(alloc, epochs, sizes, stored, batch, evidence, size)
+        }
+        Some(VouchedSize::Of64) => {
+            store_vouched::<Role64, 65>(alloc, epochs, sizes, stored, batch, evidence, size)
+        }
+        Some(VouchedSize::Of96) => {
+            store_vouched::<Role96, 97>(alloc, epochs, sizes, stored, batch, evidence, size)
+        }
+        None => answer::ARGUMENTS,
+    }
 }
 
-/// Lists the attestations that the caller has to verify before it audits a stream whose signatures
-/// have 48 bytes and a verdict, which may still be any byte, under the committees of these sizes.
-/// What is behind a fault is ignored. Returns a status as above, never 1.
+/// Lists the attestations that the caller has to verify before it audits a stream whose signatures have
+/// so many bytes, 48, 64 or 96, and a verdict, which may still be any byte, under the committees of these
+/// sizes. What is behind a fault is ignored. Returns a status as above, never 1, and 2 also if signatures
+/// have no such size.
 #[unsafe(no_mangle)]
-pub extern "C" fn simplex_suspects_vouched_48(
+pub extern "C" fn simplex_suspects(
     alloc: Global,
+    signature: u32,
     epochs: &[u64],
     sizes: &[u32],
     stream: &[u8],
@@ -151,225 +209,34 @@ pub extern "C" fn simplex_suspects_vouched_48(
     needed: &mut usize,
 ) -> u32
     ensures given { result ≢ 2 → result ≢ 3 → (committees : Schedule VouchedScheme) ×
-        AreSizes epochs.now sizes.now committees ×
-        AreAttestationsGiven (⟦<Vouched<Role48, 49> as Audited<Sha256Digest>>⟧.basis committees)
+        AreSizes epochs.now sizes.now committees × ForSizes signature
+        (AreAttestationsGiven (⟦<Vouched<Role48, 49> as Audited<Sha256Digest>>⟧.basis committees)
         ⟦<Vouched<Role48, 49> as Located<Sha256Digest>>⟧.places
-        stream.now records.old records.new needed.new result }
-    ensures refused { result ≡ 2 → (committees : Schedule VouchedScheme) →
-        ¬ AreSizes epochs.now sizes.now committees }
-    ensures memory { result ≡ 3 → AreCommitteeSizes epochs.now sizes.now }
-    ensures untouched { (result ≡ 2) ⊎ (result ≡ 3) →
-        (records.new ≡ records.old) × (needed.new ≡ needed.old) }
-{
-    suspects_vouched::<Role48, 49>(alloc, epochs, sizes, stream, records, needed)
-}
-
-/// Audits a stream whose signatures have 64 bytes, such as those of Ed25519, each with the caller's
-/// verdict behind it, under the committees of these sizes. The text of the report is put into
-/// `text`. Returns a status as above.
-#[unsafe(no_mangle)]
-pub extern "C" fn simplex_audit_vouched_64(
-    alloc: Global,
-    epochs: &[u64],
-    sizes: &[u32],
-    stream: &[u8],
-    text: &mut [u8],
-    summary: &mut ReportSummary,
-) -> u32
-    ensures audited { result ≢ 2 → result ≢ 3 → (committees : Schedule VouchedScheme) ×
-        AreSizes epochs.now sizes.now committees ×
-        IsAudited (⟦<Vouched<Role64, 65> as Audited<Sha256Digest>>⟧.basis committees)
-        ⟦<Sha256Digest as Fixed>⟧.bytes_of stream.now text.old text.new summary.new result }
-    ensures refused { result ≡ 2 → (committees : Schedule VouchedScheme) →
-        ¬ AreSizes epochs.now sizes.now committees }
-    ensures memory { result ≡ 3 → AreCommitteeSizes epochs.now sizes.now }
-    ensures untouched { (result ≡ 2) ⊎ (result ≡ 3) →
-        (text.new ≡ text.old) × (summary.new ≡ summary.old) }
-{
-    answer_vouched::<Role64, 65>(alloc, epochs, sizes, stream, text, summary)
-}
-
-/// Audits a stream whose signatures have 64 bytes, each with the caller's verdict behind it, under
-/// the committees of these sizes, and writes the evidence of the report as records, each with the
-/// places of its two votes in the stream. Returns a status as above.
-#[unsafe(no_mangle)]
-pub extern "C" fn simplex_records_vouched_64(
-    alloc: Global,
-    epochs: &[u64],
-    sizes: &[u32],
-    stream: &[u8],
-    records: &mut [Record],
-    summary: &mut ReportSummary,
-) -> u32
-    ensures recorded { result ≢ 2 → result ≢ 3 → (committees : Schedule VouchedScheme) ×
-        AreSizes epochs.now sizes.now committees ×
-        AreRecorded (⟦<Vouched<Role64, 65> as Audited<Sha256Digest>>⟧.basis committees)
-        ⟦<Sha256Digest as Fixed>⟧.bytes_of
-        ⟦<Vouched<Role64, 65> as Located<Sha256Digest>>⟧.carries
-        stream.now records.old records.new summary.new result }
-    ensures refused { result ≡ 2 → (committees : Schedule VouchedScheme) →
-        ¬ AreSizes epochs.now sizes.now committees }
-    ensures memory { result ≡ 3 → AreCommitteeSizes epochs.now sizes.now }
-    ensures untouched { (result ≡ 2) ⊎ (result ≡ 3) →
-        (records.new ≡ records.old) × (summary.new ≡ summary.old) }
-{
-    records_vouched::<Role64, 65>(alloc, epochs, sizes, stream, records, summary)
-}
-
-/// Stores the evidence of what was stored and of a batch behind it, whose signatures have 64 bytes
-/// and the caller's verdict, under the committees of these sizes. What is behind a fault is
-/// ignored. Returns a status as above, never 1.
-#[unsafe(no_mangle)]
-pub extern "C" fn simplex_store_vouched_64(
-    alloc: Global,
-    epochs: &[u64],
-    sizes: &[u32],
-    stored: &[u8],
-    batch: &[u8],
-    evidence: &mut [u8],
-    size: &mut usize,
-) -> u32
-    ensures stored { result ≢ 2 → result ≢ 3 → (committees : Schedule VouchedScheme) ×
-        AreSizes epochs.now sizes.now committees ×
-        AreStored (⟦<Vouched<Role64, 65> as Audited<Sha256Digest>>⟧.basis committees)
-        (stored.now ++ batch.now) evidence.old evidence.new size.new result }
-    ensures refused { result ≡ 2 → (committees : Schedule VouchedScheme) →
-        ¬ AreSizes epochs.now sizes.now committees }
-    ensures memory { result ≡ 3 → AreCommitteeSizes epochs.now sizes.now }
-    ensures untouched { (result ≡ 2) ⊎ (result ≡ 3) →
-        (evidence.new ≡ evidence.old) × (size.new ≡ size.old) }
-{
-    store_vouched::<Role64, 65>(alloc, epochs, sizes, stored, batch, evidence, size)
-}
-
-/// Lists the attestations that the caller has to verify before it audits a stream whose signatures
-/// have 64 bytes and a verdict, which may still be any byte, under the committees of these sizes.
-/// What is behind a fault is ignored. Returns a status as above, never 1.
-#[unsafe(no_mangle)]
-pub extern "C" fn simplex_suspects_vouched_64(
-    alloc: Global,
-    epochs: &[u64],
-    sizes: &[u32],
-    stream: &[u8],
-    records: &mut [AttestationPlace],
-    needed: &mut usize,
-) -> u32
-    ensures given { result ≢ 2 → result ≢ 3 → (committees : Schedule VouchedScheme) ×
-        AreSizes epochs.now sizes.now committees ×
-        AreAttestationsGiven (⟦<Vouched<Role64, 65> as Audited<Sha256Digest>>⟧.basis committees)
+        stream.now records.old records.new needed.new result)
+        (AreAttestationsGiven (⟦<Vouched<Role64, 65> as Audited<Sha256Digest>>⟧.basis committees)
         ⟦<Vouched<Role64, 65> as Located<Sha256Digest>>⟧.places
-        stream.now records.old records.new needed.new result }
-    ensures refused { result ≡ 2 → (committees : Schedule VouchedScheme) →
-        ¬ AreSizes epochs.now sizes.now committees }
-    ensures memory { result ≡ 3 → AreCommitteeSizes epochs.now sizes.now }
-    ensures untouched { (result ≡ 2) ⊎ (result ≡ 3) →
-        (records.new ≡ records.old) × (needed.new ≡ needed.old) }
-{
-    suspects_vouched::<Role64, 65>(alloc, epochs, sizes, stream, records, needed)
-}
-
-/// Audits a stream whose signatures have 96 bytes, such as those of BLS12-381 in G2, each with the
-/// caller's verdict behind it, under the committees of these sizes. The text of the report is put
-/// into `text`. Returns a status as above.
-#[unsafe(no_mangle)]
-pub extern "C" fn simplex_audit_vouched_96(
-    alloc: Global,
-    epochs: &[u64],
-    sizes: &[u32],
-    stream: &[u8],
-    text: &mut [u8],
-    summary: &mut ReportSummary,
-) -> u32
-    ensures audited { result ≢ 2 → result ≢ 3 → (committees : Schedule VouchedScheme) ×
-        AreSizes epochs.now sizes.now committees ×
-        IsAudited (⟦<Vouched<Role96, 97> as Audited<Sha256Digest>>⟧.basis committees)
-        ⟦<Sha256Digest as Fixed>⟧.bytes_of stream.now text.old text.new summary.new result }
-    ensures refused { result ≡ 2 → (committees : Schedule VouchedScheme) →
-        ¬ AreSizes epochs.now sizes.now committees }
-    ensures memory { result ≡ 3 → AreCommitteeSizes epochs.now sizes.now }
-    ensures untouched { (result ≡ 2) ⊎ (result ≡ 3) →
-        (text.new ≡ text.old) × (summary.new ≡ summary.old) }
-{
-    answer_vouched::<Role96, 97>(alloc, epochs, sizes, stream, text, summary)
-}
-
-/// Audits a stream whose signatures have 96 bytes, each with the caller's verdict behind it, under
-/// the committees of these sizes, and writes the evidence of the report as records, each with the
-/// places of its two votes in the stream. Returns a status as above.
-#[unsafe(no_mangle)]
-pub extern "C" fn simplex_records_vouched_96(
-    alloc: Global,
-    epochs: &[u64],
-    sizes: &[u32],
-    stream: &[u8],
-    records: &mut [Record],
-    summary: &mut ReportSummary,
-) -> u32
-    ensures recorded { result ≢ 2 → result ≢ 3 → (committees : Schedule VouchedScheme) ×
-        AreSizes epochs.now sizes.now committees ×
-        AreRecorded (⟦<Vouched<Role96, 97> as Audited<Sha256Digest>>⟧.basis committees)
-        ⟦<Sha256Digest as Fixed>⟧.bytes_of
-        ⟦<Vouched<Role96, 97> as Located<Sha256Digest>>⟧.carries
-        stream.now records.old records.new summary.new result }
-    ensures refused { result ≡ 2 → (committees : Schedule VouchedScheme) →
-        ¬ AreSizes epochs.now sizes.now committees }
-    ensures memory { result ≡ 3 → AreCommitteeSizes epochs.now sizes.now }
-    ensures untouched { (result ≡ 2) ⊎ (result ≡ 3) →
-        (records.new ≡ records.old) × (summary.new ≡ summary.old) }
-{
-    records_vouched::<Role96, 97>(alloc, epochs, sizes, stream, records, summary)
-}
-
-/// Stores the evidence of what was stored and of a batch behind it, whose signatures have 96 bytes
-/// and the caller's verdict, under the committees of these sizes. What is behind a fault is
-/// ignored. Returns a status as above, never 1.
-#[unsafe(no_mangle)]
-pub extern "C" fn simplex_store_vouched_96(
-    alloc: Global,
-    epochs: &[u64],
-    sizes: &[u32],
-    stored: &[u8],
-    batch: &[u8],
-    evidence: &mut [u8],
-    size: &mut usize,
-) -> u32
-    ensures stored { result ≢ 2 → result ≢ 3 → (committees : Schedule VouchedScheme) ×
-        AreSizes epochs.now sizes.now committees ×
-        AreStored (⟦<Vouched<Role96, 97> as Audited<Sha256Digest>>⟧.basis committees)
-        (stored.now ++ batch.now) evidence.old evidence.new size.new result }
-    ensures refused { result ≡ 2 → (committees : Schedule VouchedScheme) →
-        ¬ AreSizes epochs.now sizes.now committees }
-    ensures memory { result ≡ 3 → AreCommitteeSizes epochs.now sizes.now }
-    ensures untouched { (result ≡ 2) ⊎ (result ≡ 3) →
-        (evidence.new ≡ evidence.old) × (size.new ≡ size.old) }
-{
-    store_vouched::<Role96, 97>(alloc, epochs, sizes, stored, batch, evidence, size)
-}
-
-/// Lists the attestations that the caller has to verify before it audits a stream whose signatures
-/// have 96 bytes and a verdict, which may still be any byte, under the committees of these sizes.
-/// What is behind a fault is ignored. Returns a status as above, never 1.
-#[unsafe(no_mangle)]
-pub extern "C" fn simplex_suspects_vouched_96(
-    alloc: Global,
-    epochs: &[u64],
-    sizes: &[u32],
-    stream: &[u8],
-    records: &mut [AttestationPlace],
-    needed: &mut usize,
-) -> u32
-    ensures given { result ≢ 2 → result ≢ 3 → (committees : Schedule VouchedScheme) ×
-        AreSizes epochs.now sizes.now committees ×
-        AreAttestationsGiven (⟦<Vouched<Role96, 97> as Audited<Sha256Digest>>⟧.basis committees)
+        stream.now records.old records.new needed.new result)
+        (AreAttestationsGiven (⟦<Vouched<Role96, 97> as Audited<Sha256Digest>>⟧.basis committees)
         ⟦<Vouched<Role96, 97> as Located<Sha256Digest>>⟧.places
-        stream.now records.old records.new needed.new result }
-    ensures refused { result ≡ 2 → (committees : Schedule VouchedScheme) →
-        ¬ AreSizes epochs.now sizes.now committees }
-    ensures memory { result ≡ 3 → AreCommitteeSizes epochs.now sizes.now }
+        stream.now records.old records.new needed.new result) }
+    ensures refused { result ≡ 2 →
+        ¬ (IsVouchedSize signature × AreCommitteeSizes epochs.now sizes.now) }
+    ensures memory { result ≡ 3 → IsVouchedSize signature × AreCommitteeSizes epochs.now sizes.now }
     ensures untouched { (result ≡ 2) ⊎ (result ≡ 3) →
         (records.new ≡ records.old) × (needed.new ≡ needed.old) }
 {
-    suspects_vouched::<Role96, 97>(alloc, epochs, sizes, stream, records, needed)
+    match vouched_size(signature) {
+        Some(VouchedSize::Of48) => {
+            suspects_vouched::<Role48, 49>(alloc, epochs, sizes, stream, records, needed)
+        }
+        Some(VouchedSize::Of64) => {
+            suspects_vouched::<Role64, 65>(alloc, epochs, sizes, stream, records, needed)
+        }
+        Some(VouchedSize::Of96) => {
+            suspects_vouched::<Role96, 97>(alloc, epochs, sizes, stream, records, needed)
+        }
+        None => answer::ARGUMENTS,
+    }
 }
 
 /// Audits a stream of the plain scheme, whose signatures are hashes, under one committee for every
@@ -510,8 +377,49 @@ pub extern "C" fn simplex_ranges(
     ranges_of_class(alloc, rows, seed, classes, which, ranges, needed)
 }
 
+/// Lists the ranges of the bytes of all classes of rounds, of as many classes as `ends` has room
+/// for, in one reading of a stream. They stand in `ranges` one class after another: those of class i
+/// begin where those of class i - 1 end and end at `ends[i]`. Signatures and the bound are as in
+/// `simplex_index`. The summary's length is the number of ranges. Returns a status as above, 2 if
+/// signatures have no such size, the bound is 0, or there are no classes or 2^32 or more; after 4
+/// `ranges` and `ends` are as before.
+#[unsafe(no_mangle)]
+pub extern "C" fn simplex_class_ranges(
+    alloc: Global,
+    signature: u32,
+    bound: u32,
+    stream: &[u8],
+    seed: u64,
+    ranges: &mut [Range],
+    ends: &mut [usize],
+    summary: &mut ReportSummary,
+) -> u32
+    ensures plain { signature ≡ 32 → result ≢ 2 → result ≢ 3 → AreClassesGiven
+        (⟦<Plain as Indexed<Sha256Digest>>⟧.are_class_ranges bound
+        (mixed_class seed (length ends.old)) (length ends.old) stream.now)
+        ranges.old ranges.new ends.old ends.new summary.new result }
+    ensures vouched { signature ≢ 32 → result ≢ 2 → result ≢ 3 → ForSizes signature
+        (AreClassesGiven (⟦<Vouched<Role48, 49> as Indexed<Sha256Digest>>⟧.are_class_ranges bound
+        (mixed_class seed (length ends.old)) (length ends.old) stream.now)
+        ranges.old ranges.new ends.old ends.new summary.new result)
+        (AreClassesGiven (⟦<Vouched<Role64, 65> as Indexed<Sha256Digest>>⟧.are_class_ranges bound
+        (mixed_class seed (length ends.old)) (length ends.old) stream.now)
+        ranges.old ranges.new ends.old ends.new summary.new result)
+        (AreClassesGiven (⟦<Vouched<Role96, 97> as Indexed<Sha256Digest>>⟧.are_class_ranges bound
+        (mixed_class seed (length ends.old)) (length ends.old) stream.now)
+        ranges.old ranges.new ends.old ends.new summary.new result) }
+    ensures taken { result ≢ 2 →
+        IsSignatureSize signature × (1 ≤ bound) × AreClasses (length ends.old) }
+    ensures refused { result ≡ 2 →
+        ¬ (IsSignatureSize signature × (1 ≤ bound) × AreClasses (length ends.old)) }
+    ensures untouched { (result ≡ 2) ⊎ (result ≡ 3) →
+        (ranges.new ≡ ranges.old) × (ends.new ≡ ends.old) × (summary.new ≡ summary.old) }
+{
+    classes_of_stream(alloc, signature, bound, stream, seed, ranges, ends, summary)
+}
+
 /// Audits the bytes of some ranges of a stream, one range after another, as
-/// `simplex_audit_vouched_..` does a stream whose signatures have so many bytes: 48, 64 or 96.
+/// `simplex_audit` does a stream whose signatures have so many bytes: 48, 64 or 96.
 /// Returns a status as above, 2 also if signatures have no such size, a range is not within the
 /// stream, or the ranges have 2^64 bytes or more together.
 #[unsafe(no_mangle)]

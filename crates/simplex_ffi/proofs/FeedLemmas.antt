@@ -8,9 +8,8 @@ use Rattle.simplex_scheme.specs.Committees.{Schedule}
 use Rattle.simplex_audit.specs.Auditor.{Stands}
 use Rattle.simplex_audit.specs.Basis.{Basis}
 use Rattle.simplex_audit.specs.declared.auditor.Auditor.{Auditor}
-use Rattle.simplex_shards.specs.Ranges.{range_bytes}
+use Rattle.simplex_shards.specs.Ranges.{bytes_of_ranges, range_bytes}
 use Rattle.simplex_shards.specs.declared.ranges.Range.{Range}
-use Rattle.simplex_ffi.specs.Rows.{bytes_of_ranges}
 
 -- one range more
 pub one_more : (stream : List ℕ) (rs : List Range) (i : ℕ) (d : Range) → i < length rs →

@@ -1,6 +1,9 @@
 pub mod KeyLemmas
 pub mod SizeLemmas
+pub mod ClassLemmas
 pub mod EndedLemmas
 pub mod FeedLemmas
-pub mod PartLemmas
 pub mod WithinLemmas
+pub mod SignerLemmas
+pub mod FrontLemmas
+pub mod ProofLemmas

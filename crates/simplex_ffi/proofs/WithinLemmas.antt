@@ -4,9 +4,8 @@ use Rattle.std.specs.Prelude.{All}
 use Rattle.std.specs.List.{sum_by}
 use Rattle.std.proofs.lemmas.List.Elements.{All-cons, All-head, All-nil, All-tail}
 use Rattle.std.proofs.lemmas.List.Sums.{sum_by-cons}
-use Rattle.simplex_shards.specs.Ranges.{end_of_range}
+use Rattle.simplex_shards.specs.Ranges.{AreWithin, end_of_range}
 use Rattle.simplex_shards.specs.declared.ranges.Range.{Range}
-use Rattle.simplex_ffi.specs.Rows.{AreWithin}
 
 -- ranges are within a stream of so many bytes, and have no more bytes than there is room for
 abbrev pub Fit : ℕ → ℕ → List Range → Type 0

@@ -1,11 +1,10 @@
 -- Rows and ranges that a caller who is not Rattle is given.
-use Rattle.std.specs.Prelude.{◌≡◌, ◌<◌, ◌≤◌, ◌^◌, ◌+◌, ℕ, List, [], All, length}
-use Rattle.std.specs.List.{flat_map, sum_by}
-use Rattle.simplex_base.specs.Format.{Format}
+use Rattle.std.specs.Prelude.{◌≡◌, ◌≢◌, ◌<◌, ◌≤◌, ◌^◌, ◌+◌, ℕ, List, [], ◌∷◌, All, length}
+use Rattle.std.specs.List.{flat_map}
 use Rattle.simplex_base.specs.Positions.{Round}
-use Rattle.simplex_stream.specs.Messages.{AreMessages}
-use Rattle.simplex_shards.specs.Ranges.{AreRanges, end_of_range, range_bytes}
-use Rattle.simplex_shards.specs.Split.{of_class}
+use Rattle.simplex_shards.specs.Classes.{ranges_in}
+use Rattle.simplex_shards.specs.Ranges.{AreRanges}
+use Rattle.simplex_shards.specs.declared.classes.ClassRanges.{ClassRanges}
 use Rattle.simplex_shards.specs.declared.index.Row.{Row}
 use Rattle.simplex_shards.specs.declared.index.Table.{Table}
 use Rattle.simplex_shards.specs.declared.ranges.Range.{Range}
@@ -43,20 +42,37 @@ pub record AreRangesGiven (class : Round → ℕ) (i : ℕ) (rows : List Row) (b
   pub needed_is : needed ≡ length found
   pub ranges_are : IsPut found before after status 0
 
--- Each range is within a stream of so many bytes, and together they have fewer than 2^64.
-pub record AreWithin (size : ℕ) (ranges : List Range) : Type 0 where
-  pub each : All (λ r. end_of_range r ≤ size) ranges
-  pub few : sum_by (λ r. r.length) ranges < 2 ^ 64
+-- the ranges of all classes, one class after another
+abbrev pub all_ranges : ClassRanges → List Range
+all_ranges found = flat_map (λ ranges. ranges) (ranges_in found)
 
--- the bytes of ranges of a stream, one range after another
-abbrev pub bytes_of_ranges : List ℕ → List Range → List ℕ
-bytes_of_ranges stream ranges = flat_map (range_bytes stream) ranges
+-- where the ranges of each class end, if they stand one class after another behind so many others
+abbrev pub ends_from : ℕ → List (List Range) → List ℕ
+ends_from n [] = []
+ends_from n (ranges ∷ others) = (n + length ranges) ∷ ends_from (n + length ranges) others
 
--- The bytes of ranges of a stream are the messages of one class of rounds, in their order, and an audit takes the ranges.
-pub record ArePart {M : Type 0} (format : Format M) (round : M → Round) (class : Round → ℕ) (i : ℕ) (stream : List ℕ)
-    (ranges : List Range) : Type 0 where
-  pub messages : List M
-  pub rest : List ℕ
-  pub are_messages : AreMessages format stream messages rest
-  pub part : AreMessages format (bytes_of_ranges stream ranges) (of_class round class i messages) []
-  pub within : length stream < 2 ^ 64 → AreWithin (length stream) ranges
+-- The numbers are those of what was found: how many messages there are, how many ranges they have, and the fault. Nothing was
+-- audited.
+pub record IsClassSummary (found : ClassRanges) (summary : ReportSummary) : Type 0 where
+  pub read_is : summary.read ≡ found.read
+  pub evidence_is : summary.evidence ≡ 0
+  pub splits_are : summary.splits ≡ 0
+  pub faulted_is : summary.faulted ≡ ended_of found.fault
+  pub place_is : summary.fault_place ≡ place_of_fault found.fault
+  pub length_is : summary.length ≡ length (all_ranges found)
+
+-- The ranges of all classes stand at the start of the buffer, one class after another, and `ends` has for each class where its
+-- ranges end there; the status is 0 if the stream was read whole and 1 if it has a fault. Or the buffer is too short, both are
+-- as before, and the status is 4.
+pub record AreClassesGiven (AreFound : ClassRanges → Type 0) (before after : List Range) (ends_before ends : List ℕ)
+    (summary : ReportSummary) (status : ℕ) : Type 0 where
+  pub found : ClassRanges
+  pub found_are : AreFound found
+  pub summary_is : IsClassSummary found summary
+  pub ranges_are : IsPut (all_ranges found) before after status (ended_of found.fault)
+  pub ends_are : (status ≢ 4) → ends ≡ ends_from 0 (ranges_in found)
+  pub ends_stay : status ≡ 4 → ends ≡ ends_before
+
+-- so many classes can be
+abbrev pub AreClasses : ℕ → Type 0
+AreClasses classes = (1 ≤ classes) × (classes < 2 ^ 32)

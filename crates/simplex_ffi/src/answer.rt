@@ -67,7 +67,7 @@ pub(crate) fn place(fault: Option<Fault>) -> usize
 }
 
 /// Puts a text, or other items, at the start of a buffer, if there is room.
-pub(crate) fn put<T: Copy>(text: &[T], buffer: &mut [T]) -> bool
+pub fn put<T: Copy>(text: &[T], buffer: &mut [T]) -> bool
     ensures fits { IsTrue result → length text.now ≤ length buffer.old }
     ensures short { result ≡ false → length buffer.old < length text.now }
     ensures there { IsTrue result → buffer.new ≡ text.now ++ drop (length text.now) buffer.old }
@@ -115,7 +115,7 @@ pub(crate) fn account<S: Listing<D>, D: Digest>(
 }
 
 /// Writes the summary of a report, and puts its text at the start of a buffer. The status is [`WHOLE`], [`FAULT`] or [`SHORT`].
-pub(crate) fn write_report<S: SchemeTypes, D: Digest>(
+pub fn write_report<S: SchemeTypes, D: Digest>(
     report: &Report<S, D>,
     text: &[u8],
     buffer: &mut [u8],

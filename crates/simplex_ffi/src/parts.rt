@@ -7,10 +7,9 @@ ghost use Rattle.simplex_audit.specs.Run.{report_text};
 ghost use Rattle.simplex_scheme.specs.Committees.{Schedule};
 ghost use Rattle.simplex_schemes.specs.Plain.{PlainScheme};
 ghost use Rattle.simplex_schemes.specs.Vouched.{VouchedScheme};
-ghost use Rattle.simplex_shards.specs.Ranges.{end_of_range, range_bytes};
+ghost use Rattle.simplex_shards.specs.Ranges.{AreWithin, bytes_of_ranges, end_of_range, range_bytes};
 ghost use Rattle.simplex_ffi.specs.Answer.{IsAudited};
 ghost use Rattle.simplex_ffi.specs.Keys.{AreKeys, AreOfKeys, IsLengthOfKeys};
-ghost use Rattle.simplex_ffi.specs.Rows.{AreWithin, bytes_of_ranges};
 ghost use Rattle.simplex_ffi.specs.Signatures.{ForSizes, IsVouchedSize};
 ghost use Rattle.simplex_ffi.specs.Sizes.{AreSizes, AreCommitteeSizes};
 

@@ -2,7 +2,10 @@
 
 ghost use Rattle.std.specs.Prelude.{◌≡◌, ◌≢◌, ◌⊎◌, ◌≤◌, ℕ, List};
 ghost use Rattle.simplex_base.specs.Format.{format_under};
+ghost use Rattle.simplex_base.specs.Positions as positions;
+ghost use Rattle.simplex_shards.specs.Classes.{AreClassRanges};
 ghost use Rattle.simplex_shards.specs.Index.{IsIndex};
+ghost use Rattle.simplex_shards.specs.declared.classes.ClassRanges as found;
 ghost use Rattle.simplex_shards.specs.declared.index.Table as tables;
 ghost use Rattle.simplex_ffi.specs.Rows.{AreRowsGiven, IsTableSummary};
 ghost use Rattle.simplex_ffi.specs.Signatures.{ForSizes, IsSignatureSize};
@@ -23,11 +26,17 @@ use std::alloc::Global;
 pub trait Indexed<D: Digest>: Listing<D> {
     /// Whether a table is that of a stream, if certificates are read under a bound.
     ghost is_index: { ℕ → List ℕ → tables.Table → Type 0 };
+
+    /// Whether these are a stream's ranges of so many classes of rounds, if certificates are read under a bound.
+    ghost are_class_ranges: { ℕ → (positions.Round → ℕ) → ℕ → List ℕ → found.ClassRanges → Type 0 };
 }
 
 impl<S: Listing<D>, D: Digest> Indexed<D> for S {
     ghost is_index = { λ bound. IsIndex (format_under ⟦<Activity<S, D> as Read>⟧ bound)
         ⟦<Activity<S, D> as Roundable>⟧.round_of ⟦<Activity<S, D> as Tabular>⟧.row_of };
+
+    ghost are_class_ranges = { λ bound. AreClassRanges (format_under ⟦<Activity<S, D> as Read>⟧ bound)
+        ⟦<Activity<S, D> as Roundable>⟧.round_of };
 }
 
 /// The numbers of a table.

@@ -1,8 +1,7 @@
 //! Which ranges of a stream an audit takes.
 
 ghost use Rattle.std.specs.Prelude.{◌≤◌, ◌↔◌, IsTrue};
-ghost use Rattle.simplex_shards.specs.Ranges.{end_of_range};
-ghost use Rattle.simplex_ffi.specs.Rows.{AreWithin};
+ghost use Rattle.simplex_shards.specs.Ranges.{AreWithin, end_of_range};
 
 use simplex_shards::ranges::Range;
 

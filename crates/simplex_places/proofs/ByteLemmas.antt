@@ -16,7 +16,7 @@ use Rattle.simplex_evidence.specs.Activity.{activity_body, activity_encoding, ac
 use Rattle.simplex_evidence.specs.declared.types.activity.Activity.{Activity}
 use Rattle.simplex_evidence.specs.declared.types.activity.Activity.TheVariants as activity
 use Rattle.simplex_detector.specs.Suspects.{Suspected}
-use Rattle.simplex_places.specs.Bytes.{IsVoteAt}
+use Rattle.simplex_places.specs.Bytes.{AreSomeAt, IsVoteAt}
 use Rattle.simplex_places.specs.Places.{behind, certificate_places, message_places, pair_places, placed_at, places_along, places_from, signed_at, vote_places}
 use Rattle.simplex_places.specs.Suspects.{is_sought, sought_of}
 use Rattle.simplex_places.specs.declared.places.Placed.{Placed}
@@ -244,3 +244,17 @@ module _ {S D C P G : Type 0} (eq : D → D → Bool) (payload : Format D) (cert
       let places = places_along (message_places payload signature listed) bytes_in 0 ms in
       All-map IsCast (λ (p : Placed). p.attestation) (filter (is_sought suspected size) places)
       (All-filter (is_sought suspected size) IsPlaced places (along_stands [] tail 0 ms refl whole cast))
+
+-- the attestations of one message at the front of some bytes
+pub front_stands : (S P : Type 0) {D C G : Type 0} (eq : D → D → Bool) (payload : Format D) (certificate : C → List ℕ)
+    (signature : Format G) (listed : C → List (Attestation S P G))
+    (counted : (c : C) → certificate c ≡ listed_encoding signature (listed c)) (m : Activity S D C P G) (bytes rest : List ℕ) →
+    bytes ≡ activity_encoding eq payload certificate signature m ++ rest →
+    AreSomeAt payload signature (votes_in listed m) bytes
+    (map (λ p. p.attestation) (message_places payload signature listed 0 m))
+front_stands S P eq payload certificate signature listed counted m bytes rest is =
+    let cast = Contains (votes_in listed m) in
+    All-map (IsCast eq payload certificate signature listed counted bytes cast) (λ (p : Placed). p.attestation)
+    (message_places payload signature listed 0 m)
+    (body_stands eq payload certificate signature listed counted bytes cast (activity_tag m ∷ []) rest 0 m refl is
+    (λ v c. c))

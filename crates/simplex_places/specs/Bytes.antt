@@ -33,3 +33,8 @@ pub record AreVotesAt {S D C P G : Type 0} (basis : Basis S D C P G) (payload : 
   pub are_messages : AreMessages basis.format stream messages rest
   pub each : All (λ s. (v : SignedVote D G) × Contains (flat_map (votes_in basis.rules.listed) messages) v
       × IsVoteAt payload signature stream v s) found
+
+-- each is one of these votes, as it stands in the bytes
+abbrev pub AreSomeAt : {D G : Type 0} → Format D → Format G → List (SignedVote D G) → List ℕ → List AttestationPlace → Type 0
+AreSomeAt {D} {G} payload signature votes bytes found =
+    All (λ s. (v : SignedVote D G) × Contains votes v × IsVoteAt payload signature bytes v s) found

@@ -1,9 +1,11 @@
 //! Where the attestations of a message stand.
 
-ghost use Rattle.std.specs.Prelude.{◌≡◌, ◌+◌, ◌-◌, ◌<◌, ◌^◌, ◌++◌, [], ◌∷◌, IfOk, OnOk, length};
+ghost use Rattle.std.specs.Prelude.{◌≡◌, ◌+◌, ◌-◌, ◌<◌, ◌^◌, ◌++◌, [], ◌∷◌, ℕ, List, IfOk, OnOk, length, map};
 ghost use Rattle.std.specs.List.{flat_map};
 ghost use Rattle.simplex_base.specs.Format.{format_of};
 ghost use Rattle.simplex_scheme.specs.Subject.{message_of, subject_value};
+ghost use Rattle.simplex_evidence.specs.Activity.{votes_in};
+ghost use Rattle.simplex_places.specs.Bytes.{AreSomeAt};
 ghost use Rattle.simplex_places.specs.Places.{behind, certificate_places, kind_number, message_places, placed_at, places_from, signed_at, vote_places};
 
 use crate::located::Counted;
@@ -12,7 +14,7 @@ use simplex_base::codec::{EncodeSize, Encoding, Fixed, Read};
 use simplex_base::positions::{Round, Roundable};
 use simplex_evidence::types::{Activity, Contents};
 use simplex_scheme::scheme::{Attestation, Digest, SchemeTypes, Subject, VoteKind};
-use std::alloc::AllocError;
+use std::alloc::{AllocError, Global};
 
 /// An attestation of a stream, and where it stands there.
 #[repr(C)]
@@ -203,4 +205,32 @@ pub(crate) fn push_message<S: Counted<D>, D: Digest>(
             Ok(())
         }
     }
+}
+
+/// The attestations alone.
+fn without_lists(alloc: Global, placed: &[Placed]) -> Result<Vec<AttestationPlace>, AllocError>
+    ensures { IfOk result (λ found. found.items ≡ map (λ p. p.attestation) placed.now) }
+{
+    placed.iter().map(|one| one.attestation).collect(alloc)
+}
+
+/// The attestations of a message that is at the front of some bytes, in its order: each is a vote of the message, as it stands
+/// in the bytes. `AllocError` only where an allocation failed.
+pub fn attestations_of<S: Counted<D>, D: Digest>(
+    alloc: Global,
+    message: &Activity<S, D>,
+) -> Result<Vec<AttestationPlace>, AllocError>
+    requires { length (⟦<Activity<S, D> as Encoding>⟧.encoding message.now) < 2 ^ 64 }
+    ensures places { IfOk result (λ found. found.items ≡
+        map (λ p. p.attestation) (message_places (format_of ⟦<D as Read>⟧)
+        (format_of ⟦<S::Signature as Read>⟧) S.listed 0 message.now)) }
+    ensures votes { IfOk result (λ found. (bytes rest : List ℕ) →
+        bytes ≡ ⟦<Activity<S, D> as Encoding>⟧.encoding message.now ++ rest →
+        AreSomeAt (format_of ⟦<D as Read>⟧) (format_of ⟦<S::Signature as Read>⟧)
+        (votes_in S.listed message.now) bytes found.items) }
+{
+    let mut placed = Vec::new(alloc);
+    push_message(0, message, &mut placed)?;
+    let found = without_lists(alloc, &placed)?;
+    Ok(found)
 }

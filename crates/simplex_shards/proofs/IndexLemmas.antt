@@ -64,7 +64,7 @@ module _ {M : Type 0} (round : M → Round) (encoding : M → List ℕ) (row_of 
       (ap (take (length (encoding m))) (drop-append_seam front (encoding m ++ rest)) ∙ take-append_seam (encoding m) rest)))
 
   -- the bytes of the rows of a class are its messages
-  class_bytes : (class : Round → ℕ) (i : ℕ) (stream front rest : List ℕ) (ms : List M) →
+  pub class_bytes : (class : Round → ℕ) (i : ℕ) (stream front rest : List ℕ) (ms : List M) →
       stream ≡ front ++ (flat_map encoding ms ++ rest) →
       flat_map (bytes_at stream) (rows_of_class class i (rows_from row_of encoding (length front) ms))
       ≡ flat_map encoding (of_class round class i ms)

@@ -1,11 +1,13 @@
 mod AccusedLemmas
 mod AloneLemmas
 mod CanonicalLemmas
+mod ClassLemmas
 mod CountLemmas
 mod CutLemmas
 mod IndexLemmas
 mod MergeLemmas
 mod OrderLemmas
+mod PartBytes
 mod PartLemmas
 mod PieceLemmas
 mod RangeLemmas

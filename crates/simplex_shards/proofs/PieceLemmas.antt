@@ -93,11 +93,11 @@ module _ {M : Type 0} (format : Format M) (round : M → Round) (class : Round �
   -- no message has empty parts
   pub no_parts : IsNeverEmpty format → AreParts format round class classes [] (replicate classes [])
   no_parts some = record {
-    count = empty_count classes;
+    count = empty_count ℕ classes;
     one = All-nil (λ m. class (round m) < classes);
     each = λ i part e.
         let in_range = slice_get_within (replicate {A = List ℕ} classes []) i part e in
-        let empty = empty_at classes i (omega (arith, in_range, empty_count classes)) in
+        let empty = empty_at classes i (omega (arith, in_range, empty_count ℕ classes)) in
         subst (λ (bytes : List ℕ). AreMessages format bytes [] []) (same_Some [] part (sym empty ∙ e))
         (are_joined format some [] (All-nil format.is_value));
   }

@@ -163,20 +163,3 @@ module _ (class : Round → ℕ) (i : ℕ) where
           within = λ n each. before.within n (each_before n rows row each).0;
         })
   ]
-
--- the first rows end below 2^64 too
-pub first_rows_fit : (rows : List Row) (k : ℕ) → All (λ row. row.place + row.length < 2 ^ 64) rows →
-    All (λ row. row.place + row.length ≤ 2 ^ 64 - 1) (take k rows)
-first_rows_fit rows zero each = All-nil _
-first_rows_fit [] (suc k) each = All-nil _
-first_rows_fit (row ∷ rows) (suc k) each =
-    let one = All-head (λ row. row.place + row.length < 2 ^ 64) row rows each in
-    All-cons (λ row. row.place + row.length ≤ 2 ^ 64 - 1) row (take k rows) (omega (arith, one))
-    (first_rows_fit rows k (All-tail (λ row. row.place + row.length < 2 ^ 64) row rows each))
-
-pub ranges_fit : (rs : List Range) → All (λ r. end_of_range r ≤ 2 ^ 64 - 1) rs → All (λ r. r.place + r.length < 2 ^ 64) rs
-ranges_fit [] each = All-nil _
-ranges_fit (r ∷ rs) each =
-    let one = All-head (λ r. end_of_range r ≤ 2 ^ 64 - 1) r rs each in
-    All-cons (λ r. r.place + r.length < 2 ^ 64) r rs (omega (arith, one))
-    (ranges_fit rs (All-tail (λ r. end_of_range r ≤ 2 ^ 64 - 1) r rs each))

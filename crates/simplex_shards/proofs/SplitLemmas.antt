@@ -18,16 +18,16 @@ use Rattle.simplex_stream.specs.StreamLaws.{IsNeverEmpty, are_joined}
 use Rattle.std.proofs.lemmas.Option.{slice_get_within, same_Some}
 use Rattle.std.proofs.lemmas.List.Elements.{All-cons, All-filter, All-nil}
 
-module _ {X : Type 0} (view : X → List ℕ) where
+module _ {X Y : Type 0} (view : X → Y) where
   -- where an element was put, it stands,
-  view_at : (xs : List X) (c : ℕ) (w : X) (part : List ℕ) → slice_get (map view xs) c ≡ Some part →
+  pub view_at : (xs : List X) (c : ℕ) (w : X) (part : Y) → slice_get (map view xs) c ≡ Some part →
       slice_get (map view (slice_set xs c w)) c ≡ Some (view w)
   view_at [] c w part e = absurd cc
   view_at (x ∷ xs) zero w part e = refl
   view_at (x ∷ xs) (suc c) w part e = view_at xs c w part e
 
   -- and the others stand where they stood
-  view_beside : (xs : List X) (c i : ℕ) (w : X) → (c ≡ i → ⊥) →
+  pub view_beside : (xs : List X) (c i : ℕ) (w : X) → (c ≡ i → ⊥) →
       slice_get (map view (slice_set xs c w)) i ≡ slice_get (map view xs) i
   view_beside [] c i w other = refl
   view_beside (x ∷ xs) zero zero w other = absurd (other refl)
@@ -36,13 +36,13 @@ module _ {X : Type 0} (view : X → List ℕ) where
   view_beside (x ∷ xs) (suc c) (suc i) w other = view_beside xs c i w (λ e. other (ap suc e))
 
   -- what stood there before
-  view_before : (xs : List X) (c : ℕ) (v : X) (part : List ℕ) → slice_get (map view xs) c ≡ Some part →
+  pub view_before : (xs : List X) (c : ℕ) (v : X) (part : Y) → slice_get (map view xs) c ≡ Some part →
       v ≡ get_or xs c v → view v ≡ part
   view_before [] c v part e same = absurd cc
   view_before (x ∷ xs) zero v part e same = ap view same ∙ cc
   view_before (x ∷ xs) (suc c) v part e same = view_before xs c v part e same
 
-  length_set : (xs : List X) (c : ℕ) (w : X) → length (map view (slice_set xs c w)) ≡ length (map view xs)
+  pub length_set : (xs : List X) (c : ℕ) (w : X) → length (map view (slice_set xs c w)) ≡ length (map view xs)
   length_set [] c w = refl
   length_set (x ∷ xs) zero w = refl
   length_set (x ∷ xs) (suc c) w = ap suc (length_set xs c w)
@@ -96,25 +96,32 @@ module _ {M : Type 0} (round : M → Round) (class : Round → ℕ) (encoding : 
 -- ---- all messages of a stream
 
 -- an empty part
-pub empty_at : (k i : ℕ) → i < k → slice_get (replicate {A = List ℕ} k []) i ≡ Some []
+pub empty_at : {A : Type 0} (k i : ℕ) → i < k → slice_get (replicate {A = List A} k []) i ≡ Some []
 empty_at zero i lt = absurd (omega (arith, lt))
 empty_at (suc k) zero lt = refl
 empty_at (suc k) (suc i) lt = empty_at k i (omega (arith, lt))
 
-pub empty_count : (k : ℕ) → length (replicate {A = List ℕ} k []) ≡ k
-empty_count zero = refl
-empty_count (suc k) = ap suc (empty_count k)
+pub empty_count : (A : Type 0) (k : ℕ) → length (replicate {A = List A} k []) ≡ k
+empty_count A zero = refl
+empty_count A (suc k) = ap suc (empty_count A k)
+
+-- each message is of a class
+pub all_within : {M : Type 0} (round : M → Round) (class : Round → ℕ) (classes : ℕ) → ((r : Round) → class r < classes) →
+    (ms : List M) → All (λ m. class (round m) < classes) ms
+all_within round class classes within [] = All-nil (λ m. class (round m) < classes)
+all_within round class classes within (m ∷ ms) =
+    All-cons (λ m. class (round m) < classes) m ms (within (round m)) (all_within round class classes within ms)
 
 -- what was appended to empty parts are the parts of the messages
 pub scattered : {M : Type 0} (format : Format M) (round : M → Round) (class : Round → ℕ) (classes : ℕ) (ms : List M)
     (old new : Scatter) → IsNeverEmpty format → ((r : Round) → class r < classes) → parts_of old ≡ replicate classes [] →
     All format.is_value ms → Scatters round class format.encoding ms old new →
     AreParts format round class classes ms (parts_of new)
-scattered {M} format round class classes ms old new some within empty values done =
-    let count : length (parts_of new) ≡ classes = done.count ∙ (ap length empty ∙ empty_count classes) in
+scattered format round class classes ms old new some within empty values done =
+    let count : length (parts_of new) ≡ classes = done.count ∙ (ap length empty ∙ empty_count ℕ classes) in
     record {
       count = count;
-      one = each_within ms;
+      one = all_within round class classes within ms;
       each = λ i part e.
           let in_range = slice_get_within (parts_of new) i part e in
           let ks = of_class round class i ms in
@@ -123,10 +130,6 @@ scattered {M} format round class classes ms old new some within empty values don
           subst (λ (bytes : List ℕ). AreMessages format bytes ks []) (sym same)
           (are_joined format some ks (All-filter (λ m. class (round m) == i) format.is_value ms values));
     }
-  where
-    each_within : (ks : List M) → All (λ m. class (round m) < classes) ks
-    each_within [] = All-nil (λ m. class (round m) < classes)
-    each_within (k ∷ ks) = All-cons (λ m. class (round m) < classes) k ks (within (round k)) (each_within ks)
 
 -- what was appended of a stream to empty parts is the stream, cut
 pub split_all : {M : Type 0} (format : Format M) (round : M → Round) (class : Round → ℕ) (classes : ℕ)

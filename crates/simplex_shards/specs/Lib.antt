@@ -1,6 +1,8 @@
 pub mod Accused
 pub mod Canonical
 pub mod CanonicalLaws
+pub mod ClassLaws
+pub mod Classes
 pub mod Cut
 pub mod Index
 pub mod Merge

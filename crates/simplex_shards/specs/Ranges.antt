@@ -1,9 +1,12 @@
 -- Bytes of a stream that stand together.
-use Rattle.std.specs.Prelude.{◌≡◌, ◌+◌, ◌≤◌, ◌==◌, ⊤, ℕ, Bool, List, [], ◌∷◌, take, drop, All, if◌then◌else◌}
-use Rattle.std.specs.List.{flat_map}
+use Rattle.std.specs.Prelude.{◌≡◌, ◌+◌, ◌≤◌, ◌<◌, ◌^◌, ◌==◌, ⊤, ℕ, Bool, List, [], ◌∷◌, length, take, drop, All, if◌then◌else◌}
+use Rattle.std.specs.List.{flat_map, sum_by}
+use Rattle.simplex_base.specs.Format.{Format}
 use Rattle.simplex_base.specs.Positions.{Round}
+use Rattle.simplex_stream.specs.Messages.{AreMessages}
 use Rattle.simplex_shards.specs.Index.{bytes_at, rows_of_class}
 use Rattle.simplex_shards.specs.Rows.{row_round}
+use Rattle.simplex_shards.specs.Split.{of_class}
 use Rattle.simplex_shards.specs.declared.index.Row.{Row}
 use Rattle.simplex_shards.specs.declared.ranges.Range.{Range}
 
@@ -54,3 +57,23 @@ pub record AreRanges (class : Round → ℕ) (i : ℕ) (rows : List Row) (ranges
       flat_map (range_bytes stream) ranges ≡ flat_map (bytes_at stream) (rows_of_class class i rows)
   pub apart : AreApart ranges
   pub within : (n : ℕ) → All (λ row. row.place + row.length ≤ n) rows → All (λ r. end_of_range r ≤ n) ranges
+
+-- ---- what an audit reads of ranges
+
+-- the bytes of ranges of a stream, one range after another
+abbrev pub bytes_of_ranges : List ℕ → List Range → List ℕ
+bytes_of_ranges stream ranges = flat_map (range_bytes stream) ranges
+
+-- Each range is within a stream of so many bytes, and together they have fewer than 2^64.
+pub record AreWithin (size : ℕ) (ranges : List Range) : Type 0 where
+  pub each : All (λ r. end_of_range r ≤ size) ranges
+  pub few : sum_by (λ r. r.length) ranges < 2 ^ 64
+
+-- The bytes of ranges of a stream are the messages of one class of rounds, in their order, and an audit takes the ranges.
+pub record ArePart {M : Type 0} (format : Format M) (round : M → Round) (class : Round → ℕ) (i : ℕ) (stream : List ℕ)
+    (ranges : List Range) : Type 0 where
+  pub messages : List M
+  pub rest : List ℕ
+  pub are_messages : AreMessages format stream messages rest
+  pub part : AreMessages format (bytes_of_ranges stream ranges) (of_class round class i messages) []
+  pub within : length stream < 2 ^ 64 → AreWithin (length stream) ranges

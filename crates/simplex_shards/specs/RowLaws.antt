@@ -8,7 +8,7 @@ use Rattle.simplex_shards.specs.declared.index.Tabulator.{Tabulator}
 
 module _ {M : Type 0} (row_of : ℕ → M → Row) (encoding : M → List ℕ) where
   -- the rows of joined messages are those of the first, and then those of the others from behind them on
-  rows_joined : (place : ℕ) (ms ks : List M) →
+  pub rows_joined : (place : ℕ) (ms ks : List M) →
       rows_from row_of encoding place (ms ++ ks)
       ≡ rows_from row_of encoding place ms ++ rows_from row_of encoding (place + length (flat_map encoding ms)) ks
   rows_joined place [] ks = ap (λ (n : ℕ). rows_from row_of encoding n ks) (omega arith)

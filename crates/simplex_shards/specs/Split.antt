@@ -13,13 +13,13 @@ use Rattle.simplex_shards.specs.declared.split.Shards.{Shards}
 abbrev pub of_class : {M : Type 0} → (M → Round) → (Round → ℕ) → ℕ → List M → List M
 of_class round class i messages = filter (λ m. class (round m) == i) messages
 
--- the bytes of each of some parts
-abbrev pub bytes_in : Vec (Vec ℕ Global) Global → List (List ℕ)
-bytes_in parts = map (λ part. part.items) parts.items
+-- what each of some parts has
+abbrev pub items_in : {A : Type 0} → Vec (Vec A Global) Global → List (List A)
+items_in parts = map (λ part. part.items) parts.items
 
 -- the bytes of each part
 abbrev pub bytes_of : Shards → List (List ℕ)
-bytes_of shards = bytes_in shards.parts
+bytes_of shards = items_in shards.parts
 
 -- These are the parts of some messages, so many. Each part is whole messages: exactly those whose rounds are of its class, in
 -- their order. So each message stands in one part, that of its class.
@@ -42,7 +42,7 @@ pub record IsSplit {M : Type 0} (format : Format M) (round : M → Round) (class
 
 -- the bytes of each part so far
 abbrev pub parts_of : Scatter → List (List ℕ)
-parts_of scatter = bytes_in scatter.parts
+parts_of scatter = items_in scatter.parts
 
 -- these messages were appended, each to the part of its class
 pub record Scatters {M : Type 0} (round : M → Round) (class : Round → ℕ) (encoding : M → List ℕ) (messages : List M)

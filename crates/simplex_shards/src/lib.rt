@@ -5,6 +5,7 @@
 #![tactic(auto)]
 
 pub mod canonical;
+pub mod classes;
 pub mod cut;
 pub mod index;
 mod laws;

@@ -6,7 +6,7 @@ ghost use Rattle.simplex_base.specs.Positions.{Round};
 ghost use Rattle.simplex_stream.specs.Decoder.{decoding_over};
 ghost use Rattle.simplex_shards.specs.Cut.{class_under, classes_of};
 ghost use Rattle.simplex_shards.specs.Pieces.{EndsCutting, HasSplit, IndexesMore, JoinsParts, SplitsMore, StartsCutting, bound_of, decoder_of, fed_by, read_by};
-ghost use Rattle.simplex_shards.specs.Split.{bytes_in};
+ghost use Rattle.simplex_shards.specs.Split.{items_in};
 
 use crate::cut::Cut;
 use crate::index::{Row, Tabular, Tabulator};
@@ -73,10 +73,10 @@ impl Cutter {
         ensures fed { IfOk result (λ _. fed_by self.new ≡ fed_by self.old + length piece.now) }
         ensures parts { IfOk result (λ parts.
             SplitsMore (format_under ⟦<M as Read>⟧ (bound_of self.old)) M.round_of (class_under cut.now)
-            (classes_of cut.now) piece.now self.old self.new (bytes_in parts)) }
+            (classes_of cut.now) piece.now self.old self.new (items_in parts)) }
         ensures joined { IfOk result (λ parts.
             JoinsParts (format_under ⟦<M as Read>⟧ (bound_of self.old)) M.round_of (class_under cut.now)
-            (classes_of cut.now) piece.now self.old self.new (bytes_in parts)) }
+            (classes_of cut.now) piece.now self.old self.new (items_in parts)) }
     {
         let mut scatter = Scatter {
             parts: empty_parts(self.decoder.allocator(), cut.classes())?,

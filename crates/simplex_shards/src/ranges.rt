@@ -1,12 +1,18 @@
 //! The bytes of one class in a stream, as ranges of it, so that they need not be copied.
 
-ghost use Rattle.std.specs.Prelude.{◌≡◌, ◌+◌, ◌<◌, ◌^◌, All, IfOk, OnOk};
+ghost use Rattle.std.specs.Prelude.{◌≡◌, ◌+◌, ◌<◌, ◌^◌, ◌↔◌, ℕ, List, All, IfOk, IsTrue, OnOk};
+ghost use Rattle.simplex_base.specs.Format.{format_under};
+ghost use Rattle.simplex_base.specs.Positions as positions;
 ghost use Rattle.simplex_shards.specs.Cut.{class_under};
-ghost use Rattle.simplex_shards.specs.Ranges.{AreRanges, appended, range_of_row, with_row};
+ghost use Rattle.simplex_shards.specs.Index.{IsIndex};
+ghost use Rattle.simplex_shards.specs.Ranges.{ArePart, AreRanges, appended, end_of_range, range_of_row, with_row};
 ghost use Rattle.simplex_shards.specs.Rows.{row_round};
+ghost use Rattle.simplex_shards.specs.declared.index.Table as tables;
+ghost use Rattle.simplex_shards.specs.declared.ranges.Range as pieces;
 
 use crate::cut::Cut;
-use crate::index::Row;
+use crate::index::{Row, Tabular};
+use simplex_base::codec::Read;
 use simplex_base::positions::{Epoch, Round, View};
 use std::alloc::{AllocError, Global};
 
@@ -56,8 +62,7 @@ pub fn ranges(alloc: Global, rows: &[Row], cut: &Cut, class: u32) -> Result<Vec<
 
 /// Appends the range of a row if its round is of a class.
 fn push_row(ranges: &mut Vec<Range>, row: &Row, cut: &Cut, class: u32) -> Result<(), AllocError>
-    requires last { All (λ r. r.place + r.length < 2 ^ 64) ranges.old.items }
-    requires next { row.now.place + row.now.length < 2 ^ 64 }
+    requires { row.now.place + row.now.length < 2 ^ 64 }
     ensures { OnOk result (ranges.new.items ≡
         with_row (class_under cut.now) class ranges.old.items row.now) }
 {
@@ -67,17 +72,23 @@ fn push_row(ranges: &mut Vec<Range>, row: &Row, cut: &Cut, class: u32) -> Result
     push_range(ranges, row.range())
 }
 
+/// Whether a range begins where another ends.
+fn is_next(before: &Range, range: &Range) -> bool
+    ensures { IsTrue result ↔ end_of_range before.now ≡ range.now.place }
+{
+    before.place <= range.place && before.length == range.place - before.place
+}
+
 /// Appends a range, or joins it to the last one if it begins where that one ends.
-fn push_range(ranges: &mut Vec<Range>, range: Range) -> Result<(), AllocError>
-    requires last { All (λ r. r.place + r.length < 2 ^ 64) ranges.old.items }
-    requires next { range.place + range.length < 2 ^ 64 }
+pub(crate) fn push_range(ranges: &mut Vec<Range>, range: Range) -> Result<(), AllocError>
+    requires { range.place + range.length < 2 ^ 64 }
     ensures { OnOk result (ranges.new.items ≡ appended ranges.old.items range) }
 {
     let Some(last) = ranges.last() else {
         ranges.push(range)?;
         return Ok(());
     };
-    if last.place + last.length != range.place {
+    if !is_next(last, &range) {
         ranges.push(range)?;
         return Ok(());
     }
@@ -86,3 +97,13 @@ fn push_range(ranges: &mut Vec<Range>, range: Range) -> Result<(), AllocError>
     ranges[end] = Range { place, length };
     Ok(())
 }
+
+/// The ranges of a class of rounds, from all rows of a stream, are within the stream, and their bytes are the messages of the
+/// class. So the report of these ranges is that of the class's part. A call gives its caller what the clause states.
+pub fn ranges_are_parts<M: Tabular>()
+    ensures { (bound : ℕ) (class : positions.Round → ℕ) (i : ℕ) (stream : List ℕ)
+        (table : tables.Table) (ranges : List pieces.Range) →
+        IsIndex (format_under ⟦<M as Read>⟧ bound) M.round_of M.row_of stream table →
+        AreRanges class i table.rows.items ranges →
+        ArePart (format_under ⟦<M as Read>⟧ bound) M.round_of class i stream ranges }
+{}

@@ -3,7 +3,7 @@
 ghost use Rattle.std.specs.Prelude.{◌≡◌, ⊤, IfOk, length, map, replicate, [], List, ℕ};
 ghost use Rattle.simplex_base.specs.Format.{IsLawful, format_under};
 ghost use Rattle.simplex_shards.specs.Cut.{class_under, classes_of};
-ghost use Rattle.simplex_shards.specs.Split.{IsSplit, bytes_in};
+ghost use Rattle.simplex_shards.specs.Split.{IsSplit, items_in};
 
 use crate::cut::Cut;
 use simplex_base::codec::{Encoding, Read, Write};
@@ -89,8 +89,8 @@ pub fn split<M: Message + Roundable + Write + Drop>(
 }
 
 /// So many empty parts.
-pub(crate) fn empty_parts(alloc: Global, classes: u32) -> Result<Vec<Vec<u8>>, AllocError>
-    ensures { IfOk result (λ parts. bytes_in parts ≡ replicate classes []) }
+pub(crate) fn empty_parts<T: Drop>(alloc: Global, classes: u32) -> Result<Vec<Vec<T>>, AllocError>
+    ensures { IfOk result (λ parts. items_in parts ≡ replicate classes []) }
 {
     let mut parts = Vec::with_capacity(alloc, classes as usize)?;
     'classes: for _ in 0..classes {

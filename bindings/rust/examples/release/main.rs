@@ -7,6 +7,7 @@
 mod stubs;
 
 use simplex_audit::{audit, Committees, Encoder, Error, Size, Vote};
+use std::{error, fmt};
 use stubs::{
     Activity, Attestation, Certificate, CodecError, ConflictingFinalize, ConflictingNotarize, Digest, Epoch, Finalization,
     Finalize, Notarization, Notarize, Nullification, Nullify, NullifyFinalize, Participant, Proposal, Rng, Round, Scheme,
@@ -15,12 +16,29 @@ use stubs::{
 
 /// Why an activity was not written.
 #[derive(Debug)]
-#[allow(dead_code)]
 enum Refused {
     /// The release's codec did not read what it wrote.
     Codec(CodecError),
     /// The encoder takes no such message.
     Encoder(Error),
+}
+
+impl fmt::Display for Refused {
+    fn fmt(&self, f: &mut fmt::Formatter<'_>) -> fmt::Result {
+        f.write_str(match self {
+            Refused::Codec(_) => "the codec did not read what it wrote",
+            Refused::Encoder(_) => "the encoder takes no such message",
+        })
+    }
+}
+
+impl error::Error for Refused {
+    fn source(&self) -> Option<&(dyn error::Error + 'static)> {
+        match self {
+            Refused::Codec(error) => Some(error),
+            Refused::Encoder(error) => Some(error),
+        }
+    }
 }
 
 impl From<CodecError> for Refused {

@@ -167,6 +167,14 @@ enum Item {
 #[derive(Debug)]
 pub struct CodecError;
 
+impl std::fmt::Display for CodecError {
+    fn fmt(&self, f: &mut std::fmt::Formatter<'_>) -> std::fmt::Result {
+        f.write_str("another item was encoded")
+    }
+}
+
+impl std::error::Error for CodecError {}
+
 macro_rules! read {
     ($name:ident) => {
         impl $name {

@@ -1,7 +1,7 @@
 use Rattle.std.proofs.Common.{take, ap, arith}
 use Rattle.std.proofs.lemmas.List.{take_all}
 use Rattle.simplex_shards.specs.declared.ranges.Range.{Range}
-use Rattle.simplex_ffi.specs.Rows.{bytes_of_ranges}
+use Rattle.simplex_shards.specs.Ranges.{bytes_of_ranges}
 use Rattle.simplex_ffi.proofs.FeedLemmas.{one_more, room_for, stands_for_same}
 use Rattle.simplex_ffi.proofs.parts.feed_ranges.Invariants.{basis}
 use Rattle.simplex_ffi.proofs.parts.feed_ranges.Goals as goal

@@ -6,7 +6,7 @@ use Rattle.simplex_scheme.specs.Committees.{Schedule, bound_of}
 use Rattle.simplex_detector.specs.Scheme.{rules_of, scheme_of}
 use Rattle.simplex_audit.specs.Auditor.{Stands, fed_of}
 use Rattle.simplex_audit.specs.Basis.{Basis}
-use Rattle.simplex_ffi.specs.Rows.{bytes_of_ranges}
+use Rattle.simplex_shards.specs.Ranges.{bytes_of_ranges}
 use Rattle.simplex_ffi.proofs.parts.feed_ranges.Given as goal
 
 -- the basis of an audit

@@ -1,5 +1,5 @@
 use Rattle.std.proofs.Common.{◌↔◌, drop}
-use Rattle.simplex_ffi.specs.Rows.{AreWithin}
+use Rattle.simplex_shards.specs.Ranges.{AreWithin}
 use Rattle.simplex_ffi.proofs.WithinLemmas.{Fit}
 use Rattle.simplex_ffi.proofs.within.are_within.Given as goal
 

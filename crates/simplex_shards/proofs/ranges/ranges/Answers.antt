@@ -3,12 +3,8 @@ use Rattle.std.proofs.lemmas.List.{take_all, take_more}
 use Rattle.simplex_shards.specs.Cut.{class_under}
 use Rattle.simplex_shards.specs.Ranges.{AreRanges}
 use Rattle.simplex_shards.specs.declared.index.Row.{Row}
-use Rattle.simplex_shards.proofs.RangeLemmas.{first_rows_fit, ranges_fit, ranges_more}
+use Rattle.simplex_shards.proofs.RangeLemmas.{ranges_more}
 use Rattle.simplex_shards.proofs.ranges.ranges.Goals as goal
-
-pub push_row-requires-clause-last : goal.push_row-requires-clause-last
-push_row-requires-clause-last c =
-    ranges_fit c.rows.ranges.items (c.rows.invariant.within _ (first_rows_fit c.args.rows.now c.rows.row-index c.requires))
 
 pub rows-preserved : goal.rows-preserved
 rows-preserved c =

@@ -1,0 +1,3 @@
+module simplexaudit
+
+go 1.18

@@ -1,0 +1,5 @@
+pub mod Roster
+pub mod Replies
+pub mod Standing
+pub mod Held
+pub mod Owned

@@ -1,0 +1,100 @@
+-- What a call does to an auditor, and puts into a caller's buffer.
+use Rattle.std.specs.Prelude.{◌≡◌, ◌≢◌, ℕ, List, [], ◌++◌, length}
+use Rattle.std.specs.Ordering.{ord_max}
+use Rattle.simplex_base.specs.Positions.{Round}
+use Rattle.simplex_scheme.specs.Committees.{Schedule}
+use Rattle.simplex_evidence.specs.Contradiction.{Equivocation}
+use Rattle.simplex_detector.specs.Accusation.{round_cmp}
+use Rattle.simplex_detector.specs.Independence.{first_round}
+use Rattle.simplex_detector.specs.Line.{line_of}
+use Rattle.simplex_detector.specs.Splits.{split_line}
+use Rattle.simplex_detector.specs.declared.split.Split.{Split}
+use Rattle.simplex_audit.specs.Basis.{Basis, basis_from}
+use Rattle.simplex_audit.specs.Report.{IsReport}
+use Rattle.simplex_audit.specs.Run.{report_text, text_of}
+use Rattle.simplex_audit.specs.declared.audit.Report.{Report}
+use Rattle.simplex_ffi.specs.Answer.{IsPut, IsSummary, ended_of}
+use Rattle.simplex_ffi.specs.declared.answer.ReportSummary.{ReportSummary}
+use Rattle.simplex_tracker.specs.Live.{AreNews, CanStandFor, Follows, HasEnded, IsShort, LosesNothing, TakesPiece, WaitSame, evidence_waiting, splits_waiting}
+use Rattle.simplex_tracker.specs.Tracking.{HasVotes}
+use Rattle.simplex_tracker.specs.declared.live.LiveAuditor.{LiveAuditor}
+
+-- The report of a stream: the summary is that of it, and its text stands at the start of the buffer, with 0 if the stream has
+-- no fault and 1 if it has one; or the buffer is too short and as before, with 4.
+pub record IsReported {S D C P G : Type 0} (basis : Basis S D C P G) (bytes_of : D → List ℕ) (stream before after : List ℕ)
+    (summary : ReportSummary) (status : ℕ) : Type 0 where
+  pub report : Report S D P G
+  pub report_is : IsReport basis stream report
+  pub summary_is : IsSummary bytes_of report summary
+  pub text_is : IsPut (report_text bytes_of report) before after status (ended_of report.fault)
+
+-- Few messages that can stand for a stream, and the bytes after its last whole message, stand at the start of the buffer, with
+-- 0; or the buffer is too short and as before, with 4.
+pub record IsSaved {S D C P G : Type 0} (basis : Basis S D C P G) (stream before after : List ℕ)
+    (size status : ℕ) : Type 0 where
+  pub bytes : List ℕ
+  pub stands : CanStandFor basis bytes stream
+  pub short : IsShort basis bytes
+  pub size_is : size ≡ length bytes
+  pub bytes_are : IsPut bytes before after status 0
+
+-- the lines of some evidence, and then those of some splits
+abbrev pub news_text : {D G : Type 0} → (D → List ℕ) → List (Equivocation D G) → List Split → List ℕ
+news_text bytes_of es splits = text_of (line_of bytes_of) es ++ text_of split_line splits
+
+-- What waits to be handed over stands as lines at the start of the buffer and waits no more, with 0; or the buffer is too short
+-- and as before, and it waits, with 4.
+pub record IsTold {S D P G : Type 0} (bytes_of : D → List ℕ) (before after : List ℕ) (size status : ℕ)
+    (old new : LiveAuditor S D P G) : Type 0 where
+  pub size_is : size ≡ length (news_text bytes_of (evidence_waiting old) (splits_waiting old))
+  pub text_is : IsPut (news_text bytes_of (evidence_waiting old) (splits_waiting old)) before after status 0
+  pub no_evidence_waits : status ≡ 0 → evidence_waiting new ≡ []
+  pub no_split_waits : status ≡ 0 → splits_waiting new ≡ []
+
+module _ {S D C P G : Type 0} (floor : Round) (basis : Schedule S → Basis S D C P G) (committees : Schedule S)
+    (stream : List ℕ) where
+  -- the auditor follows the stream as before, and what waits is as before
+  pub record Stays (old new : LiveAuditor S D P G) : Type 0 where
+    pub follows : Follows floor basis committees stream new
+    pub waits : WaitSame old.news new.news
+
+  -- A piece is fed, with 0; else nothing is fed and nothing lost, with 1 because the stream has ended.
+  pub record Feeds (piece : List ℕ) (status : ℕ) (old new : LiveAuditor S D P G) : Type 0 where
+    pub taken : status ≡ 0 → TakesPiece floor basis committees stream piece old new
+    pub kept : status ≢ 0 → LosesNothing floor basis committees stream old new
+    pub over : status ≡ 1 → HasEnded (basis committees) stream
+
+  -- all below a floor is given up, and a lower floor than the present one changes nothing
+  pub record Prunes (lowest : Round) (old new : LiveAuditor S D P G) : Type 0 where
+    pub follows : Follows (ord_max round_cmp floor lowest) basis committees stream new
+    pub waits : WaitSame old.news new.news
+
+  -- the report of the stream from the floor on is put, but after a failed allocation
+  pub record Reports (bytes_of : D → List ℕ) (before after : List ℕ) (summary : ReportSummary) (status : ℕ)
+      (old new : LiveAuditor S D P G) : Type 0 where
+    pub stays : Stays old new
+    pub reported : status ≢ 3 →
+        IsReported (basis_from floor (basis committees)) bytes_of stream before after summary status
+
+  -- the recorded votes are counted, but after a failed allocation
+  pub record Counts (count status : ℕ) (old new : LiveAuditor S D P G) : Type 0 where
+    pub stays : Stays old new
+    pub counted : status ≡ 0 → HasVotes (basis_from floor (basis committees)) stream count
+
+  -- what is held is put, but after a failed allocation
+  pub record Saves (before after : List ℕ) (size status : ℕ) (old new : LiveAuditor S D P G) : Type 0 where
+    pub stays : Stays old new
+    pub saved : status ≢ 3 → IsSaved (basis_from floor (basis committees)) stream before after size status
+
+  -- what waits is put and waits no more; after a failed allocation it waits
+  pub record Tells (bytes_of : D → List ℕ) (before after : List ℕ) (size status : ℕ)
+      (old new : LiveAuditor S D P G) : Type 0 where
+    pub follows : Follows floor basis committees stream new
+    pub told : status ≢ 3 → IsTold bytes_of before after size status old new
+    pub waits : status ≢ 0 → WaitSame old.news new.news
+
+-- an auditor was fed what another one held, or nothing, and what arises in that waits
+pub record Begins {S D C P G : Type 0} (basis : Schedule S → Basis S D C P G) (committees : Schedule S) (held : List ℕ)
+    (new : LiveAuditor S D P G) : Type 0 where
+  pub follows : Follows first_round basis committees held new
+  pub waits : AreNews (basis_from first_round (basis committees)) [] held (evidence_waiting new) (splits_waiting new)

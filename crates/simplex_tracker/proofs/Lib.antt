@@ -1,0 +1,2 @@
+pub mod TrackingLemmas
+pub mod LiveLemmas

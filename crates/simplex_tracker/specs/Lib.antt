@@ -1,0 +1,3 @@
+pub mod Tracking
+pub mod TrackingLaws
+pub mod Live
