@@ -16,10 +16,12 @@ use simplex_base::codec::fixed_bytes::FixedBytes;
 use simplex_base::positions::Participant;
 use simplex_places::located;
 use simplex_scheme::scheme::{
-    AssemblyError, Attestation, CertificateScheme, CertificateVerifier, Digest, Listing, Scheme,
-    SchemeTypes, Set, Subject,
+    AssemblyError, Attestation, CertificateScheme, CertificateVerifier, Digest, Known, Listing,
+    Scheme, SchemeTypes, Set, Subject,
 };
-use simplex_schemes::certificates::{AttestationVerifier, are_certified, assembled, is_certified};
+use simplex_schemes::certificates::{
+    AttestationVerifier, are_certified, assembled, is_certified, is_certified_knowing,
+};
 use simplex_schemes::listed::Listed;
 use simplex_schemes::marked::{MarkedKey, MarkedKeyRole, MarkedSignatureRole};
 use std::alloc::{AllocError, Global};
@@ -221,6 +223,15 @@ impl<D: Digest> Listing<D> for Counted {
 
     fn attestations(certificate: &Listed<Counted>) -> &[Attestation<Self>] {
         certificate.attestations()
+    }
+
+    fn verify_certificate_knowing<K: Known<Self, D>>(
+        &self,
+        subject: &Subject<'_, D>,
+        certificate: &Listed<Counted>,
+        known: &K,
+    ) -> bool {
+        is_certified_knowing(self, subject, certificate, known)
     }
 
     ghost lists_quorums = { λ scheme subject certificate.

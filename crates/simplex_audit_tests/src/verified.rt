@@ -1,7 +1,7 @@
-//! How many attestations an audit has verified: a vote that changes nothing is not verified, and the votes of a certificate
-//! that was found to certify are not verified again, however the stream is cut. A deferred audit verifies only the votes of
-//! suspects and the certificates of their rounds, and so does a run over a stored stream. Listing suspects, or the records of a
-//! report, verifies none.
+//! How many attestations an audit has verified: a vote that changes nothing is not verified, and no recorded vote is verified
+//! again in a certificate, nor is a vote of a certificate that was found to certify, however the stream is cut. A deferred
+//! audit verifies only the votes of suspects and the certificates of their rounds, and so does a run over a stored stream.
+//! Listing suspects, or the records of a report, verifies none.
 
 use crate::counted::Counted;
 use faulty_io::{Source, Target, Trouble};
@@ -45,6 +45,12 @@ const OTHER: &[u8] = &[0, 0, 10, 5, 6, 2, 0xaa];
 
 /// A nullification of view 10 in which the signature of participant 0 is invalid.
 const FORGED: &[u8] = &[4, 0, 10, 3, 0, 0, 1, 0xaa, 2, 0xaa];
+
+/// As `NOTARIZATION`, but the signature of participant 1 is invalid.
+const MISLISTED: &[u8] = &[1, 0, 10, 5, 6, 3, 0, 0xaa, 1, 0, 2, 0xaa];
+
+/// A notarization of the second proposal of view 10.
+const SECOND_NOTARIZATION: &[u8] = &[1, 0, 10, 5, 7, 3, 1, 0xaa, 2, 0xaa, 3, 0xaa];
 
 /// Messages of participants 0 and 1 in view 11, which contradict nothing.
 const VIEW_11: [&[u8]; 2] = [
@@ -126,7 +132,7 @@ fn counts(
 fn ample_nothing_is_verified_twice(rt: HostRuntime) -> Result<(), Fail> {
     let [first, second, third] = NOTARIZES;
     let [vote, certificate] = VIEW_11;
-    let cases: [(&[&[u8]], (usize, usize)); 14] = [
+    let cases: [(&[&[u8]], (usize, usize)); 20] = [
         (&[first, first, first], (1, 0)),
         (&[first, second, first, second, third], (2, 2)),
         (&[NULLIFY, NULLIFY], (1, 0)),
@@ -140,12 +146,20 @@ fn ample_nothing_is_verified_twice(rt: HostRuntime) -> Result<(), Fail> {
         (&[NOTARIZATION, second, third], (4, 4)),
         // The votes of suspects are verified, and nothing of another round or signer.
         (&[first, UNSIGNED], (2, 2)),
-        (&[vote, certificate, first, second], (6, 2)),
-        (&[vote, first, certificate, UNSIGNED], (6, 2)),
+        (&[vote, certificate, first, second], (5, 2)),
+        (&[vote, first, certificate, UNSIGNED], (5, 2)),
         (&[OTHER, first, UNSIGNED, OTHER], (3, 2)),
-        (&[OTHER, first, NOTARIZATION, second], (6, 5)),
+        (&[OTHER, first, NOTARIZATION, second], (4, 4)),
         // Of the votes in a certificate that does not certify only those of suspects are verified.
         (&[first, second, FORGED], (6, 4)),
+        // A recorded vote is known in a certificate, the signer's first and its other one,
+        (&[first, NOTARIZATION], (3, 0)),
+        (&[first, second, SECOND_NOTARIZATION], (4, 4)),
+        // but no vote of this signer for another subject, of another kind or with another signature, nor an invalid one.
+        (&[second, NOTARIZATION], (4, 4)),
+        (&[FINALIZE, NOTARIZATION], (4, 0)),
+        (&[first, MISLISTED], (5, 0)),
+        (&[UNSIGNED, SECOND_NOTARIZATION], (4, 0)),
     ];
     for (messages, verified) in cases {
         let stream = stream_of(rt.alloc(), messages)?;
@@ -199,10 +213,10 @@ fn ample_nothing_of_an_honest_stream_is_verified(rt: HostRuntime) -> Result<(), 
     // Nor where it is a stored stream.
     let counted = stored_counts(alloc, &committees, stream.as_slice())?;
     assert_eq!(rt; (counted, verified(&committees)?), ((12_500, 0), 0));
-    // An audit verifies each vote and each certificate once. A run reads 65,536 bytes at a time, and a vote lies across the
-    // first two of these pieces.
+    // An audit verifies each vote once, and no certificate, since it lists recorded votes. A run reads 65,536 bytes at a time,
+    // and a vote lies across the first two of these pieces.
     let longer = stream_of(alloc, &[NULLIFY, stream.as_slice()])?;
-    assert_eq!(rt; counts(&rt, alloc, longer.as_slice(), 12_501)?, (17_501, 0));
+    assert_eq!(rt; counts(&rt, alloc, longer.as_slice(), 12_501)?, (10_001, 0));
     // One vote that contradicts has its signer's votes and the certificate of its round verified.
     stream.extend_from_slice(&[0, 0, 128, 1, 5, 7, 3, 0xaa])?;
     let report = audit_deferred::<Counted, MarkedDigest>(alloc, &committees, stream.as_slice())?;
@@ -210,6 +224,43 @@ fn ample_nothing_of_an_honest_stream_is_verified(rt: HostRuntime) -> Result<(), 
     assert_eq!(rt; verified(&committees)?, 5);
     let counted = stored_counts(alloc, &committees, stream.as_slice())?;
     assert_eq!(rt; (counted, verified(&committees)?), ((12_501, 1), 10));
+    Ok(())
+}
+
+/// The signers of a round in the orders in which three nodes hear them. The first three of each are in its certificates.
+const HEARD: [[u8; 4]; 3] = [[0, 1, 2, 3], [3, 1, 0, 2], [2, 3, 1, 0]];
+
+/// What three nodes send on, one after the other in each of 100 views: in its own order each the notarizes, the notarization by
+/// the first quorum of these, then the finalizes and the finalization.
+fn network(alloc: Global) -> Result<Vec<u8>, AllocError> {
+    let mut stream = Vec::new(alloc);
+    for view in 1_u8..101 {
+        for heard in HEARD {
+            for (vote, certificate) in [(0, 1), (5, 6)] {
+                for signer in heard {
+                    stream.extend_from_slice(&[vote, 0, view, 5, 6, signer, 0xaa])?;
+                }
+                stream.extend_from_slice(&[certificate, 0, view, 5, 6, 3])?;
+                for signer in 0_u8..4 {
+                    if signer != heard[3] {
+                        stream.extend_from_slice(&[signer, 0xaa])?;
+                    }
+                }
+            }
+        }
+    }
+    Ok(stream)
+}
+
+/// Of what a network sends on each of the 800 votes is verified once, and nothing of a certificate. A deferred audit verifies
+/// the three votes of a signer who votes for two proposals of a view, and two more votes of each of its first certificates.
+#[test]
+fn ample_votes_of_a_network_are_verified_once(rt: HostRuntime) -> Result<(), Fail> {
+    let alloc = rt.alloc();
+    let mut stream = network(alloc)?;
+    assert_eq!(rt; counts(&rt, alloc, stream.as_slice(), 3_000)?, (800, 0));
+    stream.extend_from_slice(&[0, 0, 100, 5, 7, 1, 0xaa])?;
+    assert_eq!(rt; counts(&rt, alloc, stream.as_slice(), 3_001)?, (801, 7));
     Ok(())
 }
 

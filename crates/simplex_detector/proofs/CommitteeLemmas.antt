@@ -1,5 +1,6 @@
 -- The rules by which committees judge.
-use Rattle.simplex_detector.proofs.Prelude.{signer_in, Scheme, AreLawful, Bool, Claimed, HaveCommittees, IsEquivalence, IsQuorum, Judging, List, None, Schedule, Some, SubjectValue, Suspects, Verified, and_parts, are_known, certified_by, certified_under, committee_of, contains, false, false≢true, if◌then◌else◌, keys, length, ltb-true, refl, round_cmp, round_of, rules_of, signer_cmp, size_by, true, valid_by, valid_under, ℕ, ◌<◌, ◌≡◌, ◌≤◌, From, is_from}
+use Rattle.simplex_detector.proofs.Prelude.{signer_in, Scheme, All, AreLawful, Attestation, Bool, Claimed, HaveCommittees, IsEquivalence, IsQuorum, Judging, List, None, Schedule, Some, SubjectValue, Suspects, Verified, and_parts, are_known, certified_by, certified_under, committee_of, contains, false, false≢true, if◌then◌else◌, keys, length, ltb-true, refl, round_cmp, round_of, rules_of, signer_cmp, size_by, subst, sym, true, valid_by, valid_under, ℕ, ◌&&◌, ◌<◌, ◌≡◌, ◌≤◌, From, Round, is_from}
+use Rattle.simplex_detector.specs.Judging.{HoldsOf, are_verified}
 use Rattle.simplex_detector.specs.declared.judge.Signatures.{Signatures}
 use Rattle.simplex_detector.specs.declared.judge.Signatures.TheVariants as signatures
 
@@ -62,7 +63,30 @@ certified_by_scheme certified (Suspects suspects) s x certificate h =
 certified_by_scheme certified (From floor) s x certificate h =
     (and_parts (is_from floor (round_of x)) (certified s x certificate) h).1
 
+-- a certificate certifies as the scheme says, if the certificates of its round are verified
+pub certified_if_verified : {S D C : Type 0} (certified : S → SubjectValue D → C → Bool) (judging : Judging) (s : S)
+    (x : SubjectValue D) (certificate : C) →
+    certified_under certified judging s x certificate ≡ (are_verified judging (round_of x) && certified s x certificate)
+certified_if_verified certified Verified s x certificate = refl
+certified_if_verified certified Claimed s x certificate = refl
+certified_if_verified certified (Suspects suspects) s x certificate = refl
+certified_if_verified certified (From floor) s x certificate = refl
+
+-- a vote that is valid under any judging that verifies certificates is valid under the scheme
+pub valid_by_scheme : {S D P G : Type 0} (keys : S → List P) (good : S → SubjectValue D → ℕ → G → Bool) (judging : Judging)
+    (s : S) (round : Round) → are_verified judging round ≡ true → (x : SubjectValue D) (signer : ℕ) (signature : G) →
+    valid_under keys good judging s x signer signature ≡ true → good s x signer signature ≡ true
+valid_by_scheme keys good Verified s round verified x signer signature h = h
+valid_by_scheme keys good Claimed s round verified x signer signature h = absurd (false≢true verified)
+valid_by_scheme keys good (Suspects suspects) s round verified x signer signature h =
+    (and_parts (contains signer_cmp suspects.signers (signer_in (round_of x) signer)) (good s x signer signature) h).1
+valid_by_scheme keys good (From floor) s round verified x signer signature h =
+    (and_parts (is_from floor (round_of x)) (good s x signer signature) h).1
+
 -- ---- which signatures are known to be valid
+
+pub unverified : signatures.Unverified ≡ signatures.Verified → ⊥
+unverified same = cc
 
 -- whether they are verified
 abbrev pub known_if : Bool → Signatures
@@ -77,3 +101,11 @@ when_known false given is known = absurd cc
 pub known_tells : (verified : Bool) → are_known (known_if verified) ≡ verified
 known_tells true = refl
 known_tells false = refl
+
+-- of a certificate that is found to certify, the listed signatures are known to be valid
+pub holds_of_listed : {S P G : Type 0} (good : ℕ → G → Bool) (listed given : List (Attestation S P G))
+    (changes certifies : Bool) (said : Signatures) → given ≡ listed → said ≡ known_if (changes && certifies) →
+    (certifies ≡ true → All (λ a. good a.signer a.signature ≡ true) listed) → HoldsOf said good given
+holds_of_listed good listed given changes certifies said same is each known =
+    subst (All (λ a. good a.signer a.signature ≡ true)) (sym same)
+    (each (and_parts changes certifies (when_known (changes && certifies) said is known)).1)

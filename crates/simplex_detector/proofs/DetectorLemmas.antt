@@ -2,6 +2,7 @@
 use Rattle.simplex_detector.proofs.Prelude.{Scheme, Activity, All, All-from_recursion, All-map, AllByRecursion, Attestation, BTreeMap, Bool, Detector, EquivocationKind, HoldsRound, IsEquivalence, IsSized, IsTrue, List, None, Option, Recalls, RecallsAt, RecallsNothing, RecallsRound, RecordsFirsts, Round, RoundState, RoundVotes, Rules, Schedule, SignedVote, Some, SubjectValue, TakesContents, TakesIn, VoteKind, [], activity_round, and-false, and-true, and_left, and_parts, and_right, ap, append-nil, append_assoc, are_split, arith, certified_by, certified_in, certified_subjects, changes_firsts, clash, committee_of, cond, cond-false, contradicts, false, filter, filter-append, first_certified, firsts_of, get, have_news, if_certified, is_at, is_key, is_news, is_of, is_valid, kind_of, length, map, message_is_news, no_slot, nothing_certified, option_to_list, or-false, recorded_in, recursion_from_All, refl, round_cmp, round_count, round_of, rules_of, same_kind, same_round, size_by, slot_of, slots, subject_and_certificate, subject_is_news, subst, sym, true, valid_by, valid_votes, vote_on, votes_in, ℕ, ◌++◌, ◌&&◌, ◌||◌, ◌∙◌, ◌∷◌, ◌≡◌}
 use Rattle.simplex_detector.proofs.AccountLemmas.{certificate_parts}
 use Rattle.simplex_detector.proofs.EvidenceLemmas.{valid_votes-push}
+use Rattle.simplex_detector.proofs.KnownLemmas.{EachValid, RecordsAreValid, each_appended, each_valid, records_are_valid}
 use Rattle.simplex_detector.proofs.Places.{is_of-true, key_tells, other_round}
 use Rattle.simplex_detector.proofs.RecordedLemmas.{RecordsMore, have_news-append, none_in_round, of_round, recorded_in_push, same_held, slot_after_vote}
 use Rattle.simplex_detector.proofs.SplitLemmas.{news_recorded, records_other_message, subjects_push}
@@ -163,10 +164,10 @@ module _ {S D C P G : Type 0} (scheme : Scheme S D C P G) where
       new.certified ≡ old.certified → RecordsValid s x (a ∷ []) news old.votes new.votes →
       TakesIn judges s (round_of x) (vote_on x a ∷ []) None news old new
   takes_vote s x a news old new same records = record {
-    cast = cast_by s x (a ∷ []) news old.votes new.votes records;
-    certified = λ schedule is xs holds. subst (λ ys. RecordsFirsts scheme.eq ys (round_of x) new.certified)
-        (sym (append-nil xs)) (subst (RecordsFirsts scheme.eq xs (round_of x)) (sym same) holds);
-    tells = λ schedule is vs xs holds firsts. told_by s x (a ∷ []) news old.votes new.votes records schedule is vs holds
+    cast = λ schedule is vs valid. cast_by s x (a ∷ []) news old.votes new.votes records schedule is vs;
+    certified = λ schedule is vs xs valid holds firsts. subst (λ ys. RecordsFirsts scheme.eq ys (round_of x) new.certified)
+        (sym (append-nil xs)) (subst (RecordsFirsts scheme.eq xs (round_of x)) (sym same) firsts);
+    tells = λ schedule is vs xs valid holds firsts. told_by s x (a ∷ []) news old.votes new.votes records schedule is vs holds
         ∙ sym (or-false (have_news scheme.eq vs (filter (is_valid (judges schedule)) (vote_on x a ∷ []))));
   }
 
@@ -190,27 +191,38 @@ module _ {S D C P G : Type 0} (scheme : Scheme S D C P G) where
       if_certifies false =
           and-false (changes_firsts scheme.eq (first_certified xs (round_of x)) (are_split scheme.eq xs (round_of x)) x)
 
-  -- a certificate of a subject, with the votes that it lists
+  -- a certificate of a subject, with the votes that it lists, if what is recorded before it is valid
   pub takes_certificate : (s : S) (x : SubjectValue D) (c : C) (given : List (Attestation S P G)) → given ≡ scheme.listed c →
       (news certifies : Bool) (old new : RoundState S D P G) →
-      ((xs : List (SubjectValue D)) → RecordsFirsts scheme.eq xs (round_of x) old.certified →
+      (RecordsAreValid scheme s old.votes → (xs : List (SubjectValue D)) →
+      RecordsFirsts scheme.eq xs (round_of x) old.certified →
       RecordsFirsts scheme.eq (xs ++ cond (scheme.certified s x c) (x ∷ []) []) (round_of x) new.certified) →
-      certifies ≡ (changes_firsts scheme.eq (firsts_of old.certified) old.certified.split x && scheme.certified s x c) →
-      RecordsValid s x given news old.votes new.votes →
+      (RecordsAreValid scheme s old.votes →
+      certifies ≡ (changes_firsts scheme.eq (firsts_of old.certified) old.certified.split x && scheme.certified s x c)) →
+      (RecordsAreValid scheme s old.votes → RecordsValid s x given news old.votes new.votes) →
       TakesIn judges s (round_of x) (map (vote_on x) (scheme.listed c)) (Some (x, c)) (news || certifies) old new
   takes_certificate s x c given is_given news certifies old new subjects told votes =
-      let listed = subst (λ listed. RecordsValid s x listed news old.votes new.votes) is_given votes in
+      let listed : RecordsAreValid scheme s old.votes → RecordsValid s x (scheme.listed c) news old.votes new.votes = λ known.
+      subst (λ listed. RecordsValid s x listed news old.votes new.votes) is_given (votes known) in
+      let known : (schedule : Schedule S) → committee_of schedule (round_of x).epoch ≡ Some s → (vs : List (SignedVote D G)) →
+      EachValid (judges schedule) vs →
+      HoldsRound scheme.eq ((judges schedule).size (round_of x).epoch) vs (round_of x) old.votes →
+      RecordsAreValid scheme s old.votes = λ schedule is vs valid holds.
+      records_are_valid scheme s (round_of x) schedule is vs valid _ old.votes holds in
       record {
-        cast = cast_by s x (scheme.listed c) news old.votes new.votes listed;
-        certified = λ schedule is xs holds.
+        cast = λ schedule is vs valid holds.
+            cast_by s x (scheme.listed c) news old.votes new.votes (listed (known schedule is vs valid holds)) schedule is vs
+            holds;
+        certified = λ schedule is vs xs valid holds firsts.
             let alone = elim (scheme.certified s x c) as (λ b. cond b (x ∷ []) [] ≡ option_to_list (cond b (Some x) None))
             [ true ↦ refl | false ↦ refl ] in
             subst (λ ys. RecordsFirsts scheme.eq (xs ++ ys) (round_of x) new.certified)
             (alone ∙ ap (λ o. option_to_list (cond (certified_by scheme.certified o x c) (Some x) None)) (sym is))
-            (subjects xs holds);
-        tells = λ schedule is vs xs holds firsts.
-            let subject = subject_told s x c certifies old told schedule is xs firsts in
-            λ i. told_by s x (scheme.listed c) news old.votes new.votes listed schedule is vs holds i || subject i;
+            (subjects (known schedule is vs valid holds) xs firsts);
+        tells = λ schedule is vs xs valid holds firsts.
+            let sure = known schedule is vs valid holds in
+            let subject = subject_told s x c certifies old (told sure) schedule is xs firsts in
+            λ i. told_by s x (scheme.listed c) news old.votes new.votes (listed sure) schedule is vs holds i || subject i;
       }
 
   module _ (schedule : Schedule S) (messages : List (Activity S D C P G)) (m : Activity S D C P G) where
@@ -223,11 +235,13 @@ module _ {S D C P G : Type 0} (scheme : Scheme S D C P G) where
       votes = subst
           (λ vs. HoldsRound scheme.eq ((judges schedule).size (activity_round m).epoch) vs (activity_round m) new.votes)
           (sym (valid_votes-push (judges schedule) messages m))
-          (takes.cast schedule is (valid_votes (judges schedule) messages) recalls.votes);
+          (takes.cast schedule is (valid_votes (judges schedule) messages) (each_valid (judges schedule) messages)
+          recalls.votes);
       subjects =
           subst (λ xs. RecordsFirsts scheme.eq xs (activity_round m) new.certified)
           (sym (subjects_push (judges schedule) messages m))
-          (takes.certified schedule is (certified_subjects (judges schedule) messages) recalls.subjects);
+          (takes.certified schedule is (valid_votes (judges schedule) messages) (certified_subjects (judges schedule) messages)
+          (each_valid (judges schedule) messages) recalls.votes recalls.subjects);
     }
 
     -- whether the message is news
@@ -236,7 +250,7 @@ module _ {S D C P G : Type 0} (scheme : Scheme S D C P G) where
         RecallsRound (judges schedule) messages (activity_round m) old → news ≡ message_is_news (judges schedule) messages m
     news_taken s is news old new takes recalls =
         takes.tells schedule is (valid_votes (judges schedule) messages) (certified_subjects (judges schedule) messages)
-        recalls.votes recalls.subjects
+        (each_valid (judges schedule) messages) recalls.votes recalls.subjects
 
     -- without a committee nothing more is valid or certified
     module _ (here : All (IsHere (activity_round m)) (votes_in scheme.listed m))
@@ -329,21 +343,25 @@ takes_two {S} {D} {C} {P} {G} rules s v w one two old mid new here first second 
     both : {round : Round} → TakesIn rules s round (v ∷ []) None one old mid → TakesIn rules s round (w ∷ []) None two mid new →
         TakesIn rules s round (v ∷ w ∷ []) None (one || two) old new
     both {round} a b = record {
-      cast = λ schedule is vs holds.
+      cast = λ schedule is vs valid holds.
           let keep = is_valid (rules schedule) in
           subst (λ ws. HoldsRound (rules schedule).eq ((rules schedule).size round.epoch) ws round new.votes)
           (append_assoc vs (filter keep (v ∷ [])) (filter keep (w ∷ []))
           ∙ ap (λ ws. vs ++ ws) (sym (filter-append keep (v ∷ []) (w ∷ []))))
-          (b.cast schedule is _ (a.cast schedule is vs holds));
-      certified = λ schedule is xs holds. subst (λ ys. RecordsFirsts (rules schedule).eq (ys ++ []) round new.certified)
-          (append-nil xs) (b.certified schedule is (xs ++ []) (a.certified schedule is xs holds));
-      tells = λ schedule is vs xs holds firsts.
+          (b.cast schedule is _ (each_appended (rules schedule) vs (v ∷ []) valid) (a.cast schedule is vs valid holds));
+      certified = λ schedule is vs xs valid holds firsts.
+          subst (λ ys. RecordsFirsts (rules schedule).eq (ys ++ []) round new.certified)
+          (append-nil xs) (b.certified schedule is (vs ++ filter (is_valid (rules schedule)) (v ∷ [])) (xs ++ [])
+          (each_appended (rules schedule) vs (v ∷ []) valid) (a.cast schedule is vs valid holds)
+          (a.certified schedule is vs xs valid holds firsts));
+      tells = λ schedule is vs xs valid holds firsts.
           let eq = (rules schedule).eq in
           let keep = is_valid (rules schedule) in
           let mid_votes = vs ++ filter keep (v ∷ []) in
-          let a_news = a.tells schedule is vs xs holds firsts ∙ or-false (have_news eq vs (filter keep (v ∷ []))) in
-          let b_news = b.tells schedule is mid_votes (xs ++ []) (a.cast schedule is vs holds)
-          (a.certified schedule is xs firsts) ∙ or-false (have_news eq mid_votes (filter keep (w ∷ []))) in
+          let mid_valid = each_appended (rules schedule) vs (v ∷ []) valid in
+          let a_news = a.tells schedule is vs xs valid holds firsts ∙ or-false (have_news eq vs (filter keep (v ∷ []))) in
+          let b_news = b.tells schedule is mid_votes (xs ++ []) mid_valid (a.cast schedule is vs valid holds)
+          (a.certified schedule is vs xs valid holds firsts) ∙ or-false (have_news eq mid_votes (filter keep (w ∷ []))) in
           (λ i. a_news i || b_news i) ∙ sym (have_news-append eq vs (filter keep (v ∷ [])) (filter keep (w ∷ [])))
           ∙ ap (have_news eq vs) (sym (filter-append keep (v ∷ []) (w ∷ [])))
           ∙ sym (or-false (have_news eq vs (filter keep (v ∷ w ∷ []))));

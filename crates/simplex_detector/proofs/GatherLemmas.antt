@@ -7,6 +7,7 @@ use Rattle.simplex_detector.specs.Kept.{GathersContents, GathersVotes, kept_from
 use Rattle.simplex_detector.specs.News.{certifies_news, kept_of, message_on, valid_votes_in, vote_message, votes_alone}
 use Rattle.simplex_detector.specs.declared.apart.Apart.{Apart}
 use Rattle.simplex_detector.proofs.DetectorLemmas.{IsHere, judges, no_vote, same_valid, subject_told}
+use Rattle.simplex_detector.proofs.KnownLemmas.{RecordsAreValid, each_valid, records_are_valid}
 use Rattle.simplex_detector.proofs.NewsLemmas.{news_after-append}
 use Rattle.simplex_detector.proofs.RecordedLemmas.{RecordsMore}
 
@@ -46,11 +47,11 @@ pub gathers_one_more : {S D C P G : Type 0} (eq : D → D → Bool) (n : ℕ) (g
     (x : SubjectValue D) (given : List (Attestation S P G)) (a : Attestation S P G) (known news one : Bool)
     (held recorded after : RoundVotes S D P G) (first second third : Apart S D C P G) →
     RecordsMore eq n good x given news held recorded → RecordsMore eq n good x (a ∷ []) one recorded after →
-    GathersMore eq n good x given known held first second → third.wanted ≡ second.wanted →
+    second.wanted ≡ first.wanted → GathersMore eq n good x given known held first second →
     third.votes.items ≡ second.votes.items ++ cond ((second.wanted && not known) && one) (message_on x a ∷ []) [] →
     GathersMore eq n good x (given ++ a ∷ []) known held first third
 gathers_one_more {S} {D} {C} {P} {G} eq n good x given a known news one held recorded after first second third some next
-    gathers same more =
+    same gathers more =
     let keep : SignedVote D G → Bool = λ v. good v.subject v.signer v.signature in
     let valid = filter keep (map (vote_on x) given) in
     let last = filter keep (map (vote_on x) (a ∷ [])) in
@@ -59,12 +60,11 @@ gathers_one_more {S} {D} {C} {P} {G} eq n good x given a known news one held rec
     ∙ ap (filter keep) (sym (map-append (vote_on x) given (a ∷ []))) in
     let wanted = first.wanted && not known in
     record {
-      wanted = same ∙ gathers.wanted;
       gathered = λ vs holds.
           let before = map (vote_message {S = S} {C = C} {P = P}) (news_after eq vs valid) in
           let here = map (vote_message {S = S} {C = C} {P = P}) (news_after eq (vs ++ valid) last) in
           more
-          ∙ (λ i. gathers.gathered vs holds i ++ cond ((gathers.wanted i && not known) && one) (message_on x a ∷ []) [])
+          ∙ (λ i. gathers.gathered vs holds i ++ cond ((same i && not known) && one) (message_on x a ∷ []) [])
           ∙ appended_if first.votes.items before here (message_on x a) wanted one
           (one_gathered eq (vs ++ valid) (vote_on x a) (keep (vote_on x a)) one (next.tells (vs ++ valid) (some.held vs holds)))
           ∙ ap (λ zs. first.votes.items ++ cond wanted zs [])
@@ -81,21 +81,24 @@ wanted_if true known xs = refl
 wanted_if false known xs = refl
 
 module _ {S D C P G : Type 0} (scheme : Scheme S D C P G) where
-  -- a certificate of a subject
+  -- a certificate of a subject, if what is recorded before it is valid
   pub gathers_certificate : (s : S) (x : SubjectValue D) (c : C) (given : List (Attestation S P G)) → given ≡ scheme.listed c →
-      (certifies : Bool) (old : RoundState S D P G) (before after : Apart S D C P G) →
-      certifies ≡ (changes_firsts scheme.eq (firsts_of old.certified) old.certified.split x && scheme.certified s x c) →
-      GathersMore scheme.eq (length (scheme.keys s)) (scheme.good s) x given certifies old.votes before after →
+      (certifies : Bool) (old : RoundState S D P G) (before after : Apart S D C P G) → after.wanted ≡ before.wanted →
+      (RecordsAreValid scheme s old.votes →
+      certifies ≡ (changes_firsts scheme.eq (firsts_of old.certified) old.certified.split x && scheme.certified s x c)) →
+      (RecordsAreValid scheme s old.votes →
+      GathersMore scheme.eq (length (scheme.keys s)) (scheme.good s) x given certifies old.votes before after) →
       GathersContents (judges scheme) s (OneCertificate x c) old before after
-  gathers_certificate s x c given is_given certifies old before after told votes =
-      let listed = subst (λ listed. GathersMore scheme.eq (length (scheme.keys s)) (scheme.good s) x listed certifies old.votes
-      before after) is_given votes in
+  gathers_certificate s x c given is_given certifies old before after wanted told votes =
       record {
-        wanted = listed.wanted;
-        gathered = λ schedule is vs xs holds firsts.
+        wanted = wanted;
+        gathered = λ schedule is vs xs valid holds firsts.
+            let known = records_are_valid scheme s (round_of x) schedule is vs valid _ old.votes holds in
+            let listed = subst (λ listed. GathersMore scheme.eq (length (scheme.keys s)) (scheme.good s) x listed certifies
+            old.votes before after) is_given (votes known) in
             let held = subst (λ n. HoldsRound scheme.eq n vs (round_of x) old.votes) (sym (ap (size_by scheme.keys) (sym is)))
             holds in
-            let subject = subject_told scheme s x c certifies old told schedule is xs firsts in
+            let subject = subject_told scheme s x c certifies old (told known) schedule is xs firsts in
             listed.gathered vs held
             ∙ ap (λ zs. before.votes.items ++ zs) ((λ i. cond (before.wanted && not (subject i)) (map vote_message
             (news_after scheme.eq vs (same_valid scheme s x schedule is (scheme.listed c) i))) [])
@@ -107,7 +110,7 @@ module _ {S D C P G : Type 0} (scheme : Scheme S D C P G) where
       contents_certificate held ≡ None → GathersContents (judges scheme) s held old apart apart
   gathers_none s held old apart none = record {
     wanted = refl;
-    gathered = λ schedule is vs xs holds firsts.
+    gathered = λ schedule is vs xs valid holds firsts.
         gathers_nothing apart.votes.items apart.wanted
         ∙ ap (λ zs. apart.votes.items ++ cond apart.wanted zs []) (λ i. cond (is_some (sym none i)
         && not (subject_is_news scheme.eq xs (if_certified (judges scheme schedule) (contents_certificate held))))
@@ -126,8 +129,8 @@ module _ {S D C P G : Type 0} (scheme : Scheme S D C P G) where
         after.votes.items ≡ before.votes.items ++ cond before.wanted (votes_apart judged (contents_of m)
         (valid_votes judged messages) (certified_subjects judged messages)) []
     gathered_taken s is old before after gathers recalls =
-        gathers.gathered schedule is (valid_votes judged messages) (certified_subjects judged messages) recalls.votes
-        recalls.subjects
+        gathers.gathered schedule is (valid_votes judged messages) (certified_subjects judged messages)
+        (each_valid judged messages) recalls.votes recalls.subjects
 
     -- without a committee nothing is gathered
     pub none_gathered : All (IsHere (activity_round m)) (votes_in scheme.listed m) →

@@ -8,6 +8,7 @@ pub mod CommitteeLemmas
 pub mod AccountLemmas
 pub mod SplitAlertLemmas
 pub mod SplitLemmas
+pub mod KnownLemmas
 pub mod DetectorLemmas
 pub mod CountLemmas
 pub mod AgainLemmas

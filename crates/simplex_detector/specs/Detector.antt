@@ -1,5 +1,5 @@
 -- The state of every round so far.
-use Rattle.std.specs.Prelude.{◌≡◌, ℕ, ◌-◌, ◌^◌, Bool, ◌||◌, List, [], ◌++◌, filter, min, Option, Some, None, if◌then◌else◌}
+use Rattle.std.specs.Prelude.{◌≡◌, ℕ, ◌-◌, ◌^◌, All, Bool, true, ◌||◌, List, [], ◌++◌, filter, min, Option, Some, None, if◌then◌else◌}
 use Rattle.std.specs.BTreeMap.{get}
 use Rattle.std.specs.Option.{is_some, option_to_list}
 use Rattle.simplex_base.specs.Positions.{Round}
@@ -104,20 +104,22 @@ TellsNews {S} {D} {C} {P} {G} rules message old news =
 
 module _ {S D C P G : Type 0} (rules : Schedule S → Rules S D C P G) (committee : S) where
   -- Some votes of a round and a certificate, if there is one, are taken in. The committee of the round's epoch judges them,
-  -- for any earlier messages and any other committees. `news` tells whether a valid one of the votes is news, or the certified
-  -- subject.
+  -- for any earlier valid votes and certified subjects and any other committees. `news` tells whether a valid one of the votes
+  -- is news, or the certified subject.
   pub record TakesIn (round : Round) (votes : List (SignedVote D G)) (certificate : Option (SubjectValue D × C))
       (news : Bool) (old new : RoundState S D P G) : Type 0 where
     pub cast : (schedule : Schedule S) → committee_of schedule round.epoch ≡ Some committee → (vs : List (SignedVote D G)) →
+        All (λ v. is_valid (rules schedule) v ≡ true) vs →
         HoldsRound (rules schedule).eq ((rules schedule).size round.epoch) vs round old.votes →
         HoldsRound (rules schedule).eq ((rules schedule).size round.epoch) (vs ++ filter (is_valid (rules schedule)) votes)
         round new.votes
     pub certified : (schedule : Schedule S) → committee_of schedule round.epoch ≡ Some committee →
-        (xs : List (SubjectValue D)) →
+        (vs : List (SignedVote D G)) (xs : List (SubjectValue D)) → All (λ v. is_valid (rules schedule) v ≡ true) vs →
+        HoldsRound (rules schedule).eq ((rules schedule).size round.epoch) vs round old.votes →
         RecordsFirsts (rules schedule).eq xs round old.certified →
         RecordsFirsts (rules schedule).eq (xs ++ option_to_list (if_certified (rules schedule) certificate)) round new.certified
     pub tells : (schedule : Schedule S) → committee_of schedule round.epoch ≡ Some committee → (vs : List (SignedVote D G))
-        (xs : List (SubjectValue D)) →
+        (xs : List (SubjectValue D)) → All (λ v. is_valid (rules schedule) v ≡ true) vs →
         HoldsRound (rules schedule).eq ((rules schedule).size round.epoch) vs round old.votes →
         RecordsFirsts (rules schedule).eq xs round old.certified →
         news ≡ (have_news (rules schedule).eq vs (filter (is_valid (rules schedule)) votes)

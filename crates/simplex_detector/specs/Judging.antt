@@ -1,9 +1,10 @@
 -- How strictly votes and certificates are judged.
-use Rattle.std.specs.Prelude.{ℕ, Bool, true, false, ◌&&◌, List, length, nat_lt}
+use Rattle.std.specs.Prelude.{◌≡◌, ℕ, All, Bool, true, false, ◌&&◌, List, length, nat_lt}
 use Rattle.std.specs.BTreeSet.{contains}
 use Rattle.simplex_base.specs.Positions.{Round}
 use Rattle.simplex_scheme.specs.Subject.{SubjectValue, round_of}
 use Rattle.simplex_scheme.specs.Committees.{Schedule}
+use Rattle.simplex_scheme.specs.declared.scheme.Attestation.{Attestation}
 use Rattle.simplex_detector.specs.Accusation.{round_cmp, signer_cmp, signer_in}
 use Rattle.simplex_detector.specs.Independence.{is_from}
 use Rattle.simplex_detector.specs.Rules.{Rules}
@@ -17,6 +18,10 @@ use Rattle.simplex_detector.specs.declared.judging.Judging.TheVariants.{Verified
 abbrev pub are_known : Signatures → Bool
 are_known signatures.Verified = true
 are_known signatures.Unverified = false
+
+-- what is said of the signatures of some attestations holds: they are valid if they are known to be
+abbrev pub HoldsOf : {S P G : Type 0} → Signatures → (ℕ → G → Bool) → List (Attestation S P G) → Type 0
+HoldsOf said good attestations = said ≡ signatures.Verified → All (λ a. good a.signer a.signature ≡ true) attestations
 
 -- whether a signer's votes in a round are verified
 abbrev pub is_verified : Judging → Round → ℕ → Bool

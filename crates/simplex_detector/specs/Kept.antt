@@ -1,5 +1,5 @@
 -- What is kept of a message that a detector observes, and how its votes are gathered.
-use Rattle.std.specs.Prelude.{◌≡◌, ℕ, Bool, true, false, not, ◌&&◌, List, [], ◌∷◌, ◌++◌, filter, map, if◌then◌else◌, Some}
+use Rattle.std.specs.Prelude.{◌≡◌, ℕ, All, Bool, true, false, not, ◌&&◌, List, [], ◌∷◌, ◌++◌, filter, map, if◌then◌else◌, Some}
 use Rattle.std.specs.Option.{is_some}
 use Rattle.simplex_base.specs.Positions.{Round}
 use Rattle.simplex_scheme.specs.Committees.{Schedule, committee_of}
@@ -48,7 +48,6 @@ kept_from true (v ∷ vs) m = v ∷ vs
 -- of some votes of a round those that are news behind any others are gathered, if they are wanted and not known to be valid
 pub record GathersVotes {S D C P G : Type 0} (eq : D → D → Bool) (n : ℕ) (round : Round) (votes : List (SignedVote D G))
     (known : Bool) (held : RoundVotes S D P G) (before after : Apart S D C P G) : Type 0 where
-  pub wanted : after.wanted ≡ before.wanted
   pub gathered : (vs : List (SignedVote D G)) → HoldsRound eq n vs round held →
       after.votes.items ≡ before.votes.items
       ++ (if before.wanted && not known then map vote_message (news_after eq vs votes) else [])
@@ -60,12 +59,13 @@ votes_apart rules held vs xs =
     if is_some (contents_certificate held) && not (subject_is_news rules.eq xs (if_certified rules (contents_certificate held)))
     then map vote_message (news_after rules.eq vs (filter (is_valid rules) (contents_votes rules.listed held))) else []
 
--- they are gathered of what a message of a round holds, for any earlier messages and any other committees
+-- they are gathered of what a message of a round holds, for any earlier valid votes and certified subjects and any other
+-- committees
 pub record GathersContents {S D C P G : Type 0} (rules : Schedule S → Rules S D C P G) (committee : S)
     (held : ContentsValue D C G) (old : RoundState S D P G) (before after : Apart S D C P G) : Type 0 where
   pub wanted : after.wanted ≡ before.wanted
   pub gathered : (schedule : Schedule S) → committee_of schedule (contents_round held).epoch ≡ Some committee →
-      (vs : List (SignedVote D G)) (xs : List (SubjectValue D)) →
+      (vs : List (SignedVote D G)) (xs : List (SubjectValue D)) → All (λ v. is_valid (rules schedule) v ≡ true) vs →
       HoldsRound (rules schedule).eq ((rules schedule).size (contents_round held).epoch) vs (contents_round held) old.votes →
       RecordsFirsts (rules schedule).eq xs (contents_round held) old.certified →
       after.votes.items ≡ before.votes.items

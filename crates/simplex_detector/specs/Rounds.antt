@@ -1,5 +1,5 @@
 -- The recorded votes of one round, by the votes so far.
-use Rattle.std.specs.Prelude.{◌≡◌, ℕ, ◌+◌, ◌<◌, ◌==◌, ◌&&◌, ◌||◌, Bool, IsTrue, List, length, ◌++◌, Contains, Option, option_map, Some, None, if◌then◌else◌}
+use Rattle.std.specs.Prelude.{◌≡◌, ℕ, ◌+◌, ◌<◌, ◌==◌, ◌&&◌, ◌||◌, ◌⊎◌, Bool, IsTrue, List, length, ◌++◌, Contains, Option, option_map, Some, None, if◌then◌else◌}
 use Rattle.std.specs.Option.{is_some, option_to_list}
 use Rattle.std.specs.List.{flat_map}
 use Rattle.std.specs.List.Sorted.{IsStrictlySortedBy}
@@ -36,6 +36,12 @@ slots recorded signer kinds.Nullify = record {
   other = None;
 }
 slots recorded signer kinds.Finalize = slot_in (λ v. v.attestation.signer) finalize_vote recorded.finalizes signer
+
+-- a vote is recorded, as its signer's earliest of its kind or as the other
+abbrev pub IsRecorded : {S D P G : Type 0} → RoundVotes S D P G → SignedVote D G → Type 0
+IsRecorded recorded v =
+    ((slots recorded v.signer (kind_of v.subject)).earliest ≡ Some v) ⊎
+    ((slots recorded v.signer (kind_of v.subject)).other ≡ Some v)
 
 -- how many votes there are
 abbrev pub round_count : {S D P G : Type 0} → RoundVotes S D P G → ℕ

@@ -4,13 +4,14 @@ ghost use Rattle.std.specs.Prelude.{◌≡◌, ◌↔◌, ◌&&◌, ◌||◌, �
 ghost use Rattle.std.specs.Option.{is_some};
 ghost use Rattle.simplex_scheme.specs.declared.kind.VoteKind.{VoteKind};
 ghost use Rattle.simplex_scheme.specs.Kind.{kind_of};
+ghost use Rattle.simplex_scheme.specs.Known.{AreValid};
 ghost use Rattle.simplex_scheme.specs.Subject.{SubjectValue, Notarizes, subject_value, round_of};
-ghost use Rattle.simplex_detector.specs.Judging.{certified_under};
+ghost use Rattle.simplex_detector.specs.Judging.{certified_under, valid_under};
 ghost use Rattle.simplex_detector.specs.FirstCertified.{nothing_certified, RecordsFirsts, firsts_of, first_with, changes_firsts, excludes_first, excludes_some};
 
 use crate::judge::{Judge, Signatures};
 use simplex_base::positions::Round;
-use simplex_scheme::scheme::{CertificateVerifier, Digest, Proposal, Subject, VoteKind};
+use simplex_scheme::scheme::{Digest, Known, Listing, Proposal, Subject, VoteKind};
 
 /// The first certified subject of each kind in a round, until two contradict, and whether two do.
 #[derive(Drop)]
@@ -44,14 +45,18 @@ impl<D: Digest> CertifiedSubjects<D> {
 
     /// Takes in a certificate of a subject of the round. It is verified only where that can change what is recorded: the round
     /// is not known to be split, and the subject is the first of its kind or contradicts a recorded one. If it was found to
-    /// certify the subject, the signatures that it lists are verified by that.
-    pub fn observe<S: CertificateVerifier<D>>(
+    /// certify the subject, the signatures that it lists are verified by that. Attestations that are known to be valid need not
+    /// be verified again.
+    pub fn observe<S: Listing<D>, K: Known<S, D>>(
         &mut self,
         judge: &Judge<'_, S>,
         subject: &Subject<'_, D>,
         certificate: &S::Certificate,
+        known: &K,
     ) -> Signatures
-        ensures records { (subjects : List (SubjectValue D)) →
+        ensures records { AreValid (K.known known.now)
+            (valid_under S.keys S.good judge.now.judging.now judge.now.committee.now) →
+            (subjects : List (SubjectValue D)) →
             RecordsFirsts D.eq subjects (round_of (subject_value subject.now)) self.old →
             RecordsFirsts D.eq (subjects ++
             (if certified_under S.certified judge.now.judging.now judge.now.committee.now
@@ -59,7 +64,8 @@ impl<D: Digest> CertifiedSubjects<D> {
             then subject_value subject.now ∷ [] else []))
             (round_of (subject_value subject.now)) self.new }
         // `Verified` exactly where the subject would change what is recorded and the certificate certifies it.
-        ensures verified { result ≡
+        ensures verified { AreValid (K.known known.now)
+            (valid_under S.keys S.good judge.now.judging.now judge.now.committee.now) → result ≡
             (if changes_firsts D.eq (firsts_of self.old) self.old.split (subject_value subject.now) &&
             certified_under S.certified judge.now.judging.now judge.now.committee.now
             (subject_value subject.now) certificate.now
@@ -68,7 +74,7 @@ impl<D: Digest> CertifiedSubjects<D> {
         if !self.is_news(subject) {
             return Signatures::Unverified;
         }
-        if !judge.certifies(subject, certificate) {
+        if !judge.certifies(subject, certificate, known) {
             return Signatures::Unverified;
         }
         self.set_first(subject);

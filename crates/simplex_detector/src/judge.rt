@@ -1,12 +1,13 @@
 //! The judge of the votes and the certificates of an epoch.
 
 ghost use Rattle.std.specs.Prelude.{◌≡◌, true, IsTrue};
+ghost use Rattle.simplex_scheme.specs.Known.{AreValid};
 ghost use Rattle.simplex_scheme.specs.Subject.{subject_value, round_of};
 ghost use Rattle.simplex_detector.specs.Judging.{are_known, is_verified, are_verified, valid_under, certified_under};
 
 use crate::judging::{Judging, is_at_least};
 use simplex_base::positions::Roundable;
-use simplex_scheme::scheme::{Attestation, CertificateVerifier, Digest, Scheme, Subject};
+use simplex_scheme::scheme::{Attestation, Digest, Known, Listing, Scheme, Subject};
 
 /// Whether the signatures of some attestations are known to be valid.
 #[derive(Clone, Copy)]
@@ -45,9 +46,9 @@ impl<S> Judge<'_, S> {
     ) -> bool
     where
         S: Scheme<D>,
-        requires { signatures ≡ Signatures.Verified → S.good self.now.committee.now
-            (subject_value subject.now) attestation.now.signer attestation.now.signature ≡ true }
-        ensures { result ≡ valid_under S.keys S.good self.now.judging.now self.now.committee.now
+        ensures { (signatures ≡ Signatures.Verified → S.good self.now.committee.now
+            (subject_value subject.now) attestation.now.signer attestation.now.signature ≡ true) →
+            result ≡ valid_under S.keys S.good self.now.judging.now self.now.committee.now
             (subject_value subject.now) attestation.now.signer attestation.now.signature }
     {
         match self.judging {
@@ -66,29 +67,24 @@ impl<S> Judge<'_, S> {
         }
     }
 
-    /// Whether a certificate certifies a subject.
-    pub fn certifies<D: Digest>(
+    /// Whether a certificate certifies a subject. Attestations that are known to be valid need not be verified again.
+    pub fn certifies<D: Digest, K: Known<S, D>>(
         &self,
         subject: &Subject<'_, D>,
         certificate: &S::Certificate,
+        known: &K,
     ) -> bool
     where
-        S: CertificateVerifier<D>,
-        ensures { result ≡ certified_under S.certified self.now.judging.now self.now.committee.now
+        S: Listing<D>,
+        ensures { AreValid (K.known known.now)
+            (valid_under S.keys S.good self.now.judging.now self.now.committee.now) →
+            result ≡ certified_under S.certified self.now.judging.now self.now.committee.now
             (subject_value subject.now) certificate.now }
     {
-        match self.judging {
-            Judging::Verified => self.verify_certificate(subject, certificate),
-            Judging::Claimed => false,
-            Judging::Suspects(suspects) => {
-                suspects.rounds.contains(&subject.round())
-                    && self.verify_certificate(subject, certificate)
-            }
-            Judging::From(floor) => {
-                let is_judged = is_at_least(subject.round(), *floor);
-                is_judged && self.verify_certificate(subject, certificate)
-            }
+        if !self.judging.verifies_certificates(subject) {
+            return false;
         }
+        self.verify_certificate(subject, certificate, known)
     }
 
     /// Has the scheme verify an attestation whose signature is not known to be valid, of a signer whose votes in the round are
@@ -101,11 +97,11 @@ impl<S> Judge<'_, S> {
     ) -> bool
     where
         S: Scheme<D>,
-        requires verified { IsTrue (is_verified self.now.judging.now
+        requires { IsTrue (is_verified self.now.judging.now
             (round_of (subject_value subject.now)) attestation.now.signer) }
-        requires known { signatures ≡ Signatures.Verified → S.good self.now.committee.now
-            (subject_value subject.now) attestation.now.signer attestation.now.signature ≡ true }
-        ensures { result ≡ S.good self.now.committee.now (subject_value subject.now)
+        ensures { (signatures ≡ Signatures.Verified → S.good self.now.committee.now
+            (subject_value subject.now) attestation.now.signer attestation.now.signature ≡ true) →
+            result ≡ S.good self.now.committee.now (subject_value subject.now)
             attestation.now.signer attestation.now.signature }
     {
         match signatures {
@@ -118,19 +114,21 @@ impl<S> Judge<'_, S> {
     }
 
     /// Has the scheme verify a certificate, of a round whose certificates are verified. No other function here does.
-    fn verify_certificate<D: Digest>(
+    fn verify_certificate<D: Digest, K: Known<S, D>>(
         &self,
         subject: &Subject<'_, D>,
         certificate: &S::Certificate,
+        known: &K,
     ) -> bool
     where
-        S: CertificateVerifier<D>,
+        S: Listing<D>,
         requires { IsTrue (are_verified self.now.judging.now
             (round_of (subject_value subject.now))) }
-        ensures { result ≡ S.certified self.now.committee.now (subject_value subject.now)
+        ensures { AreValid (K.known known.now) (S.good self.now.committee.now) →
+            result ≡ S.certified self.now.committee.now (subject_value subject.now)
             certificate.now }
     {
         self.committee
-            .verify_certificate(subject.reborrow(), certificate)
+            .verify_certificate_knowing(subject, certificate, known)
     }
 }

@@ -6,6 +6,7 @@ ghost use Rattle.simplex_base.specs.Positions as positions;
 ghost use Rattle.simplex_scheme.specs.Subject.{subject_value, round_of};
 ghost use Rattle.simplex_detector.specs.Accusation.{round_cmp, signer_cmp, signer_in};
 ghost use Rattle.simplex_detector.specs.Independence.{is_from};
+ghost use Rattle.simplex_detector.specs.Judging.{are_verified};
 ghost use Rattle.simplex_detector.specs.Suspects.{suspect_of};
 ghost use Rattle.simplex_detector.specs.Values.{evidence_value};
 ghost use Rattle.simplex_detector.specs.declared.evidence.SignerInRound as suspect;
@@ -38,6 +39,20 @@ pub enum Judging {
     /// The votes and the certificates of the rounds from this one on are verified. No vote of a round below it is valid, and no
     /// certificate of such a round certifies.
     From(Round),
+}
+
+impl Judging {
+    /// Whether the certificates of a subject's round are verified.
+    pub(crate) fn verifies_certificates<D: Digest>(&self, subject: &Subject<'_, D>) -> bool
+        ensures { result ≡ are_verified self.now (round_of (subject_value subject.now)) }
+    {
+        match self {
+            Judging::Verified => true,
+            Judging::Claimed => false,
+            Judging::Suspects(suspects) => suspects.rounds.contains(&subject.round()),
+            Judging::From(floor) => is_at_least(subject.round(), *floor),
+        }
+    }
 }
 
 impl SuspectSigners {

@@ -23,6 +23,7 @@ mod pruning;
 mod round_state;
 mod round_votes;
 pub mod rules;
+mod same_vote;
 pub mod split;
 pub mod split_alerts;
 mod vote_pairs;

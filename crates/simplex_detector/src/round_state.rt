@@ -117,9 +117,9 @@ impl<S: Listing<D>, D: Digest> RoundState<S, D> {
             .observe(judge, &vote.subject, vote.attestation, signatures)
     }
 
-    /// Takes in a certificate of the round and the votes that it lists. If it is found to certify the subject, the listed
-    /// signatures are known to be valid; else each is verified by itself. Returns whether one of the votes is valid and news,
-    /// or the certified subject is news.
+    /// Takes in a certificate of the round and the votes that it lists. A listed signature that is recorded is not verified
+    /// again. If the certificate is found to certify the subject, all listed signatures are known to be valid; else each is
+    /// verified by itself. Returns whether one of the votes is valid and news, or the certified subject is news.
     fn observe_certificate(
         &mut self,
         judge: &Judge<'_, S>,
@@ -137,7 +137,9 @@ impl<S: Listing<D>, D: Digest> RoundState<S, D> {
             judge.now.committee.now (OneCertificate (subject_value subject.now) certificate.now)
             self.old apart.old apart.new) }
     {
-        let signatures = self.certified.observe(judge, subject, certificate);
+        let signatures = self
+            .certified
+            .observe(judge, subject, certificate, &self.votes);
         let attestations = S::attestations(certificate);
         let news = self
             .votes

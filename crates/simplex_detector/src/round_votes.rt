@@ -1,6 +1,6 @@
 //! The recorded votes of one round: enough to report every accused signer, and no more.
 
-ghost use Rattle.std.specs.Prelude.{◌≡◌, ◌↔◌, ◌-◌, ◌^◌, min, List, [], ◌∷◌, ◌++◌, ◌||◌, ℕ, true, count_by, map, filter, length, option_map, All, IfOk, OnOk, IsTrue};
+ghost use Rattle.std.specs.Prelude.{◌≡◌, ◌↔◌, ◌-◌, ◌^◌, min, List, [], ◌∷◌, ◌++◌, ◌||◌, ℕ, true, count_by, map, filter, length, option_map, IfOk, OnOk, IsTrue};
 ghost use Rattle.std.specs.List.{flat_map, range_with_len};
 ghost use Rattle.std.specs.Option.{option_to_list};
 ghost use Rattle.simplex_base.specs.Format.{format_of};
@@ -10,21 +10,22 @@ ghost use Rattle.simplex_scheme.specs.Subject.{subject_value, round_of};
 ghost use Rattle.simplex_votes.specs.Votes.{vote_on};
 ghost use Rattle.simplex_evidence.specs.Contradiction.{Conflicting_notarize, Conflicting_finalize, Nullify_finalize};
 ghost use Rattle.simplex_detector.specs.EncodedEvidence.{StayEncoded};
-ghost use Rattle.simplex_detector.specs.Judging.{are_known, valid_under};
+ghost use Rattle.simplex_detector.specs.Judging.{HoldsOf, are_known, valid_under};
 ghost use Rattle.simplex_detector.specs.Kept.{GathersVotes};
 ghost use Rattle.simplex_detector.specs.Recorded.{changes};
-ghost use Rattle.simplex_detector.specs.Rounds.{round_count, slots, no_slot, IsSized, TakesVote, RecordsVotes, found_of_kind, found_at, accuses, ListsSigners};
+ghost use Rattle.simplex_detector.specs.Rounds.{IsRecorded, round_count, slots, no_slot, IsSized, TakesVote, RecordsVotes, found_of_kind, found_at, accuses, ListsSigners};
 ghost use Rattle.simplex_detector.specs.Values.{evidence_value};
 
 use crate::apart::Apart;
 use crate::boxed_map::BoxedMap;
 use crate::evidence::Evidence;
 use crate::judge::{Judge, Signatures};
+use crate::same_vote::{is_finalize, is_notarize, is_nullify};
 use crate::vote_pairs::{VotePairs, add_signers};
 use simplex_base::codec::Read;
 use simplex_base::positions::Participant;
 use simplex_evidence::types::conflict_of;
-use simplex_scheme::scheme::{Attestation, Digest, Scheme, SchemeTypes, Subject};
+use simplex_scheme::scheme::{Attestation, Digest, Known, Scheme, SchemeTypes, Subject};
 use simplex_votes::types::{Finalize, Notarize, Nullify};
 use std::alloc::{AllocError, Global};
 
@@ -129,9 +130,9 @@ impl<S: SchemeTypes, D: Digest> RoundVotes<S, D> {
     ) -> Result<bool, AllocError>
     where
         S: Scheme<D>,
-        requires { signatures ≡ Signatures.Verified → S.good judge.now.committee.now
-            (subject_value subject.now) attestation.now.signer attestation.now.signature ≡ true }
         ensures { IfOk result (λ news.
+            (signatures ≡ Signatures.Verified → S.good judge.now.committee.now
+            (subject_value subject.now) attestation.now.signer attestation.now.signature ≡ true) →
             RecordsVotes D.eq (length (S.keys judge.now.committee.now))
             (round_of (subject_value subject.now))
             (filter (λ v. valid_under S.keys S.good judge.now.judging.now
@@ -161,15 +162,17 @@ impl<S: SchemeTypes, D: Digest> RoundVotes<S, D> {
     ) -> Result<bool, AllocError>
     where
         S: Scheme<D>,
-        requires { signatures ≡ Signatures.Verified → All (λ a. S.good judge.now.committee.now
-            (subject_value subject.now) a.signer a.signature ≡ true) attestations.now }
         ensures records { IfOk result (λ news.
-            RecordsVotes D.eq (length (S.keys judge.now.committee.now))
+            HoldsOf signatures (S.good judge.now.committee.now (subject_value subject.now))
+            attestations.now → RecordsVotes D.eq (length (S.keys judge.now.committee.now))
             (round_of (subject_value subject.now))
             (filter (λ v. valid_under S.keys S.good judge.now.judging.now
             judge.now.committee.now v.subject v.signer v.signature)
             (map (vote_on (subject_value subject.now)) attestations.now)) news self.old self.new) }
-        ensures gathers { OnOk result (GathersVotes D.eq (length (S.keys judge.now.committee.now))
+        ensures wanted { OnOk result (apart.new.wanted ≡ apart.old.wanted) }
+        ensures gathers { OnOk result (
+            HoldsOf signatures (S.good judge.now.committee.now (subject_value subject.now))
+            attestations.now → GathersVotes D.eq (length (S.keys judge.now.committee.now))
             (round_of (subject_value subject.now))
             (filter (λ v. valid_under S.keys S.good judge.now.judging.now
             judge.now.committee.now v.subject v.signer v.signature)
@@ -284,6 +287,35 @@ impl<S: SchemeTypes, D: Digest> RoundVotes<S, D> {
         let nullify = self.nullifies.get(signer)?;
         let finalize = self.finalizes.first(signer)?;
         Some(Evidence::NullifyFinalize(conflict_of(nullify.copy(), finalize.copy())?))
+    }
+}
+
+/// The recorded votes are known to be valid: they were verified, unless all votes in the committee are taken as valid.
+impl<S: SchemeTypes, D: Digest> Known<S, D> for RoundVotes<S, D> {
+    ghost known = { λ votes subject signer signature.
+        IsRecorded votes (record { subject = subject; signer = signer; signature = signature }) };
+
+    fn knows(&self, subject: &Subject<'_, D>, attestation: &Attestation<S>) -> bool {
+        let signer = attestation.signer;
+        match subject {
+            Subject::Notarize { proposal } => {
+                let votes = &self.notarizes;
+                if is_notarize(votes.first(signer), proposal, attestation) {
+                    return true;
+                }
+                is_notarize(votes.other(signer), proposal, attestation)
+            }
+            Subject::Nullify { round } => {
+                is_nullify(self.nullifies.get(signer), *round, attestation)
+            }
+            Subject::Finalize { proposal } => {
+                let votes = &self.finalizes;
+                if is_finalize(votes.first(signer), proposal, attestation) {
+                    return true;
+                }
+                is_finalize(votes.other(signer), proposal, attestation)
+            }
+        }
     }
 }
 

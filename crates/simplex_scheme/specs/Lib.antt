@@ -3,6 +3,7 @@ pub mod Proposal
 pub mod ProposalLaws
 pub mod Subject
 pub mod Kind
+pub mod Known
 pub mod Committee
 pub mod Committees
 pub mod Hashing

@@ -1,16 +1,18 @@
 //! The traits of schemes that sign and verify, with the laws that each scheme proves.
 
-ghost use Rattle.std.specs.Prelude.{◌≡◌, ⊤, ◌+◌, ℕ, Bool, true, false, List, Option, Some, None, Ok, IfOk, IfSome, IsTrue, MatchOption, All, length, nat_eq, ◌<◌, ◌≤◌, ◌^◌};
+ghost use Rattle.std.specs.Prelude.{◌≡◌, ◌↔◌, ⊤, ◌+◌, ℕ, Bool, true, false, List, Option, Some, None, Ok, IfOk, IfSome, IsTrue, MatchOption, All, length, nat_eq, ◌<◌, ◌≤◌, ◌^◌};
 ghost use Rattle.std.specs.List.{IsDistinct, list_all};
 ghost use Rattle.simplex_base.specs.Format.{format_of};
 ghost use Rattle.simplex_base.specs.Finality.{IsFinal};
 ghost use Rattle.simplex_scheme.specs.Subject.{SubjectValue, subject_value};
+ghost use Rattle.simplex_scheme.specs.Known.{AreValid};
 ghost use Rattle.simplex_scheme.specs.Committee.{IsQuorum, IsInOrder, signers_of, RefusesFew, AssemblesQuorum};
 
 pub use crate::attributable::Attributable;
 pub use crate::faults::{max_faults, quorum};
 pub use crate::hash::{Hasher, Sha256, Sha256Digest, Sha256Role};
 pub use crate::kind::VoteKind;
+pub use crate::known::{Known, NothingKnown};
 pub use crate::namespace::{CertificateNamespace, Namespace};
 pub use crate::proposal::Proposal;
 pub use crate::set::{Set, SetError};
@@ -69,6 +71,16 @@ impl<S: SchemeTypes> Clone for Attestation<S> {
             signer: self.signer,
             signature: self.signature,
         })
+    }
+}
+
+impl<S: SchemeTypes> Attestation<S> {
+    /// Whether another attestation has the same signer and a signature of the same bytes. It is what `==` returns.
+    pub fn is_same(&self, other: &Self) -> bool
+        ensures same { IsTrue result ↔ (self.now ≡ other.now) }
+        ensures equal { result ≡ ⟦<Attestation<S> as PartialEq>⟧.eq self.now other.now }
+    {
+        self.signer == other.signer && self.signature.as_bytes() == other.signature.as_bytes()
     }
 }
 
@@ -242,6 +254,23 @@ pub trait Listing<D: Digest>: Scheme<D> {
     where
         Self: Sized,
         ensures { result.now ≡ listed certificate.now };
+
+    /// Whether a certificate certifies the subject, as `verify_certificate` does, if some attestations are known to be valid.
+    /// A scheme may leave these unverified; unless it does, all are verified.
+    fn verify_certificate_knowing<K: Known<Self, D>>(
+        &self,
+        subject: &Subject<'_, D>,
+        certificate: &Self::Certificate,
+        known: &K,
+    ) -> bool
+    where
+        Self: Sized,
+        ensures { AreValid (K.known known.now) (Self.good self.now) →
+            result ≡ Self.certified self.now (subject_value subject.now) certificate.now }
+    {
+        let _ = known;
+        self.verify_certificate(subject.reborrow(), certificate)
+    }
 
     /// A certificate that certifies a subject lists a quorum of distinct signers, each signature valid for it.
     ghost lists_quorums: { (scheme : Self) (subject : SubjectValue D)

@@ -5,11 +5,13 @@
 ghost use Rattle.std.specs.Prelude.{◌≡◌, ℕ, Bool, true, length, nat_eq, All, Ok, IsOk, IfOk, ◌<◌, ◌≤◌};
 ghost use Rattle.std.specs.List.{IsDistinct, list_all};
 ghost use Rattle.simplex_scheme.specs.Subject.{SubjectValue, subject_value};
+ghost use Rattle.simplex_scheme.specs.Known.{AreValid};
 ghost use Rattle.simplex_scheme.specs.Committee.{IsInOrder, is_quorum, quorum_of, signers_of, RefusesFew};
 
 use crate::listed::Listed;
 use simplex_scheme::scheme::{
-    AssemblyError, Attestation, CertificateScheme, Digest, SchemeTypes, Subject, quorum,
+    AssemblyError, Attestation, CertificateScheme, Digest, Known, NothingKnown, SchemeTypes,
+    Subject, quorum,
 };
 
 /// A committee whose attestations are verified one by one.
@@ -34,16 +36,48 @@ pub fn is_certified<D: Digest, S: AttestationVerifier<D>>(
     ensures { result ≡ is_quorum (length (S.keys scheme.now))
         (S.accepted scheme.now (subject_value subject.now)) certificate.now }
 {
+    is_certified_knowing(scheme, subject, certificate, &NothingKnown)
+}
+
+/// Whether a certificate lists a quorum, each attestation of which is valid for the subject. Those that are known to be valid
+/// are not verified.
+pub fn is_certified_knowing<D: Digest, S: AttestationVerifier<D>, K: Known<S, D>>(
+    scheme: &S,
+    subject: &Subject<'_, D>,
+    certificate: &Listed<S>,
+    known: &K,
+) -> bool
+    ensures { AreValid (K.known known.now) (S.accepted scheme.now) →
+        result ≡ is_quorum (length (S.keys scheme.now))
+        (S.accepted scheme.now (subject_value subject.now)) certificate.now }
+{
     let attestations = certificate.attestations();
     if attestations.len() < quorum(scheme.participants().len() as u32) as usize {
         return false;
     }
     for attestation in attestations {
-        if !scheme.accepts(subject, attestation) {
+        if !is_accepted(scheme, subject, attestation, known) {
             return false;
         }
     }
     true
+}
+
+/// Whether an attestation is valid for the subject. It is not verified if it is known to be.
+fn is_accepted<D: Digest, S: AttestationVerifier<D>, K: Known<S, D>>(
+    scheme: &S,
+    subject: &Subject<'_, D>,
+    attestation: &Attestation<S>,
+    known: &K,
+) -> bool
+    ensures { AreValid (K.known known.now) (S.accepted scheme.now) →
+        result ≡ S.accepted scheme.now (subject_value subject.now) attestation.now.signer
+        attestation.now.signature }
+{
+    if known.knows(subject, attestation) {
+        return true;
+    }
+    scheme.accepts(subject, attestation)
 }
 
 /// Whether each certificate certifies its subject.

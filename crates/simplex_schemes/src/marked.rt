@@ -11,14 +11,16 @@ ghost use Rattle.std.specs.List.{IsDistinct};
 ghost use Rattle.simplex_schemes.specs.Marked.{numbered, marked_good};
 ghost use Rattle.simplex_schemes.specs.MarkedLaws.{marked_members};
 
-use crate::certificates::{AttestationVerifier, are_certified, assembled, is_certified};
+use crate::certificates::{
+    AttestationVerifier, are_certified, assembled, is_certified, is_certified_knowing,
+};
 use crate::listed::{Listed, listed_refusals_are_final};
 use simplex_base::codec::Fixed;
 use simplex_base::codec::fixed_bytes::{FixedBytes, Role};
 use simplex_base::positions::Participant;
 use simplex_scheme::scheme::{
-    AssemblyError, Attestation, CertificateScheme, CertificateVerifier, Digest, Listing, PublicKey,
-    Scheme, SchemeTypes, Set, Signature, Subject,
+    AssemblyError, Attestation, CertificateScheme, CertificateVerifier, Digest, Known, Listing,
+    PublicKey, Scheme, SchemeTypes, Set, Signature, Subject,
 };
 use std::alloc::{AllocError, Global};
 use std::marker::Model;
@@ -266,6 +268,15 @@ impl<D: Digest> Listing<D> for Marked {
 
     fn attestations(certificate: &Listed<Marked>) -> &[Attestation<Self>] {
         certificate.attestations()
+    }
+
+    fn verify_certificate_knowing<K: Known<Self, D>>(
+        &self,
+        subject: &Subject<'_, D>,
+        certificate: &Listed<Marked>,
+        known: &K,
+    ) -> bool {
+        is_certified_knowing(self, subject, certificate, known)
     }
 
     ghost lists_quorums = { λ scheme subject certificate.

@@ -18,15 +18,17 @@ ghost use Rattle.simplex_scheme.specs.Proposal.{proposal_format};
 ghost use Rattle.simplex_base.specs.Positions.{round_format};
 ghost use Rattle.sha2.specs.Sha256.{sha256};
 
-use crate::certificates::{AttestationVerifier, are_certified, assembled, is_certified};
+use crate::certificates::{
+    AttestationVerifier, are_certified, assembled, is_certified, is_certified_knowing,
+};
 use crate::hashed::{Hashers, hash_of_proposal, hash_of_round};
 use crate::listed::{Listed, listed_refusals_are_final};
 use simplex_base::codec::fixed_bytes::{FixedBytes, Role};
 use simplex_base::codec::{Fixed, Read};
 use simplex_base::positions::{Participant, Round};
 use simplex_scheme::scheme::{
-    AssemblyError, Attestation, CertificateScheme, CertificateVerifier, Digest, Listing, Namespace,
-    Proposal, PublicKey, Scheme, SchemeTypes, Set, Signature, Subject,
+    AssemblyError, Attestation, CertificateScheme, CertificateVerifier, Digest, Known, Listing,
+    Namespace, Proposal, PublicKey, Scheme, SchemeTypes, Set, Signature, Subject,
 };
 use std::alloc::{AllocError, Global};
 use std::marker::Model;
@@ -391,6 +393,15 @@ impl<D: Digest> Listing<D> for Plain {
 
     fn attestations(certificate: &Listed<Plain>) -> &[Attestation<Self>] {
         certificate.attestations()
+    }
+
+    fn verify_certificate_knowing<K: Known<Self, D>>(
+        &self,
+        subject: &Subject<'_, D>,
+        certificate: &Listed<Plain>,
+        known: &K,
+    ) -> bool {
+        is_certified_knowing(self, subject, certificate, known)
     }
 
     ghost lists_quorums = { λ scheme subject certificate.

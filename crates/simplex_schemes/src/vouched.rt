@@ -14,15 +14,17 @@ ghost use Rattle.simplex_schemes.specs.CommitteeLaws.{quorum_meaning, listed_siz
 ghost use Rattle.simplex_schemes.specs.Vouched.{nobody, of_size, is_vouched, vouched_valid};
 ghost use Rattle.simplex_schemes.specs.VouchedLaws.{vouched_members};
 
-use crate::certificates::{AttestationVerifier, are_certified, assembled, is_certified};
+use crate::certificates::{
+    AttestationVerifier, are_certified, assembled, is_certified, is_certified_knowing,
+};
 use crate::listed::{Listed, listed_refusals_are_final};
 use crate::marked::{Marked, MarkedKey, MarkedKeyRole};
 use simplex_base::codec::Fixed;
 use simplex_base::codec::fixed_bytes::{FixedBytes, Role};
 use simplex_base::positions::Participant;
 use simplex_scheme::scheme::{
-    AssemblyError, Attestation, CertificateScheme, CertificateVerifier, Digest, Listing, PublicKey,
-    Scheme, SchemeTypes, Set, Signature, Subject,
+    AssemblyError, Attestation, CertificateScheme, CertificateVerifier, Digest, Known, Listing,
+    PublicKey, Scheme, SchemeTypes, Set, Signature, Subject,
 };
 use std::alloc::{AllocError, Global};
 use std::marker::{Model, PhantomData};
@@ -232,6 +234,15 @@ impl<D: Digest, R: Role<N>, const N: usize> Listing<D> for Vouched<R, N> {
 
     fn attestations(certificate: &Listed<Vouched<R, N>>) -> &[Attestation<Self>] {
         certificate.attestations()
+    }
+
+    fn verify_certificate_knowing<K: Known<Self, D>>(
+        &self,
+        subject: &Subject<'_, D>,
+        certificate: &Listed<Vouched<R, N>>,
+        known: &K,
+    ) -> bool {
+        is_certified_knowing(self, subject, certificate, known)
     }
 
     ghost lists_quorums = { λ scheme subject certificate.

@@ -7,7 +7,7 @@ use Rattle.simplex_detector.proofs.certified_subjects.CertifiedSubjects.observe.
 
 -- the subject would change nothing
 pub returns-then-not-is_news-clause-records : goal.returns-then-not-is_news-clause-records
-returns-then-not-is_news-clause-records g c subjects records =
+returns-then-not-is_news-clause-records g c valid subjects records =
     let y = subject_value c.args.subject.now in
     if_appended (λ xs. RecordsFirsts g.D.PartialEq.eq xs (round_of y) c.args.self.now) subjects y _ (λ no. records)
     (λ certifies. records_no_news g.D.PartialEq.eq g.met.D.Eq.laws subjects y (round_of y) c.args.self.now
@@ -15,27 +15,28 @@ returns-then-not-is_news-clause-records g c subjects records =
 
 -- the certificate does not certify it
 pub returns-then-not-certifies-clause-records : goal.returns-then-not-certifies-clause-records
-returns-then-not-certifies-clause-records g c subjects records =
+returns-then-not-certifies-clause-records g c valid subjects records =
     let y = subject_value c.args.subject.now in
     if_appended (λ xs. RecordsFirsts g.D.PartialEq.eq xs (round_of y) c.args.self.now) subjects y _ (λ no. records)
-    (λ certifies. absurd (false≢true (sym c.if-not-certifies.true ∙ c.certifies.ensures ∙ certifies)))
+    (λ certifies. absurd (false≢true (sym c.if-not-certifies.true ∙ c.certifies.ensures valid ∙ certifies)))
 
 -- the subject is recorded
 pub returns-clause-records : goal.returns-clause-records
-returns-clause-records g c subjects records =
+returns-clause-records g c valid subjects records =
     let y = subject_value c.args.subject.now in
-    rw (sym c.certifies.ensures ∙ c.if-not-certifies.false)
+    rw (sym (c.certifies.ensures valid) ∙ c.if-not-certifies.false)
     (records_push g.D.PartialEq.eq g.met.D.Eq.laws subjects y (round_of y) c.args.self.now c.set_first.new.self true
     (same_round-from (round_of y) (round_of y) refl) (λ whole. c.set_first.ensures.firsts) c.set_first.ensures.split records)
 
 pub returns-then-not-is_news-clause-verified : goal.returns-then-not-is_news-clause-verified
-returns-then-not-is_news-clause-verified g c =
+returns-then-not-is_news-clause-verified g c valid =
     ap known_if (sym (and_left _ _ (sym c.is_news.ensures ∙ c.if-not-is_news.true)))
 
 pub returns-then-not-certifies-clause-verified : goal.returns-then-not-certifies-clause-verified
-returns-then-not-certifies-clause-verified g c =
-    ap known_if (sym (and_right _ _ (sym c.certifies.ensures ∙ c.if-not-certifies.true)))
+returns-then-not-certifies-clause-verified g c valid =
+    ap known_if (sym (and_right _ _ (sym (c.certifies.ensures valid) ∙ c.if-not-certifies.true)))
 
 pub returns-clause-verified : goal.returns-clause-verified
-returns-clause-verified g c = ap known_if
-    (sym (and_from _ _ (sym c.is_news.ensures ∙ c.if-not-is_news.false) (sym c.certifies.ensures ∙ c.if-not-certifies.false)))
+returns-clause-verified g c valid =
+    ap known_if (sym (and_from _ _ (sym c.is_news.ensures ∙ c.if-not-is_news.false)
+    (sym (c.certifies.ensures valid) ∙ c.if-not-certifies.false)))

@@ -6,7 +6,7 @@ use Rattle.simplex_detector.proofs.round_votes.RoundVotes.observe.Goals as goal
 
 -- a vote that is no news changes nothing
 pub returns-then-not-is_news : goal.returns-then-not-is_news
-returns-then-not-is_news g c =
+returns-then-not-is_news g c known =
     let x = subject_value c.args.subject.now in
     let v = vote_on x c.args.attestation.now in
     let eq = g.D.PartialEq.eq in
@@ -22,11 +22,11 @@ returns-then-not-is_news g c =
 
 -- nor does one that is not valid
 pub returns-then-not-accepts : goal.returns-then-not-accepts
-returns-then-not-accepts g c =
+returns-then-not-accepts g c known =
     let x = subject_value c.args.subject.now in
     let v = vote_on x c.args.attestation.now in
     let eq = g.D.PartialEq.eq in
-    let bad = sym c.accepts.ensures ∙ c.if-not-accepts.true in
+    let bad = sym (c.accepts.ensures known) ∙ c.if-not-accepts.true in
     record {
       held = λ vs holds. if_appended
           (λ ws. HoldsRound eq (length (g.S.CertificateScheme.keys c.args.judge.now.committee.now)) ws (round_of x)
@@ -36,12 +36,12 @@ returns-then-not-accepts g c =
 
 -- a valid vote is recorded, and its signer is in the committee
 pub returns : goal.returns
-returns g c =
+returns g c known =
     let x = subject_value c.args.subject.now in
     let a = c.args.attestation.now in
     let v = vote_on x a in
     let eq = g.D.PartialEq.eq in
-    let good = sym c.accepts.ensures ∙ c.if-not-accepts.false in
+    let good = sym (c.accepts.ensures known) ∙ c.if-not-accepts.false in
     let news = sym c.is_news.ensures ∙ c.if-not-is_news.false in
     let size = length (g.S.CertificateScheme.keys c.args.judge.now.committee.now) in
     let member = members_under g.S.CertificateScheme.keys g.S.Scheme.good g.met.S.Scheme.members c.args.judge.now.judging.now
