@@ -6,7 +6,7 @@
 mod by_hand;
 
 use super::calls::{Committees, Report};
-use super::exports::{AttestationPlace, Range, Record, Row, Summary};
+use super::exports::{AttestationPlace, Range, Record, Row, Summary, Suspect, VotePlace};
 use by_hand::{Attestation, Auditor, Message, Plain, Reader, Round, Scheme, Subject, VoteKind};
 use std::collections::{BTreeMap, HashMap, HashSet};
 
@@ -41,17 +41,15 @@ impl Scheme for Committee {
 }
 
 fn committees(of: &Committees) -> by_hand::Committees<Committee> {
-    let vouched = |signature: usize, size: u32| Committee::Vouched { signature, participants: size as usize };
-    match of {
-        Committees::Plain { base, keys } => {
-            by_hand::Committees::Every(Committee::Plain(by_hand::plain(base, keys.clone()).unwrap()))
+    let committee = |place: usize| match of {
+        Committees::Plain { base, keys, .. } => Committee::Plain(by_hand::plain(base, keys[place].clone()).unwrap()),
+        Committees::Vouched { signature, sizes, .. } => {
+            Committee::Vouched { signature: *signature, participants: sizes[place] as usize }
         }
-        Committees::Vouched { signature, epochs, sizes } if epochs.is_empty() => {
-            by_hand::Committees::Every(vouched(*signature, sizes[0]))
-        }
-        Committees::Vouched { signature, epochs, sizes } => by_hand::Committees::Listed(
-            epochs.iter().copied().zip(sizes.iter().map(|size| vouched(*signature, *size))).collect(),
-        ),
+    };
+    match of.epochs() {
+        [] => by_hand::Committees::Every(committee(0)),
+        epochs => by_hand::Committees::Listed(epochs.iter().copied().zip((0..).map(committee)).collect()),
     }
 }
 
@@ -91,6 +89,18 @@ impl<'a> Vote<'a> {
 
     fn is_valid(&self, committees: &by_hand::Committees<Committee>) -> bool {
         committees.get(self.subject.round.0).is_some_and(|it| it.is_good(&mut Vec::new(), &self.subject, self.attestation))
+    }
+
+    /// Where its subject and the last byte of its signature stand in its stream.
+    fn stands(&self, stream: &[u8]) -> VotePlace {
+        let (signer, signature) = self.attestation;
+        VotePlace {
+            subject_place: offset(stream, self.subject.message),
+            subject_length: self.subject.message.len(),
+            verdict_place: offset(stream, signature) + signature.len() - 1,
+            signer,
+            kind: self.subject.kind as u32,
+        }
     }
 
     /// What two equal votes have in common.
@@ -157,11 +167,12 @@ pub fn records(of: &Committees, stream: &[u8]) -> (Vec<Record>, Summary) {
     let (votes, _) = votes(committees.reader(stream));
     let mut places = HashMap::new();
     for vote in &votes {
-        places.entry(vote.value()).or_insert(vote.place);
+        places.entry(vote.value()).or_insert((vote.place, vote.stands(stream)));
     }
     let record = |(kind, [first, second]): (u32, [Vote; 2])| {
         let ((epoch, view), signer) = first.key();
-        Record { epoch, view, first_place: places[&first.value()], second_place: places[&second.value()], signer, kind }
+        let ((first_place, first_vote), (second_place, second_vote)) = (places[&first.value()], places[&second.value()]);
+        Record { epoch, view, first_place, second_place, first_vote, second_vote, signer, kind }
     };
     (evidence(&committees, &votes).into_iter().map(record).collect(), audit(of, stream).summary)
 }
@@ -181,8 +192,8 @@ fn offset(stream: &[u8], part: &[u8]) -> usize {
 }
 
 /// The attestations of a stream that have to be verified: those of suspects in their rounds, and of certificates of these
-/// rounds.
-pub fn suspects(of: &Committees, stream: &[u8]) -> Vec<AttestationPlace> {
+/// rounds. Each has the index of the first that is the same but for the verdict.
+pub fn suspects(of: &Committees, stream: &[u8]) -> Vec<Suspect> {
     let Committees::Vouched { signature, .. } = of else {
         return Vec::new();
     };
@@ -194,16 +205,18 @@ pub fn suspects(of: &Committees, stream: &[u8]) -> Vec<AttestationPlace> {
         by_signer(votes.iter().copied()).values().filter(is_suspect).map(|votes| votes[0].key()).collect();
     let rounds: HashSet<_> = suspects.iter().map(|(round, _)| *round).collect();
     votes.retain(|vote| suspects.contains(&vote.key()) || vote.is_listed && rounds.contains(&vote.subject.round));
-    let suspect = |vote: &Vote| AttestationPlace {
-        epoch: vote.subject.round.0,
-        view: vote.subject.round.1,
-        verdict_place: offset(stream, vote.attestation.1) + signature,
-        subject_place: offset(stream, vote.subject.message),
-        subject_length: vote.subject.message.len(),
-        signer: vote.attestation.0,
-        kind: vote.subject.kind as u32,
+    let place = |vote: &Vote| {
+        let (epoch, view) = vote.subject.round;
+        let VotePlace { subject_place, subject_length, verdict_place, signer, kind } = vote.stands(stream);
+        AttestationPlace { epoch, view, verdict_place, subject_place, subject_length, signer, kind }
     };
-    votes.iter().map(suspect).collect()
+    let same = |one: &Vote, other: &Vote| {
+        let signed = |vote: &Vote| (vote.subject.kind as u32, vote.attestation.0);
+        signed(one) == signed(other) && one.subject.message == other.subject.message
+            && one.attestation.1[..*signature] == other.attestation.1[..*signature]
+    };
+    let first = |vote: &Vote| votes.iter().position(|one| same(one, vote)).unwrap();
+    votes.iter().map(|vote| Suspect { place: place(vote), first: first(vote) }).collect()
 }
 
 /// The evidence of what is stored with a batch behind it, as messages. They are one stream: a message that is cut off at the end

@@ -8,7 +8,13 @@ use simplex_audit::{audit, audit_deferred, Error, Report, Size, Vote};
 
 pub fn of(committees: &Committees) -> Result<simplex_audit::Committees, Error> {
     let (signature, epochs, sizes) = match committees {
-        Committees::Plain { base, keys } => return simplex_audit::Committees::plain(base, keys),
+        Committees::Plain { base, epochs, keys } if epochs.is_empty() => {
+            return simplex_audit::Committees::plain(base, &keys[0]);
+        }
+        Committees::Plain { base, epochs, keys } => {
+            let listed: Vec<_> = epochs.iter().copied().zip(keys.iter().map(|keys| keys.as_slice())).collect();
+            return simplex_audit::Committees::plain_listed(base, &listed);
+        }
         Committees::Vouched { signature, epochs, sizes } => (*signature, epochs, sizes),
     };
     let size = match signature {
@@ -24,7 +30,7 @@ pub fn of(committees: &Committees) -> Result<simplex_audit::Committees, Error> {
 }
 
 /// Some signatures are valid: which, their first bytes decide.
-fn verify(_: &Vote, _: u32, signature: &[u8]) -> bool {
+pub fn verify(_: &Vote, _: u32, signature: &[u8]) -> bool {
     signature[0] % 4 > 0
 }
 

@@ -75,24 +75,33 @@ fn base(random: &mut Random) -> Vec<u8> {
     (0..length).map(|_| random.next() as u8).collect()
 }
 
+/// The keys of a committee, in any order.
+fn keys(random: &mut Random, common: &[u8; 32]) -> Vec<[u8; 32]> {
+    let mut keys: Vec<[u8; 32]> = (0..size(random)).map(|_| key(random, common)).collect();
+    keys.sort();
+    keys.dedup();
+    random.shuffle(&mut keys);
+    keys
+}
+
 pub fn committees(random: &mut Random) -> Committees {
-    if random.one_in(2) {
+    let (is_plain, signature) = (random.one_in(2), random.pick(&[48, 64, 64, 96]));
+    let mut epochs = Vec::new();
+    if !random.one_in(if is_plain { 2 } else { 8 }) {
+        epochs.extend((0..3).map(|_| random.number()));
+        epochs.sort();
+        epochs.dedup();
+    }
+    let count = epochs.len().max(1);
+    if is_plain {
         let common = random.bytes();
-        let mut keys: Vec<[u8; 32]> = (0..size(random)).map(|_| key(random, &common)).collect();
-        keys.sort();
-        keys.dedup();
-        random.shuffle(&mut keys);
-        return Committees::Plain { base: base(random), keys };
+        let mut keys: Vec<_> = (0..count).map(|_| keys(random, &common)).collect();
+        if random.one_in(4) {
+            keys[count - 1] = keys[0].clone();
+        }
+        return Committees::Plain { base: base(random), epochs, keys };
     }
-    let signature = random.pick(&[48, 64, 64, 96]);
-    if random.one_in(8) {
-        return Committees::Vouched { signature, epochs: Vec::new(), sizes: vec![size(random)] };
-    }
-    let mut epochs: Vec<u64> = (0..3).map(|_| random.number()).collect();
-    epochs.sort();
-    epochs.dedup();
-    let sizes = epochs.iter().map(|_| size(random)).collect();
-    Committees::Vouched { signature, epochs, sizes }
+    Committees::Vouched { signature, epochs, sizes: (0..count).map(|_| size(random)).collect() }
 }
 
 #[derive(Clone, Copy, PartialEq)]
@@ -107,8 +116,8 @@ const KINDS: [Kind; 3] = [Kind::Notarize, Kind::Nullify, Kind::Finalize];
 /// What the messages of a stream are about: few rounds and few proposals, so that votes contradict and certificates too.
 struct Scene<'a> {
     committees: &'a Committees,
-    /// The keys of the plain scheme in ascending order: the participants.
-    keys: Vec<[u8; 32]>,
+    /// The keys of each committee of the plain scheme in ascending order: the participants.
+    keys: Vec<Vec<[u8; 32]>>,
     rounds: Vec<(u64, u64)>,
     parents: [u64; 2],
     payloads: [[u8; 32]; 2],
@@ -116,12 +125,12 @@ struct Scene<'a> {
 
 /// An epoch with a committee, or now and then one beside it.
 fn epoch(random: &mut Random, committees: &Committees) -> u64 {
-    match committees {
-        Committees::Vouched { epochs, .. } if !epochs.is_empty() => {
+    match committees.epochs() {
+        [] => random.number(),
+        epochs => {
             let epoch = random.pick(epochs);
             if random.one_in(6) { epoch.wrapping_add(1) } else { epoch }
         }
-        _ => random.number(),
     }
 }
 
@@ -130,7 +139,7 @@ fn scene<'a>(random: &mut Random, committees: &'a Committees) -> Scene<'a> {
         Committees::Plain { keys, .. } => keys.clone(),
         Committees::Vouched { .. } => Vec::new(),
     };
-    keys.sort();
+    keys.iter_mut().for_each(|keys| keys.sort());
     let (view, payload, parent) = (random.number(), random.bytes(), random.number());
     let views = [view, view, view.wrapping_add(1), view ^ (1 << 63), view ^ (1 << 32), random.number()];
     let rounds = (0..1 + random.below(3)).map(|_| (epoch(random, committees), random.pick(&views))).collect();
@@ -165,33 +174,37 @@ impl Scene<'_> {
 
     /// A signature under the plain scheme, or any bytes and a verdict. One that is not valid is of any participant, of any kind
     /// or changed in a bit.
-    fn signature(&self, random: &mut Random, kind: Kind, signer: u64, subject: &[u8], is_valid: bool) -> Vec<u8> {
+    fn signature(
+        &self,
+        random: &mut Random,
+        (kind, signer): (Kind, u64),
+        round: (u64, u64),
+        subject: &[u8],
+        is_valid: bool,
+    ) -> Vec<u8> {
         match self.committees {
             Committees::Vouched { signature, .. } => {
                 let verdict = if is_valid { 1 } else { random.pick(&[0, 2, 255]) };
                 [vec![8 + u8::from(random.one_in(4)); *signature], vec![verdict]].concat()
             }
-            Committees::Plain { base, .. } if is_valid => self.hash(base, kind, signer, subject).to_vec(),
-            Committees::Plain { base, .. } => match random.below(3) {
-                0 => self.hash(base, kind, random.below(self.keys.len() as u64), subject).to_vec(),
-                1 => self.hash(base, random.pick(&KINDS), signer, subject).to_vec(),
-                _ => {
-                    let mut hash = self.hash(base, kind, signer, subject);
-                    hash[random.below(32) as usize] ^= 1 << random.below(8);
-                    hash.to_vec()
+            Committees::Plain { base, .. } => {
+                // in an epoch without a committee, and now and then in another, with the keys of any
+                let place = self.committees.place(round.0).filter(|_| is_valid || !random.one_in(4));
+                let keys = &self.keys[place.unwrap_or(random.below(self.keys.len() as u64) as usize)];
+                if is_valid {
+                    return hash(keys, base, kind, signer, subject).to_vec();
                 }
-            },
+                match random.below(3) {
+                    0 => hash(keys, base, kind, random.below(keys.len() as u64), subject).to_vec(),
+                    1 => hash(keys, base, random.pick(&KINDS), signer, subject).to_vec(),
+                    _ => {
+                        let mut hash = hash(keys, base, kind, signer, subject);
+                        hash[random.below(32) as usize] ^= 1 << random.below(8);
+                        hash.to_vec()
+                    }
+                }
+            }
         }
-    }
-
-    /// The signature of the plain scheme.
-    fn hash(&self, base: &[u8], kind: Kind, signer: u64, subject: &[u8]) -> [u8; 32] {
-        let name = [&b"_NOTARIZE"[..], b"_NULLIFY", b"_FINALIZE"][kind as usize];
-        let mut signed = Vec::new();
-        push_number(&mut signed, (base.len() + name.len()) as u64);
-        let key = self.keys.get(signer as usize).unwrap_or(&[0; 32]);
-        signed.extend([base, name, key, subject].concat());
-        sha256(&signed)
     }
 
     /// A participant of a committee, or now and then one behind the last.
@@ -200,25 +213,32 @@ impl Scene<'_> {
         if random.one_in(16) { size + random.below(2) } else { random.below(size) }
     }
 
-    fn put_vote(&self, random: &mut Random, bytes: &mut Vec<u8>, kind: Kind, signer: u64, subject: &[u8]) {
+    fn put_vote(
+        &self,
+        random: &mut Random,
+        bytes: &mut Vec<u8>,
+        (kind, signer): (Kind, u64),
+        round: (u64, u64),
+        subject: &[u8],
+    ) {
         let is_valid = !random.one_in(8);
         bytes.extend(subject);
         put_number(random, bytes, signer);
-        bytes.extend(self.signature(random, kind, signer, subject, is_valid));
+        bytes.extend(self.signature(random, (kind, signer), round, subject, is_valid));
     }
 
     /// Two votes of a signer in a round, which mostly contradict; now and then of two signers, two rounds or one proposal.
     fn put_evidence(&self, random: &mut Random, bytes: &mut Vec<u8>, [first, second]: [Kind; 2], round: (u64, u64)) {
         let signer = self.signer(random, round);
         let subject = self.subject(random, first, round);
-        self.put_vote(random, bytes, first, signer, &subject);
+        self.put_vote(random, bytes, (first, signer), round, &subject);
         let other_round = if random.one_in(24) { random.pick(&self.rounds) } else { round };
         let other_signer = if random.one_in(24) { self.signer(random, round) } else { signer };
         let mut other = self.subject(random, second, other_round);
         while other == subject && !random.one_in(8) {
             other = self.subject(random, second, round);
         }
-        self.put_vote(random, bytes, second, other_signer, &other);
+        self.put_vote(random, bytes, (second, other_signer), other_round, &other);
     }
 
     /// The signers of a certificate: a quorum, about as many, or any number; now and then as no certificate may list them.
@@ -252,7 +272,7 @@ impl Scene<'_> {
         for signer in signers {
             let is_valid = is_sound || !random.one_in(4);
             put_number(random, bytes, signer);
-            bytes.extend(self.signature(random, kind, signer, &subject, is_valid));
+            bytes.extend(self.signature(random, (kind, signer), round, &subject, is_valid));
         }
     }
 
@@ -264,7 +284,7 @@ impl Scene<'_> {
             0 | 3 | 5 => {
                 let kind = KINDS[tag as usize / 2];
                 let (signer, subject) = (self.signer(random, round), self.subject(random, kind, round));
-                self.put_vote(random, bytes, kind, signer, &subject);
+                self.put_vote(random, bytes, (kind, signer), round, &subject);
             }
             1 | 2 | 4 | 6 => {
                 self.put_certificate(random, bytes, [Notarize, Notarize, Nullify, Finalize][tag as usize / 2], round)
@@ -274,6 +294,16 @@ impl Scene<'_> {
             _ => self.put_evidence(random, bytes, [Nullify, Finalize], round),
         }
     }
+}
+
+/// The signature of the plain scheme, of a participant of the committee of these keys.
+fn hash(keys: &[[u8; 32]], base: &[u8], kind: Kind, signer: u64, subject: &[u8]) -> [u8; 32] {
+    let name = [&b"_NOTARIZE"[..], b"_NULLIFY", b"_FINALIZE"][kind as usize];
+    let mut signed = Vec::new();
+    push_number(&mut signed, (base.len() + name.len()) as u64);
+    let key = keys.get(signer as usize).unwrap_or(&[0; 32]);
+    signed.extend([base, name, key, subject].concat());
+    sha256(&signed)
 }
 
 /// Encodes a number, and now and then breaks the encoding: by a needless last group, by a last byte of ten or of five that is

@@ -53,8 +53,8 @@ uint32_t simplex_version(void);
 #define SIMPLEX_WHOLE 0u     /* Success. The buffer is written, and an audit found no fault. */
 #define SIMPLEX_FAULT 1u     /* The byte at `fault_place` starts no message. The messages before it
                                 were audited or listed, and the buffer is written. */
-#define SIMPLEX_ARGUMENTS 2u /* The arguments are no committees, or what the call says. Nothing was
-                                written. */
+#define SIMPLEX_ARGUMENTS 2u /* The arguments are no committees (simplex_refusal says why), or what
+                                the call says. Nothing was written. */
 #define SIMPLEX_MEMORY 3u    /* An allocation failed. Nothing was written. */
 #define SIMPLEX_SHORT 4u     /* The buffer is too short, and as before. The length that is needed is
                                 written: call again. */
@@ -95,12 +95,29 @@ uint32_t simplex_audit(uint32_t signature, const uint64_t *epochs, size_t epochs
 #define SIMPLEX_CONFLICTING_FINALIZE 1u /* two finalizes for different proposals */
 #define SIMPLEX_NULLIFY_FINALIZE 2u     /* a nullify, and then a finalize */
 
+/* The kind of a vote. */
+#define SIMPLEX_NOTARIZE 0u
+#define SIMPLEX_NULLIFY 1u
+#define SIMPLEX_FINALIZE 2u
+
+/* A vote of an evidence, as it stands in the stream. */
+struct simplex_vote_place {
+    size_t subject_place;  /* the 0-based offset of its subject, the message that is signed */
+    size_t subject_length; /* bytes of the subject */
+    size_t verdict_place;  /* the 0-based offset of its verdict, the byte behind the signature; under
+                              the plain scheme of the signature's last byte */
+    uint32_t signer;       /* below the size of the epoch's committee */
+    uint32_t kind;         /* SIMPLEX_NOTARIZE, SIMPLEX_NULLIFY or SIMPLEX_FINALIZE */
+};
+
 /* An evidence of a report, and where its two votes stand in the stream. */
 struct simplex_record {
     uint64_t epoch;      /* of the round of both votes */
     uint64_t view;       /* of that round */
     size_t first_place;  /* the 0-based offset of the first message that carries the first vote */
     size_t second_place; /* and of the first that carries the second */
+    struct simplex_vote_place first_vote;  /* the first vote, in the message at `first_place` */
+    struct simplex_vote_place second_vote; /* the second, in the message at `second_place` */
     uint32_t signer;     /* of both votes, below the size of the epoch's committee */
     uint32_t kind;       /* SIMPLEX_CONFLICTING_NOTARIZE, .._CONFLICTING_FINALIZE or
                             SIMPLEX_NULLIFY_FINALIZE */
@@ -113,6 +130,14 @@ struct simplex_record {
  * same with the same kind, proposal or round, signer and signature. The place of a vote is the
  * offset of the tag of the first message that carries it. The second place may be before the
  * first, and both may be the same: evidence carries two votes.
+ *
+ * Take each vote from its own offsets, not from the message: a certificate or an evidence that
+ * carries it may hold another vote of the signer whose signature is invalid. With n = 48, 64 or 96
+ * the signature is the n bytes before `verdict_place`, and under the plain scheme the 32 bytes that
+ * end with the one there. What was signed is the length of the kind's namespace, the namespace, and
+ * the bytes of the subject. Both are valid, so a verdict is 01. The vote as a message, ready to hand
+ * on: the tag SIMPLEX_ROW_NOTARIZE, .._NULLIFY or .._FINALIZE, the subject, and what ends with the
+ * verdict: the signer's number, right before the signature, and the signature.
  *
  * `summary` is that of the audit: `evidence` is the number of records, `length` the bytes of the
  * text that simplex_audit writes. The first `summary->evidence` records are written;
@@ -127,11 +152,6 @@ uint32_t simplex_records(uint32_t signature, const uint64_t *epochs, size_t epoc
                          size_t stream_len, struct simplex_record *records, size_t records_len,
                          struct simplex_summary *summary);
 
-/* The kind of a vote in a record. */
-#define SIMPLEX_NOTARIZE 0u
-#define SIMPLEX_NULLIFY 1u
-#define SIMPLEX_FINALIZE 2u
-
 /* An attestation that has to be verified, and where it stands in the stream. */
 struct simplex_suspect {
     uint64_t epoch;        /* of its round */
@@ -141,6 +161,7 @@ struct simplex_suspect {
     size_t subject_length; /* bytes of the subject */
     uint32_t signer;       /* below the size of the epoch's committee */
     uint32_t kind;         /* SIMPLEX_NOTARIZE, SIMPLEX_NULLIFY or SIMPLEX_FINALIZE */
+    size_t first;          /* the index in the list of the first that is the same, or its own */
 };
 
 /*
@@ -157,7 +178,9 @@ struct simplex_suspect {
  *
  * The caller writes 01 to each `verdict_place` where it verified the signature, else 00, and
  * audits. The report depends on no verdict of another attestation (docs/BINDINGS.md, "What is
- * proved").
+ * proved"). A vote comes as often as messages repeat it. Two are the same with the same kind,
+ * subject, signer and signature: verify one whose `first` is its own index, and write the verdict of
+ * `records[first]` to any other.
  *
  * The first `*needed` records are written; those behind them are as before. The status is
  * SIMPLEX_WHOLE, SIMPLEX_ARGUMENTS, SIMPLEX_MEMORY or SIMPLEX_SHORT; where `records` is too short
@@ -203,25 +226,59 @@ uint32_t simplex_store(uint32_t signature, const uint64_t *epochs, size_t epochs
 
 /*
  * Audits, lists records and stores evidence, as the calls above, for the plain scheme, whose
- * signatures are hashes that anyone can compute, under one committee for every epoch. `keys` are
- * its keys one after another, of 32 bytes each, in any order, none twice; `keys_len` counts bytes.
- * A participant's number is the place of its key in ascending order. `name` is the base of the
- * namespaces of votes.
+ * signatures are hashes that anyone can compute. `epochs` and `sizes` are those of simplex_audit, and
+ * `keys` the keys of the participants one after another, of 32 bytes each: first as many as the first
+ * size says, of the first committee, then those of the second, and so on. `keys_len` counts bytes,
+ * exactly 32 for each participant. The keys of a committee stand in any order, none twice; the same
+ * key may be in several. A participant's number is the place of its key in ascending order among
+ * those of its committee. `name` is the base of the namespaces of votes.
  */
 SIMPLEX_NONNULL
-uint32_t simplex_audit_plain(const uint8_t *name, size_t name_len, const uint8_t *keys,
-                             size_t keys_len, const uint8_t *stream, size_t stream_len,
-                             uint8_t *text, size_t text_len, struct simplex_summary *summary);
+uint32_t simplex_audit_plain(const uint8_t *name, size_t name_len, const uint64_t *epochs,
+                             size_t epochs_len, const uint32_t *sizes, size_t sizes_len,
+                             const uint8_t *keys, size_t keys_len, const uint8_t *stream,
+                             size_t stream_len, uint8_t *text, size_t text_len,
+                             struct simplex_summary *summary);
 SIMPLEX_NONNULL
-uint32_t simplex_records_plain(const uint8_t *name, size_t name_len, const uint8_t *keys,
-                               size_t keys_len, const uint8_t *stream, size_t stream_len,
-                               struct simplex_record *records, size_t records_len,
-                               struct simplex_summary *summary);
+uint32_t simplex_records_plain(const uint8_t *name, size_t name_len, const uint64_t *epochs,
+                               size_t epochs_len, const uint32_t *sizes, size_t sizes_len,
+                               const uint8_t *keys, size_t keys_len, const uint8_t *stream,
+                               size_t stream_len, struct simplex_record *records,
+                               size_t records_len, struct simplex_summary *summary);
 SIMPLEX_NONNULL
-uint32_t simplex_store_plain(const uint8_t *name, size_t name_len, const uint8_t *keys,
-                             size_t keys_len, const uint8_t *stored, size_t stored_len,
-                             const uint8_t *batch, size_t batch_len, uint8_t *evidence,
-                             size_t evidence_len, size_t *size);
+uint32_t simplex_store_plain(const uint8_t *name, size_t name_len, const uint64_t *epochs,
+                             size_t epochs_len, const uint32_t *sizes, size_t sizes_len,
+                             const uint8_t *keys, size_t keys_len, const uint8_t *stored,
+                             size_t stored_len, const uint8_t *batch, size_t batch_len,
+                             uint8_t *evidence, size_t evidence_len, size_t *size);
+
+/* Why committees are refused. */
+#define SIMPLEX_REFUSED_NOTHING 0u      /* They are not. */
+#define SIMPLEX_REFUSED_SIGNATURE 1u    /* `signature` is not 48, 64 or 96. */
+#define SIMPLEX_REFUSED_NO_COMMITTEE 2u /* There is no size, so no committee. */
+#define SIMPLEX_REFUSED_COUNT 3u        /* There are not as many sizes as epochs, or without epochs
+                                           more than one. */
+#define SIMPLEX_REFUSED_EPOCHS 4u       /* The epochs do not rise strictly. */
+#define SIMPLEX_REFUSED_EMPTY 5u        /* A size is 0. */
+#define SIMPLEX_REFUSED_LENGTH 6u       /* `keys_len` is not 32 for each participant: there are too
+                                           few keys, too many, or part of one. */
+#define SIMPLEX_REFUSED_REPEATED 7u     /* A key stands twice in a committee. */
+#define SIMPLEX_REFUSED_UNKNOWN 8u      /* An allocation failed before it was known whether a key
+                                           stands twice; all before that is right. */
+
+/*
+ * Why the calls that take these arguments return SIMPLEX_ARGUMENTS: the first of the causes above that
+ * holds, in their order; SIMPLEX_REFUSED_NOTHING exactly if the calls take them as committees. For
+ * other causes of SIMPLEX_ARGUMENTS, such as a range outside the stream, see the call.
+ * simplex_refusal takes no memory, and never returns what is said of keys; simplex_refusal_plain does
+ * not look at signatures, and takes about as much memory as the committees for a moment.
+ */
+SIMPLEX_NONNULL
+uint32_t simplex_refusal(uint32_t signature, const uint64_t *epochs, size_t epochs_len,
+                         const uint32_t *sizes, size_t sizes_len);
+SIMPLEX_NONNULL
+uint32_t simplex_refusal_plain(const uint64_t *epochs, size_t epochs_len, const uint32_t *sizes,
+                               size_t sizes_len, const uint8_t *keys, size_t keys_len);
 
 /*
  * An audit in parts (docs/SHARDS.md): list the messages of a stream as rows, take the ranges of each
@@ -332,10 +389,11 @@ uint32_t simplex_audit_ranges(uint32_t signature, const uint64_t *epochs, size_t
                               size_t ranges_len, uint8_t *text, size_t text_len,
                               struct simplex_summary *summary);
 SIMPLEX_NONNULL
-uint32_t simplex_audit_ranges_plain(const uint8_t *name, size_t name_len, const uint8_t *keys,
-                                    size_t keys_len, const uint8_t *stream, size_t stream_len,
-                                    const struct simplex_range *ranges, size_t ranges_len,
-                                    uint8_t *text, size_t text_len,
+uint32_t simplex_audit_ranges_plain(const uint8_t *name, size_t name_len, const uint64_t *epochs,
+                                    size_t epochs_len, const uint32_t *sizes, size_t sizes_len,
+                                    const uint8_t *keys, size_t keys_len, const uint8_t *stream,
+                                    size_t stream_len, const struct simplex_range *ranges,
+                                    size_t ranges_len, uint8_t *text, size_t text_len,
                                     struct simplex_summary *summary);
 
 /*
@@ -402,6 +460,17 @@ struct simplex_message {
     uint32_t kind;          /* SIMPLEX_ROW_.. */
 };
 
+/* An attestation of a message, and where it stands: the members are those of simplex_suspect. */
+struct simplex_attestation {
+    uint64_t epoch;
+    uint64_t view;
+    size_t verdict_place;
+    size_t subject_place;
+    size_t subject_length;
+    uint32_t signer; /* as the message has it */
+    uint32_t kind;
+};
+
 /*
  * Reads the message at the front of some bytes; the next one begins `message->length` bytes further.
  * Each attestation is listed with the places of its subject and its signature in the bytes. The last
@@ -416,7 +485,7 @@ struct simplex_message {
  */
 SIMPLEX_NONNULL
 uint32_t simplex_read_message(uint32_t signature, uint32_t bound, const uint8_t *bytes,
-                              size_t bytes_len, struct simplex_suspect *attestations,
+                              size_t bytes_len, struct simplex_attestation *attestations,
                               size_t attestations_len, struct simplex_message *message);
 
 /* Whom an evidence accuses. */
@@ -446,9 +515,11 @@ uint32_t simplex_verify_evidence(uint32_t signature, const uint64_t *epochs, siz
                                  const uint32_t *sizes, size_t sizes_len, const uint8_t *evidence,
                                  size_t evidence_len, struct simplex_accusation *accusation);
 SIMPLEX_NONNULL
-uint32_t simplex_verify_evidence_plain(const uint8_t *name, size_t name_len, const uint8_t *keys,
-                                       size_t keys_len, const uint8_t *evidence,
-                                       size_t evidence_len, struct simplex_accusation *accusation);
+uint32_t simplex_verify_evidence_plain(const uint8_t *name, size_t name_len, const uint64_t *epochs,
+                                       size_t epochs_len, const uint32_t *sizes, size_t sizes_len,
+                                       const uint8_t *keys, size_t keys_len,
+                                       const uint8_t *evidence, size_t evidence_len,
+                                       struct simplex_accusation *accusation);
 
 /*
  * How many of n participants may lie, the greatest f with 3f + 1 <= n, and how many are a quorum,
@@ -534,9 +605,10 @@ uint32_t simplex_auditor_new(uint32_t signature, const uint64_t *epochs, size_t 
                              const uint32_t *sizes, size_t sizes_len, const uint8_t *held,
                              size_t held_len, struct simplex_auditor *auditor);
 SIMPLEX_NONNULL
-uint32_t simplex_auditor_new_plain(const uint8_t *name, size_t name_len, const uint8_t *keys,
-                                   size_t keys_len, const uint8_t *held, size_t held_len,
-                                   struct simplex_auditor *auditor);
+uint32_t simplex_auditor_new_plain(const uint8_t *name, size_t name_len, const uint64_t *epochs,
+                                   size_t epochs_len, const uint32_t *sizes, size_t sizes_len,
+                                   const uint8_t *keys, size_t keys_len, const uint8_t *held,
+                                   size_t held_len, struct simplex_auditor *auditor);
 
 /*
  * Feeds the next bytes of the stream, cut anywhere: SIMPLEX_WHOLE. With any other status no byte was
@@ -546,6 +618,29 @@ uint32_t simplex_auditor_new_plain(const uint8_t *name, size_t name_len, const u
 SIMPLEX_NONNULL
 uint32_t simplex_auditor_feed(struct simplex_auditor *auditor, const uint8_t *bytes,
                               size_t bytes_len);
+
+/*
+ * Deferred verification, piece by piece: lists the attestations of the next bytes that have to be
+ * verified before they are fed. The verdicts may be any bytes, and nothing is fed. What was fed has
+ * to end with a whole message. Of the whole messages at the front of `bytes`, `*whole` bytes
+ * together, each attestation is listed whose round is at the floor or above it and whose signer is
+ * in the committee of the epoch; the audit judges no other one. The members are as in
+ * simplex_suspects, and places are offsets in `bytes`.
+ *
+ * The caller writes 01 to each `verdict_place` where it verified the signature, else 00, feeds the
+ * first `*whole` bytes, and keeps the others for the next call. It need not verify again a vote that
+ * it verified: the same kind, subject, signer and signature have the same verdict.
+ *
+ * SIMPLEX_WHOLE: the first `*needed` records are written. SIMPLEX_FAULT: they are written, and the
+ * byte at `*whole` starts no message, whatever follows; feed all of `bytes`, and the report has the
+ * fault. SIMPLEX_SHORT: `*needed` and `*whole` alone are written. SIMPLEX_ARGUMENTS also if what was
+ * fed ends within a message, or the auditor is one of the plain scheme, which verifies the
+ * signatures itself. After it and SIMPLEX_MEMORY nothing is written.
+ */
+SIMPLEX_NONNULL
+uint32_t simplex_auditor_unverified(struct simplex_auditor *auditor, const uint8_t *bytes,
+                                    size_t bytes_len, struct simplex_suspect *records,
+                                    size_t records_len, size_t *needed, size_t *whole);
 
 /*
  * The report of all that was fed, from the floor on, with the statuses of an audit. Messages and

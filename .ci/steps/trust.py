@@ -55,8 +55,8 @@ TABLES = {
         "simplex_shards/src/merge.rt": ["fn merge"],
     },
     "handle": {
-        "simplex_handle/src/calls.rt": ["fn new_vouched", "fn new_plain", "fn feed", "fn prune", "fn report", "fn votes", "fn held",
-                                        "fn news", "fn free"],
+        "simplex_handle/src/calls.rt": ["fn new_vouched", "fn new_plain", "fn feed", "fn unverified", "fn prune", "fn report",
+                                        "fn votes", "fn held", "fn news", "fn free"],
     },
 }
 # a relation that callers hand on and need not read

@@ -3,10 +3,11 @@
 The Python module calls them by `ctypes`.
 
 The stream of a vector of `audit`, `feed` or `store` is written anew with payloads of 32 bytes, and with signatures of 48, 64
-and 96 bytes and verdicts, or under the plain scheme where the vector has one committee for every epoch. Then
+and 96 bytes and verdicts, and under the plain scheme. Then
 
 - `simplex_audit_..` returns the number of messages, the lines and the fault's offset of the answer;
-- `simplex_records_..` returns the same evidence, with the offsets of the first messages that carry its votes;
+- `simplex_records_..` returns the same evidence, with the offsets of the first messages that carry its votes, and the two
+  votes at their offsets alone have its line as their report;
 - what `simplex_suspects_..` lists is verified, in a stream without verdicts, and an audit of that says the same;
 - what `simplex_store_..` writes has the same evidence; of a vector of `store` it is the stored messages of the answer;
 - where the answer is that a vector has no committees, the exports refuse them.
@@ -24,8 +25,6 @@ if not (ROOT / "bindings/out/simplex_audit.so").exists():
 c = module(ROOT / "bindings/python/simplex_audit")
 LEAST = {"audit": 1303, "feed": 2127, "store": 10, "admits": 219, "outbound": 117, "floor": 105, "leader": 318}
 STREAMS = ("audit", "feed", "store")
-# those of the streams that have one committee for every epoch, and so are audited under the plain scheme too
-LEAST_PLAIN = 3184
 SIZES = (48, 64, 96)
 VALID = b"\xaa"
 
@@ -41,10 +40,9 @@ def committees(who):
     listed = [tuple(map(int, pair.split(":"))) for pair in who.split(",")] if ":" in who else []
     epochs, sizes = [epoch for epoch, _ in listed], [size for _, size in listed] or [int(who)]
     for size in SIZES:
-        yield c.Committees._vouched(size, epochs, sizes), size, vouched(size)
-    if not listed:
-        keys = [model.key(i) for i in range(sizes[0])]
-        yield c.Committees.plain(b"test", keys), None, plainly
+        yield c.Committees(size, epochs, sizes), size, vouched(size)
+    keys = b"".join(model.key(i) for many in sizes for i in range(many))
+    yield c.Committees(None, epochs, sizes, b"test", keys), None, plainly
 
 
 def longer(line):
@@ -98,9 +96,13 @@ def audits(who, data, answer):
         told = (report.read, report.fault, [it.line for it in report.evidence] + splits, report.text.splitlines())
         if told != (len(messages), stop and stop[0], lines, lines):
             return f"simplex_audit_..: {told}"
-        found = [(str(it.epoch), str(it.view), str(it.signer), *it[3:]) for it in c.records(under, stream)]
+        records = c.records(under, stream)
+        found = [(str(it.epoch), str(it.view), str(it.signer), *it[3:6]) for it in records]
         if found != [(*line.split()[:4], *places(line, messages)) for line in evidence]:
             return f"simplex_records_..: {found}"
+        proved = [c.audit(under, it.first.message + it.second.message).text for it in records]
+        if proved != [line + "\n" for line in evidence]:
+            return f"the votes of simplex_records_..: {proved}"
         stored = c.audit(under, c.store(under, b"", stream))
         if (stored.read, stored.evidence, stored.fault) != (len(evidence), report.evidence, None):
             return f"simplex_store_..: {stored}"
@@ -161,7 +163,7 @@ def numbers(form, rest, answer):
 
 
 def main():
-    there, same, plain, left = dict.fromkeys(LEAST, 0), dict.fromkeys(LEAST, 0), 0, 0
+    there, same = dict.fromkeys(LEAST, 0), dict.fromkeys(LEAST, 0)
     for line, answer in vectors():
         form, *rest = line.split() or [""]
         if form not in LEAST:
@@ -172,9 +174,5 @@ def main():
             print(f"{line}: {wrong}")
             continue
         same[form] += 1
-        if form in STREAMS:
-            one = ":" not in rest[0]
-            plain, left = plain + one, left + (not one)
-    print(", ".join(f"{same[form]} of {there[form]} vectors of {form}" for form in LEAST), "have the same answer through C,")
-    print(f"{plain} of them under the plain scheme too; {left} have committees for epochs, for which it has no export")
-    return same != there or plain < LEAST_PLAIN or any(same[form] < LEAST[form] for form in LEAST)
+    print(", ".join(f"{same[form]} of {there[form]} vectors of {form}" for form in LEAST), "have the same answer through C")
+    return same != there or any(same[form] < LEAST[form] for form in LEAST)

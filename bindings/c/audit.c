@@ -76,8 +76,10 @@ static uint8_t *report(const char *name, const uint8_t *keys, size_t keys_len,
     *status = SIMPLEX_MEMORY;
     if (!text)
         return NULL;
-    *status = simplex_audit_plain((const uint8_t *)name, strlen(name), keys, keys_len, stream, len,
-                                  text, room, summary);
+    const uint64_t every[1] = {0}; /* no epoch: one committee for every epoch */
+    const uint32_t size[1] = {(uint32_t)(keys_len / KEY)};
+    *status = simplex_audit_plain((const uint8_t *)name, strlen(name), every, 0, size, 1, keys,
+                                  keys_len, stream, len, text, room, summary);
     if (*status == SIMPLEX_WHOLE || *status == SIMPLEX_FAULT)
         return text;
     free(text);

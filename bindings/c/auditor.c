@@ -188,6 +188,9 @@ static int each_stands(const struct text *of, const struct text *in, size_t most
 
 /* ---- the calls */
 
+/* Room for no record. */
+static struct simplex_suspect no_record[1];
+
 static const uint64_t epochs[] = {3};
 static const uint32_t sizes[] = {PARTICIPANTS};
 
@@ -328,6 +331,99 @@ static void stream(uint32_t signature)
     CHECK(blocks == 0);
 }
 
+/* What has to be verified of some bytes, and how many of them are whole messages: with a buffer that is
+ * a record too short before, and with allocations failing. Free the records. */
+static struct simplex_suspect *list(struct simplex_auditor *auditor, const uint8_t *at, size_t n,
+                                    size_t *needed, size_t *whole)
+{
+    uint8_t *bytes = copy(at, n);
+    size_t some = 99, most = 99;
+    uint32_t status = SIMPLEX_MEMORY;
+    for (long k = 1; status == SIMPLEX_MEMORY; k++) {
+        CHECK(some == 99 && most == 99);
+        allowed = k;
+        status = simplex_auditor_unverified(auditor, bytes, n, no_record, 0, &some, &most);
+        allowed = -1;
+    }
+    CHECK(status == (some ? SIMPLEX_SHORT : SIMPLEX_WHOLE) && most <= n);
+    const size_t size = some * sizeof(struct simplex_suspect);
+    struct simplex_suspect *records = __real_malloc(size ? size : 1);
+    if (!records)
+        abort();
+    memset(records, 7, size);
+    if (some) {
+        status = simplex_auditor_unverified(auditor, bytes, n, records, some - 1, needed, whole);
+        CHECK(status == SIMPLEX_SHORT);
+        for (size_t i = 0; i < size; i++)
+            CHECK(((uint8_t *)records)[i] == 7);
+    }
+    status = simplex_auditor_unverified(auditor, bytes, n, records, some, needed, whole);
+    CHECK(status == SIMPLEX_WHOLE && *needed == some && *whole == most);
+    __real_free(bytes);
+    return records;
+}
+
+/* A stream whose verdicts are wrong as it comes: those of what is listed are set right, and no other.
+ * The report is that of the stream. */
+static void deferred(uint32_t signature)
+{
+    static uint8_t room[1 << 16], wrong[1 << 16];
+    static size_t verdicts[1 << 10];
+    size_t places = 0;
+    uint8_t *end = room;
+    struct simplex_attestation found[PARTICIPANTS];
+    for (size_t i = below(60); i; i--) {
+        struct simplex_message message;
+        uint8_t *at = end;
+        end = put_message(at, signature);
+        CHECK(simplex_read_message(signature, PARTICIPANTS, at, (size_t)(end - at), found,
+                                   PARTICIPANTS, &message) == SIMPLEX_WHOLE);
+        for (size_t k = 0; k < message.attestations; k++)
+            verdicts[places++] = (size_t)(at - room) + found[k].verdict_place;
+    }
+    const size_t len = (size_t)(end - room);
+    memcpy(wrong, room, len);
+    for (size_t i = 0; i < places; i++)
+        wrong[verdicts[i]] ^= 1;
+    struct simplex_auditor auditor = {NULL};
+    uint32_t status;
+    make(&auditor, signature, room, 0);
+    size_t fed = 0, needed, whole;
+    for (size_t at = 0; at < len;) {
+        at += 1 + below(400);
+        if (at > len)
+            at = len;
+        struct simplex_suspect *records = list(&auditor, wrong + fed, at - fed, &needed, &whole);
+        for (size_t i = 0; i < needed; i++) {
+            const size_t place = fed + records[i].verdict_place;
+            const struct simplex_suspect *of = records + records[i].first;
+            CHECK(records[i].first <= i && of->first == records[i].first);
+            CHECK(of->signer == records[i].signer && of->kind == records[i].kind);
+            CHECK(records[i].signer < PARTICIPANTS && records[i].epoch == 3);
+            wrong[place] = room[place];
+        }
+        feed(&auditor, wrong + fed, whole);
+        fed += whole;
+        __real_free(records);
+    }
+    CHECK(fed == len);
+    struct text wanted = audited(signature, room, len, &status);
+    reports(&auditor, &wanted, SIMPLEX_WHOLE);
+    __real_free(wanted.at);
+    /* below the floor nothing is listed, and what starts no message is told */
+    CHECK(simplex_auditor_prune(&auditor, 4, 0) == SIMPLEX_WHOLE);
+    __real_free(list(&auditor, room, len, &needed, &whole));
+    CHECK(needed == 0 && whole == len);
+    wrong[0] = 0xff;
+    status = simplex_auditor_unverified(&auditor, wrong, 1, no_record, 0, &needed, &whole);
+    CHECK(status == SIMPLEX_FAULT && needed == 0 && whole == 0);
+    feed(&auditor, wrong, 1);
+    whole = 99;
+    status = simplex_auditor_unverified(&auditor, wrong, 0, no_record, 0, &needed, &whole);
+    CHECK(status == SIMPLEX_ARGUMENTS && whole == 99);
+    CHECK(simplex_auditor_free(&auditor) == SIMPLEX_WHOLE && blocks == 0);
+}
+
 /* Handles that own nothing, arguments that are refused, pruning, and a fault. */
 static void refusals(void)
 {
@@ -341,13 +437,23 @@ static void refusals(void)
     CHECK(simplex_auditor_held(&auditor, bytes, 0, &n) == SIMPLEX_ARGUMENTS && n == 99);
     CHECK(simplex_auditor_votes(&auditor, &n) == SIMPLEX_ARGUMENTS && n == 99);
     CHECK(simplex_auditor_prune(&auditor, 3, 1) == SIMPLEX_ARGUMENTS);
+    size_t m = 99;
+    CHECK(simplex_auditor_unverified(&auditor, bytes, 1, no_record, 1, &n, &m) == SIMPLEX_ARGUMENTS);
+    CHECK(n == 99 && m == 99);
     CHECK(simplex_auditor_free(&auditor) == SIMPLEX_ARGUMENTS);
     CHECK(simplex_auditor_new(65, epochs, 1, sizes, 1, bytes, 0, &auditor) == SIMPLEX_ARGUMENTS);
     CHECK(simplex_auditor_new(64, epochs, 0, sizes, 0, bytes, 0, &auditor) == SIMPLEX_ARGUMENTS);
-    CHECK(simplex_auditor_new_plain(bytes, 1, bytes, 31, bytes, 0, &auditor) == SIMPLEX_ARGUMENTS);
+    const uint32_t members[] = {1, 2};
+    CHECK(simplex_auditor_new_plain(bytes, 1, epochs, 0, members, 1, bytes, 31, bytes, 0, &auditor) ==
+          SIMPLEX_ARGUMENTS);
     CHECK(!auditor.state);
-    CHECK(simplex_auditor_new_plain(bytes, 1, bytes + 32, 64, bytes, 0, &auditor) == SIMPLEX_ARGUMENTS);
-    CHECK(simplex_auditor_new_plain(bytes, 1, bytes, 32, bytes, 0, &auditor) == SIMPLEX_WHOLE);
+    CHECK(simplex_auditor_new_plain(bytes, 1, epochs, 0, members + 1, 1, bytes + 32, 64, bytes, 0,
+                                    &auditor) == SIMPLEX_ARGUMENTS);
+    CHECK(simplex_auditor_new_plain(bytes, 1, epochs, 1, members, 1, bytes, 32, bytes, 0, &auditor) ==
+          SIMPLEX_WHOLE);
+    CHECK(simplex_auditor_new_plain(bytes, 1, epochs, 0, members, 1, bytes, 32, bytes, 0, &auditor) ==
+          SIMPLEX_WHOLE);
+    CHECK(simplex_auditor_unverified(&auditor, bytes, 0, no_record, 1, &n, &m) == SIMPLEX_ARGUMENTS);
     CHECK(simplex_auditor_feed(&auditor, bytes, 1) == SIMPLEX_WHOLE);
     CHECK(simplex_auditor_feed(&auditor, bytes, 1) == SIMPLEX_FAULT);
     CHECK(simplex_auditor_report(&auditor, bytes, 0, &summary) == SIMPLEX_FAULT);
@@ -376,8 +482,10 @@ int main(int argc, char **argv)
     const long streams = argc > 1 ? strtol(argv[1], NULL, 10) : 1000;
     state = argc > 2 ? strtoull(argv[2], NULL, 10) : 1;
     refusals();
-    for (long i = 0; i < streams; i++)
+    for (long i = 0; i < streams; i++) {
         stream(signatures[i % 3]);
+        deferred(signatures[i % 3]);
+    }
     printf("%d checks, %d failed\n", checks, failed);
     return failed != 0;
 }

@@ -1,8 +1,8 @@
 /*
  * Tries what the contracts of the calls say of buffers and refusals, from C: buffers that fit, that
  * are a byte too short or empty, empty slices, arguments that are no committees, verdicts, stored
- * evidence with faulty batches and faulty stored bytes, each kind of record, records that are new,
- * audits in parts, rows and ranges that are invalid, messages that are written and read again, one
+ * evidence with faulty batches and faulty stored bytes, each kind of record, the bytes of its votes,
+ * records that are new, audits in parts, rows and ranges that are invalid, messages that are written and read again, one
  * piece of evidence by itself, a committee of 65,536, calls at once in several threads, and each
  * allocation failing in turn.
  * Every buffer is a block of its own, so that AddressSanitizer and valgrind see an access outside.
@@ -31,6 +31,7 @@ static int checks, failed;
     } while (0)
 
 #define RECORD sizeof(struct simplex_suspect)
+#define ATTESTATION sizeof(struct simplex_attestation)
 #define EVIDENCE sizeof(struct simplex_record)
 #define ROW sizeof(struct simplex_row)
 #define RANGE sizeof(struct simplex_range)
@@ -107,8 +108,8 @@ struct input {
 };
 
 /* Slices of the input, as calls take them. */
-#define KEYS in->name, in->name_len, in->keys, in->keys_len
 #define SIZES in->epochs, in->epochs_len, in->sizes, in->sizes_len
+#define KEYS in->name, in->name_len, SIZES, in->keys, in->keys_len
 #define STORED in->stored, in->stored_len
 #define STREAM in->stream, in->stream_len
 
@@ -141,13 +142,21 @@ static uint32_t enlist(const struct input *in, struct simplex_record *records, s
     return simplex_records((uint32_t)in->signature, SIZES, STREAM, records, room, summary);
 }
 
+/* Why the committees are refused. */
+static uint32_t refusal(const struct input *in)
+{
+    if (!in->signature)
+        return simplex_refusal_plain(SIZES, in->keys, in->keys_len);
+    return simplex_refusal((uint32_t)in->signature, SIZES);
+}
+
 /* The number of participants of the greatest committee. */
 static uint32_t greatest(const struct input *in)
 {
     uint32_t bound = 0;
-    for (size_t i = 0; in->signature && i < in->sizes_len; i++)
+    for (size_t i = 0; i < in->sizes_len; i++)
         bound = in->sizes[i] > bound ? in->sizes[i] : bound;
-    return in->signature ? bound : (uint32_t)(in->keys_len / 32);
+    return bound;
 }
 
 /* The rows of the stream, under the bound of the greatest committee. */
@@ -183,9 +192,10 @@ static int is_untouched(const struct simplex_summary *summary)
     return !memcmp(summary, &untouched, sizeof untouched);
 }
 
-/* The arguments are refused, and nothing is written. */
-static void refuses(const struct input *in)
+/* The arguments are refused for this cause, and nothing is written. */
+static void refuses(const struct input *in, uint32_t cause)
 {
+    CHECK(refusal(in) == cause);
     struct simplex_summary summary = untouched;
     size_t size = 99;
     uint8_t *buffer = block(500, 7);
@@ -211,6 +221,7 @@ static void refuses(const struct input *in)
 static size_t audits(const struct input *in, uint32_t wanted, size_t read, size_t place)
 {
     struct simplex_summary summary = untouched, again;
+    CHECK(refusal(in) == SIMPLEX_REFUSED_NOTHING);
     uint8_t *text = block(0, 7);
     uint32_t status = audit(in, text, 0, &summary);
     size_t n = summary.length;
@@ -248,8 +259,45 @@ static const char *const kinds[] = {
     [SIMPLEX_NULLIFY_FINALIZE] = "nullify-finalize",
 };
 
-/* The evidence as records, with buffers as above: the same as the lines of the text, with places
- * inside the stream. */
+/* A vote of a record as a message, from its places in the stream: its tag, its subject, and what ends
+ * with the verdict, the signature and before it the signer's number. */
+static uint8_t *put_vote(uint8_t *at, const struct input *in, const struct simplex_vote_place *vote)
+{
+    static const uint8_t tags[] = {SIMPLEX_ROW_NOTARIZE, SIMPLEX_ROW_NULLIFY, SIMPLEX_ROW_FINALIZE};
+    size_t attested = in->signature ? (size_t)in->signature + 1 : 32;
+    for (uint32_t signer = vote->signer; signer >= 128; signer >>= 7)
+        attested++;
+    attested++;
+    *at++ = tags[vote->kind];
+    memcpy(at, in->stream + vote->subject_place, vote->subject_length);
+    at += vote->subject_length;
+    memcpy(at, in->stream + vote->verdict_place + 1 - attested, attested);
+    return at + attested;
+}
+
+/* A record: its votes stand in the messages at its places, and the two alone have this line as their
+ * report. */
+static void proves(const struct input *in, const struct simplex_record *record, const char *line)
+{
+    const struct simplex_vote_place *first = &record->first_vote, *second = &record->second_vote;
+    CHECK(record->first_place < first->subject_place && record->second_place < second->subject_place);
+    CHECK(first->subject_place + first->subject_length < first->verdict_place);
+    CHECK(second->subject_place + second->subject_length < second->verdict_place);
+    CHECK(first->verdict_place < in->stream_len && second->verdict_place < in->stream_len);
+    CHECK(first->signer == record->signer && second->signer == record->signer);
+    CHECK(first->kind < 3 && second->kind < 3);
+    uint8_t votes[500], text[500], *end = put_vote(put_vote(votes, in, first), in, second);
+    struct input both = *in;
+    struct simplex_summary summary;
+    both.stream = copy(votes, (size_t)(end - votes));
+    both.stream_len = (size_t)(end - votes);
+    CHECK(audit(&both, text, sizeof text, &summary) == SIMPLEX_WHOLE && summary.read == 2);
+    CHECK(summary.evidence == 1 && !strncmp((const char *)text, line, summary.length));
+    free((void *)both.stream);
+}
+
+/* The evidence as records, with buffers as above: the same as the lines of the text, each with the
+ * bytes of its two votes. */
 static void enlists(const struct input *in)
 {
     struct simplex_summary summary = untouched, again = untouched, of_text;
@@ -286,8 +334,8 @@ static void enlists(const struct input *in)
                               (unsigned long long)records[i].view, records[i].signer,
                               kinds[records[i].kind % 3]);
         CHECK(!strncmp(line, front, (size_t)length));
+        proves(in, &records[i], line);
         line = strchr(line, '\n') + 1;
-        CHECK(records[i].first_place < in->stream_len && records[i].second_place < in->stream_len);
     }
     free(records);
     free(text);
@@ -397,6 +445,21 @@ static void precedes(const struct input *in)
     free(stored);
 }
 
+/* The index of the first record that is the same attestation as one: the same signer signed the same
+ * bytes as a vote of the same kind, with the same signature. */
+static size_t first_same(const struct input *in, const struct simplex_suspect *records, size_t one)
+{
+    const struct simplex_suspect *own = records + one, *it = records;
+    const size_t signature = (size_t)in->signature;
+    while (it->kind != own->kind || it->signer != own->signer
+           || it->subject_length != own->subject_length
+           || memcmp(in->stream + it->subject_place, in->stream + own->subject_place, it->subject_length)
+           || memcmp(in->stream + it->verdict_place - signature,
+                     in->stream + own->verdict_place - signature, signature))
+        it++;
+    return (size_t)(it - records);
+}
+
 /* The attestations that have to be verified, with buffers as above. The report depends on no other
  * verdict: with every other verdict flipped it is the same. Returns how many they are. */
 static size_t defers(const struct input *in, const size_t *verdicts, size_t verdicts_len)
@@ -409,6 +472,8 @@ static size_t defers(const struct input *in, const size_t *verdicts, size_t verd
     struct simplex_suspect *records = (struct simplex_suspect *)block((n + spare) * RECORD, 7);
     CHECK(suspects(in, records, n + spare, &needed) == SIMPLEX_WHOLE && needed == n);
     CHECK(all((const uint8_t *)(records + n), spare * RECORD, 7));
+    for (size_t i = 0; i < n; i++)
+        CHECK(records[i].first == first_same(in, records, i));
     struct simplex_suspect *fitting = (struct simplex_suspect *)block(n * RECORD, 7);
     CHECK(suspects(in, fitting, n, &needed) == SIMPLEX_WHOLE && needed == n);
     CHECK(!memcmp(fitting, records, n * RECORD));
@@ -751,8 +816,10 @@ static void without_memory(const struct input *in)
 static void plain(const uint8_t *sample, size_t len)
 {
     uint8_t *keys = block(64, 0), *name = copy("test", 4), *none = block(0, 0);
+    const uint32_t one[] = {1}, two[] = {2}, *no_sizes = (const uint32_t *)none;
     struct input in = {.name = name, .name_len = 4, .keys = keys, .keys_len = 32, .stream = sample,
-                       .stream_len = len, .stored = none, .epochs = NULL, .sizes = NULL};
+                       .stream_len = len, .stored = none, .epochs = (const uint64_t *)none,
+                       .sizes = one, .sizes_len = 1};
     CHECK(len == 138);
     CHECK(audits(&in, SIMPLEX_WHOLE, 2, 0) == 1);
     stores(&in);
@@ -777,13 +844,94 @@ static void plain(const uint8_t *sample, size_t len)
     for (size_t n = 0; n <= 64; n++)
         if (n != 32) {
             in.keys_len = n;
-            refuses(&in); /* 64: one key twice */
+            refuses(&in, SIMPLEX_REFUSED_LENGTH);
         }
+    in.sizes = two;
+    for (size_t n = 0; n < 64; n++) {
+        in.keys_len = n;
+        refuses(&in, SIMPLEX_REFUSED_LENGTH);
+    }
     in.keys_len = 64;
+    refuses(&in, SIMPLEX_REFUSED_REPEATED);
+    in.sizes = no_sizes;
+    in.sizes_len = 0;
+    refuses(&in, SIMPLEX_REFUSED_NO_COMMITTEE);
+    in.sizes = two;
+    in.sizes_len = 1;
     keys[32] = 1;
     CHECK(audits(&in, SIMPLEX_WHOLE, 2, 0) == 1);
     keys[0] = 2; /* now the key of the sample's signer is not there */
     CHECK(audits(&in, SIMPLEX_WHOLE, 2, 0) == 0);
+    free(none);
+    free(name);
+    free(keys);
+}
+
+/* The same under a committee for each of some epochs, whose keys stand one behind the other. */
+static void plain_by_epoch(const uint8_t *sample, size_t len)
+{
+    enum { ALL = 4 * 32 };
+    uint8_t *keys = block(ALL, 9), *name = copy("test", 4), *none = block(0, 0);
+    const uint64_t epoch = sample[1], epochs[] = {epoch, epoch + 1, epoch + 2, epoch};
+    const uint32_t first[] = {3, 1}, second[] = {1, 3}, zero[] = {0, 4}, most[] = {UINT32_MAX, 1};
+    for (int i = 0; i < 4; i++)
+        keys[32 * i] = (uint8_t)i;
+    struct input in = {.name = name, .name_len = 4, .keys = keys, .keys_len = ALL, .stream = sample,
+                       .stream_len = len, .stored = none, .epochs = epochs, .epochs_len = 2,
+                       .sizes = first, .sizes_len = 2};
+    /* the sample's signer is the third of the first committee: */
+    memset(keys + 64, 0, 32);
+    CHECK(audits(&in, SIMPLEX_WHOLE, 2, 0) == 1);
+    stores(&in);
+    precedes(&in);
+    enlists(&in);
+    audits_parts(&in, SIMPLEX_WHOLE);
+    without_memory(&in);
+    /* now of the second, whose epoch is the next one */
+    in.sizes = second;
+    CHECK(audits(&in, SIMPLEX_WHOLE, 2, 0) == 0);
+    in.epochs = epochs + 1;
+    CHECK(audits(&in, SIMPLEX_WHOLE, 2, 0) == 0);
+    in.epochs = epochs;
+    /* the same key in both committees, and then twice in one */
+    memset(keys, 0, 32);
+    CHECK(audits(&in, SIMPLEX_WHOLE, 2, 0) == 1);
+    in.sizes = first;
+    refuses(&in, SIMPLEX_REFUSED_REPEATED);
+    /* each cause hides those behind it */
+    in.keys_len = ALL - 1;
+    refuses(&in, SIMPLEX_REFUSED_LENGTH);
+    in.keys_len = ALL - 32;
+    refuses(&in, SIMPLEX_REFUSED_LENGTH);
+    in.sizes = most;
+    refuses(&in, SIMPLEX_REFUSED_LENGTH);
+    in.sizes = zero;
+    refuses(&in, SIMPLEX_REFUSED_EMPTY);
+    in.epochs = epochs + 2;
+    refuses(&in, SIMPLEX_REFUSED_EPOCHS);
+    in.sizes_len = 1;
+    refuses(&in, SIMPLEX_REFUSED_COUNT);
+    in.sizes_len = 0;
+    refuses(&in, SIMPLEX_REFUSED_NO_COMMITTEE);
+    /* without memory it is not known whether a key stands twice, and nothing stays allocated */
+    in.epochs = epochs;
+    in.sizes = second;
+    in.sizes_len = 2;
+    in.keys_len = ALL;
+    for (int twice = 0; twice < 2; twice++) {
+        const uint32_t known = twice ? SIMPLEX_REFUSED_REPEATED : SIMPLEX_REFUSED_NOTHING;
+        long before = blocks, k = 0;
+        uint32_t cause;
+        do {
+            allowed = ++k;
+            cause = refusal(&in);
+            allowed = -1;
+            CHECK(blocks == before);
+            CHECK(cause == known || cause == SIMPLEX_REFUSED_UNKNOWN);
+        } while (cause == SIMPLEX_REFUSED_UNKNOWN && k < 1000);
+        CHECK(cause == known && k > 1);
+        in.sizes = first;
+    }
     free(none);
     free(name);
     free(keys);
@@ -854,10 +1002,12 @@ static size_t accused(struct input *in, const uint64_t *epochs, size_t epochs_le
 }
 
 static void refuses_sizes(struct input in, const uint64_t *epochs, size_t epochs_len,
-                          const uint32_t *sizes, size_t sizes_len)
+                          const uint32_t *sizes, size_t sizes_len, uint32_t cause)
 {
     in = under(in, epochs, epochs_len, sizes, sizes_len);
-    refuses(&in);
+    refuses(&in, cause);
+    in.signature++;
+    CHECK(refusal(&in) == SIMPLEX_REFUSED_SIGNATURE);
 }
 
 static void vouched(int signature)
@@ -882,15 +1032,15 @@ static void vouched(int signature)
     CHECK(accused(&in, epochs, 1, four, 1) == 0);
     CHECK(accused(&in, no_epochs, 0, low_high, 1) == 0);
     /* arguments that are no committees */
-    refuses_sizes(in, no_epochs, 0, four, 0);
-    refuses_sizes(in, no_epochs, 0, four, 2);
-    refuses_sizes(in, no_epochs, 0, zero + 1, 1);
-    refuses_sizes(in, epochs, 1, four, 0);
-    refuses_sizes(in, epochs, 1, four, 2);
-    refuses_sizes(in, epochs, 2, four, 1);
-    refuses_sizes(in, epochs, 2, zero, 2);
-    refuses_sizes(in, epochs, 3, four, 3);
-    refuses_sizes(in, epochs + 2, 2, four, 2);
+    refuses_sizes(in, no_epochs, 0, four, 0, SIMPLEX_REFUSED_NO_COMMITTEE);
+    refuses_sizes(in, no_epochs, 0, zero, 2, SIMPLEX_REFUSED_COUNT);
+    refuses_sizes(in, no_epochs, 0, zero + 1, 1, SIMPLEX_REFUSED_EMPTY);
+    refuses_sizes(in, epochs, 1, four, 0, SIMPLEX_REFUSED_NO_COMMITTEE);
+    refuses_sizes(in, epochs, 1, four, 2, SIMPLEX_REFUSED_COUNT);
+    refuses_sizes(in, epochs + 2, 2, zero + 1, 1, SIMPLEX_REFUSED_COUNT);
+    refuses_sizes(in, epochs, 2, zero, 2, SIMPLEX_REFUSED_EMPTY);
+    refuses_sizes(in, epochs, 3, four, 3, SIMPLEX_REFUSED_EPOCHS);
+    refuses_sizes(in, epochs + 2, 2, zero, 2, SIMPLEX_REFUSED_EPOCHS);
     /* only 01 is the verdict of a valid signature */
     for (int verdict = 0; verdict < 256; verdict++) {
         stream[n - 1] = (uint8_t)verdict;
@@ -1000,6 +1150,33 @@ static void deferred(int signature)
     free(none);
 }
 
+/* Votes of a participant who contradicts, some of them repeated: one is the same with another
+ * verdict, and none with another signature, payload, signer or kind. */
+static void deferred_repeats(size_t signature)
+{
+    static const size_t firsts[] = {0, 1, 0, 3, 1, 5};
+    static const uint32_t four[] = {4};
+    static const uint64_t epoch[] = {0};
+    const size_t vote = 38 + signature;
+    uint8_t room[1000], *end = room;
+    end = put_notarize(end, 4, 2, 6, signature, 1);
+    end = put_notarize(end, 4, 2, 7, signature, 1);
+    end = put_notarize(end, 4, 2, 6, signature, 0);
+    end = put_notarize(end, 4, 2, 6, signature, 1);
+    room[4 * vote - 2] ^= 1; /* another signature */
+    end = put_notarize(end, 4, 2, 7, signature, 1);
+    end = put_finalize(end, 4, 2, 6, signature);
+    uint8_t *stream = copy(room, (size_t)(end - room));
+    struct input in = {.stored = stream, .stream = stream, .stream_len = (size_t)(end - room),
+                       .signature = (int)signature, .epochs = epoch, .sizes = four, .sizes_len = 1};
+    struct simplex_suspect records[6];
+    size_t needed;
+    CHECK(suspects(&in, records, 6, &needed) == SIMPLEX_WHOLE && needed == 6);
+    for (size_t i = 0; i < 6; i++)
+        CHECK(records[i].first == firsts[i]);
+    free(stream);
+}
+
 /* A vote of each kind by a participant who contradicts: all three are listed, each by its kind. */
 static void deferred_kinds(size_t signature)
 {
@@ -1027,10 +1204,8 @@ static void deferred_kinds(size_t signature)
     free(stream);
 }
 
-/* Whether the only record of a stream has this kind and these places, under a committee of four for
- * every epoch. */
-static int stands_at(const uint8_t *stream, size_t len, size_t signature, uint32_t kind,
-                     size_t first, size_t second)
+/* The only record of a stream, under a committee of four for every epoch. */
+static struct simplex_record only_record(const uint8_t *stream, size_t len, size_t signature)
 {
     static const uint32_t four[] = {4};
     static const uint64_t epoch[] = {0};
@@ -1042,9 +1217,72 @@ static int stands_at(const uint8_t *stream, size_t len, size_t signature, uint32
     CHECK(enlist(&in, record, 1, &summary) == SIMPLEX_WHOLE && summary.evidence == 1);
     enlists(&in);
     free(whole);
-    return record[0].epoch == 4 && record[0].view == 10 && record[0].signer == 2 &&
-           record[0].kind == kind && record[0].first_place == first &&
-           record[0].second_place == second;
+    return record[0];
+}
+
+/* Whether the only record of a stream has this kind and these places. */
+static int stands_at(const uint8_t *stream, size_t len, size_t signature, uint32_t kind,
+                     size_t first, size_t second)
+{
+    const struct simplex_record record = only_record(stream, len, signature);
+    return record.epoch == 4 && record.view == 10 && record.signer == 2 && record.kind == kind &&
+           record.first_place == first && record.second_place == second;
+}
+
+/* Whether a vote of signer 2 stands there: its subject, of this length, and its verdict. */
+static int is_there(const struct simplex_vote_place *vote, uint32_t kind, size_t subject,
+                    size_t length, size_t verdict)
+{
+    return vote->kind == kind && vote->signer == 2 && vote->subject_place == subject &&
+           vote->subject_length == length && vote->verdict_place == verdict;
+}
+
+/* The first message that carries a vote holds other attestations, whose signatures are invalid: the
+ * vote stands at its own offsets. */
+static void held_apart(size_t signature)
+{
+    const size_t vote = 38 + signature, attested = signature + 2;
+    uint8_t room[1200], votes[400], *end = votes, *at;
+    end = put_notarize(end, 4, 2, 6, signature, 1);
+    end = put_notarize(end, 4, 2, 7, signature, 0);
+    /* evidence of the vote and an invalid one of its signer, in both orders, and then the valid one */
+    for (int is_second = 0; is_second < 2; is_second++) {
+        const uint8_t *first = votes + (is_second ? vote : 0), *second = votes + (is_second ? 0 : vote);
+        at = put_conflict(room, first, second, vote);
+        const size_t batch = (size_t)(at - room);
+        end = put_notarize(at, 4, 2, 7, signature, 1);
+        struct simplex_record record = only_record(room, (size_t)(end - room), signature);
+        size_t subject = is_second ? vote : 1;
+        CHECK(record.first_place == 0 && record.second_place == batch);
+        CHECK(is_there(&record.first_vote, SIMPLEX_NOTARIZE, subject, 35, subject + vote - 2));
+        CHECK(is_there(&record.second_vote, SIMPLEX_NOTARIZE, batch + 1, 35, batch + vote - 1));
+    }
+    /* a certificate that lists the vote between two attestations that are invalid, behind one that
+     * lists the signer with an invalid signature */
+    end = room;
+    for (int is_valid = 0; is_valid < 2; is_valid++) {
+        at = end;
+        end = put_notarize(end, 4, 0, 6, signature, 0) - attested;
+        at[0] = SIMPLEX_ROW_NOTARIZATION;
+        *end++ = is_valid ? 3 : 1;
+        if (is_valid)
+            end = put_attestation(end, 1, signature, 0);
+        end = put_attestation(end, 2, signature, (uint8_t)is_valid);
+        if (is_valid)
+            end = put_attestation(end, 3, signature, 0);
+    }
+    const size_t place = (size_t)(at - room), behind = (size_t)(end - room);
+    end = put_notarize(end, 4, 2, 7, signature, 1);
+    struct simplex_record record = only_record(room, (size_t)(end - room), signature);
+    CHECK(record.first_place == place && record.second_place == behind);
+    CHECK(is_there(&record.first_vote, SIMPLEX_NOTARIZE, place + 1, 35, place + 36 + 2 * attested));
+    CHECK(is_there(&record.second_vote, SIMPLEX_NOTARIZE, behind + 1, 35, behind + vote - 1));
+    /* a nullify has a shorter subject */
+    end = put_finalize(room, 4, 2, 6, signature);
+    end = put_nullify(end, 4, 2, signature);
+    record = only_record(room, (size_t)(end - room), signature);
+    CHECK(is_there(&record.first_vote, SIMPLEX_NULLIFY, vote + 1, 2, vote + 2 + attested));
+    CHECK(is_there(&record.second_vote, SIMPLEX_FINALIZE, 1, 35, vote - 1));
 }
 
 /* Votes on their own, in a certificate and as evidence: a place is that of the first message that
@@ -1182,7 +1420,7 @@ static void reads(uint32_t signature, const uint8_t *bytes, size_t len, uint32_t
     static const struct simplex_message old = {99, 99, 99, 99, 99, 99, 99};
     uint8_t *whole = copy(bytes, len);
     for (size_t room = 0; room <= attestations + 1; room++) {
-        struct simplex_suspect *found = (void *)block(room * RECORD, 7);
+        struct simplex_attestation *found = (void *)block(room * ATTESTATION, 7);
         struct simplex_message message = old;
         uint32_t status = simplex_read_message(signature, 4, whole, len, found, room, &message);
         CHECK(message.epoch == 4 && message.view == 10 && message.kind == kind);
@@ -1190,11 +1428,11 @@ static void reads(uint32_t signature, const uint8_t *bytes, size_t len, uint32_t
         CHECK(message.parent == (kind == 3 || kind == 9 ? 0 : 5));
         CHECK(message.second_parent == (kind < 7 ? 0 : 5));
         if (room < attestations) {
-            CHECK(status == SIMPLEX_SHORT && all((uint8_t *)found, room * RECORD, 7));
+            CHECK(status == SIMPLEX_SHORT && all((uint8_t *)found, room * ATTESTATION, 7));
         } else {
             CHECK(status == SIMPLEX_WHOLE);
             for (size_t i = 0; i < attestations; i++) {
-                const struct simplex_suspect *it = &found[i];
+                const struct simplex_attestation *it = &found[i];
                 const uint8_t *verdict = whole + it->verdict_place;
                 CHECK(it->epoch == 4 && it->view == 10);
                 CHECK(it->subject_length == (it->kind == SIMPLEX_NULLIFY ? 2 : 35));
@@ -1203,12 +1441,12 @@ static void reads(uint32_t signature, const uint8_t *bytes, size_t len, uint32_t
                     CHECK(*verdict <= 1 && all(verdict - signature, signature, 0xee));
                 CHECK(*(verdict - signature - (signature == 32 ? 0 : 1)) == it->signer);
             }
-            CHECK(all((uint8_t *)(found + attestations), (room - attestations) * RECORD, 7));
+            CHECK(all((uint8_t *)(found + attestations), (room - attestations) * ATTESTATION, 7));
         }
         free(found);
     }
     /* a byte too short, and arguments that are refused */
-    struct simplex_suspect none[1];
+    struct simplex_attestation none[1];
     struct simplex_message message;
     memcpy(&message, &old, sizeof old); /* its padding too, which is compared */
     memset(none, 7, sizeof none);
@@ -1402,15 +1640,29 @@ static void accuses_plain(const uint8_t *sample)
     size_t len = (size_t)(put_conflict(room, sample, sample + 69, 69) - room);
     struct simplex_accusation it = {99, 99, 99, 99, 99};
     const uint8_t *name = (const uint8_t *)"test";
-    CHECK(simplex_verify_evidence_plain(name, 4, keys, 32, room, len, &it) == SIMPLEX_WHOLE);
+    const uint64_t epochs[] = {sample[1], sample[1] + 1};
+    const uint32_t sizes[] = {1, 1};
+    CHECK(simplex_verify_evidence_plain(name, 4, epochs, 0, sizes, 1, keys, 32, room, len, &it) == SIMPLEX_WHOLE);
     CHECK(it.epoch == sample[1] && it.view == sample[2] && it.signer == 0 && it.proved == 1);
     CHECK(it.kind == SIMPLEX_CONFLICTING_NOTARIZE);
-    CHECK(simplex_verify_evidence_plain(name, 3, keys, 32, room, len, &it) == SIMPLEX_WHOLE);
+    CHECK(simplex_verify_evidence_plain(name, 3, epochs, 0, sizes, 1, keys, 32, room, len, &it) == SIMPLEX_WHOLE);
     CHECK(it.proved == 0);
+    /* the committee of its epoch decides, with the keys at its place */
+    keys[63] = 1;
+    CHECK(simplex_verify_evidence_plain(name, 4, epochs, 2, sizes, 2, keys, 64, room, len, &it) == SIMPLEX_WHOLE);
+    CHECK(it.proved == 1);
+    CHECK(simplex_verify_evidence_plain(name, 4, epochs + 1, 1, sizes, 1, keys, 32, room, len, &it) == SIMPLEX_WHOLE);
+    CHECK(it.proved == 0);
+    keys[31] = 1;
+    keys[63] = 0;
+    CHECK(simplex_verify_evidence_plain(name, 4, epochs, 2, sizes, 2, keys, 64, room, len, &it) == SIMPLEX_WHOLE);
+    CHECK(it.proved == 0);
+    keys[31] = 0;
     it.proved = 99;
-    CHECK(simplex_verify_evidence_plain(name, 4, keys, 64, room, len, &it) == SIMPLEX_ARGUMENTS);
-    CHECK(simplex_verify_evidence_plain(name, 4, keys, 0, room, len, &it) == SIMPLEX_ARGUMENTS);
-    CHECK(simplex_verify_evidence_plain(name, 4, keys, 32, sample, 69, &it) == SIMPLEX_FAULT);
+    CHECK(simplex_verify_evidence_plain(name, 4, epochs, 0, sizes, 1, keys, 64, room, len, &it) == SIMPLEX_ARGUMENTS);
+    CHECK(simplex_verify_evidence_plain(name, 4, epochs, 0, sizes, 1, keys, 0, room, len, &it) == SIMPLEX_ARGUMENTS);
+    CHECK(simplex_verify_evidence_plain(name, 4, epochs, 0, sizes, 2, keys, 64, room, len, &it) == SIMPLEX_ARGUMENTS);
+    CHECK(simplex_verify_evidence_plain(name, 4, epochs, 0, sizes, 1, keys, 32, sample, 69, &it) == SIMPLEX_FAULT);
     CHECK(it.proved == 99);
     /* the sample's first vote, written anew */
     struct said vote = {.signature = 32, .epoch = sample[1], .view = sample[2],
@@ -1632,6 +1884,7 @@ static void limited(const uint8_t *sample, size_t len)
                                                    sizeof text, &summary);
         CHECK(status == SIMPLEX_MEMORY && is_untouched(&summary) && all(text, sizeof text, 7));
     }
+    CHECK(simplex_refusal(64, epoch, 0, most, 1) == SIMPLEX_REFUSED_NOTHING);
     uint32_t number = 99;
     CHECK(simplex_leader_shuffled(sample, 0, UINT32_MAX, 1, 3, 10, &number) == SIMPLEX_MEMORY && number == 99);
     CHECK(simplex_leader(UINT32_MAX, 1, 3, 10, &number) == SIMPLEX_WHOLE && number == 13);
@@ -1679,6 +1932,7 @@ int main(int argc, char **argv)
     size_t len = fread(room, 1, sizeof room, stdin);
     uint8_t *sample = copy(room, len);
     plain(sample, len);
+    plain_by_epoch(sample, len);
     vouched(48);
     vouched(64);
     vouched(96);
@@ -1691,9 +1945,15 @@ int main(int argc, char **argv)
     deferred_kinds(48);
     deferred_kinds(64);
     deferred_kinds(96);
+    deferred_repeats(48);
+    deferred_repeats(64);
+    deferred_repeats(96);
     placed(48);
     placed(64);
     placed(96);
+    held_apart(48);
+    held_apart(64);
+    held_apart(96);
     renews(48);
     renews(64);
     renews(96);

@@ -138,8 +138,26 @@ static void audit(const struct bytes *stream, char *text, size_t room,
     }
 }
 
+/* Whether the signature before a verdict is valid for a signer and for the subject that stands there. */
+static int verifies_at(EVP_PKEY **keys, const struct bytes *stream, uint32_t kind, uint32_t signer,
+                       size_t subject, size_t length, size_t verdict)
+{
+    struct bytes m = {.len = 0};
+    put_name(&m, kind);
+    put(&m, stream->at + subject, length);
+    return verifies(keys[signer], &m, stream->at + verdict - 64);
+}
+
+/* Verifies a vote of evidence from where it stands in a stream: whoever is shown it can do so. */
+static void prove(EVP_PKEY **keys, const struct bytes *stream, const struct simplex_vote_place *it)
+{
+    if (!verifies_at(keys, stream, it->kind, it->signer, it->subject_place, it->subject_length,
+                     it->verdict_place))
+        abort();
+}
+
 /* Prints where the votes of the evidence stand in a stream. */
-static void print_places(const struct bytes *stream)
+static void print_places(EVP_PKEY **keys, const struct bytes *stream)
 {
     struct simplex_record records[10];
     struct simplex_summary summary;
@@ -147,17 +165,20 @@ static void print_places(const struct bytes *stream)
                                                  records, 10, &summary);
     if (status != SIMPLEX_WHOLE)
         abort();
-    for (size_t i = 0; i < summary.evidence; i++)
+    for (size_t i = 0; i < summary.evidence; i++) {
+        prove(keys, stream, &records[i].first_vote);
+        prove(keys, stream, &records[i].second_vote);
         printf("votes of participant %u at bytes %zu and %zu\n", (unsigned)records[i].signer,
                records[i].first_place, records[i].second_place);
+    }
 }
 
-/* Verifies the signatures of a stream that have to be verified, and writes the verdicts into it.
- * Returns how many there are. */
+/* Verifies the signatures of a stream that have to be verified, each vote once, and writes the
+ * verdicts into it. Returns how many were verified. */
 static size_t verify_suspects(EVP_PKEY **keys, struct bytes *stream)
 {
     struct simplex_suspect records[100];
-    size_t needed;
+    size_t needed, verified = 0;
     uint32_t status = simplex_suspects(64, epochs, 1, sizes, 1, stream->at, stream->len,
                                                   records, 100, &needed);
     if (status != SIMPLEX_WHOLE)
@@ -165,12 +186,15 @@ static size_t verify_suspects(EVP_PKEY **keys, struct bytes *stream)
     for (size_t i = 0; i < needed; i++) {
         const struct simplex_suspect *it = &records[i];
         uint8_t *verdict = stream->at + it->verdict_place;
-        struct bytes m = {.len = 0};
-        put_name(&m, it->kind);
-        put(&m, stream->at + it->subject_place, it->subject_length);
-        *verdict = verifies(keys[it->signer], &m, verdict - 64);
+        if (it->first != i) {
+            *verdict = stream->at[records[it->first].verdict_place];
+            continue;
+        }
+        *verdict = (uint8_t)verifies_at(keys, stream, it->kind, it->signer, it->subject_place,
+                                        it->subject_length, it->verdict_place);
+        verified++;
     }
-    return needed;
+    return verified;
 }
 
 int main(int argc, char **argv)
@@ -209,7 +233,7 @@ int main(int argc, char **argv)
     audit(&stream, text, sizeof text, &summary);
     printf("%zu messages, %zu equivocators\n", summary.read, summary.evidence);
     fwrite(text, 1, summary.length, stdout);
-    print_places(&stream);
+    print_places(publics, &stream);
 
     /* The same votes behind an honest round, with no verdict yet. */
     stream.len = 0;

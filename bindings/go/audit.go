@@ -11,12 +11,15 @@ import "C"
 
 import (
 	"errors"
+	"fmt"
 	"unsafe"
 )
 
-// Why an audit has no report.
+// Why an audit has no report. ErrEmpty and ErrRepeated are ErrArguments, too.
 var (
 	ErrArguments = errors.New("simplexaudit: no committee")
+	ErrEmpty     = fmt.Errorf("%w: it has no participant", ErrArguments)
+	ErrRepeated  = fmt.Errorf("%w: a key stands twice", ErrArguments)
 	ErrMemory    = errors.New("simplexaudit: out of memory")
 )
 
@@ -36,17 +39,23 @@ func Version() uint32 { return uint32(C.simplex_version()) }
 // Quorum is how many of n participants are a quorum.
 func Quorum(n uint32) uint32 { return uint32(C.simplex_quorum(C.uint32_t(n))) }
 
-// AuditPlain audits a stream under the plain scheme, whose signatures are hashes that anyone can compute. No key stands twice.
+// AuditPlain audits a stream under the plain scheme, whose signatures are hashes that anyone can compute. One committee, of
+// these keys, signs in every epoch. No key stands twice.
 func AuditPlain(namespace []byte, keys [][32]byte, stream []byte) (Report, error) {
 	joined := make([]byte, 0, 32*len(keys))
 	for _, key := range keys {
 		joined = append(joined, key[:]...)
 	}
+	sizes, epochs := [1]C.uint32_t{C.uint32_t(len(keys))}, [1]C.uint64_t{}
 	const vote = 33
-	return audit(len(stream)/vote, func(text []byte, summary *C.struct_simplex_summary) C.uint32_t {
-		return C.simplex_audit_plain(bytes(namespace), C.size_t(len(namespace)), bytes(joined), C.size_t(len(joined)),
-			bytes(stream), C.size_t(len(stream)), bytes(text), C.size_t(len(text)), summary)
+	report, err := audit(len(stream)/vote, func(text []byte, summary *C.struct_simplex_summary) C.uint32_t {
+		return C.simplex_audit_plain(bytes(namespace), C.size_t(len(namespace)), &epochs[0], 0, &sizes[0], 1, bytes(joined),
+			C.size_t(len(joined)), bytes(stream), C.size_t(len(stream)), bytes(text), C.size_t(len(text)), summary)
 	})
+	if err == ErrArguments {
+		err = refused(C.simplex_refusal_plain(&epochs[0], 0, &sizes[0], 1, bytes(joined), C.size_t(len(joined))))
+	}
+	return report, err
 }
 
 // Audit audits a stream whose signatures have 64 bytes, as those of Ed25519, and behind each the caller's verdict: 1 if it is
@@ -54,10 +63,28 @@ func AuditPlain(namespace []byte, keys [][32]byte, stream []byte) (Report, error
 func Audit(participants uint32, stream []byte) (Report, error) {
 	sizes, epochs := [1]C.uint32_t{C.uint32_t(participants)}, [1]C.uint64_t{}
 	const vote = 66
-	return audit(len(stream)/vote, func(text []byte, summary *C.struct_simplex_summary) C.uint32_t {
+	report, err := audit(len(stream)/vote, func(text []byte, summary *C.struct_simplex_summary) C.uint32_t {
 		return C.simplex_audit(64, &epochs[0], 0, &sizes[0], 1, bytes(stream), C.size_t(len(stream)), bytes(text),
 			C.size_t(len(text)), summary)
 	})
+	if err == ErrArguments {
+		err = refused(C.simplex_refusal(64, &epochs[0], 0, &sizes[0], 1))
+	}
+	return report, err
+}
+
+// The error that says why a committee is refused.
+func refused(cause C.uint32_t) error {
+	switch cause {
+	case C.SIMPLEX_REFUSED_EMPTY:
+		return ErrEmpty
+	case C.SIMPLEX_REFUSED_REPEATED:
+		return ErrRepeated
+	case C.SIMPLEX_REFUSED_UNKNOWN:
+		return ErrMemory
+	default:
+		return ErrArguments
+	}
 }
 
 // The first of some bytes, which is there even if there are none.

@@ -27,10 +27,10 @@ func TestTwoVotes(t *testing.T) {
 }
 
 func TestRefused(t *testing.T) {
-	if _, err := Audit(0, nil); !errors.Is(err, ErrArguments) {
+	if _, err := Audit(0, nil); !errors.Is(err, ErrEmpty) || !errors.Is(err, ErrArguments) {
 		t.Fatal(err)
 	}
-	if _, err := AuditPlain(nil, make([][32]byte, 2), nil); !errors.Is(err, ErrArguments) {
+	if _, err := AuditPlain(nil, make([][32]byte, 2), nil); !errors.Is(err, ErrRepeated) || !errors.Is(err, ErrArguments) {
 		t.Fatal(err)
 	}
 	if report, err := AuditPlain(nil, make([][32]byte, 1), nil); err != nil || report.Read != 0 || report.Fault != -1 {

@@ -87,6 +87,8 @@ def main():
     print(report.text, end="")
     for one in records(committees, stream.encoded()):
         print(f"votes of participant {one.signer} at bytes {one.first_place} and {one.second_place}")
+        # whoever is shown the two votes can verify them
+        assert all(verify(it.vote, it.signer, it.signature) for it in (one.first, one.second))
 
     # the same votes behind an honest round, with nothing verified yet
     verified = []

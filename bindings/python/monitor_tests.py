@@ -5,7 +5,7 @@ import random
 import unittest
 
 import simplex_monitor
-from simplex_audit import Committees, Encoder, Vote, admits, audit
+from simplex_audit import Committees, Encoder, Vote, admits, audit, read_message
 from simplex_monitor import Monitor
 from simplex_shards import index
 
@@ -47,6 +47,14 @@ def cut(chance, stream):
         size = chance.randrange(1, 500)
         yield stream[at : at + size]
         at += size
+
+
+def messages_in(committees, stream):
+    """The places of the verdicts of each message of a stream."""
+    at = 0
+    while message := read_message(committees, stream[at:]):
+        yield [at + it.signature.stop for it in message.attestations]
+        at += message.length
 
 
 class Monitors(unittest.TestCase):
@@ -137,6 +145,55 @@ class Monitors(unittest.TestCase):
         self.assertEqual(len(found), 1)
         self.assertEqual(monitor.feed(one(7)), [])
         self.assertEqual(monitor.votes(), monitor.votes())
+
+    def test_each_vote_is_verified_once(self):
+        """Votes from three nodes, each log with certificates that list them, in pieces cut anywhere."""
+        stream, verified = Encoder(64), []
+        for view, signers in itertools.product(range(1, 11), [range(PARTICIPANTS)] * 3):
+            one, signed = Vote("finalize", 3, view, view - 1, bytes(32)), [(signer, bytes([signer] * 64)) for signer in signers]
+            for signer, signature in signed:
+                stream.vote(one, signer, signature)
+            stream.certificate(one, signed)
+
+        def verify(vote, signer, signature):
+            verified.append((vote.view, signer))
+            return True
+
+        monitor = Monitor(EVERY)
+        for piece in cut(random.Random(1), stream.encoded()):
+            self.assertEqual(monitor.feed_unverified(piece, verify), [])
+        self.assertEqual(sorted(verified), [(view, signer) for view in range(1, 11) for signer in range(PARTICIPANTS)])
+        self.assertEqual((monitor.unfed, monitor.votes()), (b"", 10 * PARTICIPANTS))
+        monitor.prune(4, 0)
+        monitor.feed_unverified(stream.encoded(), verify)
+        self.assertEqual(len(verified), 10 * PARTICIPANTS)
+
+    def test_deferred_pieces(self):
+        for seed in range(150):
+            chance = random.Random(seed)
+            stream, told, monitor = messages(chance, chance.randrange(60)), [], Monitor(EVERY)
+            other = bytearray(stream)
+            for it in messages_in(EVERY, stream):
+                for place in it:
+                    other[place] ^= 1
+            for piece in cut(chance, bytes(other)):
+                told += monitor.feed_unverified(piece, valid)
+            self.assertEqual(sorted(told), sorted(audit(EVERY, stream).evidence))
+            self.assertEqual(monitor.report(), audit(EVERY, stream))
+
+    def test_deferred_pieces_begin_with_a_message(self):
+        stream = messages(random.Random(3), 10)
+        monitor = Monitor(EVERY)
+        monitor.feed(stream[:9])
+        self.assertRaises(ValueError, monitor.feed_unverified, stream[9:], valid)
+        monitor = Monitor(EVERY)
+        monitor.feed_unverified(stream[:9], valid)
+        self.assertEqual(monitor.unfed, stream[:9])
+        self.assertRaises(ValueError, monitor.feed, stream[9:])
+        monitor.feed_unverified(stream[9:], valid)
+        self.assertEqual(monitor.feed_unverified(b"\xff", valid), [])
+        self.assertRaises(ValueError, monitor.feed_unverified, b"", valid)
+        self.assertEqual(monitor.report().fault, len(stream))
 
     def test_faults(self):
         monitor = Monitor(EVERY)

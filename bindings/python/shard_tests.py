@@ -71,8 +71,9 @@ def streams():
             yield from ((who, it) for it in [*logs(size), b"".join(logs(size)[::5])])
     for size in (64, None):
         yield certificates(size, 9)
-    plain, vote = Committees.plain(b"test", [bytes(32)]), plain_vote(Vote("notarize", 3, 10, 5, bytes([6] * 32)))
-    yield from ((plain, it) for it in (vote, vote + plain_vote(Vote("nullify", 3, 10)) + vote[:-1]))
+    vote, one, other = plain_vote(Vote("notarize", 3, 10, 5, bytes([6] * 32))), bytes(32), bytes([1] * 32)
+    for plain in (Committees.plain(b"test", [one]), Committees.plain_listed(b"test", {1: [other], 3: [other, one]})):
+        yield from ((plain, it) for it in (vote, vote + plain_vote(Vote("nullify", 3, 10)) + vote[:-1]))
 
 
 def of_files(who, streams):

@@ -62,6 +62,7 @@ def contradictions():
         yield Committees.every(size, 4), votes[: len(votes) // 2], votes[len(votes) // 2 :]
     votes = [plain_vote(Vote("notarize", 3, 10, 5, payload)) for payload in (b"\6" * 32, b"\7" * 32)]
     yield Committees.plain(b"test", [bytes(32)]), *votes
+    yield Committees.plain_listed(b"test", {1: [b"\1" * 32], 3: [b"\1" * 32, bytes(32)]}), *votes
 
 
 def buffers(data):
@@ -157,11 +158,51 @@ class Tests(unittest.TestCase):
             found = records(committees, stream)
             reported = [(it.epoch, it.view, it.signer, it.kind) for it in audit(committees, stream).evidence]
             self.assertEqual([it[:4] for it in found], reported)
-            self.assertEqual([it[4:] for it in found], [(0, vote), (4 * vote, 5 * vote), (2 * vote, 3 * vote)])
+            self.assertEqual([it[4:6] for it in found], [(0, vote), (4 * vote, 5 * vote), (2 * vote, 3 * vote)])
         self.assertEqual(records(Committees.plain(b"test", [bytes(32)]), b"\xff"), [])
         self.assertRaises(ValueError, records, Committees.every(64, 0), b"")
         many = records(Committees.every(64, 4), b"".join(two_votes(view) for view in range(1, 101)))
-        self.assertEqual([it[4:] for it in many], [(204 * it, 204 * it + 102) for it in range(100)])
+        self.assertEqual([it[4:6] for it in many], [(204 * it, 204 * it + 102) for it in range(100)])
+
+    def test_records_hold_both_votes(self):
+        """The first message that carries a vote also holds another vote of the signer, or votes of others, that are invalid."""
+        for size in (48, 64, 96):
+            committees, signed = Committees.every(size, 300), b"\t" * size
+            vote, other = (Vote("notarize", 300, 10, 1 << 40, bytes([it] * 32)) for it in (6, 7))
+            nullify, finalize = Vote("nullify", 300, 10), Vote("finalize", 300, 10, 5, bytes(32))
+
+            def message(of, verdict, signer=200):
+                stream = Encoder(size)
+                stream.vote(of, signer, signed, lambda *what: verdict)
+                return stream.encoded()
+
+            def whole(of):
+                return of, 200, signed, 1, message(of, True)
+
+            pair = b"\7" + message(vote, True)[1:] + message(other, False)[1:]
+            turned = b"\7" + message(other, False)[1:] + message(vote, True)[1:]
+            for front in (pair, turned):
+                (it,) = records(committees, front + message(other, True))
+                self.assertEqual(it[:6], (300, 10, 200, "conflicting-notarize", 0, len(front)))
+                self.assertEqual((tuple(it.first), tuple(it.second)), (whole(vote), whole(other)))
+            listed = Encoder(size)
+            listed.certificate(finalize, [(it, signed) for it in (127, 200, 299)], lambda vote, signer, _: signer == 200)
+            stream = message(finalize, False) + listed.encoded() + message(nullify, True)
+            (it,) = records(committees, stream)
+            self.assertEqual(it[:4], (300, 10, 200, "nullify-finalize"))
+            self.assertEqual(it[4:6], (len(stream) - len(message(nullify, True)), len(message(finalize, False))))
+            self.assertEqual((tuple(it.first), tuple(it.second)), (whole(nullify), whole(finalize)))
+
+    def test_the_votes_of_records_prove_it(self):
+        for committees, first, second in contradictions():
+            stream = first + second
+            (it,), (line,) = records(committees, stream), audit(committees, stream).text.splitlines()
+            self.assertEqual(audit(committees, it.first.message + it.second.message).text.splitlines(), [line])
+            self.assertEqual({it.first.message, it.second.message}, {first, second})
+            for one in (it.first, it.second):
+                read = read_message(committees, one.message).attestations[0]
+                self.assertEqual((one.vote, one.signer, one.signature), (read.vote, read.signer, one.message[read.signature]))
+                self.assertEqual(one.verdict, None if committees._size is None else 1)
 
     def test_many_suspects(self):
         stream = b"".join(two_votes(view, verify=None) for view in range(1, 101))
@@ -267,7 +308,9 @@ class Tests(unittest.TestCase):
                     if size:
                         self.assertEqual(len(committees._suspects(stream)), 3 * n)
                 made = ["audit", "records", "store", "store"] + ["suspects"] * bool(size)
-                self.assertEqual(calls, [f"simplex_{it}{committees._suffix}" for it in made])
+                # those of one vote of a record are besides
+                of_stream = [it for it in calls if it not in ("simplex_read_message", "simplex_write_vote")]
+                self.assertEqual(of_stream, [f"simplex_{it}{committees._suffix}" for it in made])
                 # with many signers no more is reserved than twice what is needed
                 text, messages = committees._most_text(len(stream)), committees._most_messages(len(stream))
                 self.assertTrue(n < 100 or (text < 2 * len(report.text) and messages < 2 * len(stored)))
@@ -356,7 +399,7 @@ class Tests(unittest.TestCase):
             self.assertEqual(new_records(committees, stored, batch(first, finalize)), [])
             # one vote of the new evidence was stored, the other is in the batch
             (new,) = new_records(committees, stored, batch(behind))
-            self.assertEqual((new.kind, sorted(it < len(stored) for it in new[4:])), (kind, [False, True]))
+            self.assertEqual((new.kind, sorted(it < len(stored) for it in new[4:6])), (kind, [False, True]))
         self.assertEqual(len(new_records(committees, stored, two_votes(11) + two_votes(12, signer=1))), 2)
 
     def test_evidence_by_itself(self):
@@ -387,15 +430,42 @@ class Tests(unittest.TestCase):
         self.assertRaises(ValueError, Vote("nullify", 1 << 64, 0).message)
         self.assertRaises(ValueError, Vote("nullify", 0, -1).signed_bytes, b"")
 
+    def test_keys_by_epoch(self):
+        votes = b"".join(plain_vote(Vote("notarize", 3, 10, 5, payload)) for payload in (b"\6" * 32, b"\7" * 32))
+        signer, other = [b"\1" * 32, bytes(32)], [b"\1" * 32]
+        for keys, accused in (({3: signer, 4: other}, [(3, 0)]), ({3: other, 4: signer}, []), ({4: signer}, [])):
+            report = audit(Committees.plain_listed(b"test", keys), votes)
+            self.assertEqual([(it.epoch, it.signer) for it in report.evidence], accused)
+
+    def test_committees_that_are_none(self):
+        twice = [b"\1" * 32] * 2
+        for made, cause in (
+            (lambda: Committees.every(65, 4), "signature"),
+            (lambda: Committees.listed(64, {}), "no-committee"),
+            (lambda: Committees.plain_listed(b"test", {}), "no-committee"),
+            (lambda: Committees(64, [], [4, 4]), "count"),
+            (lambda: Committees(64, [1], [4, 4]), "count"),
+            (lambda: Committees(None, [1, 2], [1], b"test", bytes(32)), "count"),
+            (lambda: Committees(64, [1, 1], [4, 0]), "epochs"),
+            (lambda: Committees(None, [2, 1], [1, 0], b"test", bytes(31)), "epochs"),
+            (lambda: Committees.every(64, 0), "empty"),
+            (lambda: Committees.listed(64, {1: 4, 2: 0}), "empty"),
+            (lambda: Committees.plain(b"test", []), "empty"),
+            (lambda: Committees.plain_listed(b"test", {1: twice, 2: []}), "empty"),
+            (lambda: Committees(None, [1, 2], [2, 1], b"test", bytes(64)), "length"),
+            (lambda: Committees(None, [], [1], b"test", bytes(33)), "length"),
+            (lambda: Committees.plain(b"test", twice), "repeated"),
+            (lambda: Committees.plain_listed(b"test", {1: [bytes(32)], 2: twice}), "repeated"),
+        ):
+            for call in (lambda: audit(made(), b""), lambda: verify_evidence(made(), b""), lambda: store(made(), b"", b"")):
+                with self.assertRaises(simplex_audit.CommitteesError) as refused:
+                    call()
+                self.assertEqual(refused.exception.cause, cause)
+                self.assertNotEqual(str(refused.exception), cause)
+
     def test_refusals(self):
         for refused in (
-            lambda: audit(Committees.every(64, 0), b""),
-            lambda: Committees.every(65, 4),
             lambda: Committees.every(64, 1 << 32),
-            lambda: Committees.listed(64, {}),
-            lambda: audit(Committees.listed(64, {1: 4, 2: 0}), b""),
-            lambda: audit(Committees.plain(b"test", []), b""),
-            lambda: audit(Committees.plain(b"test", [bytes(32)] * 2), b""),
             lambda: Committees.plain(b"test", [bytes(31)]),
             lambda: Encoder(64).vote(Vote("nullify", 3, 10), 0, bytes(63), valid),
             lambda: Encoder(64).vote(Vote("nullify", 3, 10), 1 << 32, bytes(64), valid),

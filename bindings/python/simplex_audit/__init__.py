@@ -8,8 +8,8 @@ participants who signed two contradictory votes. The caller verifies signatures 
 >>> [(one.view, one.signer, one.kind) for one in report.evidence], report.fault
 ([(10, 2, 'conflicting-notarize')], None)
 
-The first call loads the shared library; `load` says from where. A call raises `ValueError` if its arguments are no valid
-committees or numbers, and `MemoryError` if an allocation failed.
+The first call loads the shared library; `load` says from where. A call raises `CommitteesError`, which says why, if there are
+no such committees, another `ValueError` if its numbers are invalid, and `MemoryError` if an allocation failed.
 
 Streams, batches and stored evidence are bytes-like objects: `bytes`, `bytearray`, `memoryview`, `mmap.mmap`, `array.array`.
 They are read where they are, not copied. During a call they cannot be resized or closed, and no other thread may write them. A
@@ -35,9 +35,10 @@ if TYPE_CHECKING:
     Verify = Callable[["Vote", int, bytes], object]
     Listed = Iterable[tuple[int, ReadableBuffer]]
 
-__all__ = ["Accusation", "Attestation", "Committees", "Encoder", "Evidence", "Message", "Record", "Report", "Split", "Vote",
-           "admits", "admits_outbound", "audit", "audit_deferred", "issuance_floor", "leader", "load", "max_faults",
-           "new_records", "quorum", "read_message", "records", "store", "verify_evidence", "version"]
+__all__ = ["Accusation", "Attestation", "Committees", "CommitteesError", "Encoder", "Evidence", "Message", "Record",
+           "Report", "SignedVote", "Split", "Vote", "admits", "admits_outbound", "audit", "audit_deferred",
+           "issuance_floor", "leader", "load", "max_faults", "new_records", "quorum", "read_message", "records",
+           "store", "verify_evidence", "version"]
 
 # the version of the library's calls, and the shared library's name as it is installed
 _CALLS = 2
@@ -117,9 +118,19 @@ class _AttestationPlace(ctypes.Structure):
                 ("kind", ctypes.c_uint32)]
 
 
+class _VotePlace(ctypes.Structure):
+    _fields_ = [("subject_place", ctypes.c_size_t), ("subject_length", ctypes.c_size_t), ("verdict_place", ctypes.c_size_t),
+                ("signer", ctypes.c_uint32), ("kind", ctypes.c_uint32)]
+
+
+class _Suspect(ctypes.Structure):
+    _fields_ = [*_AttestationPlace._fields_, ("first", ctypes.c_size_t)]
+
+
 class _Record(ctypes.Structure):
     _fields_ = [("epoch", ctypes.c_uint64), ("view", ctypes.c_uint64), ("first_place", ctypes.c_size_t),
-                ("second_place", ctypes.c_size_t), ("signer", ctypes.c_uint32), ("kind", ctypes.c_uint32)]
+                ("second_place", ctypes.c_size_t), ("first_vote", _VotePlace), ("second_vote", _VotePlace),
+                ("signer", ctypes.c_uint32), ("kind", ctypes.c_uint32)]
 
 
 class _Message(ctypes.Structure):
@@ -151,16 +162,20 @@ def _declare() -> None:
         "write_certificate": [u32, u32, u64, u64, u64, *data, out(u32), size, *data, *buffer, out(size)],
         "read_message": [u32, u32, *data, out(_AttestationPlace), size, out(_Message)],
         "verify_evidence": [u32, *numbers, *data, out(_Accusation)],
-        "verify_evidence_plain": [*data, *data, *data, out(_Accusation)],
-        "audit_plain": [*data, *data, *data, *buffer, out(_Summary)],
-        "store_plain": [*data, *data, *data, *data, *buffer, out(size)],
-        "records_plain": [*data, *data, *data, out(_Record), size, out(_Summary)],
+        "refusal": [u32, *numbers], "refusal_plain": [*numbers, *data],
+    }
+    plain = [*data, *numbers, *data]
+    calls |= {
+        "verify_evidence_plain": [*plain, *data, out(_Accusation)],
+        "audit_plain": [*plain, *data, *buffer, out(_Summary)],
+        "store_plain": [*plain, *data, *data, *buffer, out(size)],
+        "records_plain": [*plain, *data, out(_Record), size, out(_Summary)],
     }
     numbers = [u32, *numbers]
     calls |= {
         "audit": [*numbers, *data, *buffer, out(_Summary)],
         "records": [*numbers, *data, out(_Record), size, out(_Summary)],
-        "suspects": [*numbers, *data, out(_AttestationPlace), size, out(size)],
+        "suspects": [*numbers, *data, out(_Suspect), size, out(size)],
         "store": [*numbers, *data, *data, *buffer, out(size)],
     }
     _library.declare(calls)
@@ -226,9 +241,11 @@ def _numbers(of: Any, bits: int, numbers: Iterable[int]) -> tuple[Any, int]:
     return (of * max(1, len(numbers)))(*numbers), len(numbers)
 
 
-def _refused(status: int, refusal: str) -> None:
+def _refused(status: int, refusal: str, committees: Committees | None = None) -> None:
+    """Raises what a status means. If the arguments are refused because of the committees, it says why."""
     if status == _ARGUMENTS:
-        raise ValueError(refusal)
+        why = committees._refusal() if committees else None
+        raise why or ValueError(refusal)
     if status == _MEMORY:
         raise MemoryError
 
@@ -240,7 +257,8 @@ def _filled(
     most: int,
     written: Any,
     needed: Callable[[Any], int],
-    refusal: str = "no committees",
+    refusal: str = "no such arguments",
+    committees: Committees | None = None,
 ) -> Any:
     """The items that a function of the library writes into a buffer, at most so many. It is called again only if so many could
     not be reserved."""
@@ -251,54 +269,107 @@ def _filled(
             break
         room = needed(written)
         buffer = _mapped(of, room)
-    _refused(status, refusal)
+    _refused(status, refusal, committees)
     return (of * needed(written)).from_buffer(buffer)
 
 
-class Committees:
-    """Which committee judges the messages of an epoch."""
+# Why committees are refused, by the number of the cause, from 1 on.
+_CAUSES = {
+    "signature": "a signature has 48, 64 or 96 bytes",
+    "no-committee": "there is no committee",
+    "count": "there are not as many sizes as epochs",
+    "epochs": "the epochs do not rise strictly",
+    "empty": "a committee has no participant",
+    "length": "the keys have not 32 bytes for each participant",
+    "repeated": "a key stands twice in a committee",
+}
+_UNKNOWN = 8
 
-    def __init__(self, suffix: str, arguments: list[Any], size: int | None = None) -> None:
-        self._suffix, self._arguments, self._size = suffix, arguments, size
-        self._given = arguments if size is None else [size, *arguments]
+
+class CommitteesError(ValueError):
+    """There are no such committees. `cause` says why: the first of `signature`, `no-committee`, `count`, `epochs`, `empty`,
+    `length` and `repeated` that holds."""
+
+    def __init__(self, cause: str) -> None:
+        super().__init__(cause)
+        self.cause = cause
+
+    def __str__(self) -> str:
+        return _CAUSES[self.cause]
+
+
+class Committees:
+    """Which committee judges the messages of an epoch. A call raises `CommitteesError` if there are no such committees."""
+
+    def __init__(
+        self,
+        size: int | None,
+        epochs: Sequence[int],
+        sizes: Sequence[int],
+        name: bytes = b"",
+        keys: bytes = b"",
+    ) -> None:
+        if size not in (None, 48, 64, 96):
+            raise CommitteesError("signature")
+        self._made, self._size = (size, epochs, sizes, name, keys), size
+        numbers = [*_numbers(ctypes.c_uint64, 64, epochs), *_numbers(ctypes.c_uint32, 32, sizes)]
+        # what each call is given, and that which says why it is refused
+        self._given, self._judged = [size, *numbers], [size, *numbers]
+        if size is None:
+            self._judged = [*numbers, keys, len(keys)]
+            self._given = [name, len(name), *self._judged]
+        self._suffix, self._greatest = "_plain" if size is None else "", max(sizes, default=0)
         # the bytes of a signature, with its verdict if there is one
         self._signature = 32 if size is None else size + 1
 
     @staticmethod
     def every(size: int, participants: int) -> Committees:
         """One committee for every epoch, whose signatures have `size` bytes, 48, 64 or 96, and are verified by the caller."""
-        return Committees._vouched(size, [], [participants])
+        return Committees(size, [], [participants])
 
     @staticmethod
     def listed(size: int, participants: Mapping[int, int]) -> Committees:
         """The committee of each epoch of a mapping from epochs to numbers of participants."""
         epochs = sorted(participants)
-        if not epochs:
-            raise ValueError("no epoch")
-        return Committees._vouched(size, epochs, [participants[epoch] for epoch in epochs])
+        return Committees(size, epochs, [participants[epoch] for epoch in epochs])
 
     @staticmethod
     def plain(namespace: ReadableBuffer, keys: Iterable[ReadableBuffer]) -> Committees:
         """One committee for every epoch, under the plain scheme, by its keys of 32 bytes in any order. A participant's number
         is the place of its key in ascending order."""
-        name, listed = bytes(namespace), [bytes(key) for key in keys]
-        if not all(len(key) == 32 for key in listed):
-            raise ValueError("a key has 32 bytes")
-        joined = b"".join(listed)
-        return Committees("_plain", [name, len(name), joined, len(joined)])
-
-    def __reduce__(self) -> tuple[Callable[..., Committees], tuple[Any, ...]]:
-        first, count, second, length = self._arguments
-        if self._size is None:
-            return Committees.plain, (first, [second[at : at + 32] for at in range(0, length, 32)])
-        return Committees._vouched, (self._size, first[:count], second[:length])
+        return Committees._keyed(namespace, [], [keys])
 
     @staticmethod
-    def _vouched(size: int, epochs: Sequence[int], sizes: Sequence[int]) -> Committees:
-        if size not in (48, 64, 96):
-            raise ValueError("a signature has 48, 64 or 96 bytes")
-        arguments = [*_numbers(ctypes.c_uint64, 64, epochs), *_numbers(ctypes.c_uint32, 32, sizes)]
-        return Committees("", arguments, size)
+    def plain_listed(namespace: ReadableBuffer, keys: Mapping[int, Iterable[ReadableBuffer]]) -> Committees:
+        """The committee of each epoch of a mapping from epochs to keys, which are as for `plain`. A key may be in several.
+
+        >>> committees = Committees.plain_listed(b"test", {3: [bytes(32)], 4: [bytes(32), bytes(32)]})
+        >>> try:
+        ...     audit(committees, b"")
+        ... except CommitteesError as error:
+        ...     print(error.cause, "-", error)
+        repeated - a key stands twice in a committee
+        """
+        epochs = sorted(keys)
+        return Committees._keyed(namespace, epochs, [keys[epoch] for epoch in epochs])
+
+    @staticmethod
+    def _keyed(namespace: ReadableBuffer, epochs: Sequence[int], keys: Iterable[Iterable[ReadableBuffer]]) -> Committees:
+        listed = [[bytes(key) for key in each] for each in keys]
+        if not all(len(key) == 32 for each in listed for key in each):
+            raise ValueError("a key has 32 bytes")
+        joined = b"".join(key for each in listed for key in each)
+        return Committees(None, epochs, [len(each) for each in listed], bytes(namespace), joined)
+
+    def __reduce__(self) -> tuple[type[Committees], tuple[Any, ...]]:
+        return Committees, self._made
+
+    def _refusal(self) -> Exception | None:
+        """Why there are no such committees, if there are none."""
+        cause = getattr(_library, f"simplex_refusal{self._suffix}")(*self._judged)
+        if cause == _UNKNOWN:
+            return MemoryError()
+        return CommitteesError(list(_CAUSES)[cause - 1]) if cause else None
 
     def _most_votes(self, length: int) -> int:
         """How many votes a stream of this length has at most, each as often as a message carries it: a vote takes at least a
@@ -332,7 +403,8 @@ class Committees:
         function = getattr(_library, f"simplex_{call}{self._suffix}")
         with contextlib.ExitStack() as stack:
             slices = [part for data in given for part in stack.enter_context(_borrowed(data))]
-            return _filled(function, [*self._given, *slices], of, most(sum(slices[1::2])), written, needed)
+            arguments = [*self._given, *slices]
+            return _filled(function, arguments, of, most(sum(slices[1::2])), written, needed, committees=self)
 
     def _store(self, stored: ReadableBuffer, batch: ReadableBuffer) -> bytes:
         """The evidence of what was stored and of a batch behind it, as messages."""
@@ -342,7 +414,7 @@ class Committees:
 
     def _suspects(self, stream: ReadableBuffer) -> Any:
         """The attestations of a stream that have to be verified."""
-        return self._fill("suspects", [stream], _AttestationPlace, self._most_votes, ctypes.c_size_t(), lambda it: it.value)
+        return self._fill("suspects", [stream], _Suspect, self._most_votes, ctypes.c_size_t(), lambda it: it.value)
 
 
 class Evidence(NamedTuple):
@@ -388,8 +460,21 @@ def _report(text: str, summary: _Summary) -> Report:
     return Report(summary.read, evidence, splits, summary.fault_place if summary.faulted else None, text)
 
 
+class SignedVote(NamedTuple):
+    """A vote with its signature, whole: the vote, the number of its signer, the signature, the verdict behind it, 1, or `None`
+    under the plain scheme, and the vote as a message with all of these, to be handed on. Behind each other both votes of an
+    evidence are a stream whose report is this evidence."""
+
+    vote: Vote
+    signer: int
+    signature: bytes
+    verdict: int | None
+    message: bytes
+
+
 class Record(NamedTuple):
-    """An evidence, and the offsets of the first messages that carry its first and its second vote."""
+    """An evidence, the offsets of the first messages that carry its first and its second vote, and both votes. Such a message
+    may hold other votes, and invalid ones."""
 
     epoch: int
     view: int
@@ -397,28 +482,51 @@ class Record(NamedTuple):
     kind: str
     first_place: int
     second_place: int
+    first: SignedVote
+    second: SignedVote
 
 
 def records(committees: Committees, stream: ReadableBuffer) -> list[Record]:
-    """The evidence of the stream's report as records, in the same order, with the places of its votes in the stream. The place
-    of a vote is the offset of the first message that carries it: the vote on its own, a certificate that lists it, or evidence
-    with it. Of a nullify and a finalize the nullify is the first.
+    """The evidence of the stream's report as records, in the same order, with both votes and their places in the stream. The
+    place of a vote is the offset of the first message that carries it: the vote on its own, a certificate that lists it, or
+    evidence with it. Of a nullify and a finalize the nullify is the first.
 
     >>> stream, valid = Encoder(64), lambda vote, signer, signature: True
     >>> for signer, payload in ((1, 6), (2, 6), (2, 7)):
-    ...     stream.vote(Vote("notarize", 3, 10, 5, bytes([payload] * 32)), signer, bytes(64), valid)
-    >>> records(Committees.every(64, 4), stream.encoded())
-    [Record(epoch=3, view=10, signer=2, kind='conflicting-notarize', first_place=102, second_place=204)]
+    ...     stream.vote(Vote("notarize", 3, 10, 5, bytes([payload] * 32)), signer, bytes([payload] * 64), valid)
+    >>> committees = Committees.every(64, 4)
+    >>> it, = records(committees, stream.encoded())
+    >>> it[:6]
+    (3, 10, 2, 'conflicting-notarize', 102, 204)
+    >>> it.second.vote.parent, it.second.vote.payload[0], it.second.signer, it.second.signature[0], it.second.verdict
+    (5, 7, 2, 7, 1)
+    >>> audit(committees, it.first.message + it.second.message).text == audit(committees, stream.encoded()).text
+    True
     """
-    found = committees._fill("records", [stream], _Record, committees._most_evidence, _Summary(), lambda it: it.evidence)
-    return [Record(it.epoch, it.view, it.signer, _KINDS_OF_EVIDENCE[it.kind], it.first_place, it.second_place) for it in found]
+    with _borrowed(stream), memoryview(stream) as view, view.cast("B") as data:
+        found = committees._fill("records", [stream], _Record, committees._most_evidence, _Summary(), lambda it: it.evidence)
+        return [
+            Record(it.epoch, it.view, it.signer, _KINDS_OF_EVIDENCE[it.kind], it.first_place, it.second_place,
+                   _signed_vote(committees, data, it.first_vote), _signed_vote(committees, data, it.second_vote))
+            for it in found
+        ]
+
+
+def _signed_vote(committees: Committees, data: memoryview, place: _VotePlace) -> SignedVote:
+    """The vote that stands there."""
+    subject = bytes(data[place.subject_place : place.subject_place + place.subject_length])
+    end, (size, _) = place.verdict_place + 1, _reading(committees)
+    attested = bytes(data[end - committees._signature : end])
+    vote = _vote(_KINDS[place.kind], subject, size)
+    message = _vote_message(size, vote, place.signer, attested)
+    return SignedVote(vote, place.signer, attested[:size], next(iter(attested[size:]), None), message)
 
 
 def audit_deferred(committees: Committees, stream: ReadableBuffer, verify: Verify) -> Report:
     """The report of a stream whose signatures are not verified yet; its verdicts may be any bytes. Only the votes of suspects
-    and the certificates of their rounds are verified. A suspect is a signer of the committee, in a round where two votes that
-    claim to be that signer's contradict; an honest stream has none. The report is that of `audit` with every signature
-    verified. `verify` is as for an `Encoder`. The stream is copied, for the verdicts.
+    and the certificates of their rounds are verified, each vote once. A suspect is a signer of the committee, in a round where
+    two votes that claim to be that signer's contradict; an honest stream has none. The report is that of `audit` with every
+    signature verified. `verify` is as for an `Encoder`. The stream is copied, for the verdicts.
 
     >>> stream = Encoder(64)
     >>> for view, signer, payload in ((9, 0, 6), (9, 1, 6), (10, 2, 6), (10, 2, 7)):
@@ -433,16 +541,28 @@ def audit_deferred(committees: Committees, stream: ReadableBuffer, verify: Verif
     if committees._size is None:
         return audit(committees, stream)  # the plain scheme verifies its signatures itself
     suspects, verified, size = committees._suspects(stream), bytearray(stream), committees._size
-    for it in suspects:
-        subject = verified[it.subject_place : it.subject_place + it.subject_length]
-        signature = bytes(verified[it.verdict_place - size : it.verdict_place])
-        verified[it.verdict_place] = bool(verify(_vote(_KINDS[it.kind], bytes(subject), size), it.signer, signature))
+
+    def verdict(it: Any, subject: bytes, signature: bytes) -> bool:
+        return bool(verify(_vote(_KINDS[it.kind], subject, size), it.signer, signature))
+
+    _write_verdicts(suspects, verified, size, verdict)
     return audit(committees, verified)
+
+
+def _write_verdicts(listed: Any, data: bytearray, size: int, verdict: Callable[[Any, bytes, bytes], bool]) -> None:
+    """Writes the verdicts of listed attestations: `verdict` is given each with its subject and its signature, those that are the
+    same once."""
+    for index, it in enumerate(listed):
+        if it.first == index:
+            subject = bytes(data[it.subject_place : it.subject_place + it.subject_length])
+            data[it.verdict_place] = verdict(it, subject, bytes(data[it.verdict_place - size : it.verdict_place]))
+        else:
+            data[it.verdict_place] = data[listed[it.first].verdict_place]
 
 
 def _vote(kind: str, subject: bytes, size: int) -> Vote:
     """The vote of this kind with this subject: the message of which it is, signer and signature being zeros, is read."""
-    message, head, place = bytes([Encoder._VOTES[kind]]) + subject + bytes(1 + size + 1), _Message(), _AttestationPlace()
+    message, head, place = bytes([Encoder._VOTES[kind]]) + subject + bytes(2 + size), _Message(), _AttestationPlace()
     _library.simplex_read_message(size, 1, message, len(message), ctypes.byref(place), 1, ctypes.byref(head))
     proposal = () if kind == "nullify" else (head.parent, subject[-32:])
     return Vote(kind, head.epoch, head.view, *proposal)
@@ -533,7 +653,7 @@ def verify_evidence(committees: Committees, message: ReadableBuffer) -> Accusati
     function = getattr(_library, f"simplex_verify_evidence{committees._suffix}")
     with _borrowed(message) as (address, length):
         status = function(*committees._given, address, length, ctypes.byref(it))
-    _refused(status, "no committees")
+    _refused(status, "no such arguments", committees)
     if status == _FAULT:
         return None
     return Accusation(it.epoch, it.view, it.signer, _KINDS_OF_EVIDENCE[it.kind], bool(it.proved))
@@ -564,10 +684,7 @@ _FIRST_EVIDENCE = 7
 
 def _reading(committees: Committees) -> tuple[int, int]:
     """The bytes of a signature, and the number of participants of the greatest committee."""
-    _, _, sizes, count = committees._arguments
-    if committees._size is None:
-        return 32, count // 32
-    return committees._size, max(sizes[:count], default=0)
+    return committees._size or 32, committees._greatest
 
 
 def read_message(committees: Committees, data: ReadableBuffer) -> Message | None:
@@ -586,7 +703,8 @@ def read_message(committees: Committees, data: ReadableBuffer) -> Message | None
     (signature, bound), head, call = _reading(committees), _Message(), _library.simplex_read_message
     with _borrowed(data) as (at, length), memoryview(data) as view, view.cast("B") as bytes_of:
         most, count = length // (1 + committees._signature), lambda it: it.attestations
-        places = _filled(call, [signature, bound, at, length], _AttestationPlace, most, head, count)
+        arguments = [signature, bound, at, length]
+        places = _filled(call, arguments, _AttestationPlace, most, head, count, committees=committees)
         if head.length == 0:
             return None
         attestations = []
@@ -642,6 +760,12 @@ def _written(call: str, arguments: list[Any], most: int, refusal: str = "no such
     return buffer.raw[: size.value]
 
 
+def _vote_message(size: int, vote: Vote, signer: int, attested: bytes) -> bytes:
+    """A vote as a message, with its signature and what is behind that."""
+    arguments = [size, *vote._said(), signer, attested, len(attested)]
+    return _written("write_vote", arguments, _HEAD + _SIGNER + len(attested))
+
+
 class Encoder:
     """Writes messages as a stream. Each signature is verified, and the verdict is written behind it. `verify(vote, signer,
     signature)` returns whether the signature on the vote is valid under this signer's key in the committee of the vote's epoch.
@@ -654,9 +778,8 @@ class Encoder:
 
     def vote(self, vote: Vote, signer: int, signature: ReadableBuffer, verify: Verify | None = None) -> None:
         """Appends a vote."""
-        said, attested = vote._said(), self._attested(vote, signer, signature, verify)
-        arguments = [self._size, *said, _checked(signer, 32, "a signer"), attested, len(attested)]
-        self._bytes += _written("write_vote", arguments, _HEAD + _SIGNER + len(attested))
+        attested = self._attested(vote, signer, signature, verify)
+        self._bytes += _vote_message(self._size, vote, _checked(signer, 32, "a signer"), attested)
 
     def certificate(self, vote: Vote, listed: Listed, verify: Verify | None = None) -> None:
         """Appends a certificate that lists these pairs of a signer and a signature, signers ascending."""

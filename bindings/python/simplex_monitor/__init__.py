@@ -20,11 +20,13 @@ from __future__ import annotations
 import ctypes
 from typing import TYPE_CHECKING, Any, Callable
 
-from simplex_audit import (Committees, Evidence, Report, Split, _borrowed, _checked, _evidence, _library, _MEMORY, _refused,
-                           _report, _SHORT, _split, _Summary, _WHOLE)
+from simplex_audit import (Committees, Evidence, Report, Split, _borrowed, _checked, _evidence, _FAULT, _KINDS, _library,
+                           _MEMORY, _refused, _report, _SHORT, _split, _Summary, _Suspect, _vote, _WHOLE, _write_verdicts)
 
 if TYPE_CHECKING:
     from _typeshed import ReadableBuffer
+
+    from simplex_audit import Verify
 
 __all__ = ["Monitor"]
 
@@ -39,8 +41,9 @@ def _declare() -> None:
     data, auditor, buffer = [ctypes.c_void_p, size], out(_Auditor), [out(ctypes.c_char), size]
     calls: dict[str, list[Any]] = {
         "new": [u32, out(u64), size, out(u32), size, *data, auditor],
-        "new_plain": [*data, *data, *data, auditor],
+        "new_plain": [*data, out(u64), size, out(u32), size, *data, *data, auditor],
         "feed": [auditor, *data],
+        "unverified": [auditor, *data, out(_Suspect), size, out(size), out(size)],
         "report": [auditor, *buffer, out(_Summary)],
         "news": [auditor, *buffer, out(size)],
         "prune": [auditor, u64, u64],
@@ -60,10 +63,13 @@ class Monitor:
 
     def __init__(self, committees: Committees, held: ReadableBuffer = b"") -> None:
         self._auditor, self._splits = _Auditor(), list[Split]()
-        size = [] if committees._size is None else [committees._size]
-        call = _library.simplex_auditor_new if size else _library.simplex_auditor_new_plain
+        self._committees, self._unfed = committees, b""
+        # valid votes that need not be verified again, by epoch, view and signer, at most as many as an auditor records
+        self._verified: dict[tuple[int, int, int], set[tuple[int, bytes, bytes]]] = {}
+        call = getattr(_library, f"simplex_auditor_new{committees._suffix}")
         with _borrowed(held) as part:
-            _refused(call(*size, *committees._arguments, *part, ctypes.byref(self._auditor)), "no committees")
+            status = call(*committees._given, *part, ctypes.byref(self._auditor))
+        _refused(status, "no such arguments", committees)
         # of a stream with a fault nothing more is read; a last message that is cut off is none
         self._push(b"", "what was held is damaged")
 
@@ -77,8 +83,69 @@ class Monitor:
     def feed(self, data: ReadableBuffer) -> list[Evidence]:
         """Feeds the next bytes of the stream, and returns the evidence that they complete, each once however the stream is cut.
         `ValueError` if the stream has a fault before these bytes. After an error nothing that was fed is lost."""
+        if self._unfed:
+            raise ValueError("a message that is not whole yet waits")
         self._push(data, "the stream has a fault before these bytes, or the monitor is closed")
         return self.news()
+
+    def feed_unverified(self, data: ReadableBuffer, verify: Verify) -> list[Evidence]:
+        """Feeds the next bytes of a stream whose signatures are not verified yet, as `feed` does; their verdicts may be any
+        bytes. A vote is verified if its round is at the floor or above it and its signer is in the committee, and a valid one
+        once: whoever sends it again, by itself or in a certificate, costs no verification. `verify` is as for an `Encoder`. The
+        bytes of a message that is not whole yet wait for the next bytes, in `unfed`: they are not in what is held. `ValueError`
+        also if bytes that were fed by `feed` end within a message.
+
+        >>> from simplex_audit import Encoder, Vote
+        >>> stream, vote = Encoder(64), Vote("notarize", 3, 10, 5, bytes(32))
+        >>> for signer in range(3):
+        ...     stream.vote(vote, signer, bytes([signer] * 64))
+        >>> stream.certificate(vote, [(signer, bytes([signer] * 64)) for signer in range(3)])
+        >>> verified = []
+        >>> def verify(vote, signer, signature):
+        ...     verified.append(signer)
+        ...     return True
+        >>> monitor = Monitor(Committees.every(64, 4))
+        >>> monitor.feed_unverified(stream.encoded(), verify), monitor.votes(), verified
+        ([], 3, [0, 1, 2])
+        """
+        size = self._committees._size
+        if size is None:
+            return self.feed(data)  # the plain scheme verifies its signatures itself
+        with _borrowed(data) as part:
+            unfed = bytearray(self._unfed + ctypes.string_at(*part))
+        listed, whole = self._unverified(unfed)
+
+        def verdict(it: Any, subject: bytes, signature: bytes) -> bool:
+            votes, vote = self._verified.setdefault((it.epoch, it.view, it.signer), set()), (it.kind, subject, signature)
+            valid = vote in votes or bool(verify(_vote(_KINDS[it.kind], subject, size), it.signer, signature))
+            if valid and len(votes) < 5:
+                votes.add(vote)
+            return valid
+
+        _write_verdicts(listed, unfed, size, verdict)
+        self._push(unfed[:whole], "the stream has a fault before these bytes, or the monitor is closed")
+        self._unfed = bytes(unfed[whole:])
+        return self.news()
+
+    def _unverified(self, data: bytearray) -> tuple[Any, int]:
+        """What has to be verified of the messages at the front of some bytes, and how many bytes can be fed: all if there is a
+        fault behind them."""
+        room, needed, whole = 16, ctypes.c_size_t(), ctypes.c_size_t()
+        while True:
+            listed, call = (_Suspect * room)(), _library.simplex_auditor_unverified
+            with _borrowed(data) as part:
+                status = call(ctypes.byref(self._auditor), *part, listed, room, ctypes.byref(needed), ctypes.byref(whole))
+            if status != _SHORT:
+                break
+            room = needed.value
+        _refused(status, "what was fed ends within a message or with a fault, or the monitor is closed")
+        return listed[: needed.value], len(data) if status == _FAULT else whole.value
+
+    @property
+    def unfed(self) -> bytes:
+        """The bytes of a message that is not whole yet, of those that came by `feed_unverified`. They have to come again after a
+        restart."""
+        return self._unfed
 
     def _push(self, data: ReadableBuffer, refusal: str) -> None:
         with _borrowed(data) as part:
@@ -106,6 +173,7 @@ class Monitor:
         floor never falls."""
         numbers = _checked(epoch, 64, "an epoch"), _checked(view, 64, "a view")
         _refused(_library.simplex_auditor_prune(ctypes.byref(self._auditor), *numbers), "the monitor is closed")
+        self._verified = {it: votes for it, votes in self._verified.items() if it[:2] >= numbers}
 
     def report(self) -> Report:
         """The report of all that was fed, from the floor on. Messages and offsets are counted from what it was resumed from;

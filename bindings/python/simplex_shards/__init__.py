@@ -68,7 +68,7 @@ def _declare() -> None:
         "ranges": [*data, u64, u32, u32, out(Range), size, out(size)],
         "class_ranges": [u32, u32, *data, u64, out(Range), size, out(size), size, out(_Summary)],
         "audit_ranges": [u32, out(u64), size, out(u32), size, *data, *data, *text],
-        "audit_ranges_plain": [*data, *data, *data, *data, *text],
+        "audit_ranges_plain": [*data, out(u64), size, out(u32), size, *data, *data, *data, *text],
     }
     simplex_audit._library.declare(calls)
 
@@ -107,7 +107,7 @@ def index(committees: Committees, stream: ReadableBuffer) -> Index:
     with _borrowed(stream) as (at, length):
         most, read = _most_messages(committees, length), lambda it: it.read
         arguments = [*_reading(committees), at, length]
-        rows = _filled(simplex_audit._library.simplex_index, arguments, Row, most, summary, read)
+        rows = _filled(simplex_audit._library.simplex_index, arguments, Row, most, summary, read, committees=committees)
     return Index(rows, _fault(summary))
 
 
@@ -140,7 +140,7 @@ def class_ranges(committees: Committees, stream: ReadableBuffer, seed: int, clas
 
     with _borrowed(stream) as (at, length):
         arguments, most = [*_reading(committees), at, length, seed], _most_messages(committees, length)
-        found = _filled(call, arguments, Range, most, summary, lambda it: it.length)
+        found = _filled(call, arguments, Range, most, summary, lambda it: it.length, committees=committees)
     each = zip([0, *ends], ends)
     ranges = [(Range * (end - begin)).from_buffer(found, begin * ctypes.sizeof(Range)) for begin, end in each]
     return Classes(ranges, summary.read, _fault(summary))
@@ -184,15 +184,11 @@ def _items(buffer: ReadableBuffer, of: Any) -> Iterator[tuple[int, int]]:
 def audit_ranges(committees: Committees, stream: ReadableBuffer, ranges: ReadableBuffer) -> Report:
     """The report of what stands in these ranges of a stream, one after another, read in place. A fault's offset counts the
     bytes of the ranges. `ValueError` if a range is not within the stream."""
-    plain = committees._size is None
-    call = getattr(simplex_audit._library, f"simplex_audit_ranges{'_plain' * plain}")
-    signature = [] if plain else [committees._size]
-    summary = _Summary()
+    call, summary = getattr(simplex_audit._library, f"simplex_audit_ranges{committees._suffix}"), _Summary()
     with _borrowed(stream) as borrowed, _items(ranges, Range) as items:
         most = committees._most_text(sum(length for _, length in _pairs(ranges)))
-        arguments = [*signature, *committees._arguments, *borrowed, *items]
-        refusal = "no committees, or a range is not within the stream"
-        text = _filled(call, arguments, ctypes.c_char, most, summary, lambda it: it.length, refusal)
+        arguments, refusal = [*committees._given, *borrowed, *items], "a range is not within the stream"
+        text = _filled(call, arguments, ctypes.c_char, most, summary, lambda it: it.length, refusal, committees)
     return _report(text.raw.decode(), summary)
 
 

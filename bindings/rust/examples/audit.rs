@@ -24,7 +24,7 @@ fn committee(words: &[OsString]) -> Result<Committees, Error> {
 /// Writes the report of standard input, and returns where its fault is, if there is one.
 fn run(words: &[OsString]) -> Result<Option<usize>, (u8, &'static str)> {
     let refused = |error| match error {
-        Error::Arguments => (2, "usage: audit NAMESPACE KEY..."),
+        Error::Arguments | Error::Committees(_) => (2, "usage: audit NAMESPACE KEY..."),
         Error::OutOfMemory => (3, "audit: out of memory"),
     };
     let committees = committee(words).map_err(refused)?;

@@ -1,4 +1,4 @@
-use crate::Error;
+use crate::{ffi, Error, Refusal};
 
 /// The bytes of a signature, without the verdict.
 #[derive(Clone, Copy, Debug, PartialEq, Eq)]
@@ -22,7 +22,8 @@ impl Size {
     }
 }
 
-/// Who signs in which epoch: one committee for every epoch, or one for each of some epochs.
+/// Who signs in which epoch: one committee for every epoch, or one for each of some epochs. Each constructor returns
+/// [`Error::Committees`] with the cause if there are no such committees.
 #[derive(Clone, Debug, PartialEq, Eq)]
 pub struct Committees {
     pub(crate) members: Members,
@@ -32,42 +33,53 @@ pub struct Committees {
 pub(crate) enum Members {
     /// The caller verifies signatures of this size. Without epochs there is one size.
     Vouched { size: Size, epochs: Vec<u64>, sizes: Vec<u32> },
-    /// The plain scheme: the base of the namespaces, and the keys one after another.
-    Plain { name: Vec<u8>, keys: Vec<u8> },
+    /// The plain scheme: the base of the namespaces, and the keys of the committees one after another, as many of each as its
+    /// size says.
+    Plain { name: Vec<u8>, epochs: Vec<u64>, sizes: Vec<u32>, keys: Vec<u8> },
 }
 
 impl Committees {
-    /// One committee of this many participants for every epoch, whose signatures have this size and the caller's verdict.
-    /// `Error::Arguments` where there is no participant.
-    pub fn every(size: Size, participants: u32) -> Result<Self, Error> {
-        if participants == 0 {
-            return Err(Error::Arguments);
-        }
-        let members = Members::Vouched { size, epochs: Vec::new(), sizes: vec![participants] };
+    fn of(members: Members) -> Result<Self, Error> {
+        ffi::refusal(&members)?;
         Ok(Committees { members })
     }
 
-    /// For each listed epoch a committee of this many participants, and none for any other epoch. `Error::Arguments` where
-    /// there is no epoch, the epochs do not rise strictly, or a committee has no participant.
+    /// One committee of this many participants for every epoch, whose signatures have this size and the caller's verdict. It
+    /// has at least one participant.
+    pub fn every(size: Size, participants: u32) -> Result<Self, Error> {
+        Committees::of(Members::Vouched { size, epochs: Vec::new(), sizes: vec![participants] })
+    }
+
+    /// For each listed epoch a committee of this many participants, and none for any other epoch. There is an epoch, the epochs
+    /// rise strictly, and each committee has a participant.
+    ///
+    /// ```
+    /// use simplex_audit::{Committees, Error, Refusal, Size};
+    ///
+    /// let falling = Committees::listed(Size::Bytes64, &[(3, 4), (2, 4)]);
+    /// assert_eq!(falling, Err(Error::Committees(Refusal::Epochs)));
+    /// ```
     pub fn listed(size: Size, committees: &[(u64, u32)]) -> Result<Self, Error> {
-        let rising = committees.windows(2).all(|pair| pair[0].0 < pair[1].0);
-        if committees.is_empty() || !rising || committees.iter().any(|one| one.1 == 0) {
-            return Err(Error::Arguments);
-        }
         let (epochs, sizes) = committees.iter().copied().unzip();
-        Ok(Committees { members: Members::Vouched { size, epochs, sizes } })
+        Committees::of(Members::Vouched { size, epochs, sizes })
     }
 
     /// One committee of the plain scheme for every epoch. Its signatures are hashes that anyone can compute. The keys come in
-    /// any order; a participant's number is the place of its key in ascending order. `Error::Arguments` where there is no key,
-    /// or one stands twice.
+    /// any order; a participant's number is the place of its key in ascending order. There is a key, and none stands twice.
     pub fn plain(name: &[u8], keys: &[[u8; 32]]) -> Result<Self, Error> {
-        let mut sorted = keys.to_vec();
-        sorted.sort_unstable();
-        sorted.dedup();
-        if keys.is_empty() || sorted.len() < keys.len() {
-            return Err(Error::Arguments);
-        }
-        Ok(Committees { members: Members::Plain { name: name.to_vec(), keys: keys.concat() } })
+        Committees::keyed(name, Vec::new(), &[keys])
+    }
+
+    /// For each listed epoch the committee of these keys, as [`plain`](Self::plain) has them, and none for any other epoch.
+    /// There is an epoch, the epochs rise strictly, and no key stands twice in a committee. A key may be in several.
+    pub fn plain_listed(name: &[u8], committees: &[(u64, &[[u8; 32]])]) -> Result<Self, Error> {
+        let (epochs, keys): (Vec<u64>, Vec<&[[u8; 32]]>) = committees.iter().copied().unzip();
+        Committees::keyed(name, epochs, &keys)
+    }
+
+    fn keyed(name: &[u8], epochs: Vec<u64>, keys: &[&[[u8; 32]]]) -> Result<Self, Error> {
+        let size = |keys: &&[[u8; 32]]| u32::try_from(keys.len()).map_err(|_| Error::Committees(Refusal::TooManyKeys));
+        let sizes = keys.iter().map(size).collect::<Result<_, _>>()?;
+        Committees::of(Members::Plain { name: name.to_vec(), epochs, sizes, keys: keys.concat().concat() })
     }
 }

@@ -1,5 +1,7 @@
 use crate::committees::Members;
-use crate::{audit, ffi, read_message, Committees, Error, Report, Size, Verifier, Vote};
+use crate::exports::{AttestationPlace, Suspect};
+use crate::messages::vote_of;
+use crate::{audit, ffi, Committees, Error, Report, Size, Verifier, Vote};
 
 /// Verifies nothing: with it an [`Encoder`](crate::Encoder) writes a stream whose signatures [`audit_deferred`] verifies.
 #[derive(Clone, Copy, Debug)]
@@ -12,7 +14,7 @@ impl Verifier for Deferred {
 }
 
 /// Audits a stream whose signatures are not verified yet; its verdicts may be any bytes. Only the votes of suspects and the
-/// certificates of their rounds are verified. A suspect is a signer of the committee, in a round where two votes that claim to
+/// certificates of their rounds are verified, each vote once. A suspect is a signer of the committee, in a round where two votes that claim to
 /// be that signer's contradict; an honest stream has none. The report is that of [`audit`] with every signature verified.
 ///
 /// ```
@@ -43,28 +45,31 @@ pub fn audit_deferred(committees: &Committees, stream: &[u8], verifier: &dyn Ver
 /// The deferred audit of a stream in which the verdicts may be written.
 pub(crate) fn audit_verified(committees: &Committees, mut stream: Vec<u8>, verifier: &dyn Verifier) -> Result<Report, Error> {
     if let Members::Vouched { size, .. } = &committees.members {
-        for suspect in ffi::suspects(committees, &stream)? {
-            let subject = &stream[suspect.subject_place..][..suspect.subject_length];
-            let signature = &stream[suspect.verdict_place - size.bytes()..suspect.verdict_place];
-            let vote = vote_of(committees, *size, suspect.kind, subject)?;
-            stream[suspect.verdict_place] = u8::from(verifier.verify(&vote, suspect.signer, signature));
-        }
+        let suspects = ffi::suspects(committees, &stream)?;
+        write_verdicts(*size, &mut stream, &suspects, |place, subject, signature| {
+            let vote = vote_of(committees, place.kind, subject)?;
+            Ok(verifier.verify(&vote, place.signer, signature))
+        })?;
     }
     audit(committees, &stream)
 }
 
-/// The vote of this kind with this subject: the message of which it is, signer and signature being zeros, is read.
-fn vote_of(committees: &Committees, size: Size, kind: u32, subject: &[u8]) -> Result<Vote, Error> {
-    let tag = match kind {
-        ffi::NOTARIZE => 0,
-        ffi::NULLIFY => 3,
-        _ => 5,
-    };
-    let mut message = [&[tag], subject].concat();
-    message.resize(message.len() + 1 + size.bytes() + 1, 0);
-    let read = read_message(committees, &message)?.ok_or(Error::Arguments)?;
-    let [attestation] = read.attestations.as_slice() else {
-        return Err(Error::Arguments);
-    };
-    Ok(attestation.vote)
+/// Writes the verdicts of listed attestations: `verify` is given each with its subject and its signature, those that are the
+/// same once.
+pub(crate) fn write_verdicts(
+    size: Size,
+    stream: &mut [u8],
+    listed: &[Suspect],
+    mut verify: impl FnMut(&AttestationPlace, &[u8], &[u8]) -> Result<bool, Error>,
+) -> Result<(), Error> {
+    for (index, Suspect { place, first }) in listed.iter().enumerate() {
+        stream[place.verdict_place] = if *first == index {
+            let subject = &stream[place.subject_place..][..place.subject_length];
+            let signature = &stream[place.verdict_place - size.bytes()..place.verdict_place];
+            verify(place, subject, signature)?.into()
+        } else {
+            stream[listed[*first].place.verdict_place]
+        };
+    }
+    Ok(())
 }

@@ -21,7 +21,7 @@ impl Vote {
     }
 
     /// What it says, as the calls of the library take it.
-    fn said(&self) -> ffi::Said<'_> {
+    pub(crate) fn said(&self) -> ffi::Said<'_> {
         match *self {
             Vote::Notarize { epoch, view, parent, ref payload } => {
                 ffi::Said { kind: ffi::NOTARIZE, epoch, view, parent, payload }
@@ -63,7 +63,7 @@ impl Encoder {
     pub fn vote(&mut self, vote: &Vote, signer: u32, signature: &[u8], verifier: &dyn Verifier) -> Result<(), Error> {
         let mut attested = Vec::new();
         self.attest(&mut attested, vote, signer, signature, verifier)?;
-        ffi::write_vote(self.size, &vote.said(), signer, &attested, &mut self.bytes)
+        ffi::write_vote(self.size.bytes() as u32, &vote.said(), signer, &attested, &mut self.bytes)
     }
 
     /// Appends a certificate that lists these signers, in ascending order, with the signatures. `Error::Arguments` if there is

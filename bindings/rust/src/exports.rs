@@ -12,7 +12,7 @@ pub(crate) struct Summary {
     pub length: usize,
 }
 
-/// `struct simplex_suspect`.
+/// `struct simplex_attestation`.
 #[repr(C)]
 #[derive(Clone, Copy, Debug, Default, PartialEq)]
 pub(crate) struct AttestationPlace {
@@ -25,6 +25,25 @@ pub(crate) struct AttestationPlace {
     pub kind: u32,
 }
 
+/// `struct simplex_vote_place`.
+#[repr(C)]
+#[derive(Clone, Copy, Debug, Default, PartialEq)]
+pub(crate) struct VotePlace {
+    pub subject_place: usize,
+    pub subject_length: usize,
+    pub verdict_place: usize,
+    pub signer: u32,
+    pub kind: u32,
+}
+
+/// `struct simplex_suspect`: the members of an attestation, and one more.
+#[repr(C)]
+#[derive(Clone, Copy, Debug, Default, PartialEq)]
+pub(crate) struct Suspect {
+    pub place: AttestationPlace,
+    pub first: usize,
+}
+
 /// `struct simplex_record`.
 #[repr(C)]
 #[derive(Clone, Copy, Debug, Default, PartialEq)]
@@ -33,6 +52,8 @@ pub(crate) struct Record {
     pub view: u64,
     pub first_place: usize,
     pub second_place: usize,
+    pub first_vote: VotePlace,
+    pub second_vote: VotePlace,
     pub signer: u32,
     pub kind: u32,
 }
@@ -97,28 +118,37 @@ extern "C" {
         stream_len: usize, text: *mut u8, text_len: usize, summary: *mut Summary,
     ) -> u32;
     pub(crate) fn simplex_audit_plain(
-        name: *const u8, name_len: usize, keys: *const u8, keys_len: usize, stream: *const u8, stream_len: usize,
-        text: *mut u8, text_len: usize, summary: *mut Summary,
+        name: *const u8, name_len: usize, epochs: *const u64, epochs_len: usize, sizes: *const u32, sizes_len: usize,
+        keys: *const u8, keys_len: usize, stream: *const u8, stream_len: usize, text: *mut u8, text_len: usize,
+        summary: *mut Summary,
     ) -> u32;
     pub(crate) fn simplex_store(
         signature: u32, epochs: *const u64, epochs_len: usize, sizes: *const u32, sizes_len: usize, stored: *const u8,
         stored_len: usize, batch: *const u8, batch_len: usize, evidence: *mut u8, evidence_len: usize, size: *mut usize,
     ) -> u32;
     pub(crate) fn simplex_store_plain(
-        name: *const u8, name_len: usize, keys: *const u8, keys_len: usize, stored: *const u8, stored_len: usize,
-        batch: *const u8, batch_len: usize, evidence: *mut u8, evidence_len: usize, size: *mut usize,
+        name: *const u8, name_len: usize, epochs: *const u64, epochs_len: usize, sizes: *const u32, sizes_len: usize,
+        keys: *const u8, keys_len: usize, stored: *const u8, stored_len: usize, batch: *const u8, batch_len: usize,
+        evidence: *mut u8, evidence_len: usize, size: *mut usize,
     ) -> u32;
     pub(crate) fn simplex_suspects(
         signature: u32, epochs: *const u64, epochs_len: usize, sizes: *const u32, sizes_len: usize, stream: *const u8,
-        stream_len: usize, records: *mut AttestationPlace, records_len: usize, needed: *mut usize,
+        stream_len: usize, records: *mut Suspect, records_len: usize, needed: *mut usize,
     ) -> u32;
     pub(crate) fn simplex_records(
         signature: u32, epochs: *const u64, epochs_len: usize, sizes: *const u32, sizes_len: usize, stream: *const u8,
         stream_len: usize, records: *mut Record, records_len: usize, summary: *mut Summary,
     ) -> u32;
     pub(crate) fn simplex_records_plain(
-        name: *const u8, name_len: usize, keys: *const u8, keys_len: usize, stream: *const u8, stream_len: usize,
-        records: *mut Record, records_len: usize, summary: *mut Summary,
+        name: *const u8, name_len: usize, epochs: *const u64, epochs_len: usize, sizes: *const u32, sizes_len: usize,
+        keys: *const u8, keys_len: usize, stream: *const u8, stream_len: usize, records: *mut Record, records_len: usize,
+        summary: *mut Summary,
+    ) -> u32;
+    pub(crate) fn simplex_refusal(
+        signature: u32, epochs: *const u64, epochs_len: usize, sizes: *const u32, sizes_len: usize,
+    ) -> u32;
+    pub(crate) fn simplex_refusal_plain(
+        epochs: *const u64, epochs_len: usize, sizes: *const u32, sizes_len: usize, keys: *const u8, keys_len: usize,
     ) -> u32;
     pub(crate) fn simplex_index(
         signature: u32, bound: u32, stream: *const u8, stream_len: usize, rows: *mut Row, rows_len: usize,
@@ -138,8 +168,9 @@ extern "C" {
         stream_len: usize, ranges: *const Range, ranges_len: usize, text: *mut u8, text_len: usize, summary: *mut Summary,
     ) -> u32;
     pub(crate) fn simplex_audit_ranges_plain(
-        name: *const u8, name_len: usize, keys: *const u8, keys_len: usize, stream: *const u8, stream_len: usize,
-        ranges: *const Range, ranges_len: usize, text: *mut u8, text_len: usize, summary: *mut Summary,
+        name: *const u8, name_len: usize, epochs: *const u64, epochs_len: usize, sizes: *const u32, sizes_len: usize,
+        keys: *const u8, keys_len: usize, stream: *const u8, stream_len: usize, ranges: *const Range, ranges_len: usize,
+        text: *mut u8, text_len: usize, summary: *mut Summary,
     ) -> u32;
     pub(crate) fn simplex_signed_bytes(
         name: *const u8, name_len: usize, kind: u32, epoch: u64, view: u64, parent: u64, payload: *const u8,
@@ -163,8 +194,8 @@ extern "C" {
         evidence_len: usize, accusation: *mut AccusationRecord,
     ) -> u32;
     pub(crate) fn simplex_verify_evidence_plain(
-        name: *const u8, name_len: usize, keys: *const u8, keys_len: usize, evidence: *const u8, evidence_len: usize,
-        accusation: *mut AccusationRecord,
+        name: *const u8, name_len: usize, epochs: *const u64, epochs_len: usize, sizes: *const u32, sizes_len: usize,
+        keys: *const u8, keys_len: usize, evidence: *const u8, evidence_len: usize, accusation: *mut AccusationRecord,
     ) -> u32;
     pub(crate) fn simplex_max_faults(n: u32) -> u32;
     pub(crate) fn simplex_quorum(n: u32) -> u32;
@@ -190,10 +221,14 @@ extern "C" {
         held_len: usize, auditor: *mut Auditor,
     ) -> u32;
     pub(crate) fn simplex_auditor_new_plain(
-        name: *const u8, name_len: usize, keys: *const u8, keys_len: usize, held: *const u8, held_len: usize,
-        auditor: *mut Auditor,
+        name: *const u8, name_len: usize, epochs: *const u64, epochs_len: usize, sizes: *const u32, sizes_len: usize,
+        keys: *const u8, keys_len: usize, held: *const u8, held_len: usize, auditor: *mut Auditor,
     ) -> u32;
     pub(crate) fn simplex_auditor_feed(auditor: *mut Auditor, bytes: *const u8, bytes_len: usize) -> u32;
+    pub(crate) fn simplex_auditor_unverified(
+        auditor: *mut Auditor, bytes: *const u8, bytes_len: usize, records: *mut Suspect, records_len: usize,
+        needed: *mut usize, whole: *mut usize,
+    ) -> u32;
     pub(crate) fn simplex_auditor_report(
         auditor: *mut Auditor, text: *mut u8, text_len: usize, summary: *mut Summary,
     ) -> u32;

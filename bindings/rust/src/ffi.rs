@@ -7,7 +7,7 @@
 use crate::bounds::Bounds;
 use crate::committees::{Committees, Members, Size};
 use crate::exports::*;
-use crate::Error;
+use crate::{Error, Refusal};
 use std::mem::MaybeUninit;
 use std::num::NonZeroU32;
 
@@ -15,9 +15,15 @@ const WHOLE: u32 = 0;
 const FAULT: u32 = 1;
 const MEMORY: u32 = 3;
 const SHORT: u32 = 4;
-/// The bytes of a signature, and of a key, under the plain scheme.
+/// The bytes of a signature under the plain scheme.
 const PLAIN: u32 = 32;
-const KEY: usize = 32;
+/// Why committees are refused, apart from what the types of this crate leave no room for.
+const NOTHING: u32 = 0;
+const NO_COMMITTEE: u32 = 2;
+const EPOCHS: u32 = 4;
+const EMPTY: u32 = 5;
+const REPEATED: u32 = 7;
+const UNKNOWN: u32 = 8;
 const NO: u32 = 0;
 const YES: u32 = 1;
 pub(crate) const NOTARIZE: u32 = 0;
@@ -50,10 +56,14 @@ type ByNumbers<T, W> = unsafe extern "C" fn(
     written: *mut W,
 ) -> u32;
 
-/// The same under the committee of these keys.
+/// The same under the committees of these keys.
 type ByKeys<T, W> = unsafe extern "C" fn(
     name: *const u8,
     name_len: usize,
+    epochs: *const u64,
+    epochs_len: usize,
+    sizes: *const u32,
+    sizes_len: usize,
     keys: *const u8,
     keys_len: usize,
     stream: *const u8,
@@ -75,7 +85,7 @@ pub(crate) fn reserved<T>(most: usize) -> Vec<T> {
 
 /// Calls with a buffer for `most` items, which is never too short if so many can be allocated. Calls again with a longer one if
 /// the call asks for it. Beside its status the call returns how many items it wrote, or needs.
-fn filled<T>(most: usize, mut call: impl FnMut(&mut [MaybeUninit<T>]) -> (u32, usize)) -> Result<Vec<T>, Error> {
+pub(crate) fn filled<T>(most: usize, mut call: impl FnMut(&mut [MaybeUninit<T>]) -> (u32, usize)) -> Result<Vec<T>, Error> {
     let mut buffer = reserved(most);
     loop {
         let (status, length) = call(buffer.spare_capacity_mut());
@@ -118,10 +128,14 @@ impl<T, W> ByScheme<T, W> {
                 )
             },
             // SAFETY: see this module.
-            Members::Plain { name, keys } => unsafe {
+            Members::Plain { name, epochs, sizes, keys } => unsafe {
                 (self.plain)(
                     name.as_ptr(),
                     name.len(),
+                    epochs.as_ptr(),
+                    epochs.len(),
+                    sizes.as_ptr(),
+                    sizes.len(),
                     keys.as_ptr(),
                     keys.len(),
                     stream.as_ptr(),
@@ -171,10 +185,14 @@ pub(crate) fn audit_ranges(committees: &Committees, stream: &[u8], ranges: &[Ran
                 )
             },
             // SAFETY: see this module.
-            Members::Plain { name, keys } => unsafe {
+            Members::Plain { name, epochs, sizes, keys } => unsafe {
                 simplex_audit_ranges_plain(
                     name.as_ptr(),
                     name.len(),
+                    epochs.as_ptr(),
+                    epochs.len(),
+                    sizes.as_ptr(),
+                    sizes.len(),
                     keys.as_ptr(),
                     keys.len(),
                     stream.as_ptr(),
@@ -194,7 +212,7 @@ pub(crate) fn audit_ranges(committees: &Committees, stream: &[u8], ranges: &[Ran
 
 /// A row for each message of a stream, and the numbers of the reading.
 pub(crate) fn index(committees: &Committees, stream: &[u8]) -> Result<(Vec<Row>, Summary), Error> {
-    let (signature, bound) = signature_and_bound(committees)?;
+    let (signature, bound) = signature_and_bound(committees);
     let mut summary = Summary::default();
     let rows = filled(Bounds::of(committees, stream.len()).rows(), |rows| {
         let (to, room) = (rows.as_mut_ptr().cast(), rows.len());
@@ -213,7 +231,7 @@ pub(crate) fn class_ranges(
     seed: u64,
     ends: &mut [usize],
 ) -> Result<(Vec<Range>, Summary), Error> {
-    let (signature, bound) = signature_and_bound(committees)?;
+    let (signature, bound) = signature_and_bound(committees);
     let mut summary = Summary::default();
     let ranges = filled(Bounds::of(committees, stream.len()).rows(), |ranges| {
         let (to, room) = (ranges.as_mut_ptr().cast(), ranges.len());
@@ -264,10 +282,14 @@ pub(crate) fn store(committees: &Committees, stored: &[u8], batch: &[u8]) -> Res
                 )
             },
             // SAFETY: see this module.
-            Members::Plain { name, keys } => unsafe {
+            Members::Plain { name, epochs, sizes, keys } => unsafe {
                 simplex_store_plain(
                     name.as_ptr(),
                     name.len(),
+                    epochs.as_ptr(),
+                    epochs.len(),
+                    sizes.as_ptr(),
+                    sizes.len(),
                     keys.as_ptr(),
                     keys.len(),
                     stored.as_ptr(),
@@ -285,7 +307,7 @@ pub(crate) fn store(committees: &Committees, stored: &[u8], batch: &[u8]) -> Res
 }
 
 /// The attestations of a stream that have to be verified; under the plain scheme, which verifies its signatures itself, none.
-pub(crate) fn suspects(committees: &Committees, stream: &[u8]) -> Result<Vec<AttestationPlace>, Error> {
+pub(crate) fn suspects(committees: &Committees, stream: &[u8]) -> Result<Vec<Suspect>, Error> {
     let Members::Vouched { size, epochs, sizes } = &committees.members else {
         return Ok(Vec::new());
     };
@@ -365,11 +387,11 @@ pub(crate) fn signed_bytes(name: &[u8], said: &Said) -> Result<Vec<u8>, Error> {
 }
 
 /// Appends a vote with this signature, behind which its verdict stands.
-pub(crate) fn write_vote(size: Size, said: &Said, signer: u32, attested: &[u8], bytes: &mut Vec<u8>) -> Result<(), Error> {
+pub(crate) fn write_vote(signature: u32, said: &Said, signer: u32, attested: &[u8], bytes: &mut Vec<u8>) -> Result<(), Error> {
     // SAFETY: see this module.
     appended(bytes, HEAD + SIGNER + attested.len(), |to, room, written| unsafe {
         simplex_write_vote(
-            size.bytes() as u32,
+            signature,
             said.kind,
             said.epoch,
             said.view,
@@ -417,12 +439,46 @@ pub(crate) fn write_certificate(
     })
 }
 
+/// Why committees of these members are refused, if they are.
+pub(crate) fn refusal(members: &Members) -> Result<(), Error> {
+    let cause = match members {
+        // SAFETY: see this module.
+        Members::Vouched { size, epochs, sizes } => unsafe {
+            simplex_refusal(size.bytes() as u32, epochs.as_ptr(), epochs.len(), sizes.as_ptr(), sizes.len())
+        },
+        // SAFETY: see this module.
+        Members::Plain { epochs, sizes, keys, .. } => unsafe {
+            let (sizes_at, sizes_len) = (sizes.as_ptr(), sizes.len());
+            simplex_refusal_plain(epochs.as_ptr(), epochs.len(), sizes_at, sizes_len, keys.as_ptr(), keys.len())
+        },
+    };
+    match cause {
+        NOTHING => Ok(()),
+        NO_COMMITTEE => Err(Error::Committees(Refusal::NoCommittee)),
+        EPOCHS => Err(Error::Committees(Refusal::Epochs)),
+        EMPTY => Err(Error::Committees(Refusal::EmptyCommittee)),
+        REPEATED => Err(Error::Committees(Refusal::RepeatedKey)),
+        UNKNOWN => Err(Error::OutOfMemory),
+        // The types leave no other cause.
+        _ => Err(Error::Arguments),
+    }
+}
+
 /// The bytes of a signature, and the bound of certificates: the number of participants of the greatest committee.
-pub(crate) fn signature_and_bound(committees: &Committees) -> Result<(u32, u32), Error> {
-    Ok(match &committees.members {
-        Members::Vouched { size, sizes, .. } => (size.bytes() as u32, sizes.iter().max().copied().unwrap_or(0)),
-        Members::Plain { keys, .. } => (PLAIN, u32::try_from(keys.len() / KEY).map_err(|_| Error::Arguments)?),
-    })
+pub(crate) fn signature_and_bound(committees: &Committees) -> (u32, u32) {
+    let (signature, sizes) = match &committees.members {
+        Members::Vouched { size, sizes, .. } => (size.bytes() as u32, sizes),
+        Members::Plain { sizes, .. } => (PLAIN, sizes),
+    };
+    (signature, sizes.iter().max().copied().unwrap_or(0))
+}
+
+/// The bytes of a signature, and of the verdict behind it if there is one.
+pub(crate) fn attested(committees: &Committees) -> usize {
+    match &committees.members {
+        Members::Vouched { size, .. } => size.bytes() + 1,
+        Members::Plain { .. } => PLAIN as usize,
+    }
 }
 
 /// The message at the front of some bytes, and its attestations.
@@ -430,7 +486,7 @@ pub(crate) fn read_message(
     committees: &Committees,
     bytes: &[u8],
 ) -> Result<Option<(MessageHead, Vec<AttestationPlace>)>, Error> {
-    let (signature, bound) = signature_and_bound(committees)?;
+    let (signature, bound) = signature_and_bound(committees);
     let (mut head, mut found) = (MessageHead::default(), Vec::new());
     loop {
         let spare: &mut [MaybeUninit<AttestationPlace>] = found.spare_capacity_mut();
@@ -468,10 +524,14 @@ pub(crate) fn verify_evidence(committees: &Committees, evidence: &[u8]) -> Resul
             )
         },
         // SAFETY: see this module.
-        Members::Plain { name, keys } => unsafe {
+        Members::Plain { name, epochs, sizes, keys } => unsafe {
             simplex_verify_evidence_plain(
                 name.as_ptr(),
                 name.len(),
+                epochs.as_ptr(),
+                epochs.len(),
+                sizes.as_ptr(),
+                sizes.len(),
                 keys.as_ptr(),
                 keys.len(),
                 evidence.as_ptr(),

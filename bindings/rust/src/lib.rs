@@ -37,11 +37,11 @@ pub mod views;
 pub use committees::{Committees, Size};
 pub use deferred::{audit_deferred, Deferred};
 pub use encoder::{Encoder, Verifier, Vote};
-pub use error::Error;
+pub use error::{Error, Refusal};
 pub use ledger::Ledger;
 pub use messages::{read_message, verify_evidence, Accusation, Attestation, Message};
 pub use monitor::Monitor;
-pub use records::{new_records, records, Record};
+pub use records::{new_records, records, Record, SignedVote};
 pub use report::{audit, Evidence, Kind, Report, Split};
 
 /// The version of the library's calls.

@@ -53,7 +53,7 @@ pub fn read_message(committees: &Committees, bytes: &[u8]) -> Result<Option<Mess
         Members::Vouched { .. } => 1,
         Members::Plain { .. } => 0,
     };
-    let signature = ffi::signature_and_bound(committees)?.0 as usize;
+    let signature = ffi::signature_and_bound(committees).0 as usize;
     let attestations = places.iter().enumerate().map(|(i, place)| {
         let end = place.verdict_place + 1 - verdict;
         let is_second = i == 1 && head.kind >= FIRST_EVIDENCE;
@@ -82,6 +82,20 @@ fn vote_at(bytes: &[u8], place: &AttestationPlace, parent: u64) -> Vote {
         ffi::NULLIFY => Vote::Nullify { epoch, view },
         _ => Vote::Finalize { epoch, view, parent, payload },
     }
+}
+
+/// The vote of this kind with this subject: the vote as a message, its signer and signature being zeros, is read.
+pub(crate) fn vote_of(committees: &Committees, kind: u32, subject: &[u8]) -> Result<Vote, Error> {
+    let tag = match kind {
+        ffi::NOTARIZE => 0,
+        ffi::NULLIFY => 3,
+        _ => 5,
+    };
+    let mut message = [&[tag], subject].concat();
+    message.resize(message.len() + 1 + ffi::attested(committees), 0);
+    let (head, places) = ffi::read_message(committees, &message)?.ok_or(Error::Arguments)?;
+    let place = places.first().ok_or(Error::Arguments)?;
+    Ok(vote_at(&message, place, head.parent))
 }
 
 /// Whom one piece of evidence accuses, and whether it proves that.

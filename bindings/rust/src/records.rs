@@ -1,7 +1,25 @@
-use crate::{audit, exports, ffi, Committees, Error, Kind};
+use crate::exports::VotePlace;
+use crate::messages::vote_of;
+use crate::{audit, exports, ffi, Committees, Error, Kind, Vote};
 
-/// An evidence of a report, and where its two votes stand in the stream.
-#[derive(Clone, Copy, Debug, PartialEq, Eq)]
+/// A vote with its signature, whole: what stands in the stream of a vote of some evidence.
+#[derive(Clone, Debug, PartialEq, Eq)]
+pub struct SignedVote {
+    /// What was signed: [`Vote::signed_bytes`] has the bytes.
+    pub vote: Vote,
+    /// The number of the signer.
+    pub signer: u32,
+    /// The signature, without the verdict.
+    pub signature: Vec<u8>,
+    /// The verdict behind the signature, 1. Under the plain scheme there is none.
+    pub verdict: Option<u8>,
+    /// The vote as a message, with signature and verdict, to be handed on. Behind each other both votes of an evidence are a
+    /// stream whose report is this evidence.
+    pub message: Vec<u8>,
+}
+
+/// An evidence of a report, with its two votes, and where they stand in the stream.
+#[derive(Clone, Debug, PartialEq, Eq)]
 pub struct Record {
     /// The epoch of the round.
     pub epoch: u64,
@@ -16,30 +34,42 @@ pub struct Record {
     pub first_place: usize,
     /// The offset of the first message that carries the second vote. It may be before `first_place`, or the same.
     pub second_place: usize,
+    /// The first vote. It stands in the message at `first_place`, which may hold other votes, and invalid ones.
+    pub first: SignedVote,
+    /// The second vote. It stands in the message at `second_place`.
+    pub second: SignedVote,
 }
 
-/// Audits a stream as [`audit`](crate::audit) does, and returns the evidence as records, each with the places of its votes in
-/// the stream. There is one for each evidence of the report, in the same order.
+/// Audits a stream as [`audit`](crate::audit) does, and returns the evidence as records, each with both votes and their places
+/// in the stream. There is one for each evidence of the report, in the same order.
 ///
 /// ```
-/// use simplex_audit::{records, Committees, Encoder, Kind, Size, Vote};
+/// use simplex_audit::{audit, records, Committees, Encoder, Kind, Size, Vote};
 ///
 /// let mut stream = Encoder::new(Size::Bytes64);
-/// let mut places = Vec::new();
+/// let (mut places, mut votes) = (Vec::new(), Vec::new());
 /// // Participant 1 votes once, and participant 2 for two payloads.
 /// for (signer, payload) in [(1, 6), (2, 6), (2, 7)] {
 ///     places.push(stream.as_bytes().len());
 ///     let vote = Vote::Notarize { epoch: 3, view: 10, parent: 5, payload: [payload; 32] };
-///     stream.vote(&vote, signer, &[0; 64], &|_: &Vote, _: u32, _: &[u8]| true)?;
+///     stream.vote(&vote, signer, &[payload; 64], &|_: &Vote, _: u32, _: &[u8]| true)?;
+///     votes.push(vote);
 /// }
-/// let records = records(&Committees::every(Size::Bytes64, 4)?, stream.as_bytes())?;
+/// let committees = Committees::every(Size::Bytes64, 4)?;
+/// let records = records(&committees, stream.as_bytes())?;
 /// assert_eq!(records.len(), 1);
-/// assert_eq!((records[0].view, records[0].signer, records[0].kind), (10, 2, Kind::ConflictingNotarize));
-/// assert_eq!((records[0].first_place, records[0].second_place), (places[1], places[2]));
+/// let it = &records[0];
+/// assert_eq!((it.view, it.signer, it.kind), (10, 2, Kind::ConflictingNotarize));
+/// assert_eq!((it.first_place, it.second_place), (places[1], places[2]));
+/// assert_eq!((it.first.vote, it.second.vote), (votes[1], votes[2]));
+/// assert_eq!((it.second.signer, &it.second.signature[..], it.second.verdict), (2, &[7; 64][..], Some(1)));
+/// // Whoever is handed the two votes finds the same evidence.
+/// let both = [&it.first.message[..], &it.second.message].concat();
+/// assert_eq!(audit(&committees, &both)?.text, audit(&committees, stream.as_bytes())?.text);
 /// # Ok::<(), simplex_audit::Error>(())
 /// ```
 pub fn records(committees: &Committees, stream: &[u8]) -> Result<Vec<Record>, Error> {
-    Ok(ffi::records(committees, stream)?.iter().map(record).collect())
+    ffi::records(committees, stream)?.iter().map(|of| record(committees, stream, of)).collect()
 }
 
 /// The new records of what was stored with a batch behind it: those with at least one place in the batch, at
@@ -72,15 +102,29 @@ pub fn new_records(committees: &Committees, stored: &[u8], batch: &[u8]) -> Resu
     Ok(found)
 }
 
-fn record(of: &exports::Record) -> Record {
-    Record {
+fn record(committees: &Committees, stream: &[u8], of: &exports::Record) -> Result<Record, Error> {
+    Ok(Record {
         epoch: of.epoch,
         view: of.view,
         signer: of.signer,
         kind: kind_of(of.kind),
         first_place: of.first_place,
         second_place: of.second_place,
-    }
+        first: signed_vote(committees, stream, &of.first_vote)?,
+        second: signed_vote(committees, stream, &of.second_vote)?,
+    })
+}
+
+/// The vote that stands there.
+fn signed_vote(committees: &Committees, stream: &[u8], place: &VotePlace) -> Result<SignedVote, Error> {
+    let VotePlace { subject_place, subject_length, verdict_place, signer, kind } = *place;
+    let vote = vote_of(committees, kind, &stream[subject_place..][..subject_length])?;
+    let attested = &stream[..=verdict_place][verdict_place + 1 - ffi::attested(committees)..];
+    let size = ffi::signature_and_bound(committees).0;
+    let (signature, verdict) = attested.split_at(size as usize);
+    let mut message = Vec::new();
+    ffi::write_vote(size, &vote.said(), signer, attested, &mut message)?;
+    Ok(SignedVote { vote, signer, signature: signature.to_vec(), verdict: verdict.first().copied(), message })
 }
 
 /// The kind of this number.

@@ -1,6 +1,7 @@
 //! A monitor tells the evidence of the whole stream, however it is cut and however often it is made again.
 
-use simplex_audit::{audit, Committees, Encoder, Error, Evidence, Monitor, Size, Verifier, Vote};
+use simplex_audit::{audit, read_message, Committees, Deferred, Encoder, Error, Evidence, Monitor, Size, Verifier, Vote};
+use std::cell::Cell;
 use std::collections::BTreeSet;
 
 const PARTICIPANTS: u32 = 4;
@@ -127,4 +128,82 @@ fn nothing_is_read_behind_a_fault() {
     assert_eq!(Monitor::resume(&committees(), &[0xff]).err(), Some(Error::Arguments));
     let mut plain = Monitor::new(&Committees::plain(b"test", &[[0; 32]]).unwrap()).unwrap();
     assert_eq!(plain.votes().unwrap(), 0);
+}
+
+/// A network's votes, each from three nodes and then in certificates, in pieces cut anywhere: each vote is verified once.
+#[test]
+fn each_vote_is_verified_once() {
+    let mut stream = Encoder::new(Size::Bytes64);
+    for view in 1..=20 {
+        let vote = Vote::Notarize { epoch: 3, view, parent: view - 1, payload: [6; 32] };
+        let signatures: Vec<[u8; 64]> = (0..PARTICIPANTS).map(|signer| [1 + signer as u8; 64]).collect();
+        for _ in 0..3 {
+            for (signer, signature) in (0..).zip(&signatures) {
+                stream.vote(&vote, signer, signature, &Deferred).unwrap();
+            }
+            let listed: Vec<(u32, &[u8])> = (0..).zip(signatures.iter().map(|it| it.as_slice())).collect();
+            stream.certificate(&vote, &listed, &Deferred).unwrap();
+        }
+    }
+    let verified = Cell::new(0);
+    let verifier = |_: &Vote, _: u32, _: &[u8]| {
+        verified.set(verified.get() + 1);
+        true
+    };
+    let (chance, mut monitor) = (&mut Chance(1), Monitor::new(&committees()).unwrap());
+    for piece in cut(chance, stream.as_bytes()) {
+        assert_eq!(monitor.feed_unverified(&piece, &verifier).unwrap(), []);
+    }
+    assert!(monitor.unfed().is_empty());
+    assert_eq!((monitor.votes().unwrap(), verified.get()), (20 * PARTICIPANTS as usize, 20 * PARTICIPANTS as usize));
+    // behind a floor nothing is verified
+    monitor.prune(4, 0);
+    assert_eq!(monitor.feed_unverified(stream.as_bytes(), &verifier).unwrap(), []);
+    assert_eq!(verified.get(), 20 * PARTICIPANTS as usize);
+}
+
+/// The evidence is that of a stream whose signatures were all verified before, whatever the verdicts are.
+#[test]
+fn deferred_pieces_have_the_same_evidence() {
+    for seed in 0..200 {
+        let chance = &mut Chance(seed);
+        let count = chance.below(60);
+        let stream = messages(chance, count);
+        let (mut monitor, mut told) = (Monitor::new(&committees()).unwrap(), Vec::new());
+        for piece in cut(chance, &without_verdicts(&stream)) {
+            told.extend(monitor.feed_unverified(&piece, &first).unwrap());
+        }
+        let whole = audit(&committees(), &stream).unwrap();
+        assert_eq!(lines(&told), lines(&whole.evidence));
+        assert_eq!(monitor.report().unwrap(), whole);
+    }
+}
+
+/// The stream with other verdicts.
+fn without_verdicts(stream: &[u8]) -> Vec<u8> {
+    let (mut other, mut at) = (stream.to_vec(), 0);
+    while let Some(message) = read_message(&committees(), &stream[at..]).unwrap() {
+        for attestation in &message.attestations {
+            other[at + attestation.signature.end] ^= 1;
+        }
+        at += message.length;
+    }
+    other
+}
+
+#[test]
+fn deferred_pieces_begin_with_a_message() {
+    let stream = messages(&mut Chance(3), 10);
+    let mut monitor = Monitor::new(&committees()).unwrap();
+    monitor.feed(&stream[..9]).unwrap();
+    assert_eq!(monitor.feed_unverified(&stream[9..], &first), Err(Error::Arguments));
+    let mut monitor = Monitor::new(&committees()).unwrap();
+    monitor.feed_unverified(&stream[..9], &first).unwrap();
+    assert_eq!(monitor.unfed(), &stream[..9]);
+    assert_eq!(monitor.feed(&stream[9..]), Err(Error::Arguments));
+    // what starts no message is fed, and then nothing more is
+    assert_eq!(monitor.feed_unverified(&stream[9..], &first).map(|_| ()), Ok(()));
+    assert_eq!(monitor.feed_unverified(&[0xff], &first), Ok(Vec::new()));
+    assert_eq!(monitor.feed_unverified(&[0], &first), Err(Error::Arguments));
+    assert_eq!(monitor.report().unwrap().fault, Some(stream.len()));
 }

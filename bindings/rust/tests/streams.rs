@@ -2,9 +2,10 @@
 
 use simplex_audit::{
     audit, audit_deferred, new_records, read_message, records, verify_evidence, version, views, Attestation, Committees,
-    Deferred, Encoder, Error, Kind, Ledger, Size, Split, Vote,
+    Deferred, Encoder, Error, Kind, Ledger, Refusal, SignedVote, Size, Split, Vote,
 };
 use std::cell::RefCell;
+use std::error::Error as _;
 
 const SIZES: [Size; 3] = [Size::Bytes48, Size::Bytes64, Size::Bytes96];
 
@@ -25,7 +26,8 @@ fn fork(size: Size, verifier: &dyn simplex_audit::Verifier) -> Encoder {
 
 /// Two notarizes of participant 0 that contradict, each as a message: with signatures of each size and under the plain scheme.
 fn contradictions() -> Vec<(Committees, [Vec<u8>; 2])> {
-    let mut all = vec![(Committees::plain(b"test", &[[0; 32]]).unwrap(), plain_votes())];
+    let by_epoch = Committees::plain_listed(b"test", &[(0, &[[9; 32], [0; 32]]), (7, &[[1; 32]])]).unwrap();
+    let mut all = vec![(Committees::plain(b"test", &[[0; 32]]).unwrap(), plain_votes()), (by_epoch, plain_votes())];
     for size in SIZES {
         let votes = [[6; 32], [7; 32]].map(|payload| {
             let mut stream = Encoder::new(size);
@@ -87,6 +89,63 @@ fn places_of_votes() {
         assert_eq!(records(&committees, &[]).unwrap(), []);
     }
     assert_eq!(records(&Committees::plain(b"test", &[[0; 32]]).unwrap(), &[0xff]), Ok(Vec::new()));
+}
+
+/// The first message that carries a vote also holds another vote of the signer, or votes of others, that are invalid.
+#[test]
+fn records_hold_both_votes() {
+    for size in SIZES {
+        let committees = Committees::every(size, 300).unwrap();
+        let signature = vec![9; size.bytes()];
+        let message = |vote: &Vote, verdict: bool| {
+            let mut stream = Encoder::new(size);
+            stream.vote(vote, 200, &signature, &|_: &Vote, _: u32, _: &[u8]| verdict).unwrap();
+            stream.as_bytes().to_vec()
+        };
+        let whole = |vote: Vote| SignedVote {
+            vote,
+            signer: 200,
+            signature: signature.clone(),
+            verdict: Some(1),
+            message: message(&vote, true),
+        };
+        let notarize = |payload| Vote::Notarize { epoch: 300, view: 10, parent: 1 << 40, payload: [payload; 32] };
+        let (vote, other) = (notarize(6), notarize(7));
+        let (valid, invalid) = (message(&vote, true), message(&other, false));
+        for (first, second) in [(&valid, &invalid), (&invalid, &valid)] {
+            let evidence = [&[7], &first[1..], &second[1..]].concat();
+            let found = records(&committees, &[&evidence[..], &message(&other, true)].concat()).unwrap();
+            assert_eq!((found.len(), found[0].first_place, found[0].second_place), (1, 0, evidence.len()));
+            assert_eq!((&found[0].first, &found[0].second), (&whole(vote), &whole(other)));
+        }
+        let (nullify, finalize) =
+            (Vote::Nullify { epoch: 300, view: 10 }, Vote::Finalize { epoch: 300, view: 10, parent: 5, payload: [0; 32] });
+        let mut certificate = Encoder::new(size);
+        let listed = [127, 200, 299].map(|signer| (signer, &signature[..]));
+        certificate.certificate(&finalize, &listed, &|_: &Vote, signer: u32, _: &[u8]| signer == 200).unwrap();
+        let front = message(&finalize, false);
+        let stream = [&front[..], certificate.as_bytes(), &message(&nullify, true)].concat();
+        let found = records(&committees, &stream).unwrap();
+        let places = (front.len() + certificate.as_bytes().len(), front.len());
+        assert_eq!((found.len(), found[0].first_place, found[0].second_place), (1, places.0, places.1));
+        assert_eq!((&found[0].first, &found[0].second), (&whole(nullify), &whole(finalize)));
+    }
+}
+
+#[test]
+fn the_votes_of_records_prove_it() {
+    for (committees, votes) in contradictions() {
+        let stream = votes.concat();
+        let found = records(&committees, &stream).unwrap();
+        assert_eq!(found.len(), 1);
+        let (first, second) = (&found[0].first, &found[0].second);
+        assert_eq!([&first.message[..], &second.message].concat(), stream);
+        for one in [first, second] {
+            let read = read_message(&committees, &one.message).unwrap().unwrap();
+            let Attestation { vote, signer, signature } = &read.attestations[0];
+            assert_eq!((&one.vote, one.signer, &one.signature[..]), (vote, *signer, &one.message[signature.clone()]));
+        }
+    }
 }
 
 #[test]
@@ -323,13 +382,38 @@ fn evidence_by_itself() {
 }
 
 #[test]
+fn keys_by_epoch() {
+    let stream = plain_votes().concat();
+    let evidence = |listed: &[(u64, &[[u8; 32]])]| {
+        let committees = Committees::plain_listed(b"test", listed).unwrap();
+        audit(&committees, &stream).unwrap().evidence.iter().map(|it| (it.epoch, it.signer)).collect::<Vec<_>>()
+    };
+    let (signer, other): ([[u8; 32]; 2], [[u8; 32]; 1]) = ([[9; 32], [0; 32]], [[1; 32]]);
+    assert_eq!(evidence(&[(0, &signer), (7, &other)]), [(0, 0)]);
+    assert_eq!(evidence(&[(0, &other), (7, &signer)]), []);
+    assert_eq!(evidence(&[(7, &signer)]), []);
+}
+
+#[test]
 fn what_is_refused() {
-    assert_eq!(Committees::every(Size::Bytes64, 0), Err(Error::Arguments));
-    assert_eq!(Committees::listed(Size::Bytes64, &[]), Err(Error::Arguments));
-    assert_eq!(Committees::listed(Size::Bytes64, &[(2, 1), (2, 1)]), Err(Error::Arguments));
-    assert_eq!(Committees::listed(Size::Bytes64, &[(2, 1), (3, 0)]), Err(Error::Arguments));
-    assert_eq!(Committees::plain(b"", &[]), Err(Error::Arguments));
-    assert_eq!(Committees::plain(b"", &[[1; 32], [0; 32], [1; 32]]), Err(Error::Arguments));
+    let refused = |refusal| Err(Error::Committees(refusal));
+    assert_eq!(Committees::every(Size::Bytes64, 0), refused(Refusal::EmptyCommittee));
+    assert_eq!(Committees::listed(Size::Bytes64, &[]), refused(Refusal::NoCommittee));
+    assert_eq!(Committees::listed(Size::Bytes64, &[(2, 1), (2, 1)]), refused(Refusal::Epochs));
+    assert_eq!(Committees::listed(Size::Bytes64, &[(2, 1), (3, 0)]), refused(Refusal::EmptyCommittee));
+    // the first cause in the order of the enum
+    assert_eq!(Committees::listed(Size::Bytes64, &[(3, 0), (2, 1)]), refused(Refusal::Epochs));
+    assert_eq!(Committees::plain(b"", &[]), refused(Refusal::EmptyCommittee));
+    assert_eq!(Committees::plain(b"", &[[1; 32], [0; 32], [1; 32]]), refused(Refusal::RepeatedKey));
+    assert_eq!(Committees::plain_listed(b"", &[]), refused(Refusal::NoCommittee));
+    let (key, twice) = ([[1; 32]], [[1; 32], [1; 32]]);
+    assert_eq!(Committees::plain_listed(b"", &[(2, &key), (1, &twice)]), refused(Refusal::Epochs));
+    assert_eq!(Committees::plain_listed(b"", &[(1, &twice), (2, &[])]), refused(Refusal::EmptyCommittee));
+    assert_eq!(Committees::plain_listed(b"", &[(1, &key), (2, &twice)]), refused(Refusal::RepeatedKey));
+    assert!(Committees::plain_listed(b"", &[(1, &key), (2, &key)]).is_ok());
+    let error = Error::Committees(Refusal::RepeatedKey);
+    assert_eq!(error.to_string(), "there are no such committees");
+    assert_eq!(error.source().unwrap().to_string(), "a key stands twice in a committee");
     let vote = Vote::Nullify { epoch: 0, view: 1 };
     let mut stream = Encoder::new(Size::Bytes48);
     assert_eq!(stream.vote(&vote, 0, &[0; 47], &every), Err(Error::Arguments));

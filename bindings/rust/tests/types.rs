@@ -2,8 +2,8 @@
 
 use simplex_audit::shards::{Classes, Cut, Index, Range, Row};
 use simplex_audit::{
-    Accusation, Attestation, Committees, Deferred, Encoder, Error, Evidence, Kind, Ledger, Message, Monitor, Record, Report,
-    Size, Split, Verifier, Vote,
+    Accusation, Attestation, Committees, Deferred, Encoder, Error, Evidence, Kind, Ledger, Message, Monitor, Record, Refusal,
+    Report, SignedVote, Size, Split, Verifier, Vote,
 };
 use std::collections::BTreeSet;
 use std::path::Path;
@@ -20,7 +20,7 @@ macro_rules! shared {
 
 shared! {
     Accusation Attestation Classes Committees Cut Deferred Encoder Error Evidence Index Kind Ledger Message Monitor Range Record
-    Report Row Size Split Vote
+    Refusal Report Row SignedVote Size Split Vote
 }
 
 /// The names of the structures and enumerations that the crate's sources make public.

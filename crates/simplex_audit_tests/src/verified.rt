@@ -128,11 +128,17 @@ fn counts(
     Ok((wanted, verified(&deferred)?))
 }
 
+/// As `counts`, of these messages one after another.
+fn counts_of(rt: &impl Abort, alloc: Global, messages: &[&[u8]]) -> Result<(usize, usize), Fail> {
+    let stream = stream_of(alloc, messages)?;
+    counts(rt, alloc, stream.as_slice(), messages.len())
+}
+
 #[test]
 fn ample_nothing_is_verified_twice(rt: HostRuntime) -> Result<(), Fail> {
     let [first, second, third] = NOTARIZES;
     let [vote, certificate] = VIEW_11;
-    let cases: [(&[&[u8]], (usize, usize)); 20] = [
+    let cases: [(&[&[u8]], (usize, usize)); 14] = [
         (&[first, first, first], (1, 0)),
         (&[first, second, first, second, third], (2, 2)),
         (&[NULLIFY, NULLIFY], (1, 0)),
@@ -152,18 +158,41 @@ fn ample_nothing_is_verified_twice(rt: HostRuntime) -> Result<(), Fail> {
         (&[OTHER, first, NOTARIZATION, second], (4, 4)),
         // Of the votes in a certificate that does not certify only those of suspects are verified.
         (&[first, second, FORGED], (6, 4)),
-        // A recorded vote is known in a certificate, the signer's first and its other one,
+    ];
+    for (messages, verified) in cases {
+        let found = counts_of(&rt, rt.alloc(), messages)?;
+        assert_eq!(rt; found, verified, "of {messages:?}");
+    }
+    Ok(())
+}
+
+/// A recorded vote is known in a certificate, the signer's first and its other one, but no other subject of the signer is.
+#[test]
+fn ample_recorded_votes_are_known_in_certificates(rt: HostRuntime) -> Result<(), Fail> {
+    let [first, second, _] = NOTARIZES;
+    let cases: [(&[&[u8]], (usize, usize)); 3] = [
         (&[first, NOTARIZATION], (3, 0)),
         (&[first, second, SECOND_NOTARIZATION], (4, 4)),
-        // but no vote of this signer for another subject, of another kind or with another signature, nor an invalid one.
-        (&[second, NOTARIZATION], (4, 4)),
+        (&[OTHER, second, NOTARIZATION], (4, 4)),
+    ];
+    for (messages, verified) in cases {
+        let found = counts_of(&rt, rt.alloc(), messages)?;
+        assert_eq!(rt; found, verified, "of {messages:?}");
+    }
+    Ok(())
+}
+
+/// No vote is known by one of another kind or with another signature, nor by an invalid one.
+#[test]
+fn ample_other_votes_are_not_known(rt: HostRuntime) -> Result<(), Fail> {
+    let [first, _, _] = NOTARIZES;
+    let cases: [(&[&[u8]], (usize, usize)); 3] = [
         (&[FINALIZE, NOTARIZATION], (4, 0)),
         (&[first, MISLISTED], (5, 0)),
         (&[UNSIGNED, SECOND_NOTARIZATION], (4, 0)),
     ];
     for (messages, verified) in cases {
-        let stream = stream_of(rt.alloc(), messages)?;
-        let found = counts(&rt, rt.alloc(), stream.as_slice(), messages.len())?;
+        let found = counts_of(&rt, rt.alloc(), messages)?;
         assert_eq!(rt; found, verified, "of {messages:?}");
     }
     Ok(())

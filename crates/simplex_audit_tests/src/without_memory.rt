@@ -6,7 +6,7 @@ use crate::outcome::marked;
 use simplex_audit::audit::{Auditor, Committees, CommitteesError, audit};
 use simplex_base::positions::{Epoch, Participant, Round, View};
 use simplex_places::places::AttestationPlace;
-use simplex_places::records::{NULLIFY_FINALIZE, Record};
+use simplex_places::records::{NULLIFY_FINALIZE, Record, VotePlace};
 use simplex_scheme::scheme::{CertificateScheme, Digest, Listing, VoteKind};
 use simplex_schemes::marked::{Marked, MarkedDigest};
 use std::alloc::Global;
@@ -129,13 +129,22 @@ fn without_memory_clones(rt: HostRuntime) {
         signer: 6,
         kind: VoteKind::Finalize as u32,
     };
+    let vote = VotePlace {
+        subject_place: 1,
+        subject_length: 2,
+        verdict_place: 3,
+        signer: 4,
+        kind: VoteKind::Finalize as u32,
+    };
     let record = Record {
         epoch: 1,
         view: 2,
         first_place: 3,
         second_place: 4,
+        first_vote: vote,
+        second_vote: vote,
         signer: 5,
         kind: NULLIFY_FINALIZE,
     };
-    assert!(rt; is_cloned(&suspect) && is_cloned(&record));
+    assert!(rt; is_cloned(&suspect) && is_cloned(&vote) && is_cloned(&record));
 }

@@ -19,12 +19,13 @@ ghost use Rattle.simplex_ffi.specs.Signatures.{IsVouchedSize};
 ghost use Rattle.simplex_ffi.specs.Sizes.{AreCommitteeSizes, AreSizes};
 ghost use Rattle.simplex_handle.specs.Owned.{InHandle};
 ghost use Rattle.simplex_handle.specs.Roster.{IsOfSize, OfKeys, Roster};
-ghost use Rattle.simplex_handle.specs.Standing.{Beginning, Counting, Feeding, Following, Pruning, Reporting, Saving, Telling};
+ghost use Rattle.simplex_handle.specs.Standing.{Beginning, Counting, Deferring, Feeding, Following, Pruning, Reporting, Saving, Telling};
 
 use simplex_ffi::answer::ReportSummary;
 use simplex_handle::auditor::{AnyAuditor, Judged};
 use simplex_handle::calls;
 use simplex_handle::handle::Handle;
+use simplex_places::repeats::Unverified;
 use std::alloc::Global;
 
 /// Makes an auditor of a stream whose signatures have 48, 64 or 96 bytes, each with the caller's
@@ -53,26 +54,28 @@ pub extern "C" fn simplex_auditor_new(
     calls::new_vouched(alloc, signature, epochs, sizes, held, auditor)
 }
 
-/// Makes an auditor of a stream of the plain scheme, under one committee for every epoch: `keys` are
-/// its keys, of 32 bytes each, in any order. Otherwise it is as `simplex_auditor_new`.
+/// Makes an auditor of a stream of the plain scheme, under the committees of these keys, given as to
+/// `simplex_audit_plain`. Otherwise it is as `simplex_auditor_new`.
 #[unsafe(no_mangle)]
 pub extern "C" fn simplex_auditor_new_plain(
     alloc: Global,
     name: &[u8],
+    epochs: &[u64],
+    sizes: &[u32],
     keys: &[u8],
     held: &[u8],
     auditor: &mut Handle,
 ) -> u32
     ensures made { result ≡ 0 → (committees : Schedule PlainScheme) ×
-        AreOfKeys name.now keys.now committees ×
+        AreOfKeys name.now epochs.now sizes.now keys.now committees ×
         InHandle ⟦<AnyAuditor as Judged>⟧.bases (Beginning held.now) (OfKeys committees)
         auditor.new.held auditor.new.held }
-    ensures refused { result ≡ 2 → ¬ AreKeys keys.now }
-    ensures memory { result ≡ 3 → IsLengthOfKeys (length keys.now) }
+    ensures refused { result ≡ 2 → ¬ AreKeys epochs.now sizes.now keys.now }
+    ensures memory { result ≡ 3 → IsLengthOfKeys epochs.now sizes.now (length keys.now) }
     ensures untouched { result ≢ 0 → auditor.new.held ≡ auditor.old.held }
     ensures status { (result ≡ 0) ⊎ (result ≡ 2) ⊎ (result ≡ 3) }
 {
-    calls::new_plain(alloc, name, keys, held, auditor)
+    calls::new_plain(alloc, name, epochs, sizes, keys, held, auditor)
 }
 
 /// Feeds the next bytes of the stream, cut anywhere, at the cost of these bytes. What they complete
@@ -90,6 +93,35 @@ pub extern "C" fn simplex_auditor_feed(alloc: Global, auditor: &mut Handle, byte
     ensures status { (result ≡ 0) ⊎ (result ≡ 1) ⊎ (result ≡ 2) ⊎ (result ≡ 3) ⊎ (result ≡ 5) }
 {
     calls::feed(alloc, auditor, bytes)
+}
+
+/// Lists what the caller has to verify of the next bytes of the stream, before it feeds them: the
+/// attestations of the whole messages at their front whose rounds are at the floor or above it and
+/// whose signers are in the committee of the epoch. Each is listed with the index of the first that is
+/// the same, the verdicts apart. `needed` is the number of the attestations, and `whole` that of the
+/// bytes of these messages. Nothing is fed. Returns 0; 1 if no message follows these, whatever comes;
+/// 2 also if what was fed ends within a message, or the auditor is one of keys; 3 or 4.
+#[unsafe(no_mangle)]
+pub extern "C" fn simplex_auditor_unverified(
+    alloc: Global,
+    auditor: &mut Handle,
+    bytes: &[u8],
+    records: &mut [Unverified],
+    needed: &mut usize,
+    whole: &mut usize,
+) -> u32
+    ensures defers { (roster : Roster) (floor : positions.Round) (stream : List ℕ) →
+        InHandle ⟦<AnyAuditor as Judged>⟧.bases (Following floor stream) roster
+        auditor.old.held auditor.old.held →
+        InHandle ⟦<AnyAuditor as Judged>⟧.bases (Deferring floor stream
+        ⟦<AnyAuditor as Judged>⟧.encodings bytes.now records.old records.new needed.new whole.new
+        result roster) roster auditor.old.held auditor.new.held }
+    ensures none { auditor.old.held ≡ None → (result ≡ 2) × (auditor.new.held ≡ None) }
+    ensures untouched { (result ≡ 2) ⊎ (result ≡ 3) → (records.new ≡ records.old) ×
+        (needed.new ≡ needed.old) × (whole.new ≡ whole.old) }
+    ensures status { (result ≡ 0) ⊎ (result ≡ 1) ⊎ (result ≡ 2) ⊎ (result ≡ 3) ⊎ (result ≡ 4) }
+{
+    calls::unverified(alloc, auditor, bytes, records, needed, whole)
 }
 
 /// Puts the text of the report of what was fed, from the floor on, into `text`. Returns the status

@@ -7,8 +7,9 @@
 //! - 1, of audits, records and rows: the byte at `fault_place` starts no message. The messages before it
 //!   were audited or listed, and the buffer is written. Of a message that is read and of an evidence that
 //!   is verified: the bytes are none, and nothing was written.
-//! - 2: the arguments are no committees; of leaders, there is no participant or a term has no view;
-//!   of audits in parts, a size, a class, a row or a range is invalid. Nothing was written.
+//! - 2: the arguments are no committees (`simplex_refusal` says why); of leaders, there is no participant
+//!   or a term has no view; of audits in parts, a size, a class, a row or a range is invalid. Nothing was
+//!   written.
 //! - 3: an allocation failed. Nothing was written.
 //! - 4, of calls with a buffer: it is too short, and as before. The length that is needed is
 //!   written, for audits, records and rows with the rest of the summary.
@@ -36,6 +37,7 @@ ghost use Rattle.simplex_ffi.specs.Sizes.{AreSizes, AreCommitteeSizes};
 ghost use Rattle.simplex_shards.specs.Cut.{mixed_class};
 
 mod auditor;
+mod refusals;
 
 use simplex_audit::basis::Audited;
 use simplex_base::codec::Fixed;
@@ -50,8 +52,8 @@ use simplex_ffi::suspects::suspects_vouched;
 use simplex_ffi::vouched::{answer_vouched, store_vouched};
 use simplex_ffi::{answer, leaders, numbers};
 use simplex_places::located::Located;
-use simplex_places::places::AttestationPlace;
 use simplex_places::records::Record;
+use simplex_places::repeats::Unverified;
 use simplex_scheme::scheme::{Hasher, Sha256, Sha256Digest};
 use simplex_schemes::plain::Plain;
 use simplex_schemes::vouched::{Role48, Role64, Role96, Vouched};
@@ -110,7 +112,7 @@ pub extern "C" fn simplex_audit(
 }
 
 /// Audits a stream as `simplex_audit` does, and writes the evidence of the report as records, each with
-/// the places of its two votes in the stream. Returns a status as above.
+/// its two votes as they stand in the stream. Returns a status as above.
 #[unsafe(no_mangle)]
 pub extern "C" fn simplex_records(
     alloc: Global,
@@ -125,12 +127,15 @@ pub extern "C" fn simplex_records(
         AreSizes epochs.now sizes.now committees × ForSizes signature
         (AreRecorded (⟦<Vouched<Role48, 49> as Audited<Sha256Digest>>⟧.basis committees)
         ⟦<Sha256Digest as Fixed>⟧.bytes_of ⟦<Vouched<Role48, 49> as Located<Sha256Digest>>⟧.carries
+        ⟦<Vouched<Role48, 49> as Located<Sha256Digest>>⟧.stands
         stream.now records.old records.new summary.new result)
         (AreRecorded (⟦<Vouched<Role64, 65> as Audited<Sha256Digest>>⟧.basis committees)
         ⟦<Sha256Digest as Fixed>⟧.bytes_of ⟦<Vouched<Role64, 65> as Located<Sha256Digest>>⟧.carries
+        ⟦<Vouched<Role64, 65> as Located<Sha256Digest>>⟧.stands
         stream.now records.old records.new summary.new result)
         (AreRecorded (⟦<Vouched<Role96, 97> as Audited<Sha256Digest>>⟧.basis committees)
         ⟦<Sha256Digest as Fixed>⟧.bytes_of ⟦<Vouched<Role96, 97> as Located<Sha256Digest>>⟧.carries
+        ⟦<Vouched<Role96, 97> as Located<Sha256Digest>>⟧.stands
         stream.now records.old records.new summary.new result) }
     ensures refused { result ≡ 2 →
         ¬ (IsVouchedSize signature × AreCommitteeSizes epochs.now sizes.now) }
@@ -196,7 +201,8 @@ pub extern "C" fn simplex_store(
 
 /// Lists the attestations that the caller has to verify before it audits a stream whose signatures have
 /// so many bytes, 48, 64 or 96, and a verdict, which may still be any byte, under the committees of these
-/// sizes. What is behind a fault is ignored. Returns a status as above, never 1, and 2 also if signatures
+/// sizes. Each is listed with the index of the first that is the same, the verdicts apart. What is behind
+/// a fault is ignored. Returns a status as above, never 1, and 2 also if signatures
 /// have no such size.
 #[unsafe(no_mangle)]
 pub extern "C" fn simplex_suspects(
@@ -205,19 +211,19 @@ pub extern "C" fn simplex_suspects(
     epochs: &[u64],
     sizes: &[u32],
     stream: &[u8],
-    records: &mut [AttestationPlace],
+    records: &mut [Unverified],
     needed: &mut usize,
 ) -> u32
     ensures given { result ≢ 2 → result ≢ 3 → (committees : Schedule VouchedScheme) ×
         AreSizes epochs.now sizes.now committees × ForSizes signature
         (AreAttestationsGiven (⟦<Vouched<Role48, 49> as Audited<Sha256Digest>>⟧.basis committees)
-        ⟦<Vouched<Role48, 49> as Located<Sha256Digest>>⟧.places
+        ⟦<Vouched<Role48, 49> as Located<Sha256Digest>>⟧.places 48
         stream.now records.old records.new needed.new result)
         (AreAttestationsGiven (⟦<Vouched<Role64, 65> as Audited<Sha256Digest>>⟧.basis committees)
-        ⟦<Vouched<Role64, 65> as Located<Sha256Digest>>⟧.places
+        ⟦<Vouched<Role64, 65> as Located<Sha256Digest>>⟧.places 64
         stream.now records.old records.new needed.new result)
         (AreAttestationsGiven (⟦<Vouched<Role96, 97> as Audited<Sha256Digest>>⟧.basis committees)
-        ⟦<Vouched<Role96, 97> as Located<Sha256Digest>>⟧.places
+        ⟦<Vouched<Role96, 97> as Located<Sha256Digest>>⟧.places 96
         stream.now records.old records.new needed.new result) }
     ensures refused { result ≡ 2 →
         ¬ (IsVouchedSize signature × AreCommitteeSizes epochs.now sizes.now) }
@@ -239,52 +245,58 @@ pub extern "C" fn simplex_suspects(
     }
 }
 
-/// Audits a stream of the plain scheme, whose signatures are hashes, under one committee for every
-/// epoch: `keys` are its keys, of 32 bytes each, in any order. The text of the report is put into
+/// Audits a stream of the plain scheme, whose signatures are hashes, under the committees of these
+/// keys: 32 bytes each, as many for each committee as its size says, the first committee's first.
+/// Those of a committee stand in any order, and none twice. The text of the report is put into
 /// `text`. Returns a status as above.
 #[unsafe(no_mangle)]
 pub extern "C" fn simplex_audit_plain(
     alloc: Global,
     name: &[u8],
+    epochs: &[u64],
+    sizes: &[u32],
     keys: &[u8],
     stream: &[u8],
     text: &mut [u8],
     summary: &mut ReportSummary,
 ) -> u32
     ensures audited { result ≢ 2 → result ≢ 3 → (committees : Schedule PlainScheme) ×
-        AreOfKeys name.now keys.now committees ×
+        AreOfKeys name.now epochs.now sizes.now keys.now committees ×
         IsAudited (⟦<Plain as Audited<Sha256Digest>>⟧.basis committees)
         ⟦<Sha256Digest as Fixed>⟧.bytes_of stream.now text.old text.new summary.new result }
-    ensures refused { result ≡ 2 → ¬ AreKeys keys.now }
-    ensures memory { result ≡ 3 → IsLengthOfKeys (length keys.now) }
+    ensures refused { result ≡ 2 → ¬ AreKeys epochs.now sizes.now keys.now }
+    ensures memory { result ≡ 3 → IsLengthOfKeys epochs.now sizes.now (length keys.now) }
     ensures untouched { (result ≡ 2) ⊎ (result ≡ 3) →
         (text.new ≡ text.old) × (summary.new ≡ summary.old) }
 {
-    answer_plain(alloc, name, keys, stream, text, summary)
+    answer_plain(alloc, name, epochs, sizes, keys, stream, text, summary)
 }
 
 /// Audits a stream of the plain scheme, and writes the evidence of the report as records, each with
-/// the places of its two votes in the stream. Returns a status as above.
+/// its two votes as they stand in the stream. Returns a status as above.
 #[unsafe(no_mangle)]
 pub extern "C" fn simplex_records_plain(
     alloc: Global,
     name: &[u8],
+    epochs: &[u64],
+    sizes: &[u32],
     keys: &[u8],
     stream: &[u8],
     records: &mut [Record],
     summary: &mut ReportSummary,
 ) -> u32
     ensures recorded { result ≢ 2 → result ≢ 3 → (committees : Schedule PlainScheme) ×
-        AreOfKeys name.now keys.now committees ×
+        AreOfKeys name.now epochs.now sizes.now keys.now committees ×
         AreRecorded (⟦<Plain as Audited<Sha256Digest>>⟧.basis committees)
         ⟦<Sha256Digest as Fixed>⟧.bytes_of ⟦<Plain as Located<Sha256Digest>>⟧.carries
+        ⟦<Plain as Located<Sha256Digest>>⟧.stands
         stream.now records.old records.new summary.new result }
-    ensures refused { result ≡ 2 → ¬ AreKeys keys.now }
-    ensures memory { result ≡ 3 → IsLengthOfKeys (length keys.now) }
+    ensures refused { result ≡ 2 → ¬ AreKeys epochs.now sizes.now keys.now }
+    ensures memory { result ≡ 3 → IsLengthOfKeys epochs.now sizes.now (length keys.now) }
     ensures untouched { (result ≡ 2) ⊎ (result ≡ 3) →
         (records.new ≡ records.old) × (summary.new ≡ summary.old) }
 {
-    records_plain(alloc, name, keys, stream, records, summary)
+    records_plain(alloc, name, epochs, sizes, keys, stream, records, summary)
 }
 
 /// Stores the evidence of what was stored and of a batch behind it, of the plain scheme. What is
@@ -293,6 +305,8 @@ pub extern "C" fn simplex_records_plain(
 pub extern "C" fn simplex_store_plain(
     alloc: Global,
     name: &[u8],
+    epochs: &[u64],
+    sizes: &[u32],
     keys: &[u8],
     stored: &[u8],
     batch: &[u8],
@@ -300,15 +314,17 @@ pub extern "C" fn simplex_store_plain(
     size: &mut usize,
 ) -> u32
     ensures stored { result ≢ 2 → result ≢ 3 → (committees : Schedule PlainScheme) ×
-        AreOfKeys name.now keys.now committees ×
+        AreOfKeys name.now epochs.now sizes.now keys.now committees ×
         AreStored (⟦<Plain as Audited<Sha256Digest>>⟧.basis committees)
         (stored.now ++ batch.now) evidence.old evidence.new size.new result }
-    ensures refused { result ≡ 2 → ¬ AreKeys keys.now }
-    ensures memory { result ≡ 3 → IsLengthOfKeys (length keys.now) }
+    ensures refused { result ≡ 2 → ¬ AreKeys epochs.now sizes.now keys.now }
+    ensures memory { result ≡ 3 → IsLengthOfKeys epochs.now sizes.now (length keys.now) }
     ensures untouched { (result ≡ 2) ⊎ (result ≡ 3) →
         (evidence.new ≡ evidence.old) × (size.new ≡ size.old) }
 {
-    store_plain(alloc, name, keys, stored, batch, evidence, size)
+    store_plain(
+        alloc, name, epochs, sizes, keys, stored, batch, evidence, size,
+    )
 }
 
 /// Lists the messages of a stream as rows: of which round each is, where it stands, and what it is.
@@ -463,6 +479,8 @@ pub extern "C" fn simplex_audit_ranges(
 pub extern "C" fn simplex_audit_ranges_plain(
     alloc: Global,
     name: &[u8],
+    epochs: &[u64],
+    sizes: &[u32],
     keys: &[u8],
     stream: &[u8],
     ranges: &[Range],
@@ -470,17 +488,20 @@ pub extern "C" fn simplex_audit_ranges_plain(
     summary: &mut ReportSummary,
 ) -> u32
     ensures audited { result ≢ 2 → result ≢ 3 → (committees : Schedule PlainScheme) ×
-        AreOfKeys name.now keys.now committees ×
+        AreOfKeys name.now epochs.now sizes.now keys.now committees ×
         IsAudited (⟦<Plain as Audited<Sha256Digest>>⟧.basis committees)
         ⟦<Sha256Digest as Fixed>⟧.bytes_of (bytes_of_ranges stream.now ranges.now)
         text.old text.new summary.new result }
     ensures taken { result ≢ 2 →
-        AreWithin (length stream.now) ranges.now × IsLengthOfKeys (length keys.now) }
-    ensures refused { result ≡ 2 → ¬ (AreWithin (length stream.now) ranges.now × AreKeys keys.now) }
+        AreWithin (length stream.now) ranges.now × IsLengthOfKeys epochs.now sizes.now (length keys.now) }
+    ensures refused { result ≡ 2 → ¬ (AreWithin (length stream.now) ranges.now ×
+        AreKeys epochs.now sizes.now keys.now) }
     ensures untouched { (result ≡ 2) ⊎ (result ≡ 3) →
         (text.new ≡ text.old) × (summary.new ≡ summary.old) }
 {
-    ranges_plain(alloc, name, keys, stream, ranges, text, summary)
+    ranges_plain(
+        alloc, name, epochs, sizes, keys, stream, ranges, text, summary,
+    )
 }
 
 /// How many of `n` participants may lie: the greatest f with 3f + 1 ≤ n, and 0 for none.

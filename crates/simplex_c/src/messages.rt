@@ -231,23 +231,25 @@ pub extern "C" fn simplex_verify_evidence(
     judge_of_size(alloc, signature, epochs, sizes, evidence, accusation)
 }
 
-/// As `simplex_verify_evidence`, of an evidence of the plain scheme, under the committee of these keys,
-/// for every epoch.
+/// As `simplex_verify_evidence`, of an evidence of the plain scheme, under the committees of these keys,
+/// given as to `simplex_audit_plain`.
 #[unsafe(no_mangle)]
 pub extern "C" fn simplex_verify_evidence_plain(
     alloc: Global,
     name: &[u8],
+    epochs: &[u64],
+    sizes: &[u32],
     keys: &[u8],
     evidence: &[u8],
     accusation: &mut Accusation,
 ) -> u32
     ensures judged { result ≢ 2 → result ≢ 3 → (committees : Schedule PlainScheme) ×
-        AreOfKeys name.now keys.now committees ×
+        AreOfKeys name.now epochs.now sizes.now keys.now committees ×
         IsJudged (⟦<Plain as Audited<Sha256Digest>>⟧.basis committees) evidence.now
         accusation.old accusation.new result }
-    ensures taken { result ≢ 2 → IsLengthOfKeys (length keys.now) }
-    ensures refused { result ≡ 2 → ¬ AreKeys keys.now }
+    ensures taken { result ≢ 2 → IsLengthOfKeys epochs.now sizes.now (length keys.now) }
+    ensures refused { result ≡ 2 → ¬ AreKeys epochs.now sizes.now keys.now }
     ensures untouched { (result ≡ 2) ⊎ (result ≡ 3) → accusation.new ≡ accusation.old }
 {
-    judge_plain(alloc, name, keys, evidence, accusation)
+    judge_plain(alloc, name, epochs, sizes, keys, evidence, accusation)
 }

@@ -1,5 +1,5 @@
 -- Committees by their sizes.
-use Rattle.std.proofs.Common.{◌≡◌, ℕ, zero, suc, ◌+◌, ◌<◌, ◌≤◌, List, [], ◌∷◌, ◌++◌, length, get_or, drop, refl, sym, ap, ◌∙◌, append_assoc, append-nil, subst, true, false, not, nat_eq, IsTrue, arith}
+use Rattle.std.proofs.Common.{◌≡◌, ℕ, zero, suc, ◌+◌, ◌<◌, ◌≤◌, List, [], ◌∷◌, ◌++◌, length, get_or, drop, refl, sym, ap, ◌∙◌, append_assoc, append-nil, subst, true, false, nat_eq, arith}
 use Rattle.std.specs.List.Sorted.{IsStrictlySortedBy}
 use Rattle.std.specs.Ordering.{nat_cmp}
 use Rattle.std.specs.Prelude.{◌==◌, All, map}
@@ -7,7 +7,7 @@ use Rattle.std.specs.List.{list_any}
 use Rattle.std.proofs.Math.ListN.{get_or-map}
 use Rattle.std.proofs.lemmas.Bool.{eqb-false, eqb-true, false≢true}
 use Rattle.std.proofs.lemmas.Bool.Decides.{nat_tests}
-use Rattle.std.proofs.lemmas.List.Elements.{All-nil, All-cons}
+use Rattle.std.proofs.lemmas.List.Elements.{All-nil, All-cons, All-head}
 use Rattle.std.proofs.lemmas.List.{drop_more, drop_all, length-map}
 use Rattle.std.proofs.lemmas.Map.Keys.{below_from_sorted, sorted_from_strictly_increasing}
 use Rattle.simplex_schemes.specs.Vouched.{VouchedScheme, of_size}
@@ -65,27 +65,24 @@ epochs_of (e ∷ es) [] same = absurd (omega (arith, same))
 epochs_of (e ∷ es) (n ∷ ns) same = ap (λ (l : List ℕ). e ∷ l) (epochs_of es ns (omega (arith, same)))
 
 -- the epoch of a pair, and how many pairs there are
-pairs_at : (epochs sizes : List ℕ) → length epochs ≡ length sizes →
-    (length (pairs_of epochs sizes) ≡ length epochs)
-    × ((k : ℕ) (d : ℕ × VouchedScheme) → (get_or (pairs_of epochs sizes) k d).0 ≡ get_or epochs k d.0)
-pairs_at epochs sizes same =
-    let epoch : ℕ × VouchedScheme → ℕ = λ p. p.0 in
-    let pairs = pairs_of epochs sizes in
-    let is = epochs_of epochs sizes same in
+pairs_at : {S : Type 0} (epochs : List ℕ) (pairs : List (ℕ × S)) → map (λ p. p.0) pairs ≡ epochs →
+    (length pairs ≡ length epochs) × ((k : ℕ) (d : ℕ × S) → (get_or pairs k d).0 ≡ get_or epochs k d.0)
+pairs_at {S} epochs pairs is =
+    let epoch : ℕ × S → ℕ = λ p. p.0 in
     (sym (length-map pairs epoch) ∙ ap length is, λ k d. sym (get_or-map epoch pairs k d) ∙ ap (λ ns. get_or ns k d.0) is)
 
 -- the pairs rise if the epochs do
-rising_pairs : (epochs sizes : List ℕ) → length epochs ≡ length sizes → IsStrictlySortedBy nat_cmp epochs →
-    AreRising (pairs_of epochs sizes)
-rising_pairs epochs sizes same rising i j d lt within =
-    let at = pairs_at epochs sizes same in
+pub rising_pairs : {S : Type 0} (epochs : List ℕ) (pairs : List (ℕ × S)) → map (λ p. p.0) pairs ≡ epochs →
+    IsStrictlySortedBy nat_cmp epochs → AreRising pairs
+rising_pairs {S} epochs pairs is rising i j d lt within =
+    let at = pairs_at epochs pairs is in
     omega (arith, at.1 i d, at.1 j d, below_from_sorted epochs i j d.0 rising lt (omega (arith, within, at.0)))
 
 -- the epochs rise if the pairs do
 rising_epochs : (epochs sizes : List ℕ) → length epochs ≡ length sizes → AreRising (pairs_of epochs sizes) →
     IsStrictlySortedBy nat_cmp epochs
 rising_epochs epochs sizes same rising =
-    let at = pairs_at epochs sizes same in
+    let at = pairs_at epochs (pairs_of epochs sizes) (epochs_of epochs sizes same) in
     let d : ℕ × VouchedScheme = (0, of_size 0) in
     sorted_from_strictly_increasing epochs
     (λ k within. omega (arith, at.1 k d, at.1 (k + 1) d, rising k (k + 1) d (omega arith) (omega (arith, within, at.0))))
@@ -111,19 +108,10 @@ size_of_one epochs sizes none (Every committee, are) = (are.1.0, are.1.1, are.1.
 size_of_one epochs sizes none (Listed pairs, are) = absurd (are.0 none)
 
 -- one size for every epoch
-pub one_size : (epochs sizes : List ℕ) → epochs ≡ [] → length sizes ≡ 1
-    → (IsTrue (not (nat_eq (get_or sizes 0 0) 0)) → AreCommitteeSizes epochs sizes)
-    × (AreCommitteeSizes epochs sizes → IsTrue (not (nat_eq (get_or sizes 0 0) 0)))
-one_size epochs [] none many = absurd (omega (arith, many))
-one_size epochs (m ∷ n ∷ ns) none many = absurd (omega (arith, many))
-one_size epochs (zero ∷ []) none many = (
-  λ yes. absurd (false≢true yes),
-  λ are.
-      let (n, is, some) = size_of_one epochs (zero ∷ []) none are in
-      absurd (omega (arith, some, ap (λ ns. get_or ns 0 0) is)),
-)
-one_size epochs (suc n ∷ []) none many =
-    (λ yes. (Every (of_size (suc n)), (none, (suc n, refl, omega arith, refl))), λ are. ap not (not_zero n))
+pub one_size : (sizes : List ℕ) → length sizes ≡ 1 → All (λ n. 1 ≤ n) sizes → AreCommitteeSizes [] sizes
+one_size [] many some = absurd (omega (arith, many))
+one_size (m ∷ n ∷ ns) many some = absurd (omega (arith, many))
+one_size (n ∷ []) many some = (Every (of_size n), (refl, (n, refl, All-head (λ n. 1 ≤ n) n [] some, refl)))
 
 -- with epochs there is a size for each
 pub sizes_of_listed : (epochs sizes : List ℕ) → (epochs ≡ [] → ⊥) → AreCommitteeSizes epochs sizes →
@@ -136,4 +124,5 @@ sizes_of_listed epochs sizes listed (Listed pairs, are) =
 pub listed_sizes : (epochs sizes : List ℕ) → (epochs ≡ [] → ⊥) → length epochs ≡ length sizes → All (λ n. 1 ≤ n) sizes →
     IsStrictlySortedBy nat_cmp epochs → AreCommitteeSizes epochs sizes
 listed_sizes epochs sizes listed same some rising =
-    (Listed (pairs_of epochs sizes), (listed, same, some, rising_pairs epochs sizes same rising, refl))
+    let pairs = pairs_of epochs sizes in
+    (Listed pairs, (listed, same, some, rising_pairs epochs pairs (epochs_of epochs sizes same) rising, refl))

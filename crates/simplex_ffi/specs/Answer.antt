@@ -9,10 +9,12 @@ use Rattle.simplex_stream.specs.declared.fault.Fault.{Fault}
 use Rattle.simplex_audit.specs.declared.audit.Report.{Report}
 use Rattle.simplex_votes.specs.Votes.{SignedVote}
 use Rattle.simplex_places.specs.Records.{AreRecords}
+use Rattle.simplex_places.specs.Repeats.{AreWithFirsts}
 use Rattle.simplex_places.specs.Suspects.{HaveToBeVerified}
 use Rattle.simplex_places.specs.declared.places.Placed.{Placed}
 use Rattle.simplex_places.specs.declared.places.AttestationPlace.{AttestationPlace}
 use Rattle.simplex_places.specs.declared.records.Record.{Record}
+use Rattle.simplex_places.specs.declared.repeats.Unverified.{Unverified}
 use Rattle.simplex_ffi.specs.declared.answer.ReportSummary.{ReportSummary}
 
 -- the status of a stream that was read whole, or that has a fault
@@ -61,25 +63,34 @@ pub record AreStored {S D C P G : Type 0} (basis : Basis S D C P G) (stream befo
   pub size_is : size ≡ length bytes
   pub bytes_are : IsPut bytes before after status 0
 
--- The attestations of the stream that have to be verified stand at the start of the buffer, with 0; or the buffer is too short
--- and as before, with 4. The number needed is that of the attestations.
+-- The attestations of the stream that have to be verified, each with the index of the first of them that is the same, the
+-- verdicts apart. A signature has `size` bytes before its verdict.
+pub record AreUnverified {S D C P G : Type 0} (basis : Basis S D C P G) (places_in : ℕ → Activity S D C P G → List Placed)
+    (size : ℕ) (stream : List ℕ) (found : List Unverified) : Type 0 where
+  pub attestations : List AttestationPlace
+  pub attestations_are : HaveToBeVerified basis places_in stream attestations
+  pub found_are : AreWithFirsts stream size attestations found
+
+-- Those attestations stand at the start of the buffer, with 0; or the buffer is too short and as before, with 4. The number
+-- needed is that of the attestations.
 pub record AreAttestationsGiven {S D C P G : Type 0} (basis : Basis S D C P G)
-    (places_in : ℕ → Activity S D C P G → List Placed) (stream : List ℕ) (before after : List AttestationPlace)
+    (places_in : ℕ → Activity S D C P G → List Placed) (size : ℕ) (stream : List ℕ) (before after : List Unverified)
     (needed status : ℕ) : Type 0 where
-  pub found : List AttestationPlace
-  pub attestations_are : HaveToBeVerified basis places_in stream found
+  pub found : List Unverified
+  pub found_are : AreUnverified basis places_in size stream found
   pub needed_is : needed ≡ length found
   pub records_are : IsPut found before after status 0
 
 -- The stream was audited: the summary is that of its report, and the records of the report's evidence stand at the start of the
 -- buffer, with 0 where the stream was read whole and 1 where it has a fault; or the buffer is too short and as before, with 4.
--- `carries` says whether a message carries a vote.
+-- `carries` says whether a message carries a vote, and `stands` whether an attestation is a vote, as it stands in a stream.
 pub record AreRecorded {S D C P G : Type 0} (basis : Basis S D C P G) (bytes_of : D → List ℕ)
-    (carries : SignedVote D G → Activity S D C P G → Bool) (stream : List ℕ) (before after : List Record)
+    (carries : SignedVote D G → Activity S D C P G → Bool)
+    (stands : List ℕ → SignedVote D G → AttestationPlace → Type 0) (stream : List ℕ) (before after : List Record)
     (summary : ReportSummary) (status : ℕ) : Type 0 where
   pub report : Report S D P G
   pub audit_is : IsAudit basis stream report
   pub summary_is : IsSummary bytes_of report summary
   pub found : List Record
-  pub found_are : AreRecords basis carries stream report found
+  pub found_are : AreRecords basis carries stands stream report found
   pub records_are : IsPut found before after status (ended_of report.fault)

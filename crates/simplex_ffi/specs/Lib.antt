@@ -4,6 +4,7 @@ pub mod Keys
 pub mod Leaders
 pub mod Messages
 pub mod Proof
+pub mod Refusals
 pub mod Rows
 pub mod Signatures
 pub mod Sizes

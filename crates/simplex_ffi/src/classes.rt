@@ -11,13 +11,14 @@ use crate::rows::Indexed;
 use crate::signatures::{VouchedSize, vouched_size};
 use simplex_base::positions::{Epoch, Round, View};
 use simplex_evidence::types::Activity;
-use simplex_scheme::scheme::{Digest, Listing, Sha256Digest};
+use simplex_scheme::scheme::{Digest, Sha256Digest};
 use simplex_schemes::plain::Plain;
 use simplex_schemes::vouched::{Role48, Role64, Role96, Vouched};
 use simplex_shards::classes::{ClassRanges, class_ranges};
 use simplex_shards::cut::{self, Cut};
 use simplex_shards::index::Row;
 use simplex_shards::ranges::{Range, ranges};
+use simplex_shards::skips::SkipCertificate;
 use std::alloc::{AllocError, Global};
 use std::num::NonZeroU32;
 
@@ -126,7 +127,7 @@ fn even_cut(seed: u64, classes: usize) -> Option<Cut>
 /// end there into `ends`. The status is [`WHOLE`], [`FAULT`](crate::answer::FAULT), [`MEMORY`] or [`SHORT`]; or [`ARGUMENTS`]
 /// if there are no classes or 2^32 or more. Nothing is written after [`ARGUMENTS`] and [`MEMORY`]. If the buffer is too short
 /// it and `ends` are as before, and the summary has the number of ranges that is needed.
-fn put_classes<S: Listing<D>, D: Digest>(
+fn put_classes<S: SkipCertificate<D>, D: Digest>(
     alloc: Global,
     bound: u32,
     stream: &[u8],

@@ -7,7 +7,7 @@
 //! signed, [`encoding`] writes votes and certificates, [`decoding`] reads the message at the front of some bytes, and [`proof`]
 //! judges one piece of evidence. Committees: [`keys`] and [`plain`] have
 //! those of the plain scheme, [`sizes`] and [`vouched`] those whose signatures the caller verified; [`signatures`] says how
-//! long these are. Numbers alone: [`leaders`] and [`numbers`].
+//! long these are, and [`refusals`] why there are no such committees. Numbers alone: [`leaders`] and [`numbers`].
 //!
 //! `simplex_c` exports these, each under its contract.
 #![tactic(auto)]
@@ -25,6 +25,7 @@ pub mod parts;
 pub mod plain;
 pub mod proof;
 pub mod records;
+pub mod refusals;
 pub mod rows;
 pub mod signatures;
 pub mod sizes;

@@ -191,11 +191,12 @@ pub fn ranges_of_size(
     }
 }
 
-/// As [`ranges_vouched`], of a stream of the plain scheme, under the committee of these keys, for every epoch. The status is
-/// [`ARGUMENTS`] if they are not the keys of a committee.
+/// As [`ranges_vouched`], of a stream of the plain scheme, under the committees of these keys.
 pub fn ranges_plain(
     alloc: Global,
     namespace: &[u8],
+    epochs: &[u64],
+    sizes: &[u32],
     keys: &[u8],
     stream: &[u8],
     ranges: &[Range],
@@ -203,20 +204,21 @@ pub fn ranges_plain(
     summary: &mut ReportSummary,
 ) -> u32
     ensures audited { result ≢ 2 → result ≢ 3 → (committees : Schedule PlainScheme) ×
-        AreOfKeys namespace.now keys.now committees ×
+        AreOfKeys namespace.now epochs.now sizes.now keys.now committees ×
         IsAudited (⟦<Plain as Audited<Sha256Digest>>⟧.basis committees)
         ⟦<Sha256Digest as Fixed>⟧.bytes_of (bytes_of_ranges stream.now ranges.now)
         buffer.old buffer.new summary.new result }
     ensures taken { result ≢ 2 →
-        AreWithin (length stream.now) ranges.now × IsLengthOfKeys (length keys.now) }
-    ensures refused { result ≡ 2 → ¬ (AreWithin (length stream.now) ranges.now × AreKeys keys.now) }
+        AreWithin (length stream.now) ranges.now × IsLengthOfKeys epochs.now sizes.now (length keys.now) }
+    ensures refused { result ≡ 2 → ¬ (AreWithin (length stream.now) ranges.now ×
+        AreKeys epochs.now sizes.now keys.now) }
     ensures untouched { (result ≡ 2) ⊎ (result ≡ 3) →
         (buffer.new ≡ buffer.old) × (summary.new ≡ summary.old) }
 {
     if !are_within(stream.len(), ranges) {
         return ARGUMENTS;
     }
-    match keys::committees(alloc, namespace, keys) {
+    match keys::committees(alloc, namespace, epochs, sizes, keys) {
         Ok(Some(committees)) => answer_ranges::<Plain, Sha256Digest>(
             alloc,
             &committees,

@@ -15,27 +15,28 @@ use simplex_scheme::scheme::Sha256Digest;
 use simplex_schemes::plain::Plain;
 use std::alloc::Global;
 
-/// Audits a stream under the committee of these keys, for every epoch. The status is that of
-/// [`answer`], or [`ARGUMENTS`] where they are not the keys of a committee, and then nothing is
-/// written.
+/// Audits a stream under the committees of these keys, as [`committees`] has them. The status is that of
+/// [`answer`], or [`ARGUMENTS`] where there are no such committees, and then nothing is written.
 pub fn answer_plain(
     alloc: Global,
     namespace: &[u8],
+    epochs: &[u64],
+    sizes: &[u32],
     keys: &[u8],
     stream: &[u8],
     buffer: &mut [u8],
     summary: &mut ReportSummary,
 ) -> u32
     ensures audited { result ≢ 2 → result ≢ 3 → (committees : Schedule PlainScheme) ×
-        AreOfKeys namespace.now keys.now committees ×
+        AreOfKeys namespace.now epochs.now sizes.now keys.now committees ×
         IsAudited (⟦<Plain as Audited<Sha256Digest>>⟧.basis committees)
         ⟦<Sha256Digest as Fixed>⟧.bytes_of stream.now buffer.old buffer.new summary.new result }
-    ensures refused { result ≡ 2 → ¬ AreKeys keys.now }
-    ensures memory { result ≡ 3 → IsLengthOfKeys (length keys.now) }
+    ensures refused { result ≡ 2 → ¬ AreKeys epochs.now sizes.now keys.now }
+    ensures memory { result ≡ 3 → IsLengthOfKeys epochs.now sizes.now (length keys.now) }
     ensures untouched { (result ≡ 2) ⊎ (result ≡ 3) →
         (buffer.new ≡ buffer.old) × (summary.new ≡ summary.old) }
 {
-    match committees(alloc, namespace, keys) {
+    match committees(alloc, namespace, epochs, sizes, keys) {
         Ok(Some(committees)) => {
             answer::<Plain, Sha256Digest>(alloc, &committees, stream, buffer, summary)
         }
@@ -44,12 +45,14 @@ pub fn answer_plain(
     }
 }
 
-/// Stores the evidence of what was stored and of a batch behind it, under the committee of these
-/// keys. The status is that of [`store`], or [`ARGUMENTS`] where they are not the keys of a committee,
-/// and then nothing is written.
+/// Stores the evidence of what was stored and of a batch behind it, under the committees of these
+/// keys. The status is that of [`store`], or [`ARGUMENTS`] where there are no such committees, and then
+/// nothing is written.
 pub fn store_plain(
     alloc: Global,
     namespace: &[u8],
+    epochs: &[u64],
+    sizes: &[u32],
     keys: &[u8],
     stored: &[u8],
     batch: &[u8],
@@ -57,15 +60,15 @@ pub fn store_plain(
     size: &mut usize,
 ) -> u32
     ensures stored { result ≢ 2 → result ≢ 3 → (committees : Schedule PlainScheme) ×
-        AreOfKeys namespace.now keys.now committees ×
+        AreOfKeys namespace.now epochs.now sizes.now keys.now committees ×
         AreStored (⟦<Plain as Audited<Sha256Digest>>⟧.basis committees) (stored.now ++ batch.now)
         buffer.old buffer.new size.new result }
-    ensures refused { result ≡ 2 → ¬ AreKeys keys.now }
-    ensures memory { result ≡ 3 → IsLengthOfKeys (length keys.now) }
+    ensures refused { result ≡ 2 → ¬ AreKeys epochs.now sizes.now keys.now }
+    ensures memory { result ≡ 3 → IsLengthOfKeys epochs.now sizes.now (length keys.now) }
     ensures untouched { (result ≡ 2) ⊎ (result ≡ 3) →
         (buffer.new ≡ buffer.old) × (size.new ≡ size.old) }
 {
-    match committees(alloc, namespace, keys) {
+    match committees(alloc, namespace, epochs, sizes, keys) {
         Ok(Some(committees)) => {
             store::<Plain, Sha256Digest>(alloc, &committees, stored, batch, buffer, size)
         }

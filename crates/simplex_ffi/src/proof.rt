@@ -198,24 +198,25 @@ pub fn judge_of_size(
     }
 }
 
-/// As [`judge_vouched`], of an evidence of the plain scheme, under the committee of these keys, for every epoch. The status is
-/// [`ARGUMENTS`] if they are not the keys of a committee.
+/// As [`judge_vouched`], of an evidence of the plain scheme, under the committees of these keys.
 pub fn judge_plain(
     alloc: Global,
     namespace: &[u8],
+    epochs: &[u64],
+    sizes: &[u32],
     keys: &[u8],
     bytes: &[u8],
     accusation: &mut Accusation,
 ) -> u32
     ensures judged { result ≢ 2 → result ≢ 3 → (committees : Schedule PlainScheme) ×
-        AreOfKeys namespace.now keys.now committees ×
+        AreOfKeys namespace.now epochs.now sizes.now keys.now committees ×
         IsJudged (⟦<Plain as Audited<Sha256Digest>>⟧.basis committees) bytes.now
         accusation.old accusation.new result }
-    ensures taken { result ≢ 2 → IsLengthOfKeys (length keys.now) }
-    ensures refused { result ≡ 2 → ¬ AreKeys keys.now }
+    ensures taken { result ≢ 2 → IsLengthOfKeys epochs.now sizes.now (length keys.now) }
+    ensures refused { result ≡ 2 → ¬ AreKeys epochs.now sizes.now keys.now }
     ensures untouched { (result ≡ 2) ⊎ (result ≡ 3) → accusation.new ≡ accusation.old }
 {
-    match keys::committees(alloc, namespace, keys) {
+    match keys::committees(alloc, namespace, epochs, sizes, keys) {
         Ok(Some(committees)) => {
             judge::<Plain, Sha256Digest>(alloc, &committees, bytes, accusation)
         }

@@ -17,15 +17,15 @@ use simplex_audit::audit::{Committees, Report};
 use simplex_audit::basis::Audited;
 use simplex_base::codec::Fixed;
 use simplex_base::codec::fixed_bytes::Role;
-use simplex_places::located::Located;
+use simplex_places::located::{Counted, Located};
 use simplex_places::records::{Record, records};
-use simplex_scheme::scheme::{Digest, Listing, Sha256Digest};
+use simplex_scheme::scheme::{Digest, Sha256Digest};
 use simplex_schemes::plain::Plain;
 use simplex_schemes::vouched::Vouched;
 use std::alloc::{AllocError, Global};
 
 /// The report of a stream, its text, and its evidence as records.
-fn account_records<S: Listing<D>, D: Digest>(
+fn account_records<S: Counted<D>, D: Digest>(
     alloc: Global,
     committees: &Committees<S>,
     stream: &[u8],
@@ -34,7 +34,7 @@ fn account_records<S: Listing<D>, D: Digest>(
         IsAudit (⟦<S as Audited<D>>⟧.basis committees.now) stream.now report ×
         (string_bytes text ≡ report_text D.bytes_of report) ×
         AreRecords (⟦<S as Audited<D>>⟧.basis committees.now) ⟦<S as Located<D>>⟧.carries
-        stream.now report found.items) }
+        ⟦<S as Located<D>>⟧.stands stream.now report found.items) }
 {
     let (report, text) = account::<S, D>(alloc, committees, stream)?;
     let found = records::<S, D>(alloc, committees, stream, &report)?;
@@ -45,7 +45,7 @@ fn account_records<S: Listing<D>, D: Digest>(
 /// [`WHOLE`](crate::answer::WHOLE), [`FAULT`](crate::answer::FAULT), [`MEMORY`] or [`SHORT`]. Where an allocation failed
 /// nothing is written; where the buffer is too short it is as before, and the summary has the number of records that is
 /// needed.
-fn answer_records<S: Listing<D>, D: Digest>(
+fn answer_records<S: Counted<D>, D: Digest>(
     alloc: Global,
     committees: &Committees<S>,
     stream: &[u8],
@@ -53,7 +53,7 @@ fn answer_records<S: Listing<D>, D: Digest>(
     summary: &mut ReportSummary,
 ) -> u32
     ensures recorded { result ≢ 3 → AreRecorded (⟦<S as Audited<D>>⟧.basis committees.now)
-        D.bytes_of ⟦<S as Located<D>>⟧.carries stream.now
+        D.bytes_of ⟦<S as Located<D>>⟧.carries ⟦<S as Located<D>>⟧.stands stream.now
         buffer.old buffer.new summary.new result }
     ensures memory { result ≡ 3 → (buffer.new ≡ buffer.old) × (summary.new ≡ summary.old) }
     ensures status { result ≢ 2 }
@@ -85,6 +85,7 @@ pub fn records_vouched<R: Role<N>, const N: usize>(
         AreSizes epochs.now sizes.now committees ×
         AreRecorded (⟦<Vouched<R, N> as Audited<Sha256Digest>>⟧.basis committees)
         ⟦<Sha256Digest as Fixed>⟧.bytes_of ⟦<Vouched<R, N> as Located<Sha256Digest>>⟧.carries
+        ⟦<Vouched<R, N> as Located<Sha256Digest>>⟧.stands
         stream.now buffer.old buffer.new summary.new result }
     ensures refused { result ≡ 2 → (committees : Schedule VouchedScheme) →
         ¬ AreSizes epochs.now sizes.now committees }
@@ -105,27 +106,29 @@ pub fn records_vouched<R: Role<N>, const N: usize>(
     }
 }
 
-/// As [`records_vouched`], of a stream of the plain scheme, under the committee of these keys, for every epoch. The status is
-/// [`ARGUMENTS`] where they are not the keys of a committee, and then nothing is written.
+/// As [`records_vouched`], of a stream of the plain scheme, under the committees of these keys.
 pub fn records_plain(
     alloc: Global,
     namespace: &[u8],
+    epochs: &[u64],
+    sizes: &[u32],
     keys: &[u8],
     stream: &[u8],
     buffer: &mut [Record],
     summary: &mut ReportSummary,
 ) -> u32
     ensures recorded { result ≢ 2 → result ≢ 3 → (committees : Schedule PlainScheme) ×
-        AreOfKeys namespace.now keys.now committees ×
+        AreOfKeys namespace.now epochs.now sizes.now keys.now committees ×
         AreRecorded (⟦<Plain as Audited<Sha256Digest>>⟧.basis committees)
         ⟦<Sha256Digest as Fixed>⟧.bytes_of ⟦<Plain as Located<Sha256Digest>>⟧.carries
+        ⟦<Plain as Located<Sha256Digest>>⟧.stands
         stream.now buffer.old buffer.new summary.new result }
-    ensures refused { result ≡ 2 → ¬ AreKeys keys.now }
-    ensures memory { result ≡ 3 → IsLengthOfKeys (length keys.now) }
+    ensures refused { result ≡ 2 → ¬ AreKeys epochs.now sizes.now keys.now }
+    ensures memory { result ≡ 3 → IsLengthOfKeys epochs.now sizes.now (length keys.now) }
     ensures untouched { (result ≡ 2) ⊎ (result ≡ 3) →
         (buffer.new ≡ buffer.old) × (summary.new ≡ summary.old) }
 {
-    match keys::committees(alloc, namespace, keys) {
+    match keys::committees(alloc, namespace, epochs, sizes, keys) {
         Ok(Some(committees)) => {
             answer_records::<Plain, Sha256Digest>(alloc, &committees, stream, buffer, summary)
         }

@@ -3,8 +3,10 @@
 ghost use Rattle.std.specs.Prelude.{◌≡◌, ◌↔◌, ◌≤◌, All, None, Ok, IsTrue, IfOk, IfErr, IfSome, length};
 ghost use Rattle.simplex_scheme.specs.Committees.{Schedule};
 ghost use Rattle.simplex_schemes.specs.Vouched.{VouchedScheme};
+ghost use Rattle.simplex_ffi.specs.Refusals.{AskedOfSizes, IsFirstRefusal, refusal_code};
 ghost use Rattle.simplex_ffi.specs.Sizes.{AreSizes, AreCommitteeSizes, pairs_of};
 
+use crate::refusals::Refusal;
 use simplex_base::positions::Epoch;
 use simplex_scheme::committees::Committees;
 use simplex_scheme::scheme::Set;
@@ -38,20 +40,31 @@ pub fn committees<R, const N: usize>(
     }
 }
 
+/// Why there are no committees of these sizes, if there are none: the first refusal. Without epochs one size is asked for.
+pub fn refusal(epochs: &[u64], sizes: &[u32]) -> Option<Refusal>
+    ensures first { IsFirstRefusal (AskedOfSizes epochs.now sizes.now) (refusal_code result) }
+    ensures accepted { result ≡ None ↔ AreCommitteeSizes epochs.now sizes.now }
+{
+    if sizes.is_empty() {
+        return Some(Refusal::NoCommittee);
+    }
+    if sizes.len() != epochs.len().max(1) {
+        return Some(Refusal::Count);
+    }
+    if !Set::are_ascending(epochs) {
+        return Some(Refusal::Epochs);
+    }
+    if sizes.contains(&0) {
+        return Some(Refusal::EmptyCommittee);
+    }
+    None
+}
+
 /// Whether there are committees of these sizes.
 fn are_committee_sizes(epochs: &[u64], sizes: &[u32]) -> bool
     ensures { IsTrue result ↔ AreCommitteeSizes epochs.now sizes.now }
 {
-    if epochs.is_empty() {
-        return sizes.len() == 1 && sizes[0] != 0;
-    }
-    if epochs.len() != sizes.len() {
-        return false;
-    }
-    if sizes.contains(&0) {
-        return false;
-    }
-    Set::are_ascending(epochs)
+    refusal(epochs, sizes).is_none()
 }
 
 /// Each epoch with the committee of its size.

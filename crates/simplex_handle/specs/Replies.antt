@@ -1,9 +1,11 @@
 -- What a call does to an auditor, and puts into a caller's buffer.
-use Rattle.std.specs.Prelude.{◌≡◌, ◌≢◌, ℕ, List, [], ◌++◌, length}
+use Rattle.std.specs.Prelude.{◌≡◌, ◌≢◌, ◌⊎◌, ℕ, true, false, List, [], ◌++◌, length}
+use Rattle.std.specs.Int.{from_bool}
 use Rattle.std.specs.Ordering.{ord_max}
 use Rattle.simplex_base.specs.Positions.{Round}
 use Rattle.simplex_scheme.specs.Committees.{Schedule}
 use Rattle.simplex_evidence.specs.Contradiction.{Equivocation}
+use Rattle.simplex_evidence.specs.declared.types.activity.Activity.{Activity}
 use Rattle.simplex_detector.specs.Accusation.{round_cmp}
 use Rattle.simplex_detector.specs.Independence.{first_round}
 use Rattle.simplex_detector.specs.Line.{line_of}
@@ -13,10 +15,14 @@ use Rattle.simplex_audit.specs.Basis.{Basis, basis_from}
 use Rattle.simplex_audit.specs.Report.{IsReport}
 use Rattle.simplex_audit.specs.Run.{report_text, text_of}
 use Rattle.simplex_audit.specs.declared.audit.Report.{Report}
+use Rattle.simplex_places.specs.Pieces.{IsPiece}
+use Rattle.simplex_places.specs.declared.pieces.Piece.{Piece}
+use Rattle.simplex_places.specs.declared.places.Placed.{Placed}
+use Rattle.simplex_places.specs.declared.repeats.Unverified.{Unverified}
 use Rattle.simplex_ffi.specs.Answer.{IsPut, IsSummary, ended_of}
 use Rattle.simplex_ffi.specs.declared.answer.ReportSummary.{ReportSummary}
 use Rattle.simplex_tracker.specs.Live.{AreNews, CanStandFor, Follows, HasEnded, IsShort, LosesNothing, TakesPiece, WaitSame, evidence_waiting, splits_waiting}
-use Rattle.simplex_tracker.specs.Tracking.{HasVotes}
+use Rattle.simplex_tracker.specs.Tracking.{EndsWhole, HasVotes}
 use Rattle.simplex_tracker.specs.declared.live.LiveAuditor.{LiveAuditor}
 
 -- The report of a stream: the summary is that of it, and its text stands at the start of the buffer, with 0 if the stream has
@@ -51,6 +57,20 @@ pub record IsTold {S D P G : Type 0} (bytes_of : D → List ℕ) (before after :
   pub no_evidence_waits : status ≡ 0 → evidence_waiting new ≡ []
   pub no_split_waits : status ≡ 0 → splits_waiting new ≡ []
 
+-- A piece follows a stream that ends with a whole message. What has to be verified of the piece before it is fed, from the floor
+-- on, stands at the start of the buffer, with 0, or with 1 if the stream has a fault behind the piece's whole messages; or the
+-- buffer is too short and as before, with 4. Signatures have `size` bytes before the verdict, and `places_in` gives the
+-- attestations of a message that begins at a place.
+pub record IsPieceGiven {S D C P G : Type 0} (floor : Round) (basis : Basis S D C P G)
+    (places_in : ℕ → Activity S D C P G → List Placed) (size : ℕ) (stream bytes : List ℕ) (before after : List Unverified)
+    (needed whole status : ℕ) : Type 0 where
+  pub begins : EndsWhole basis stream true
+  pub piece : Piece
+  pub piece_is : IsPiece floor basis places_in size bytes piece
+  pub needed_is : needed ≡ length piece.unverified.items
+  pub whole_is : whole ≡ piece.whole
+  pub records_are : IsPut piece.unverified.items before after status (from_bool piece.over)
+
 module _ {S D C P G : Type 0} (floor : Round) (basis : Schedule S → Basis S D C P G) (committees : Schedule S)
     (stream : List ℕ) where
   -- the auditor follows the stream as before, and what waits is as before
@@ -80,6 +100,15 @@ module _ {S D C P G : Type 0} (floor : Round) (basis : Schedule S → Basis S D 
   pub record Counts (count status : ℕ) (old new : LiveAuditor S D P G) : Type 0 where
     pub stays : Stays old new
     pub counted : status ≡ 0 → HasVotes (basis_from floor (basis committees)) stream count
+
+  -- What has to be verified of a piece is put, but after a failed allocation. It is refused, with 2, if the stream ends within a
+  -- message, or callers do not verify the signatures, which then have no size.
+  pub record Defers (places_in : ℕ → Activity S D C P G → List Placed) (size : ℕ) (bytes : List ℕ)
+      (before after : List Unverified) (needed whole status : ℕ) (old new : LiveAuditor S D P G) : Type 0 where
+    pub stays : Stays old new
+    pub given : status ≢ 2 → status ≢ 3 →
+        IsPieceGiven floor (basis committees) places_in size stream bytes before after needed whole status
+    pub refused : status ≡ 2 → (size ≡ 0) ⊎ EndsWhole (basis committees) stream false
 
   -- what is held is put, but after a failed allocation
   pub record Saves (before after : List ℕ) (size status : ℕ) (old new : LiveAuditor S D P G) : Type 0 where

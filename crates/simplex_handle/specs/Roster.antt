@@ -1,5 +1,6 @@
 -- Whose signatures an auditor judges, and of which size they are.
 use Rattle.std.specs.Prelude.{◌≡◌, ℕ, List}
+use Rattle.simplex_base.specs.Format.{Format}
 use Rattle.simplex_scheme.specs.Committees.{Schedule}
 use Rattle.simplex_scheme.specs.declared.scheme.Attestation.{Attestation}
 use Rattle.simplex_schemes.specs.Plain.{PlainScheme}
@@ -30,3 +31,25 @@ pub record Bases : Type 1 where
   pub of_64 : BasisOf VouchedScheme
   pub of_96 : BasisOf VouchedScheme
   pub of_keys : BasisOf PlainScheme
+
+-- how many bytes the signatures have that the caller verifies, and 0 if it verifies none
+abbrev pub size_in : Roster → ℕ
+size_in (Of48 committees) = 48
+size_in (Of64 committees) = 64
+size_in (Of96 committees) = 96
+size_in (OfKeys committees) = 0
+
+-- how payloads are encoded, and signatures of each size
+pub record Encodings : Type 1 where
+  pub payload : Format (List ℕ)
+  pub of_48 : Format (List ℕ)
+  pub of_64 : Format (List ℕ)
+  pub of_96 : Format (List ℕ)
+  pub of_keys : Format (List ℕ)
+
+-- how the signatures are encoded
+abbrev pub signature_in : Encodings → Roster → Format (List ℕ)
+signature_in encodings (Of48 committees) = encodings.of_48
+signature_in encodings (Of64 committees) = encodings.of_64
+signature_in encodings (Of96 committees) = encodings.of_96
+signature_in encodings (OfKeys committees) = encodings.of_keys

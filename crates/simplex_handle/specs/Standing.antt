@@ -1,14 +1,20 @@
 -- What is said of an auditor of any scheme, said of one whose signatures have some size, or which has keys.
 use Rattle.std.specs.Prelude.{ℕ, List}
+use Rattle.simplex_base.specs.Format.{Format}
 use Rattle.simplex_base.specs.Positions.{Round}
 use Rattle.simplex_scheme.specs.Committees.{Schedule}
+use Rattle.simplex_scheme.specs.declared.scheme.Attestation.{Attestation}
 use Rattle.simplex_schemes.specs.Plain.{PlainScheme}
 use Rattle.simplex_schemes.specs.Vouched.{VouchedScheme}
+use Rattle.simplex_evidence.specs.declared.types.activity.Activity.{Activity}
+use Rattle.simplex_places.specs.Places.{message_places}
+use Rattle.simplex_places.specs.declared.places.Placed.{Placed}
+use Rattle.simplex_places.specs.declared.repeats.Unverified.{Unverified}
 use Rattle.simplex_ffi.specs.declared.answer.ReportSummary.{ReportSummary}
 use Rattle.simplex_tracker.specs.Live.{Follows}
 use Rattle.simplex_tracker.specs.declared.live.LiveAuditor.{LiveAuditor}
 use Rattle.simplex_handle.specs.Replies as replies
-use Rattle.simplex_handle.specs.Roster.{Bases, BasisOf, Of48, Of64, Of96, OfKeys, Roster}
+use Rattle.simplex_handle.specs.Roster.{Bases, BasisOf, Encodings, Of48, Of64, Of96, OfKeys, Roster, signature_in, size_in}
 use Rattle.simplex_handle.specs.declared.auditor.AnyAuditor.{AnyAuditor}
 use Rattle.simplex_handle.specs.declared.auditor.AnyAuditor.TheVariants.{Keyed, Vouched48, Vouched64, Vouched96}
 
@@ -28,6 +34,11 @@ Between bases R (OfKeys committees) (Keyed old) (Keyed new) = R PlainScheme base
 Between bases R _ _ _ = ⊥
 
 -- ---- what is said
+
+-- the attestations of a message that begins at a place, from how payloads and signatures are encoded
+abbrev pub placed_by : Format (List ℕ) → Format (List ℕ) → (S : Type 0) → ℕ →
+    Activity S (List ℕ) (List (Attestation S (List ℕ) (List ℕ))) (List ℕ) (List ℕ) → List Placed
+placed_by payload signature S = message_places payload signature (λ certificate. certificate)
 
 -- it follows a stream from a floor on
 abbrev pub Following : Round → List ℕ → Relation
@@ -66,3 +77,9 @@ module _ (floor : Round) (stream : List ℕ) where
   abbrev pub Telling : List ℕ → List ℕ → ℕ → ℕ → Relation
   Telling before after size status = λ S basis committees old new.
       replies.Tells floor basis committees stream (λ bytes. bytes) before after size status old new
+
+  -- what has to be verified of a piece before it is fed was put into a buffer
+  abbrev pub Deferring : Encodings → List ℕ → List Unverified → List Unverified → ℕ → ℕ → ℕ → Roster → Relation
+  Deferring encodings bytes before after needed whole status roster = λ S basis committees old new.
+      replies.Defers floor basis committees stream (placed_by encodings.payload (signature_in encodings roster) S)
+      (size_in roster) bytes before after needed whole status old new

@@ -1,6 +1,7 @@
 //! An auditor of signatures of any size that callers verify, or of keys.
 
 ghost use Rattle.std.specs.Prelude.{◌≡◌, ◌≢◌, ◌⊎◌, ℕ, List, IfErr, IfOk, IfSome, None, Ok, length};
+ghost use Rattle.simplex_base.specs.Format.{format_of};
 ghost use Rattle.simplex_base.specs.Positions as positions;
 ghost use Rattle.simplex_scheme.specs.Committees.{Schedule};
 ghost use Rattle.simplex_schemes.specs.Plain.{PlainScheme};
@@ -9,17 +10,19 @@ ghost use Rattle.simplex_ffi.specs.Keys.{AreKeys, AreOfKeys, IsLengthOfKeys};
 ghost use Rattle.simplex_ffi.specs.Signatures.{IsVouchedSize};
 ghost use Rattle.simplex_ffi.specs.Sizes.{AreCommitteeSizes, AreSizes};
 ghost use Rattle.simplex_handle.specs.Replies.{Begins};
-ghost use Rattle.simplex_handle.specs.Roster.{Bases, IsOfSize, OfKeys, Roster};
-ghost use Rattle.simplex_handle.specs.Standing.{Beginning, Between, Counting, Feeding, Following, Pruning, Reporting, Saving, Telling};
+ghost use Rattle.simplex_handle.specs.Roster.{Bases, Encodings, IsOfSize, OfKeys, Roster};
+ghost use Rattle.simplex_handle.specs.Standing.{Beginning, Between, Counting, Deferring, Feeding, Following, Pruning, Reporting, Saving, Telling};
 
 use crate::replies;
 use simplex_audit::basis::Audited;
+use simplex_base::codec::Read;
 use simplex_base::codec::fixed_bytes::Role;
 use simplex_base::positions::Round;
-use simplex_ffi::answer::ReportSummary;
+use simplex_ffi::answer::{ARGUMENTS, ReportSummary};
 use simplex_ffi::signatures::{VouchedSize, vouched_size};
 use simplex_ffi::{keys, sizes};
-use simplex_scheme::scheme::Sha256Digest;
+use simplex_places::repeats::Unverified;
+use simplex_scheme::scheme::{SchemeTypes, Sha256Digest};
 use simplex_schemes::plain::Plain;
 use simplex_schemes::vouched::{Role48, Role64, Role96, Vouched};
 use simplex_tracker::live::LiveAuditor;
@@ -42,6 +45,9 @@ pub enum AnyAuditor {
 pub trait Judged {
     /// How messages are read and judged, for each size of signatures and for keys.
     ghost bases: { Bases };
+
+    /// How payloads and signatures are encoded.
+    ghost encodings: { Encodings };
 }
 
 impl Judged for AnyAuditor {
@@ -50,6 +56,14 @@ impl Judged for AnyAuditor {
       of_64 = ⟦<Vouched<Role64, 65> as Audited<Sha256Digest>>⟧.basis;
       of_96 = ⟦<Vouched<Role96, 97> as Audited<Sha256Digest>>⟧.basis;
       of_keys = ⟦<Plain as Audited<Sha256Digest>>⟧.basis;
+    } };
+
+    ghost encodings = { record {
+      payload = format_of ⟦<Sha256Digest as Read>⟧;
+      of_48 = format_of ⟦<<Vouched<Role48, 49> as SchemeTypes>::Signature as Read>⟧;
+      of_64 = format_of ⟦<<Vouched<Role64, 65> as SchemeTypes>::Signature as Read>⟧;
+      of_96 = format_of ⟦<<Vouched<Role96, 97> as SchemeTypes>::Signature as Read>⟧;
+      of_keys = format_of ⟦<<Plain as SchemeTypes>::Signature as Read>⟧;
     } };
 }
 
@@ -110,21 +124,23 @@ impl AnyAuditor {
         }
     }
 
-    /// An auditor of the plain scheme, of the committee of these keys for every epoch, that was fed what another one held, or
-    /// nothing. `None` if they are not the keys of a committee. `AllocError` only where an allocation failed.
+    /// An auditor of the plain scheme, of the committees of these keys, that was fed what another one held, or nothing. `None`
+    /// if there are no such committees. `AllocError` only where an allocation failed.
     pub fn of_keys(
         alloc: Global,
         namespace: &[u8],
+        epochs: &[u64],
+        sizes: &[u32],
         keys: &[u8],
         held: &[u8],
     ) -> Result<Option<AnyAuditor>, AllocError>
         ensures some { IfOk result (λ answer. IfSome answer (λ any. (committees : Schedule PlainScheme) ×
-            AreOfKeys namespace.now keys.now committees ×
+            AreOfKeys namespace.now epochs.now sizes.now keys.now committees ×
             Between ⟦<AnyAuditor as Judged>⟧.bases (Beginning held.now) (OfKeys committees) any any)) }
-        ensures none { result ≡ Ok None → ¬ AreKeys keys.now }
-        ensures memory { IfErr result (λ _. IsLengthOfKeys (length keys.now)) }
+        ensures none { result ≡ Ok None → ¬ AreKeys epochs.now sizes.now keys.now }
+        ensures memory { IfErr result (λ _. IsLengthOfKeys epochs.now sizes.now (length keys.now)) }
     {
-        match keys::committees(alloc, namespace, keys)? {
+        match keys::committees(alloc, namespace, epochs, sizes, keys)? {
             Some(committees) => Ok(Some(AnyAuditor::Keyed(LiveAuditor::new(
                 alloc, committees, held,
             )?))),
@@ -225,6 +241,38 @@ impl AnyAuditor {
             AnyAuditor::Vouched64(live) => replies::tell(alloc, live, buffer, size),
             AnyAuditor::Vouched96(live) => replies::tell(alloc, live, buffer, size),
             AnyAuditor::Keyed(live) => replies::tell(alloc, live, buffer, size),
+        }
+    }
+
+    /// Puts what has to be verified of a piece, before it is fed, into a buffer. The status is that of
+    /// [`replies::unverified`], and 2 of an auditor of keys, which verifies the signatures itself.
+    pub fn unverified(
+        &mut self,
+        alloc: Global,
+        bytes: &[u8],
+        records: &mut [Unverified],
+        needed: &mut usize,
+        whole: &mut usize,
+    ) -> u32
+        ensures defers { (roster : Roster) (floor : positions.Round) (stream : List ℕ) →
+            Between ⟦<AnyAuditor as Judged>⟧.bases (Following floor stream) roster self.old self.old →
+            Between ⟦<AnyAuditor as Judged>⟧.bases (Deferring floor stream ⟦<AnyAuditor as Judged>⟧.encodings
+            bytes.now records.old records.new needed.new whole.new result roster) roster self.old self.new }
+        ensures untouched { (result ≡ 2) ⊎ (result ≡ 3) → (records.new ≡ records.old) ×
+            (needed.new ≡ needed.old) × (whole.new ≡ whole.old) }
+        ensures status { (result ≡ 0) ⊎ (result ≡ 1) ⊎ (result ≡ 2) ⊎ (result ≡ 3) ⊎ (result ≡ 4) }
+    {
+        match self {
+            AnyAuditor::Vouched48(live) => {
+                replies::unverified(alloc, live, 48, bytes, records, needed, whole)
+            }
+            AnyAuditor::Vouched64(live) => {
+                replies::unverified(alloc, live, 64, bytes, records, needed, whole)
+            }
+            AnyAuditor::Vouched96(live) => {
+                replies::unverified(alloc, live, 96, bytes, records, needed, whole)
+            }
+            AnyAuditor::Keyed(_) => ARGUMENTS,
         }
     }
 }

@@ -10,13 +10,14 @@ ghost use Rattle.simplex_ffi.specs.Keys.{AreKeys, AreOfKeys, IsLengthOfKeys};
 ghost use Rattle.simplex_ffi.specs.Signatures.{IsVouchedSize};
 ghost use Rattle.simplex_ffi.specs.Sizes.{AreCommitteeSizes, AreSizes};
 ghost use Rattle.simplex_handle.specs.Roster.{IsOfSize, OfKeys, Roster};
-ghost use Rattle.simplex_handle.specs.Standing.{Beginning, Counting, Feeding, Following, Pruning, Reporting, Saving, Telling};
+ghost use Rattle.simplex_handle.specs.Standing.{Beginning, Counting, Deferring, Feeding, Following, Pruning, Reporting, Saving, Telling};
 ghost use Rattle.simplex_handle.specs.Owned.{InHandle};
 
 use crate::auditor::{AnyAuditor, Judged};
 use crate::handle::{Handle, put_back, take};
 use simplex_base::positions::{Epoch, Round, View};
 use simplex_ffi::answer::{ARGUMENTS, MEMORY, ReportSummary, WHOLE};
+use simplex_places::repeats::Unverified;
 use std::alloc::Global;
 
 /// Has the handle own an auditor, in place of what it owned.
@@ -62,25 +63,26 @@ pub fn new_vouched(
     }
 }
 
-/// Has the handle own an auditor of the plain scheme, of the committee of these keys for every epoch, as
-/// [`new_vouched`] does.
+/// Has the handle own an auditor of the plain scheme, of the committees of these keys, as [`new_vouched`] does.
 pub fn new_plain(
     alloc: Global,
     namespace: &[u8],
+    epochs: &[u64],
+    sizes: &[u32],
     keys: &[u8],
     held: &[u8],
     handle: &mut Handle,
 ) -> u32
     ensures made { result ≡ 0 → (committees : Schedule PlainScheme) ×
-        AreOfKeys namespace.now keys.now committees ×
+        AreOfKeys namespace.now epochs.now sizes.now keys.now committees ×
         InHandle ⟦<AnyAuditor as Judged>⟧.bases (Beginning held.now) (OfKeys committees)
         handle.new.held handle.new.held }
-    ensures refused { result ≡ 2 → ¬ AreKeys keys.now }
-    ensures memory { result ≡ 3 → IsLengthOfKeys (length keys.now) }
+    ensures refused { result ≡ 2 → ¬ AreKeys epochs.now sizes.now keys.now }
+    ensures memory { result ≡ 3 → IsLengthOfKeys epochs.now sizes.now (length keys.now) }
     ensures untouched { result ≢ 0 → handle.new.held ≡ handle.old.held }
     ensures status { (result ≡ 0) ⊎ (result ≡ 2) ⊎ (result ≡ 3) }
 {
-    match AnyAuditor::of_keys(alloc, namespace, keys, held) {
+    match AnyAuditor::of_keys(alloc, namespace, epochs, sizes, keys, held) {
         Ok(Some(any)) => own(alloc, any, handle),
         Ok(None) => ARGUMENTS,
         Err(_) => MEMORY,
@@ -166,6 +168,38 @@ pub fn votes(alloc: Global, handle: &mut Handle, count: &mut usize) -> u32
         return ARGUMENTS;
     };
     let status = any.votes(alloc, count);
+    put_back(handle, any);
+    status
+}
+
+/// Puts what has to be verified of a piece into a buffer, before it is fed: the attestations of the whole messages at its front
+/// whose rounds are at the floor or above it and whose signers are in the committee of the epoch, each with the first that is the
+/// same; and writes how many these are, and how many bytes the messages have. The piece follows what was fed, which has to end
+/// with a whole message. The status is [`WHOLE`]; 1 if no message follows those of the piece, whatever comes; [`MEMORY`]; 4, the
+/// buffer being too short; or [`ARGUMENTS`] also if what was fed ends within a message, or the auditor is one of keys.
+pub fn unverified(
+    alloc: Global,
+    handle: &mut Handle,
+    bytes: &[u8],
+    records: &mut [Unverified],
+    needed: &mut usize,
+    whole: &mut usize,
+) -> u32
+    ensures defers { (roster : Roster) (floor : positions.Round) (stream : List ℕ) →
+        InHandle ⟦<AnyAuditor as Judged>⟧.bases (Following floor stream) roster
+        handle.old.held handle.old.held →
+        InHandle ⟦<AnyAuditor as Judged>⟧.bases (Deferring floor stream
+        ⟦<AnyAuditor as Judged>⟧.encodings bytes.now records.old records.new needed.new whole.new
+        result roster) roster handle.old.held handle.new.held }
+    ensures none { handle.old.held ≡ None → (result ≡ 2) × (handle.new.held ≡ None) }
+    ensures untouched { (result ≡ 2) ⊎ (result ≡ 3) → (records.new ≡ records.old) ×
+        (needed.new ≡ needed.old) × (whole.new ≡ whole.old) }
+    ensures status { (result ≡ 0) ⊎ (result ≡ 1) ⊎ (result ≡ 2) ⊎ (result ≡ 3) ⊎ (result ≡ 4) }
+{
+    let Some(mut any) = take(alloc, handle) else {
+        return ARGUMENTS;
+    };
+    let status = any.unverified(alloc, bytes, records, needed, whole);
     put_back(handle, any);
     status
 }

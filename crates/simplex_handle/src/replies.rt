@@ -1,6 +1,7 @@
 //! What a call does to an auditor of any scheme, and puts into a caller's buffer.
 
-ghost use Rattle.std.specs.Prelude.{◌≡◌, ◌≢◌, ◌⊎◌, ◌++◌, ℕ, List, IfOk, length, string_bytes};
+ghost use Rattle.std.specs.Prelude.{◌≡◌, ◌≢◌, ◌⊎◌, ◌++◌, ℕ, true, List, IfOk, length, string_bytes};
+ghost use Rattle.std.specs.Int.{from_bool};
 ghost use Rattle.simplex_base.specs.Positions as positions;
 ghost use Rattle.simplex_scheme.specs.Committees.{Schedule};
 ghost use Rattle.simplex_audit.specs.Basis.{basis_from};
@@ -8,13 +9,19 @@ ghost use Rattle.simplex_audit.specs.Report.{IsReport};
 ghost use Rattle.simplex_audit.specs.Run.{report_text};
 ghost use Rattle.simplex_ffi.specs.Answer.{IsPut};
 ghost use Rattle.simplex_tracker.specs.Live.{CanStandFor, Follows, IsShort, evidence_waiting, splits_waiting};
-ghost use Rattle.simplex_handle.specs.Replies.{Counts, Feeds, Prunes, Reports, Saves, Stays, Tells, news_text};
+ghost use Rattle.simplex_tracker.specs.Tracking.{EndsWhole};
+ghost use Rattle.simplex_handle.specs.Replies.{Counts, Defers, Feeds, IsPieceGiven, Prunes, Reports, Saves, Stays, Tells, news_text};
 
 use simplex_audit::audit::Report;
 use simplex_audit::basis::Audited;
 use simplex_audit::text::text;
 use simplex_base::positions::Round;
-use simplex_ffi::answer::{FAULT, MEMORY, ReportSummary, SHORT, WHOLE, put, write_report};
+use simplex_ffi::answer::{
+    ARGUMENTS, FAULT, MEMORY, ReportSummary, SHORT, WHOLE, put, write_report,
+};
+use simplex_places::located::{Counted, Located};
+use simplex_places::pieces::{Piece, unverified_in};
+use simplex_places::repeats::Unverified;
 use simplex_scheme::scheme::{Digest, Listing};
 use simplex_tracker::live::{Fed, LiveAuditor};
 use std::alloc::{AllocError, Global};
@@ -178,4 +185,85 @@ pub fn tell<S: Listing<D> + Drop, D: Digest>(
     }
     live.hand_over(alloc);
     WHOLE
+}
+
+/// Puts what has to be verified of a piece at the start of a buffer, and writes how many records that are, and how many bytes
+/// the whole messages of the piece have. The status is [`WHOLE`]; [`FAULT`] if no message follows them; or [`SHORT`].
+fn put_piece(
+    piece: &Piece,
+    records: &mut [Unverified],
+    needed: &mut usize,
+    whole: &mut usize,
+) -> u32
+    ensures put { IsPut piece.now.unverified.items records.old records.new result
+        (from_bool piece.now.over) }
+    ensures needed { needed.new ≡ length piece.now.unverified.items }
+    ensures whole { whole.new ≡ piece.now.whole }
+    ensures status { (result ≡ 0) ⊎ (result ≡ 1) ⊎ (result ≡ 4) }
+{
+    *needed = piece.unverified.len();
+    *whole = piece.whole;
+    if put(&piece.unverified, records) {
+        u32::from(piece.over)
+    } else {
+        SHORT
+    }
+}
+
+/// Puts what has to be verified of a piece at the start of a buffer, if it begins with a message. The status is that of
+/// [`put_piece`], or [`MEMORY`], and then nothing is written.
+fn list_piece<S: Counted<D> + Drop, D: Digest>(
+    alloc: Global,
+    live: &LiveAuditor<S, D>,
+    size: usize,
+    bytes: &[u8],
+    records: &mut [Unverified],
+    needed: &mut usize,
+    whole: &mut usize,
+) -> u32
+    ensures given { result ≢ 3 → (floor : positions.Round) (committees : Schedule S) (stream : List ℕ) →
+        Follows floor ⟦<S as Audited<D>>⟧.basis committees stream live.now →
+        EndsWhole (⟦<S as Audited<D>>⟧.basis committees) stream true →
+        IsPieceGiven floor (⟦<S as Audited<D>>⟧.basis committees) ⟦<S as Located<D>>⟧.places size
+        stream bytes.now records.old records.new needed.new whole.new result }
+    ensures memory { result ≡ 3 → (records.new ≡ records.old) × (needed.new ≡ needed.old) ×
+        (whole.new ≡ whole.old) }
+    ensures status { (result ≡ 0) ⊎ (result ≡ 1) ⊎ (result ≡ 3) ⊎ (result ≡ 4) }
+{
+    let committees = live.committees();
+    let floor = live.floor();
+    let Ok(piece) = unverified_in::<S, D>(alloc, committees, floor, size, bytes) else {
+        return MEMORY;
+    };
+    put_piece(&piece, records, needed, whole)
+}
+
+/// Puts what has to be verified of a piece, before it is fed, at the start of a buffer: signatures have `size` bytes before the
+/// verdict, and the piece follows what was fed. Nothing is fed. The status is that of [`put_piece`]; [`ARGUMENTS`] if what was
+/// fed ends within a message, or [`MEMORY`], and then nothing is written.
+pub fn unverified<S: Counted<D> + Drop, D: Digest>(
+    alloc: Global,
+    live: &mut LiveAuditor<S, D>,
+    size: usize,
+    bytes: &[u8],
+    records: &mut [Unverified],
+    needed: &mut usize,
+    whole: &mut usize,
+) -> u32
+    ensures defers { (floor : positions.Round) (committees : Schedule S) (stream : List ℕ) →
+        Follows floor ⟦<S as Audited<D>>⟧.basis committees stream live.old →
+        Defers floor ⟦<S as Audited<D>>⟧.basis committees stream ⟦<S as Located<D>>⟧.places size
+        bytes.now records.old records.new needed.new whole.new result live.old live.new }
+    ensures untouched { (result ≡ 2) ⊎ (result ≡ 3) → (records.new ≡ records.old) ×
+        (needed.new ≡ needed.old) × (whole.new ≡ whole.old) }
+    ensures status { (result ≡ 0) ⊎ (result ≡ 1) ⊎ (result ≡ 2) ⊎ (result ≡ 3) ⊎ (result ≡ 4) }
+{
+    let Ok(begins) = live.is_whole(alloc) else {
+        return MEMORY;
+    };
+    if begins {
+        list_piece(alloc, live, size, bytes, records, needed, whole)
+    } else {
+        ARGUMENTS
+    }
 }

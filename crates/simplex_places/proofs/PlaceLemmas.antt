@@ -1,9 +1,10 @@
--- The place of the first message that passes a test, and what was found of sought keys.
-use Rattle.std.proofs.Common.{◌≡◌, ℕ, ◌+◌, ◌-◌, ◌||◌, Bool, true, false, Option, Some, None, List, [], ◌∷◌, ◌++◌, length, BTreeMap, Ordering, true≢false, refl, sym, ap, subst, ◌∙◌, arith, length-append}
+-- Votes that are noted, and the first message in which one is found.
+use Rattle.std.proofs.Common.{◌≡◌, ℕ, suc, ◌+◌, ◌<◌, ◌≤◌, ◌||◌, Bool, true, false, Option, Some, None, List, [], ◌∷◌, length, map, get_or, drop, zip, BTreeMap, Ordering, true≢false, refl, sym, ap, subst, ◌∙◌, arith, add-one, drop-cons, drop_of_length-le, length-append}
 use Rattle.std.specs.Prelude.{Contains, filter}
 use Rattle.std.specs.BTreeMap.{get}
-use Rattle.std.specs.List.{flat_map, list_any}
+use Rattle.std.specs.List.{AllZip, flat_map, list_any}
 use Rattle.std.specs.Option.{option_or}
+use Rattle.std.proofs.lemmas.List.{nil_from_length}
 use Rattle.std.proofs.lemmas.List.Elements.{All-nil, All-cons, All-contains, All-contains_itself, All-filter}
 use Rattle.std.proofs.lemmas.List.Folds.{list_any-append, list_any_at}
 use Rattle.simplex_base.specs.Format.{Format}
@@ -12,57 +13,100 @@ use Rattle.simplex_stream.specs.PlaceLaws.{place_behind_one}
 use Rattle.simplex_stream.specs.Progress.{IsProgress}
 use Rattle.simplex_places.specs.Finding.{Finds}
 use Rattle.simplex_places.specs.FindingLaws.{found_nothing, found_twice}
-use Rattle.simplex_places.specs.FirstPlaces.{AreFound, Notes, NotesAlong, first_place, has_key, or_found, place_if}
-use Rattle.simplex_places.specs.Records.{IsFirstPlace}
+use Rattle.simplex_places.specs.FirstPlaces.{AreFound, IsFirstPlace, Notes, NotesAlong, first_found, found_if, found_in, or_found}
+use Rattle.simplex_places.specs.declared.first_places.Carried.{Carried}
 use Rattle.simplex_places.specs.declared.first_places.Finder.{Finder}
 
--- ---- what was found of a key
-
--- found at one place, where one of two tests passes
-one_place : (place : ℕ) (a b : Bool) → option_or (place_if place a) (place_if place b) ≡ place_if place (a || b)
-one_place place true b = refl
-one_place place false b = refl
-
-or_false : (b : Bool) → (b || false) ≡ b
-or_false true = refl
-or_false false = refl
-
--- ---- votes that were noted
-
-module _ {V K : Type 0} (cmp : K → K → Ordering) (eq : K → K → Bool) (key_of : V → K) (place : ℕ) where
-  -- no vote
-  pub notes_none : (places : BTreeMap K (Option ℕ)) → Notes cmp eq key_of place [] places places
-  notes_none places key = sym (found_nothing (get cmp places key))
-
-  -- one vote
-  pub notes_one : (v : V) (before after : BTreeMap K (Option ℕ)) →
-      ((key : K) → get cmp after key ≡ or_found (get cmp before key) (place_if place (eq key (key_of v)))) →
-      Notes cmp eq key_of place (v ∷ []) before after
-  notes_one v before after one key =
-      one key ∙ ap (λ (b : Bool). or_found (get cmp before key) (place_if place b)) (sym (or_false (eq key (key_of v))))
-
-  -- some votes, and then others
-  pub notes_both : (vs ws : List V) (before between after : BTreeMap K (Option ℕ)) →
-      Notes cmp eq key_of place vs before between → Notes cmp eq key_of place ws between after →
-      Notes cmp eq key_of place (vs ++ ws) before after
-  notes_both vs ws before between after first second key =
-      second key
-      ∙ (ap (λ (known : Option (Option ℕ)). or_found known (place_if place (has_key eq key_of key ws))) (first key)
-      ∙ (found_twice (get cmp before key) (place_if place (has_key eq key_of key vs))
-      (place_if place (has_key eq key_of key ws))
-      ∙ ap (or_found (get cmp before key)) (one_place place (has_key eq key_of key vs) (has_key eq key_of key ws)
-      ∙ ap (place_if place) (sym (list_any-append (λ v. eq key (key_of v)) vs ws)))))
-
--- ---- the first message that passes a test
-
-or_none : (a : Option ℕ) → option_or a None ≡ a
+or_none : {X : Type 0} (a : Option X) → option_or a None ≡ a
 or_none None = refl
 or_none (Some x) = refl
 
-module _ {M V K : Type 0} (cmp : K → K → Ordering) (eq : K → K → Bool) (key_of : V → K) (votes : M → List V) where
+-- ---- votes that are noted, each with what stands at its place in another list
+
+module _ {V Y X : Type 0} (test : V → Bool) (f : Y → X) where
+  -- what is found beside one vote, and then beside the others
+  found_next : (v : V) (vs : List V) (ys : List Y) → found_in test (zip (v ∷ vs) (map f ys))
+      ≡ option_or (found_in test (zip (v ∷ []) (map f ys))) (found_in test (zip vs (map f (drop 1 ys))))
+  found_next v [] [] = refl
+  found_next v (w ∷ vs) [] = refl
+  found_next v vs (y ∷ ys) =
+      ap (λ (found : Option X). option_or found (found_in test (zip vs (map f ys)))) (sym (or_none (found_if (f y) (test v))))
+
+module _ {V Y X K : Type 0} (cmp : K → K → Ordering) (eq : K → K → Bool) (key_of : V → K) (f : Y → X) where
+  -- one vote, which stands first
+  pub notes_one : (v : V) (y : Y) (ys others : List Y) (before after : BTreeMap K (Option X)) → ys ≡ y ∷ others →
+      ((key : K) → get cmp after key ≡ or_found (get cmp before key) (found_if (f y) (eq key (key_of v)))) →
+      Notes cmp eq key_of (zip (v ∷ []) (map f ys)) before after
+  notes_one v y ys others before after is one key =
+      let test : V → Bool = λ w. eq key (key_of w) in
+      one key
+      ∙ (ap (or_found (get cmp before key)) (sym (or_none (found_if (f y) (test v))))
+      ∙ ap (λ (l : List Y). or_found (get cmp before key) (found_in test (zip (v ∷ []) (map f l)))) (sym is))
+
+  -- one vote, which stands nowhere
+  pub notes_nowhere : (v : V) (ys : List Y) (places : BTreeMap K (Option X)) → length ys ≡ 0 →
+      Notes cmp eq key_of (zip (v ∷ []) (map f ys)) places places
+  notes_nowhere v ys places none key =
+      sym (found_nothing (get cmp places key))
+      ∙ ap (λ (l : List Y). or_found (get cmp places key) (found_in (λ w. eq key (key_of w)) (zip (v ∷ []) (map f l))))
+      (sym (nil_from_length ys none))
+
+  -- one vote, and then others
+  pub notes_both : (v : V) (vs : List V) (ys : List Y) (before between after : BTreeMap K (Option X)) →
+      Notes cmp eq key_of (zip (v ∷ []) (map f ys)) before between →
+      Notes cmp eq key_of (zip vs (map f (drop 1 ys))) between after →
+      Notes cmp eq key_of (zip (v ∷ vs) (map f ys)) before after
+  notes_both v vs ys before between after first second key =
+      let test : V → Bool = λ w. eq key (key_of w) in
+      let one = found_in test (zip (v ∷ []) (map f ys)) in
+      let more = found_in test (zip vs (map f (drop 1 ys))) in
+      second key
+      ∙ (ap (λ (known : Option (Option X)). or_found known more) (first key)
+      ∙ (found_twice (get cmp before key) one more
+      ∙ ap (or_found (get cmp before key)) (sym (found_next test f v vs ys))))
+
+  -- Once the votes that are left are noted, too, all of the votes are.
+  abbrev pub IsOnTheWay : List V → List Y → BTreeMap K (Option X) → List V → List Y → BTreeMap K (Option X) → Type 0
+  IsOnTheWay vs ys before left others now =
+      (key : K) → or_found (get cmp now key) (found_in (λ w. eq key (key_of w)) (zip left (map f others)))
+      ≡ or_found (get cmp before key) (found_in (λ w. eq key (key_of w)) (zip vs (map f ys)))
+
+  -- one of those that are left was noted
+  pub on_the_way : {A : Type 0} (of : A → V) (vs : List V) (ys : List Y) (before : BTreeMap K (Option X)) (all : List A) (i : ℕ)
+      (a : A) (others more : List Y) (now after : BTreeMap K (Option X)) → i < length all → a ≡ get_or all i a →
+      IsOnTheWay vs ys before (map of (drop i all)) others now →
+      Notes cmp eq key_of (zip (of a ∷ []) (map f others)) now after → more ≡ drop 1 others →
+      IsOnTheWay vs ys before (map of (drop (i + 1) all)) more after
+  on_the_way {A} of vs ys before all i a others more now after inside is was one behind key =
+      let test : V → Bool = λ w. eq key (key_of w) in
+      let left : drop i all ≡ a ∷ drop (i + 1) all =
+      rw add-one (drop-cons all i a inside ∙ ap (λ (b : A). b ∷ drop (suc i) all) (sym is)) in
+      let here = found_in test (zip (of a ∷ []) (map f others)) in
+      let then : List Y → Option X = λ l. found_in test (zip (map of (drop (i + 1) all)) (map f l)) in
+      ap (λ (l : List Y). or_found (get cmp after key) (then l)) behind
+      ∙ (ap (λ (known : Option (Option X)). or_found known (then (drop 1 others))) (one key)
+      ∙ (found_twice (get cmp now key) here (then (drop 1 others))
+      ∙ (ap (or_found (get cmp now key)) (sym (found_next test f (of a) (map of (drop (i + 1) all)) others))
+      ∙ (ap (λ (l : List A). or_found (get cmp now key) (found_in test (zip (map of l) (map f others)))) (sym left)
+      ∙ was key))))
+
+  -- none is left
+  pub at_the_end : {A : Type 0} (of : A → V) (vs : List V) (ys : List Y) (before : BTreeMap K (Option X)) (all : List A) (i : ℕ)
+      (others : List Y) (now : BTreeMap K (Option X)) → length all ≤ i →
+      IsOnTheWay vs ys before (map of (drop i all)) others now → Notes cmp eq key_of (zip vs (map f ys)) before now
+  at_the_end {A} of vs ys before all i others now end was key =
+      let test : V → Bool = λ w. eq key (key_of w) in
+      sym (found_nothing (get cmp now key))
+      ∙ (ap (λ (l : List A). or_found (get cmp now key) (found_in test (zip (map of l) (map f others))))
+      (sym (drop_of_length-le all end)) ∙ was key)
+
+-- ---- messages that were read
+
+module _ {M V K : Type 0} (cmp : K → K → Ordering) (eq : K → K → Bool) (key_of : V → K)
+    (votes : ℕ → M → List (V × Carried)) where
   -- one message was read
   pub finds_one : (encoding : M → List ℕ) (m : M) (size : ℕ) (a b : Finder K) → size ≡ length (encoding m) →
-      Notes cmp eq key_of a.place (votes m) a.places b.places → b.place ≡ a.place + size →
+      Notes cmp eq key_of (votes a.place m) a.places b.places → b.place ≡ a.place + size →
       Finds cmp eq key_of votes encoding (m ∷ []) a b
   finds_one encoding m size a b len notes moved = record {
     noted = λ key. notes key ∙ ap (or_found (get cmp a.places key)) (sym (or_none _));
@@ -81,59 +125,104 @@ module _ {M V K : Type 0} (cmp : K → K → Ordering) (eq : K → K → Bool) (
         p.recorded.noted;
   }
 
--- some message passes, so the first that does stands at a place
-abbrev HasFirstPlace : {M : Type 0} → (M → Bool) → (M → List ℕ) → ℕ → List M → Type 0
-HasFirstPlace test encoding place ms =
-    (p : ℕ) × IsFirstPlace test encoding ms p × (first_place test encoding place ms ≡ Some (place + p))
+-- ---- the first message that passes a test
 
-stands_here : {M : Type 0} (test : M → Bool) (encoding : M → List ℕ) (place : ℕ) (m : M) (ms : List M) → test m ≡ true →
-    HasFirstPlace test encoding place (m ∷ ms)
-stands_here test encoding place m ms e = (
-  0,
-  record {
-    before = [];
-    message = m;
-    others = ms;
-    messages_are = refl;
-    passes = e;
-    first = All-nil (λ k. test k ≡ false);
-    place_is = refl;
-  },
-  ap (λ (b : Bool). option_or (place_if place b) (first_place test encoding (place + length (encoding m)) ms)) e
-      ∙ ap (λ (n : ℕ). Some n) (omega arith),
-)
+-- Some message passes, so the first that does stands at a place, and what is found there is what is found first.
+module _ {M X : Type 0} (test : M → Bool) (find : ℕ → M → Option X) (encoding : M → List ℕ)
+    (none : (place : ℕ) (m : M) → test m ≡ false → find place m ≡ None) where
+  abbrev pub HasFirst : ℕ → List M → Type 0
+  HasFirst place ms =
+      (p : ℕ) × (at : IsFirstPlace test encoding ms p)
+      × ((x : X) → find (place + p) at.message ≡ Some x → first_found find encoding place ms ≡ Some x)
 
-stands_later : {M : Type 0} (test : M → Bool) (encoding : M → List ℕ) (place : ℕ) (m : M) (ms : List M) → test m ≡ false →
-    HasFirstPlace test encoding (place + length (encoding m)) ms → HasFirstPlace test encoding place (m ∷ ms)
-stands_later {M} test encoding place m ms e (p, at, is) =
-    let moved : (place + length (encoding m)) + p ≡ place + (length (encoding m) + p) = omega arith in (
-      length (encoding m) + p,
-      record {
-        before = m ∷ at.before;
-        message = at.message;
-        others = at.others;
-        messages_are = ap (λ (ks : List M). m ∷ ks) at.messages_are;
-        passes = at.passes;
-        first = All-cons (λ k. test k ≡ false) m at.before e at.first;
-        place_is = ap (λ (n : ℕ). length (encoding m) + n) at.place_is
-            ∙ sym (length-append (encoding m) (flat_map encoding at.before));
-      },
-      ap (λ (b : Bool). option_or (place_if place b) (first_place test encoding (place + length (encoding m)) ms)) e
-          ∙ (is ∙ ap (λ (n : ℕ). Some n) moved),
-    )
+  stands_here : (place : ℕ) (m : M) (ms : List M) → test m ≡ true → HasFirst place (m ∷ ms)
+  stands_here place m ms e = (
+    0,
+    record {
+      before = [];
+      message = m;
+      others = ms;
+      messages_are = refl;
+      passes = e;
+      first = All-nil (λ k. test k ≡ false);
+      place_is = refl;
+    },
+    λ x is. ap (λ (found : Option X). option_or found (first_found find encoding (place + length (encoding m)) ms))
+        (ap (λ (n : ℕ). find n m) (omega arith) ∙ is),
+  )
 
-stands_either : {M : Type 0} (test : M → Bool) (encoding : M → List ℕ) (place : ℕ) (m : M) (ms : List M) (b : Bool) →
-    test m ≡ b → (b || list_any test ms) ≡ true →
-    (list_any test ms ≡ true → HasFirstPlace test encoding (place + length (encoding m)) ms) →
-    HasFirstPlace test encoding place (m ∷ ms)
-stands_either test encoding place m ms true e some later = stands_here test encoding place m ms e
-stands_either test encoding place m ms false e some later = stands_later test encoding place m ms e (later some)
+  stands_later : (place : ℕ) (m : M) (ms : List M) → test m ≡ false → HasFirst (place + length (encoding m)) ms →
+      HasFirst place (m ∷ ms)
+  stands_later place m ms e (p, at, is) =
+      let moved : (place + length (encoding m)) + p ≡ place + (length (encoding m) + p) = omega arith in (
+        length (encoding m) + p,
+        record {
+          before = m ∷ at.before;
+          message = at.message;
+          others = at.others;
+          messages_are = ap (λ (ks : List M). m ∷ ks) at.messages_are;
+          passes = at.passes;
+          first = All-cons (λ k. test k ≡ false) m at.before e at.first;
+          place_is = ap (λ (n : ℕ). length (encoding m) + n) at.place_is
+              ∙ sym (length-append (encoding m) (flat_map encoding at.before));
+        },
+        λ x found. ap (λ (o : Option X). option_or o (first_found find encoding (place + length (encoding m)) ms))
+            (none place m e) ∙ is x (ap (λ (n : ℕ). find n at.message) moved ∙ found),
+      )
 
-pub first_stands : {M : Type 0} (test : M → Bool) (encoding : M → List ℕ) (place : ℕ) (ms : List M) → list_any test ms ≡ true →
-    (p : ℕ) × IsFirstPlace test encoding ms p × (first_place test encoding place ms ≡ Some (place + p))
-first_stands test encoding place [] some = absurd (true≢false (sym some))
-first_stands test encoding place (m ∷ ms) some =
-    stands_either test encoding place m ms (test m) refl some (first_stands test encoding (place + length (encoding m)) ms)
+  stands_either : (place : ℕ) (m : M) (ms : List M) (b : Bool) → test m ≡ b → (b || list_any test ms) ≡ true →
+      (list_any test ms ≡ true → HasFirst (place + length (encoding m)) ms) → HasFirst place (m ∷ ms)
+  stands_either place m ms true e some later = stands_here place m ms e
+  stands_either place m ms false e some later = stands_later place m ms e (later some)
+
+  pub first_stands : (place : ℕ) (ms : List M) → list_any test ms ≡ true → HasFirst place ms
+  first_stands place [] some = absurd (true≢false (sym some))
+  first_stands place (m ∷ ms) some =
+      stands_either place m ms (test m) refl some (first_stands (place + length (encoding m)) ms)
+
+-- ---- what is found beside the votes of one message
+
+module _ {V X : Type 0} (test : V → Bool) where
+  found_none_if : (v : V) (vs : List V) (x : X) (xs : List X) (b : Bool) → test v ≡ b → (b || list_any test vs) ≡ false →
+      (list_any test vs ≡ false → found_in test (zip vs xs) ≡ None) → found_in test (zip (v ∷ vs) (x ∷ xs)) ≡ None
+  found_none_if v vs x xs true e none later = absurd (true≢false none)
+  found_none_if v vs x xs false e none later =
+      ap (λ (b : Bool). option_or (found_if x b) (found_in test (zip vs xs))) e ∙ later none
+
+  -- nothing, if no vote passes
+  pub found_none : (vs : List V) (xs : List X) → list_any test vs ≡ false → found_in test (zip vs xs) ≡ None
+  found_none [] xs none = refl
+  found_none (v ∷ vs) [] none = refl
+  found_none (v ∷ vs) (x ∷ xs) none = found_none_if v vs x xs (test v) refl none (found_none vs xs)
+
+module _ {V Y X : Type 0} (test : V → Bool) (f : Y → X) (R : V → Y → Type 0) where
+  -- a vote that passes, with what stands beside it
+  abbrev pub HasFound : List V → List Y → Type 0
+  HasFound vs ys = (v : V) × (y : Y) × (test v ≡ true) × R v y × (found_in test (zip vs (map f ys)) ≡ Some (f y))
+
+  found_either : (v : V) (vs : List V) (y : Y) (ys : List Y) (b : Bool) → test v ≡ b → (b || list_any test vs) ≡ true →
+      R v y → (list_any test vs ≡ true → HasFound vs ys) → HasFound (v ∷ vs) (y ∷ ys)
+  found_either v vs y ys true e some here later = (
+    v,
+    y,
+    e,
+    here,
+    ap (λ (b : Bool). option_or (found_if (f y) b) (found_in test (zip vs (map f ys)))) e,
+  )
+  found_either v vs y ys false e some here later =
+      let (w, z, passes, there, is) = later some in (
+        w,
+        z,
+        passes,
+        there,
+        ap (λ (b : Bool). option_or (found_if (f y) b) (found_in test (zip vs (map f ys)))) e ∙ is,
+      )
+
+  pub found_some : (vs : List V) (ys : List Y) → AllZip R vs ys → list_any test vs ≡ true → HasFound vs ys
+  found_some [] [] all some = absurd (true≢false (sym some))
+  found_some [] (y ∷ ys) all some = absurd all
+  found_some (v ∷ vs) [] all some = absurd all
+  found_some (v ∷ vs) (y ∷ ys) all some = found_either v vs y ys (test v) refl some all.0 (found_some vs ys all.1)
 
 -- ---- which messages carry a vote
 

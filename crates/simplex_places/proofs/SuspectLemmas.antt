@@ -5,7 +5,7 @@ use Rattle.std.proofs.lemmas.List.{map-append}
 use Rattle.std.proofs.lemmas.List.Elements.{All-cons, All-contains, All-head, All-nil, All-tail, filter_more}
 use Rattle.simplex_base.specs.Positions.{Round}
 use Rattle.simplex_detector.specs.Suspects.{Suspected}
-use Rattle.simplex_places.specs.Suspects.{is_sought, round_at, sought_of}
+use Rattle.simplex_places.specs.Suspects.{is_sought, passing_of, round_at, sought_of}
 use Rattle.simplex_places.specs.declared.places.Placed.{Placed}
 use Rattle.simplex_places.specs.declared.places.AttestationPlace.{AttestationPlace}
 
@@ -62,12 +62,11 @@ sought_alike s t size same places =
     ap (map (λ (p : Placed). p.attestation))
     (filter_alike (is_sought s size) (is_sought t size) (one_alike s t size same) places)
 
--- an attestation that is sought was found
-pub one_found : (s : Suspected) (size : ℕ → ℕ) (xs : List Placed) (i : ℕ) (d : Placed) (found found' : List AttestationPlace) →
-    i < length xs → is_sought s size (get_or xs i d) ≡ true → found' ≡ found ++ (get_or xs i d).attestation ∷ [] →
-    found ≡ sought_of s size (take i xs) → found' ≡ sought_of s size (take (i + 1) xs)
-one_found s size xs i d found found' lt passes grown so =
-    let p = is_sought s size in
+-- an attestation that passes a test was found
+pub one_found : (p : Placed → Bool) (xs : List Placed) (i : ℕ) (d : Placed) (found found' : List AttestationPlace) →
+    i < length xs → p (get_or xs i d) ≡ true → found' ≡ found ++ (get_or xs i d).attestation ∷ [] →
+    found ≡ passing_of p (take i xs) → found' ≡ passing_of p (take (i + 1) xs)
+one_found p xs i d found found' lt passes grown so =
     let place : Placed → AttestationPlace = λ q. q.attestation in
     grown ∙ (ap (λ (l : List AttestationPlace). l ++ (get_or xs i d).attestation ∷ []) so
     ∙ (sym (map-append place (filter p (take i xs)) (get_or xs i d ∷ []))
@@ -75,10 +74,9 @@ one_found s size xs i d found found' lt passes grown so =
     (ap (λ (b : Bool). filter p (take i xs) ++ cond b (get_or xs i d ∷ []) []) (sym passes) ∙ sym (filter_more p xs i d lt))))
 
 -- another was left out
-pub one_left : (s : Suspected) (size : ℕ → ℕ) (xs : List Placed) (i : ℕ) (d : Placed) (found : List AttestationPlace) →
-    i < length xs → is_sought s size (get_or xs i d) ≡ false →
-    found ≡ sought_of s size (take i xs) → found ≡ sought_of s size (take (i + 1) xs)
-one_left s size xs i d found lt fails so =
-    let p = is_sought s size in
+pub one_left : (p : Placed → Bool) (xs : List Placed) (i : ℕ) (d : Placed) (found : List AttestationPlace) →
+    i < length xs → p (get_or xs i d) ≡ false →
+    found ≡ passing_of p (take i xs) → found ≡ passing_of p (take (i + 1) xs)
+one_left p xs i d found lt fails so =
     so ∙ ap (map (λ (q : Placed). q.attestation)) (sym (append-nil (filter p (take i xs)))
     ∙ (ap (λ (b : Bool). filter p (take i xs) ++ cond b (get_or xs i d ∷ []) []) (sym fails) ∙ sym (filter_more p xs i d lt)))

@@ -10,3 +10,5 @@ pub mod Claims
 pub mod ClaimsLaws
 pub mod Finding
 pub mod FindingLaws
+pub mod Repeats
+pub mod Pieces

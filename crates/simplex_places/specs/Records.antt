@@ -1,8 +1,9 @@
 -- The evidence of a report as records, with the places of its votes in the stream.
-use Rattle.std.specs.Prelude.{◌≡◌, ℕ, ◌-◌, ◌^◌, Bool, false, List, ◌∷◌, ◌++◌, length, All, Option, Some, None, IsTrue}
+use Rattle.std.specs.Prelude.{◌≡◌, ℕ, ◌+◌, ◌-◌, ◌<◌, ◌^◌, Bool, List, length, Option, Some, None}
 use Rattle.std.specs.BTreeMap.{BTreeMap, get}
-use Rattle.std.specs.List.{AllZip, flat_map}
+use Rattle.std.specs.List.{AllZip}
 use Rattle.std.specs.declared.cmp.Ordering.{Ordering}
+use Rattle.simplex_scheme.specs.Kind.{kind_of}
 use Rattle.simplex_scheme.specs.Subject.{round_of}
 use Rattle.simplex_votes.specs.Votes.{SignedVote}
 use Rattle.simplex_evidence.specs.Contradiction.{Equivocation}
@@ -12,56 +13,100 @@ use Rattle.simplex_audit.specs.Basis.{Basis}
 use Rattle.simplex_audit.specs.Guarantees.{OfMessages}
 use Rattle.simplex_audit.specs.Report.{evidence_in}
 use Rattle.simplex_audit.specs.declared.audit.Report.{Report}
+use Rattle.simplex_places.specs.FirstPlaces.{IsFirstPlace}
+use Rattle.simplex_places.specs.Places.{kind_number}
+use Rattle.simplex_places.specs.declared.first_places.Carried.{Carried}
+use Rattle.simplex_places.specs.declared.places.AttestationPlace.{AttestationPlace}
 use Rattle.simplex_places.specs.declared.records.Record.{Record}
+use Rattle.simplex_places.specs.declared.records.VotePlace.{VotePlace}
 
--- The place is that of the first message that passes a test: the number of bytes of all messages before it.
-pub record IsFirstPlace {M : Type 0} (test : M → Bool) (encoding : M → List ℕ) (messages : List M) (place : ℕ) : Type 0 where
-  pub before : List M
-  pub message : M
-  pub others : List M
-  pub messages_are : messages ≡ before ++ message ∷ others
-  pub passes : IsTrue (test message)
-  pub first : All (λ m. test m ≡ false) before
-  pub place_is : place ≡ length (flat_map encoding before)
-
--- The record states whom an evidence accuses, in which round and of what.
+-- The record states whom an evidence accuses, in which round and of what, and the signer and the kind of each vote.
 pub record IsOfEvidence {D G : Type 0} (e : Equivocation D G) (found : Record) : Type 0 where
   pub epoch_is : found.epoch ≡ (round_of e.first.subject).epoch
   pub view_is : found.view ≡ (round_of e.first.subject).view
   pub signer_is : found.signer ≡ e.first.signer
   pub kind_is : found.kind ≡ kind_rank e.kind
+  pub first_signer_is : found.first_vote.signer ≡ e.first.signer
+  pub first_kind_is : found.first_vote.kind ≡ kind_number (kind_of e.first.subject)
+  pub second_signer_is : found.second_vote.signer ≡ e.first.signer
+  pub second_kind_is : found.second_vote.kind ≡ kind_number (kind_of e.second.subject)
 
--- The record is that of an evidence, with the places where the first messages begin that carry its votes.
-pub record IsRecord {M D G : Type 0} (carries : SignedVote D G → M → Bool) (encoding : M → List ℕ) (messages : List M)
-    (e : Equivocation D G) (found : Record) : Type 0 where
+-- a vote of a record, as an attestation: its round is the record's
+abbrev pub vote_in : Record → VotePlace → AttestationPlace
+vote_in found vote = record {
+  epoch = found.epoch;
+  view = found.view;
+  verdict_place = vote.verdict_place;
+  subject_place = vote.subject_place;
+  subject_length = vote.subject_length;
+  signer = vote.signer;
+  kind = vote.kind;
+}
+
+-- `s` is a vote as it stands in the first message that carries it, which begins at a place: its subject is behind the tag, and
+-- its signature ends in the message. `stands` says whether an attestation is the vote, as it stands in the stream.
+pub record StandsFirst {M : Type 0} (carries : M → Bool) (stands : AttestationPlace → Type 0) (encoding : M → List ℕ)
+    (messages : List M) (message_place : ℕ) (s : AttestationPlace) : Type 0 where
+  pub first : IsFirstPlace carries encoding messages message_place
+  pub vote_is : stands s
+  pub begins : message_place < s.subject_place
+  pub ends : s.verdict_place < message_place + length (encoding first.message)
+
+-- The record is that of an evidence, with the places where the first messages begin that carry its votes, and both votes as
+-- they stand there.
+pub record IsRecord {M D G : Type 0} (carries : SignedVote D G → M → Bool) (stands : SignedVote D G → AttestationPlace → Type 0)
+    (encoding : M → List ℕ) (messages : List M) (e : Equivocation D G) (found : Record) : Type 0 where
   pub of_evidence : IsOfEvidence e found
-  pub first_stands : IsFirstPlace (carries e.first) encoding messages found.first_place
-  pub second_stands : IsFirstPlace (carries e.second) encoding messages found.second_place
+  pub first_stands : StandsFirst (carries e.first) (stands e.first) encoding messages found.first_place
+      (vote_in found found.first_vote)
+  pub second_stands : StandsFirst (carries e.second) (stands e.second) encoding messages found.second_place
+      (vote_in found found.second_vote)
 
--- they are the records of the report's evidence, one of each in the same order
-abbrev pub AreRecords : {S D C P G : Type 0} → Basis S D C P G → (SignedVote D G → Activity S D C P G → Bool) → List ℕ →
-    Report S D P G → List Record → Type 0
-AreRecords basis carries stream report records =
-    OfMessages basis stream (λ messages. AllZip (IsRecord carries basis.format.encoding messages) (evidence_in report) records)
+-- They are the records of the report's evidence, one of each in the same order. `carries` says whether a message carries a
+-- vote, and `stands` whether an attestation is a vote, as it stands in a stream.
+abbrev pub AreRecords : {S D C P G : Type 0} → Basis S D C P G → (SignedVote D G → Activity S D C P G → Bool) →
+    (List ℕ → SignedVote D G → AttestationPlace → Type 0) → List ℕ → Report S D P G → List Record → Type 0
+AreRecords basis carries stands stream report records =
+    OfMessages basis stream (λ messages. AllZip (IsRecord carries (stands stream) basis.format.encoding messages)
+    (evidence_in report) records)
 
--- the place found for a key, if one was
-abbrev pub found_place : Option (Option ℕ) → Option ℕ
-found_place (Some place) = place
-found_place None = None
+-- what was found of a key, if it was
+abbrev pub found_of : {X : Type 0} → Option (Option X) → Option X
+found_of (Some found) = found
+found_of None = None
 
--- a place as an offset, 2^64 - 1 if there is none
-abbrev pub offset_of : Option ℕ → ℕ
-offset_of (Some place) = place
-offset_of None = 2 ^ 64 - 1
+-- where the message of a vote begins, 2^64 - 1 if the vote was not found
+abbrev pub message_at : Option Carried → ℕ
+message_at (Some carried) = carried.message_place
+message_at None = 2 ^ 64 - 1
 
--- the record of an evidence, from the places found for its votes
-abbrev pub record_by : {D G K : Type 0} → (K → K → Ordering) → (SignedVote D G → K) → BTreeMap K (Option ℕ) →
+-- where a vote of a signer and a kind stands; without a subject at 2^64 - 1 if it was not found
+abbrev pub vote_at : ℕ → ℕ → Option Carried → VotePlace
+vote_at signer kind (Some carried) = record {
+  subject_place = carried.subject_place;
+  subject_length = carried.subject_length;
+  verdict_place = carried.verdict_place;
+  signer = signer;
+  kind = kind;
+}
+vote_at signer kind None = record {
+  subject_place = 2 ^ 64 - 1;
+  subject_length = 0;
+  verdict_place = 2 ^ 64 - 1;
+  signer = signer;
+  kind = kind;
+}
+
+-- the record of an evidence, from what was found of its votes
+abbrev pub record_by : {D G K : Type 0} → (K → K → Ordering) → (SignedVote D G → K) → BTreeMap K (Option Carried) →
     Equivocation D G → Record
 record_by cmp key_of places e = record {
   epoch = (round_of e.first.subject).epoch;
   view = (round_of e.first.subject).view;
-  first_place = offset_of (found_place (get cmp places (key_of e.first)));
-  second_place = offset_of (found_place (get cmp places (key_of e.second)));
+  first_place = message_at (found_of (get cmp places (key_of e.first)));
+  second_place = message_at (found_of (get cmp places (key_of e.second)));
+  first_vote = vote_at e.first.signer (kind_number (kind_of e.first.subject)) (found_of (get cmp places (key_of e.first)));
+  second_vote = vote_at e.first.signer (kind_number (kind_of e.second.subject)) (found_of (get cmp places (key_of e.second)));
   signer = e.first.signer;
   kind = kind_rank e.kind;
 }

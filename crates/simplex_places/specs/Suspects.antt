@@ -37,9 +37,13 @@ is_sought suspected size p =
     if p.is_listed then suspected.rounds (round_at p.attestation) && nat_lt p.attestation.signer (size p.attestation.epoch)
     else suspected.signers (round_at p.attestation) p.attestation.signer
 
+-- those of these attestations that pass a test
+abbrev pub passing_of : (Placed → Bool) → List Placed → List AttestationPlace
+passing_of test places = map (λ p. p.attestation) (filter test places)
+
 -- those of these attestations that have to be verified
 abbrev pub sought_of : Suspected → (ℕ → ℕ) → List Placed → List AttestationPlace
-sought_of suspected size places = map (λ p. p.attestation) (filter (is_sought suspected size) places)
+sought_of suspected size places = passing_of (is_sought suspected size) places
 
 -- `found` are the attestations of the stream's messages that have to be verified, in the order of the stream. `places_in`
 -- gives all attestations of a message that begins at a place.

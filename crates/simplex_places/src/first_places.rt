@@ -1,26 +1,40 @@
-//! The first places of sought votes in a stream. Nothing is verified.
+//! Where sought votes stand in a stream, each in the first message that carries it. Nothing is verified.
 
-ghost use Rattle.std.specs.Prelude.{◌≡◌, ◌+◌, ◌<◌, ◌^◌, [], ◌∷◌, All, IfOk, OnOk, Some, None, map};
+ghost use Rattle.std.specs.Prelude.{◌≡◌, ◌+◌, ◌<◌, ◌^◌, [], ◌∷◌, All, IfOk, OnOk, Some, None, drop, map, zip};
 ghost use Rattle.std.specs.BTreeMap.{get};
 ghost use Rattle.simplex_base.specs.Format.{format_under};
 ghost use Rattle.simplex_scheme.specs.Subject.{subject_value};
 ghost use Rattle.simplex_evidence.specs.Activity.{votes_in};
-ghost use Rattle.simplex_evidence.specs.Contents.{signed_value};
 ghost use Rattle.simplex_votes.specs.Votes.{vote_on};
 ghost use Rattle.simplex_detector.specs.Values.{evidence_value};
-ghost use Rattle.simplex_places.specs.FirstPlaces.{AreFound, AreSought, Notes, or_found, place_if};
+ghost use Rattle.simplex_places.specs.FirstPlaces.{AreFound, AreSought, Notes, carried_at, found_if, or_found, votes_placed};
 
+use crate::located::{Counted, Located};
+use crate::places::{Placed, push_message};
 use crate::votes::{Key, attested, first, second};
 use simplex_base::codec::{Encoding, Read};
 use simplex_detector::evidence::Evidence;
-use simplex_evidence::types::{Activity, Contents, Signed};
+use simplex_evidence::types::{Activity, Contents};
 use simplex_scheme::scheme::{Attestation, Digest, Listing, SchemeTypes, Subject};
 use simplex_stream::messages::{Visitor, for_each_message};
 use std::alloc::{AllocError, Global};
 use std::collections::BTreeMap;
 
+/// Where a vote stands in the stream, and the message that carries it.
+#[derive(Clone, Copy)]
+pub struct Carried {
+    /// The 0-based offset of the message.
+    pub message_place: usize,
+    /// The 0-based offset of the vote's subject.
+    pub subject_place: usize,
+    /// The number of bytes of the subject.
+    pub subject_length: usize,
+    /// The 0-based offset of the last byte of the vote's signature.
+    pub verdict_place: usize,
+}
+
 /// Adds a key that is sought and not found yet.
-fn seek<K: Ord + Drop>(places: &mut BTreeMap<K, Option<usize>>, key: K) -> Result<(), AllocError>
+fn seek<K: Ord + Drop>(places: &mut BTreeMap<K, Option<Carried>>, key: K) -> Result<(), AllocError>
     ensures sought { OnOk result (get K.cmp places.new key ≡ Some None) }
     ensures others { OnOk result ((other : K) → get K.cmp places.old other ≡ Some None →
         get K.cmp places.new other ≡ Some None) }
@@ -33,7 +47,7 @@ fn seek<K: Ord + Drop>(places: &mut BTreeMap<K, Option<usize>>, key: K) -> Resul
 pub fn sought<K: Key<D, S::Signature>, S: SchemeTypes, D: Digest>(
     alloc: Global,
     evidence: &[Evidence<S, D>],
-) -> Result<BTreeMap<K, Option<usize>>, AllocError>
+) -> Result<BTreeMap<K, Option<Carried>>, AllocError>
     ensures { IfOk result (λ places.
         All (λ e. AreSought K.cmp K.key_of places (evidence_value e)) evidence.now) }
 {
@@ -46,58 +60,100 @@ pub fn sought<K: Key<D, S::Signature>, S: SchemeTypes, D: Digest>(
 }
 
 /// Notes where a key was found, if it is sought and was not found before.
-fn note<K: Ord>(places: &mut BTreeMap<K, Option<usize>>, key: &K, place: usize)
+fn note<K: Ord>(places: &mut BTreeMap<K, Option<Carried>>, key: &K, carried: Carried)
     ensures { (other : K) → get K.cmp places.new other ≡
-        or_found (get K.cmp places.old other) (place_if place (K.eq other key.now)) }
+        or_found (get K.cmp places.old other) (found_if carried (K.eq other key.now)) }
 {
     if let Some(found) = places.get_mut(key) {
-        *found = found.or(Some(place));
+        *found = found.or(Some(carried));
     }
 }
 
-/// Notes the attestations of a certificate at a place.
+/// Notes the vote on a subject that stands first of these attestations of a message, and returns those behind it.
+fn note_vote<'a, K: Key<D, S::Signature>, S: SchemeTypes, D: Digest>(
+    places: &mut BTreeMap<K, Option<Carried>>,
+    message_place: usize,
+    subject: &Subject<'_, D>,
+    attestation: &Attestation<S>,
+    placed: &'a [Placed],
+) -> &'a [Placed]
+    ensures noted { Notes K.cmp K.eq K.key_of
+        (zip (vote_on (subject_value subject.now) attestation.now ∷ [])
+        (map (carried_at message_place) placed.now)) places.old places.new }
+    ensures behind { result.now ≡ drop 1 placed.now }
+{
+    match placed.split_first() {
+        Some((one, others)) => {
+            let carried = Carried {
+                message_place,
+                subject_place: one.attestation.subject_place,
+                subject_length: one.attestation.subject_length,
+                verdict_place: one.attestation.verdict_place,
+            };
+            note(places, &attested(subject, attestation), carried);
+            others
+        }
+        None => placed,
+    }
+}
+
+/// Notes the votes on a subject that a certificate lists, from where the attestations of its message stand.
 fn note_all<K: Key<D, S::Signature>, S: SchemeTypes, D: Digest>(
-    places: &mut BTreeMap<K, Option<usize>>,
-    place: usize,
+    places: &mut BTreeMap<K, Option<Carried>>,
+    message_place: usize,
     subject: &Subject<'_, D>,
     attestations: &[Attestation<S>],
+    placed: &[Placed],
 )
-    ensures { Notes K.cmp K.eq K.key_of place
-        (map (vote_on (subject_value subject.now)) attestations.now) places.old places.new }
+    ensures { Notes K.cmp K.eq K.key_of
+        (zip (map (vote_on (subject_value subject.now)) attestations.now)
+        (map (carried_at message_place) placed.now)) places.old places.new }
 {
+    let mut others = placed;
     'attestations: for attestation in attestations {
-        note(places, &attested(subject, attestation), place);
+        others = note_vote(places, message_place, subject, attestation, others);
     }
 }
 
-/// Notes a vote at a place.
-fn note_vote<K: Key<D, S::Signature>, S: SchemeTypes, D: Digest>(
-    places: &mut BTreeMap<K, Option<usize>>,
-    place: usize,
-    vote: &Signed<'_, S, D>,
-)
-    ensures { Notes K.cmp K.eq K.key_of place (signed_value vote.now ∷ []) places.old places.new }
-{
-    note(places, &attested(&vote.subject, vote.attestation), place);
-}
-
-/// Notes the votes of a message at the place where it begins.
+/// Notes the votes of a message, from where its attestations stand.
 fn note_message<K: Key<D, S::Signature>, S: Listing<D>, D: Digest>(
-    places: &mut BTreeMap<K, Option<usize>>,
-    place: usize,
+    places: &mut BTreeMap<K, Option<Carried>>,
+    message_place: usize,
     message: &Activity<S, D>,
+    placed: &[Placed],
 )
-    ensures { Notes K.cmp K.eq K.key_of place (votes_in S.listed message.now)
-        places.old places.new }
+    ensures { Notes K.cmp K.eq K.key_of (zip (votes_in S.listed message.now)
+        (map (carried_at message_place) placed.now)) places.old places.new }
 {
     match message.contents() {
-        Contents::Vote(vote) => note_vote(places, place, &vote),
+        Contents::Vote(vote) => {
+            note_vote(
+                places,
+                message_place,
+                &vote.subject,
+                vote.attestation,
+                placed,
+            );
+        }
         Contents::Certificate(subject, certificate) => {
-            note_all(places, place, &subject, S::attestations(certificate));
+            let attestations = S::attestations(certificate);
+            note_all(places, message_place, &subject, attestations, placed);
         }
         Contents::Evidence(first, second) => {
-            note_vote(places, place, &first);
-            note_vote(places, place, &second);
+            let others = note_vote(
+                places,
+                message_place,
+                &first.subject,
+                first.attestation,
+                placed,
+            );
+            note_vote(
+                places,
+                message_place,
+                &second.subject,
+                second.attestation,
+                others,
+            );
         }
     }
 }
@@ -106,12 +162,14 @@ fn note_message<K: Key<D, S::Signature>, S: Listing<D>, D: Digest>(
 #[derive(Drop)]
 pub struct Finder<K: Ord> {
     /// The sought keys, each with its first place, if it was found.
-    pub places: BTreeMap<K, Option<usize>>,
+    pub places: BTreeMap<K, Option<Carried>>,
+    /// Where the attestations of the last message stand.
+    pub placed: Vec<Placed>,
     /// The place behind the last message.
     pub place: usize,
 }
 
-impl<K: Key<D, S::Signature>, S: Listing<D>, D: Digest> Visitor<Activity<S, D>> for Finder<K> {
+impl<K: Key<D, S::Signature>, S: Counted<D>, D: Digest> Visitor<Activity<S, D>> for Finder<K> {
     ghost use Rattle.std.proofs.Common.{arith};
     ghost use Rattle.simplex_places.specs.Finding.{Finds};
     ghost use Rattle.simplex_places.specs.FindingLaws.{finds_none, finds_more};
@@ -119,7 +177,8 @@ impl<K: Key<D, S::Signature>, S: Listing<D>, D: Digest> Visitor<Activity<S, D>> 
 
     type Context = ();
 
-    ghost follows = { λ _. Finds K.cmp K.eq K.key_of (votes_in S.listed)
+    ghost follows = { λ _. Finds K.cmp K.eq K.key_of
+        (votes_placed (votes_in S.listed) ⟦<S as Located<D>>⟧.places)
         ⟦<Activity<S, D> as Encoding>⟧.encoding };
 
     ghost has_room = { λ state size. state.place + size < 2 ^ 64 };
@@ -131,15 +190,19 @@ impl<K: Key<D, S::Signature>, S: Listing<D>, D: Digest> Visitor<Activity<S, D>> 
         size: usize,
         message: &Activity<S, D>,
     ) -> Result<(), AllocError> {
-        note_message(&mut self.places, self.place, message);
+        self.placed.clear();
+        push_message(self.place, message, &mut self.placed)?;
+        note_message(&mut self.places, self.place, message, &self.placed);
         self.place += size;
         Ok(())
     }
 
-    ghost none = { λ _. finds_none K.cmp K.eq K.key_of (votes_in S.listed)
+    ghost none = { λ _. finds_none K.cmp K.eq K.key_of
+        (votes_placed (votes_in S.listed) ⟦<S as Located<D>>⟧.places)
         ⟦<Activity<S, D> as Encoding>⟧.encoding };
 
-    ghost more = { λ _. finds_more K.cmp K.eq K.key_of (votes_in S.listed)
+    ghost more = { λ _. finds_more K.cmp K.eq K.key_of
+        (votes_placed (votes_in S.listed) ⟦<S as Located<D>>⟧.places)
         ⟦<Activity<S, D> as Encoding>⟧.encoding };
 
     ghost less = { λ state n k room. Prim.omega (arith, room) };
@@ -149,16 +212,21 @@ impl<K: Key<D, S::Signature>, S: Listing<D>, D: Digest> Visitor<Activity<S, D>> 
 }
 
 /// Reads the messages of a stream under a bound, as many as there are, notes the votes of each, and gives back what was found.
-pub fn find<K: Key<D, S::Signature>, S: Listing<D>, D: Digest>(
+pub fn find<K: Key<D, S::Signature>, S: Counted<D>, D: Digest>(
     alloc: Global,
     bound: u32,
     stream: &[u8],
-    places: BTreeMap<K, Option<usize>>,
-) -> Result<BTreeMap<K, Option<usize>>, AllocError>
-    ensures { IfOk result (λ found. AreFound K.cmp K.eq K.key_of (votes_in S.listed)
+    places: BTreeMap<K, Option<Carried>>,
+) -> Result<BTreeMap<K, Option<Carried>>, AllocError>
+    ensures { IfOk result (λ found. AreFound K.cmp K.eq K.key_of
+        (votes_placed (votes_in S.listed) ⟦<S as Located<D>>⟧.places)
         (format_under ⟦<Activity<S, D> as Read>⟧ bound) stream.now places found) }
 {
-    let mut finder = Finder { places, place: 0 };
+    let mut finder = Finder {
+        places,
+        placed: Vec::new(alloc),
+        place: 0,
+    };
     for_each_message::<Activity<S, D>, Finder<K>>(alloc, &(), bound, stream, &mut finder)?;
     let Finder { places, .. } = finder;
     Ok(places)

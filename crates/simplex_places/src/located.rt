@@ -5,8 +5,10 @@ ghost use Rattle.simplex_base.specs.Format.{format_of};
 ghost use Rattle.simplex_evidence.specs.declared.types.activity.Activity.{Activity};
 ghost use Rattle.simplex_schemes.specs.Listed.{listed_encoding};
 ghost use Rattle.simplex_votes.specs.Votes.{SignedVote};
+ghost use Rattle.simplex_places.specs.Bytes.{IsVoteAt};
 ghost use Rattle.simplex_places.specs.Places.{message_places};
 ghost use Rattle.simplex_places.specs.Votes.{carries};
+ghost use Rattle.simplex_places.specs.declared.places.AttestationPlace.{AttestationPlace};
 ghost use Rattle.simplex_places.specs.declared.places.Placed.{Placed};
 
 use simplex_base::codec::fixed_bytes::Role;
@@ -55,6 +57,9 @@ pub trait Located<D: Digest>: Listing<D> {
     /// Whether a message carries a vote.
     ghost carries: { SignedVote D Self.Signature →
         Activity Self D Self.Certificate Self.PublicKey Self.Signature → Bool };
+
+    /// Whether an attestation is a vote, as it stands in a stream.
+    ghost stands: { List ℕ → SignedVote D Self.Signature → AttestationPlace → Type 0 };
 }
 
 impl<S: Listing<D>, D: Digest> Located<D> for S {
@@ -62,4 +67,6 @@ impl<S: Listing<D>, D: Digest> Located<D> for S {
         (format_of ⟦<S::Signature as Read>⟧) S.listed };
 
     ghost carries = { carries D.eq S.Signature.eq S.listed };
+
+    ghost stands = { IsVoteAt (format_of ⟦<D as Read>⟧) (format_of ⟦<S::Signature as Read>⟧) };
 }

@@ -56,7 +56,7 @@ struct Signed {
 }
 
 /// The number of a kind of votes.
-fn number_of(kind: VoteKind) -> u32
+pub(crate) fn number_of(kind: VoteKind) -> u32
     ensures { result ≡ kind_number kind }
 {
     match kind {

@@ -1,8 +1,9 @@
 //! Reads the messages of a stream one after another, with nothing verified, and notes where their attestations stand.
 
-ghost use Rattle.std.specs.Prelude.{◌≡◌, ◌+◌, ◌<◌, ◌^◌, IfOk};
+ghost use Rattle.std.specs.Prelude.{◌≡◌, ◌+◌, ◌<◌, ◌^◌, [], ◌∷◌, length, IfOk, OnOk};
 ghost use Rattle.simplex_detector.specs.Rules.{AreLawful};
 ghost use Rattle.simplex_detector.specs.declared.judging.Judging.TheVariants.{Claimed};
+ghost use Rattle.simplex_places.specs.Claims.{ReadsPlaces};
 ghost use Rattle.simplex_places.specs.Suspects.{AreRead};
 
 use crate::located::{Counted, Located};
@@ -28,13 +29,72 @@ pub struct Claims<S: SchemeTypes, D: Digest> {
     pub places: Vec<Placed>,
 }
 
+/// Reads where the attestations of messages stand, one message after another.
+#[derive(Drop)]
+pub struct PlaceReader {
+    /// The attestations so far, in the order of the stream.
+    pub places: Vec<Placed>,
+    /// The place behind the last message.
+    pub place: usize,
+}
+
+/// Notes the attestations of the next message, whose encoding has `size` bytes.
+fn read_next<S: Counted<D>, D: Digest>(
+    reader: &mut PlaceReader,
+    size: usize,
+    message: &Activity<S, D>,
+) -> Result<(), AllocError>
+    requires size { size ≡ length (⟦<Activity<S, D> as Encoding>⟧.encoding message.now) }
+    requires room { reader.old.place + size < 2 ^ 64 }
+    ensures { OnOk result (ReadsPlaces ⟦<S as Located<D>>⟧.places
+        ⟦<Activity<S, D> as Encoding>⟧.encoding (message.now ∷ []) reader.old reader.new) }
+{
+    push_message(reader.place, message, &mut reader.places)?;
+    reader.place += size;
+    Ok(())
+}
+
+impl<S: Counted<D>, D: Digest> Visitor<Activity<S, D>> for PlaceReader {
+    ghost use Rattle.std.proofs.Common.{arith};
+    ghost use Rattle.simplex_places.specs.ClaimsLaws.{places_none, places_more};
+    ghost use Rattle.simplex_stream.specs.PlaceLaws.{room_behind};
+
+    type Context = ();
+
+    ghost follows = { λ _. ReadsPlaces
+        ⟦<S as Located<D>>⟧.places ⟦<Activity<S, D> as Encoding>⟧.encoding };
+
+    ghost has_room = { λ state size. state.place + size < 2 ^ 64 };
+
+    fn take(
+        &mut self,
+        _alloc: Global,
+        _context: &(),
+        size: usize,
+        message: &Activity<S, D>,
+    ) -> Result<(), AllocError> {
+        read_next(self, size, message)
+    }
+
+    ghost none = { λ _. places_none
+        ⟦<S as Located<D>>⟧.places ⟦<Activity<S, D> as Encoding>⟧.encoding };
+
+    ghost more = { λ _. places_more
+        ⟦<S as Located<D>>⟧.places ⟦<Activity<S, D> as Encoding>⟧.encoding };
+
+    ghost less = { λ state n k room. Prim.omega (arith, room) };
+
+    ghost left = { λ _ m a b n one. room_behind ⟦<Activity<S, D> as Encoding>⟧.encoding
+        a.place b.place n m one.place_is };
+}
+
 /// Reads what messages claim, one after another.
 #[derive(Drop)]
 pub struct ClaimReader<S: SchemeTypes, D: Digest> {
-    /// What was read so far.
-    pub claims: Claims<S, D>,
-    /// The place behind the last message.
-    pub place: usize,
+    /// The state of the messages so far, judged as `Claimed`.
+    pub detector: Detector<S, D>,
+    /// Where their attestations stand.
+    pub reader: PlaceReader,
 }
 
 impl<S: Counted<D>, D: Digest> Visitor<Activity<S, D>> for ClaimReader<S, D> {
@@ -49,7 +109,7 @@ impl<S: Counted<D>, D: Digest> Visitor<Activity<S, D>> for ClaimReader<S, D> {
         (⟦<S as Judges<D>>⟧.rules_under Claimed committees)
         ⟦<S as Located<D>>⟧.places ⟦<Activity<S, D> as Encoding>⟧.encoding };
 
-    ghost has_room = { λ state size. state.place + size < 2 ^ 64 };
+    ghost has_room = { λ state size. state.reader.place + size < 2 ^ 64 };
 
     fn take(
         &mut self,
@@ -58,11 +118,9 @@ impl<S: Counted<D>, D: Digest> Visitor<Activity<S, D>> for ClaimReader<S, D> {
         size: usize,
         message: &Activity<S, D>,
     ) -> Result<(), AllocError> {
-        push_message(self.place, message, &mut self.claims.places)?;
-        self.claims
-            .detector
+        read_next(&mut self.reader, size, message)?;
+        self.detector
             .observe(alloc, committees, &Judging::Claimed, message)?;
-        self.place += size;
         Ok(())
     }
 
@@ -77,7 +135,7 @@ impl<S: Counted<D>, D: Digest> Visitor<Activity<S, D>> for ClaimReader<S, D> {
     ghost less = { λ state n k room. Prim.omega (arith, room) };
 
     ghost left = { λ committees m a b n one. room_behind ⟦<Activity<S, D> as Encoding>⟧.encoding
-        a.place b.place n m one.place_is };
+        a.reader.place b.reader.place n m one.reads.place_is };
 }
 
 /// The bound under which messages are read. The clause `lawful` states that the committees judge lawfully.
@@ -102,11 +160,11 @@ pub fn read_claims<S: Counted<D>, D: Digest>(
         ⟦<S as Located<D>>⟧.places stream.now claims.detector claims.places.items) }
 {
     let mut reader = ClaimReader {
-        claims: Claims {
-            detector: Detector::new(alloc),
+        detector: Detector::new(alloc),
+        reader: PlaceReader {
             places: Vec::new(alloc),
+            place: 0,
         },
-        place: 0,
     };
     for_each_message::<Activity<S, D>, ClaimReader<S, D>>(
         alloc,
@@ -115,6 +173,7 @@ pub fn read_claims<S: Counted<D>, D: Digest>(
         stream,
         &mut reader,
     )?;
-    let ClaimReader { claims, .. } = reader;
-    Ok(claims)
+    let ClaimReader { detector, reader } = reader;
+    let PlaceReader { places, .. } = reader;
+    Ok(Claims { detector, places })
 }

@@ -1,22 +1,25 @@
-//! The evidence of a report as records, with the places of its votes in the stream.
+//! The evidence of a report as records, with both votes as they stand in the stream.
 
 ghost use Rattle.std.specs.Prelude.{◌≡◌, IfOk, Some, map};
 ghost use Rattle.std.specs.BTreeMap.{get};
 ghost use Rattle.std.specs.List.{AllZip};
+ghost use Rattle.simplex_scheme.specs.Kind.{kind_of};
 ghost use Rattle.simplex_audit.specs.Guarantees.{IsAudit};
 ghost use Rattle.simplex_audit.specs.Report.{evidence_in};
 ghost use Rattle.simplex_detector.specs.Accusation.{kind_rank};
 ghost use Rattle.simplex_detector.specs.Values.{evidence_value};
-ghost use Rattle.simplex_places.specs.Records.{AreRecords, IsOfEvidence, found_place, offset_of, record_by};
+ghost use Rattle.simplex_places.specs.Places.{kind_number};
+ghost use Rattle.simplex_places.specs.Records.{AreRecords, IsOfEvidence, found_of, message_at, record_by, vote_at};
 
-use crate::first_places::{find, sought};
-use crate::located::Located;
+use crate::first_places::{Carried, find, sought};
+use crate::located::{Counted, Located};
+use crate::places::number_of;
 use crate::votes::{Key, VoteKey, first, second};
 use simplex_audit::audit::Report;
 use simplex_audit::basis::Audited;
 use simplex_detector::evidence::Evidence;
 use simplex_scheme::committees::Committees;
-use simplex_scheme::scheme::{Digest, Listing, SchemeTypes};
+use simplex_scheme::scheme::{Digest, SchemeTypes, VoteKind};
 use std::alloc::{AllocError, Global};
 use std::collections::BTreeMap;
 
@@ -32,6 +35,23 @@ pub const NULLIFY_FINALIZE: u32 = 2;
 /// In place of an offset in a [`Record`]: no message of the stream carries the vote. No stream is so long.
 pub const NOWHERE: usize = usize::MAX;
 
+/// A vote of an evidence, as it stands in the stream. Its round is the record's. Nothing else in its message need be valid: a
+/// certificate or an evidence may hold another vote of the signer, with any signature.
+#[repr(C)]
+#[derive(Clone, Copy, Debug, PartialEq, Eq)]
+pub struct VotePlace {
+    /// The 0-based offset of the first byte of its subject, the message that is signed.
+    pub subject_place: usize,
+    /// The number of bytes of its subject.
+    pub subject_length: usize,
+    /// The 0-based offset of the last byte of its signature, the verdict.
+    pub verdict_place: usize,
+    /// The number of its signer.
+    pub signer: u32,
+    /// The number of its kind: 0 for a notarize, 1 for a nullify, 2 for a finalize.
+    pub kind: u32,
+}
+
 /// An evidence of a report, and where its votes stand in the stream. The place of a vote is that of the first message that
 /// carries it: the vote on its own, a certificate that lists it, or evidence with it.
 #[repr(C)]
@@ -45,6 +65,10 @@ pub struct Record {
     pub first_place: usize,
     /// The 0-based offset of the message with the second vote.
     pub second_place: usize,
+    /// The first vote, as it stands in its message.
+    pub first_vote: VotePlace,
+    /// The second vote, as it stands in its message.
+    pub second_vote: VotePlace,
     /// The number of the signer.
     pub signer: u32,
     /// The kind: [`CONFLICTING_NOTARIZE`], [`CONFLICTING_FINALIZE`] or [`NULLIFY_FINALIZE`].
@@ -62,48 +86,96 @@ fn kind<S: SchemeTypes, D: Digest>(evidence: &Evidence<S, D>) -> u32
     }
 }
 
-/// The place found for a key, if one was.
-fn place<K: Ord>(places: &BTreeMap<K, Option<usize>>, key: &K) -> Option<usize>
-    ensures { result ≡ found_place (get K.cmp places.now key.now) }
+/// The numbers of the kinds of an evidence's votes, as in a [`VotePlace`].
+fn vote_kinds<S: SchemeTypes, D: Digest>(evidence: &Evidence<S, D>) -> (u32, u32)
+    ensures first { result.0 ≡ kind_number (kind_of (evidence_value evidence.now).first.subject) }
+    ensures second { result.1 ≡ kind_number (kind_of (evidence_value evidence.now).second.subject) }
+{
+    match evidence {
+        Evidence::ConflictingNotarize(_) => {
+            let notarize = number_of(VoteKind::Notarize);
+            (notarize, notarize)
+        }
+        Evidence::ConflictingFinalize(_) => {
+            let finalize = number_of(VoteKind::Finalize);
+            (finalize, finalize)
+        }
+        Evidence::NullifyFinalize(_) => {
+            (number_of(VoteKind::Nullify), number_of(VoteKind::Finalize))
+        }
+    }
+}
+
+/// What was found of a key, if it was.
+fn look_up<K: Ord>(places: &BTreeMap<K, Option<Carried>>, key: &K) -> Option<Carried>
+    ensures { result ≡ found_of (get K.cmp places.now key.now) }
 {
     match places.get(key) {
-        Some(place) => *place,
+        Some(found) => *found,
         None => None,
     }
 }
 
-/// A place as an offset, [`NOWHERE`] if there is none.
-fn offset(place: Option<usize>) -> usize
-    ensures { result ≡ offset_of place }
+/// Where the message of a vote begins, [`NOWHERE`] if the vote was not found.
+fn message_place(found: Option<Carried>) -> usize
+    ensures { result ≡ message_at found }
 {
-    match place {
-        Some(place) => place,
+    match found {
+        Some(carried) => carried.message_place,
         None => NOWHERE,
     }
 }
 
-/// The record of an evidence, from the places found for its votes.
+/// Where a vote of this signer and this kind stands, [`NOWHERE`] if it was not found.
+fn vote_place(found: Option<Carried>, signer: u32, kind: u32) -> VotePlace
+    ensures { result ≡ vote_at signer kind found }
+{
+    let Some(carried) = found else {
+        return VotePlace {
+            subject_place: NOWHERE,
+            subject_length: 0,
+            verdict_place: NOWHERE,
+            signer,
+            kind,
+        };
+    };
+    VotePlace {
+        subject_place: carried.subject_place,
+        subject_length: carried.subject_length,
+        verdict_place: carried.verdict_place,
+        signer,
+        kind,
+    }
+}
+
+/// The record of an evidence, from what was found of its votes.
 fn record_of<K: Key<D, S::Signature>, S: SchemeTypes, D: Digest>(
-    places: &BTreeMap<K, Option<usize>>,
+    places: &BTreeMap<K, Option<Carried>>,
     evidence: &Evidence<S, D>,
 ) -> Record
     ensures { result ≡ record_by K.cmp K.key_of places.now (evidence_value evidence.now) }
 {
     let round = evidence.round();
+    let first_found = look_up(places, &first(evidence));
+    let second_found = look_up(places, &second(evidence));
+    let (first_kind, second_kind) = vote_kinds(evidence);
+    let signer = evidence.signer().get();
     Record {
         epoch: round.epoch().get(),
         view: round.view().get(),
-        first_place: offset(place(places, &first(evidence))),
-        second_place: offset(place(places, &second(evidence))),
-        signer: evidence.signer().get(),
+        first_place: message_place(first_found),
+        second_place: message_place(second_found),
+        first_vote: vote_place(first_found, signer, first_kind),
+        second_vote: vote_place(second_found, signer, second_kind),
+        signer,
         kind: kind(evidence),
     }
 }
 
-/// The records of evidence, from the places found for its votes.
+/// The records of evidence, from what was found of its votes.
 fn listed<K: Key<D, S::Signature>, S: SchemeTypes, D: Digest>(
     alloc: Global,
-    places: &BTreeMap<K, Option<usize>>,
+    places: &BTreeMap<K, Option<Carried>>,
     evidence: &[Evidence<S, D>],
 ) -> Result<Vec<Record>, AllocError>
     ensures { IfOk result (λ found. found.items ≡
@@ -117,7 +189,7 @@ fn listed<K: Key<D, S::Signature>, S: SchemeTypes, D: Digest>(
 }
 
 /// The evidence of the report of a stream as records, with its votes looked up by these keys.
-fn records_by<K: Key<D, S::Signature>, S: Listing<D>, D: Digest>(
+fn records_by<K: Key<D, S::Signature>, S: Counted<D>, D: Digest>(
     alloc: Global,
     committees: &Committees<S>,
     stream: &[u8],
@@ -128,7 +200,7 @@ fn records_by<K: Key<D, S::Signature>, S: Listing<D>, D: Digest>(
     ensures records { IfOk result (λ found.
         IsAudit (⟦<S as Audited<D>>⟧.basis committees.now) stream.now report.now →
         AreRecords (⟦<S as Audited<D>>⟧.basis committees.now) ⟦<S as Located<D>>⟧.carries
-        stream.now report.now found.items) }
+        ⟦<S as Located<D>>⟧.stands stream.now report.now found.items) }
 {
     let evidence = report.evidence.as_slice();
     let keys = sought::<K, S, D>(alloc, evidence)?;
@@ -136,12 +208,12 @@ fn records_by<K: Key<D, S::Signature>, S: Listing<D>, D: Digest>(
     listed(alloc, &places, evidence)
 }
 
-/// The evidence of the report of a stream as records, in the order of the report, each with the places of its two votes in
-/// the stream. The report has to be that of this stream under these committees; a vote of another one may stand
-/// [`NOWHERE`]. Where there is evidence the stream is read a second time, and nothing is verified: each vote is looked up
-/// among those of the evidence. Memory is bounded by the report and the longest certificate of the stream. `AllocError` is
-/// returned only after an allocation failed.
-pub fn records<S: Listing<D>, D: Digest>(
+/// The evidence of the report of a stream as records, in the order of the report, each with its two votes as they stand in
+/// the stream: in the first message that carries the vote its subject, and where its signature ends. The report has to be that
+/// of this stream under these committees; a vote of another one may stand [`NOWHERE`]. If there is evidence the stream is read
+/// a second time, and nothing is verified: each vote is looked up among those of the evidence. Memory is bounded by the report
+/// and the longest certificate of the stream. `AllocError` is returned only after an allocation failed.
+pub fn records<S: Counted<D>, D: Digest>(
     alloc: Global,
     committees: &Committees<S>,
     stream: &[u8],
@@ -150,11 +222,11 @@ pub fn records<S: Listing<D>, D: Digest>(
     // One for each evidence of the report, of any stream: whom it accuses, and of what.
     ensures whose { IfOk result (λ found.
         AllZip IsOfEvidence (evidence_in report.now) found.items) }
-    // The places are those of this stream, if the report is.
+    // Each vote stands in the first message of this stream that carries it, if the report is this stream's.
     ensures records { IfOk result (λ found.
         IsAudit (⟦<S as Audited<D>>⟧.basis committees.now) stream.now report.now →
         AreRecords (⟦<S as Audited<D>>⟧.basis committees.now) ⟦<S as Located<D>>⟧.carries
-        stream.now report.now found.items) }
+        ⟦<S as Located<D>>⟧.stands stream.now report.now found.items) }
 {
     if report.evidence.as_slice().is_empty() {
         return Ok(Vec::new(alloc));

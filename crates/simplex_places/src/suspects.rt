@@ -59,7 +59,11 @@ fn claimed_suspects<S: Counted<D>, D: Digest>(
 }
 
 /// Whether a signer is in the committee of an epoch.
-fn is_member<S: CertificateScheme>(committees: &Committees<S>, epoch: u64, signer: u32) -> bool
+pub(crate) fn is_member<S: CertificateScheme>(
+    committees: &Committees<S>,
+    epoch: u64,
+    signer: u32,
+) -> bool
     ensures { result ≡ nat_lt signer (size_by S.keys (committee_of committees.now epoch)) }
 {
     match committees.get(Epoch::new(epoch)) {

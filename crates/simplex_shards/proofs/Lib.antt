@@ -9,7 +9,10 @@ mod MergeLemmas
 mod OrderLemmas
 mod PartBytes
 mod PartLemmas
+mod PeekLemmas
 mod PieceLemmas
 mod RangeLemmas
 mod RoundOrder
+mod SkipLemmas
 mod SplitLemmas
+mod TagLemmas

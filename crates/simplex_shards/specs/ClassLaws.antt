@@ -1,5 +1,5 @@
 -- Messages that are located one after another.
-use Rattle.std.proofs.Common.{◌≡◌, ℕ, ◌+◌, List, [], ◌∷◌, ◌++◌, refl, sym, ap, subst, ◌∙◌, arith, append_assoc, append-nil}
+use Rattle.std.proofs.Common.{◌≡◌, ℕ, List, [], ◌∷◌, ◌++◌, refl, sym, ap, subst, ◌∙◌, arith, append_assoc, append-nil}
 use Rattle.simplex_base.specs.Positions.{Round}
 use Rattle.simplex_stream.specs.PlaceLaws.{place_behind}
 use Rattle.simplex_shards.specs.Classes.{Locates}

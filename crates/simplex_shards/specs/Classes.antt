@@ -1,16 +1,17 @@
 -- Where the messages of each class of a stream stand.
-use Rattle.std.specs.Prelude.{◌≡◌, ◌+◌, ◌<◌, ℕ, List, ◌++◌, length, slice_get, Some, All}
+use Rattle.std.specs.Prelude.{◌≡◌, ◌+◌, ◌<◌, ◌==◌, if◌then◌else◌, ℕ, List, ◌++◌, length, slice_get, Some, All}
 use Rattle.std.specs.List.{flat_map}
 use Rattle.simplex_base.specs.Format.{Format}
 use Rattle.simplex_base.specs.Positions.{Round}
 use Rattle.simplex_stream.specs.Fault.{IsFault}
 use Rattle.simplex_stream.specs.Messages.{AreMessages}
-use Rattle.simplex_shards.specs.Ranges.{AreApart, ArePart, AreRanges}
+use Rattle.simplex_shards.specs.Ranges.{AreApart, ArePart, AreRanges, appended}
 use Rattle.simplex_shards.specs.Rows.{rows_from}
 use Rattle.simplex_shards.specs.Split.{items_in}
 use Rattle.simplex_shards.specs.declared.classes.ClassRanges.{ClassRanges}
 use Rattle.simplex_shards.specs.declared.classes.Locator.{Locator}
 use Rattle.simplex_shards.specs.declared.index.Row.{Row}
+use Rattle.simplex_shards.specs.declared.peek.Peeked.{Peeked}
 use Rattle.simplex_shards.specs.declared.ranges.Range.{Range}
 
 -- the ranges of each class
@@ -36,6 +37,14 @@ pub record AreClassRanges {M : Type 0} (format : Format M) (round : M → Round)
 -- the ranges of each class so far
 abbrev pub located : Locator → List (List Range)
 located locator = items_in locator.ranges
+
+-- where a message stands was noted, in the ranges of its class
+pub record Notes (class : Round → ℕ) (message : Peeked) (old new : Locator) : Type 0 where
+  pub count : length (located new) ≡ length (located old)
+  pub place_is : new.place ≡ old.place + message.length
+  pub grown : (i : ℕ) (ranges : List Range) → slice_get (located old) i ≡ Some ranges →
+      slice_get (located new) i ≡ Some (if class message.round == i
+      then appended ranges (record { place = old.place; length = message.length }) else ranges)
 
 -- where these messages stand was noted, each in the ranges of its class
 pub record Locates {M : Type 0} (row_of : ℕ → M → Row) (encoding : M → List ℕ) (class : Round → ℕ) (messages : List M)

@@ -8,9 +8,11 @@ pub mod Index
 pub mod Merge
 pub mod Part
 pub mod PartLaws
+pub mod Peek
 pub mod Pieces
 pub mod Ranges
 pub mod RowLaws
 pub mod Rows
+pub mod Skips
 pub mod Split
 pub mod SplitLaws

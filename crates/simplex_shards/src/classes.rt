@@ -1,17 +1,17 @@
 //! Where the messages of each class of a stream stand.
 
-ghost use Rattle.std.specs.Prelude.{◌≡◌, IfOk};
+ghost use Rattle.std.specs.Prelude.{◌≡◌, ◌+◌, ◌<◌, ◌^◌, IfOk, OnOk};
 ghost use Rattle.simplex_base.specs.Format.{format_under};
-ghost use Rattle.simplex_shards.specs.Classes.{AreClassRanges};
+ghost use Rattle.simplex_shards.specs.Classes.{AreClassRanges, Notes};
 ghost use Rattle.simplex_shards.specs.Cut.{class_under, classes_of};
 
 use crate::cut::Cut;
-use crate::index::Tabular;
+use crate::peek::{Peek, Peeked, peek_or_read};
 use crate::ranges::{Range, push_range};
 use crate::split::empty_parts;
 use simplex_base::codec::Read;
 use simplex_stream::fault::{Fault, fault_at};
-use simplex_stream::messages::{Visitor, for_each_message};
+use simplex_stream::messages::stop_of;
 use std::alloc::{AllocError, Global};
 
 /// What [`class_ranges`] returns of a stream.
@@ -34,55 +34,33 @@ pub(crate) struct Locator {
     pub(crate) place: usize,
 }
 
-impl<M: Tabular> Visitor<M> for Locator {
-    ghost use Rattle.std.specs.Prelude.{◌+◌, ◌<◌, ◌^◌};
-    ghost use Rattle.std.proofs.Common.{arith};
-    ghost use Rattle.simplex_stream.specs.PlaceLaws.{room_behind};
-    ghost use Rattle.simplex_shards.specs.Classes.{Locates};
-    ghost use Rattle.simplex_shards.specs.ClassLaws.{locates_none, locates_more};
-
-    type Context = Cut;
-
-    ghost follows = { λ cut. Locates M.row_of M.encoding (class_under cut) };
-
-    ghost has_room = { λ state size. state.place + size < 2 ^ 64 };
-
-    fn take(
-        &mut self,
-        _alloc: Global,
-        cut: &Cut,
-        size: usize,
-        message: &M,
-    ) -> Result<(), AllocError> {
-        let class = cut.class_of(message.round()) as usize;
+impl Locator {
+    /// Notes where one more message stands.
+    fn note(&mut self, cut: &Cut, message: &Peeked) -> Result<(), AllocError>
+        requires { self.old.place + message.now.length < 2 ^ 64 }
+        ensures { OnOk result (Notes (class_under cut.now) message.now self.old self.new) }
+    {
+        let class = cut.class_of(message.round) as usize;
         let place = self.place;
-        self.place += size;
+        self.place += message.length;
         if let Some(ranges) = self.ranges.get_mut(class) {
             push_range(
                 ranges,
                 Range {
                     place,
-                    length: size,
+                    length: message.length,
                 },
             )?;
         }
         Ok(())
     }
-
-    ghost none = { λ cut. locates_none M.row_of M.encoding (class_under cut) };
-
-    ghost more = { λ cut. locates_more M.row_of M.encoding (class_under cut) };
-
-    ghost less = { λ state n k room. Prim.omega (arith, room) };
-
-    ghost left = { λ _ m a b n one. room_behind M.encoding a.place b.place n m one.place_is };
 }
 
 /// Where the messages of each class stand in a stream, up to its end or first fault. Neighbours are joined: of a class no range
 /// begins where the one before it ends. Fed to an auditor one after another, the ranges of a class are its part. The stream is
 /// read once, and certificates under `bound`, the number of participants of the greatest committee. Nothing is verified.
 /// `AllocError` is returned only after an allocation failed.
-pub fn class_ranges<M: Tabular + Drop>(
+pub fn class_ranges<M: Peek + Drop>(
     alloc: Global,
     bound: u32,
     cut: &Cut,
@@ -95,11 +73,19 @@ pub fn class_ranges<M: Tabular + Drop>(
         ranges: empty_parts(alloc, cut.classes())?,
         place: 0,
     };
-    let progress = for_each_message::<M, Locator>(alloc, cut, bound, stream, &mut locator)?;
-    let place = stream.len() - progress.rest.len();
+    let mut rest: &[u8] = stream;
+    let mut read = 0;
+    'messages: while let Some(message) = peek_or_read::<M>(alloc, bound, rest)? {
+        locator.note(cut, &message)?;
+        rest = &rest[message.length..];
+        read += 1;
+    }
+    let stop = stop_of::<M>(alloc, bound, rest)?;
+    let fault = fault_at(locator.place, stop);
+    let ranges = locator.ranges;
     Ok(ClassRanges {
-        ranges: locator.ranges,
-        read: progress.read,
-        fault: fault_at(place, progress.stop),
+        ranges,
+        read,
+        fault,
     })
 }

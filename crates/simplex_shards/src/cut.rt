@@ -74,8 +74,9 @@ pub fn range_of(round: Round, width: NonZeroU64, classes: NonZeroU32) -> u32
     ensures below { result < non_zero_u32_get classes }
 {
     let range = round.view().get() / width.get();
-    let sum = u128::from(round.epoch().get()) + u128::from(range);
-    (sum % u128::from(classes.get())) as u32
+    let classes = u64::from(classes.get());
+    let sum = round.epoch().get() % classes + range % classes;
+    (sum % classes) as u32
 }
 
 /// The word that SplitMix64 gives from a state.

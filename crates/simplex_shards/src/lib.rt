@@ -12,6 +12,8 @@ mod laws;
 pub mod merge;
 mod messages;
 pub mod part;
+pub mod peek;
 pub mod pieces;
 pub mod ranges;
+pub mod skips;
 pub mod split;

@@ -1,11 +1,14 @@
-//! What a row says of a message of consensus.
+//! What a row says of a message of consensus, and where one ends that is not decoded.
 
-ghost use Rattle.std.specs.Prelude.{◌≡◌, length};
+ghost use Rattle.std.specs.Prelude.{◌≡◌, IfSome, length};
 ghost use Rattle.simplex_evidence.specs.Activity.{activity_tag, votes_in};
+ghost use Rattle.simplex_shards.specs.Skips.{SkipsBehind};
 
 use crate::index::{Row, Tabular};
-use simplex_base::codec::Encoding;
-use simplex_base::positions::{Round, Roundable};
+use crate::peek::{Peek, Peeked};
+use crate::skips::{SkipCertificate, skip_attestation, skip_certified, skip_signed, take_round};
+use simplex_base::codec::{Encoding, Read};
+use simplex_base::positions::{Epoch, Round, Roundable, View};
 use simplex_evidence::types::{Activity, Contents};
 use simplex_scheme::scheme::{CertificateScheme, Digest, Listing};
 
@@ -57,5 +60,42 @@ fn tag_of<S: CertificateScheme, D: Digest>(message: &Activity<S, D>) -> u32
         Activity::ConflictingNotarize(_) => 7,
         Activity::ConflictingFinalize(_) => 8,
         Activity::NullifyFinalize(_) => 9,
+    }
+}
+
+impl<S: SkipCertificate<D>, D: Digest> Peek for Activity<S, D> {
+    fn peek(bytes: &[u8], bound: u32) -> Option<Peeked> {
+        let Some((tag, body)) = bytes.split_first() else {
+            return None;
+        };
+        let (epoch, view, rest) = take_round(body)?;
+        let rest = skip_behind_round::<S, D>(*tag, rest, bound)?;
+        Some(Peeked {
+            round: Round::new(Epoch::new(epoch), View::new(view)),
+            length: bytes.len() - rest.len(),
+        })
+    }
+}
+
+/// The bytes after a message of this tag, from those after its round on. Evidence is never skipped.
+fn skip_behind_round<S: SkipCertificate<D>, D: Digest>(
+    tag: u8,
+    bytes: &[u8],
+    bound: u32,
+) -> Option<&[u8]>
+    ensures { IfSome result (λ rest. SkipsBehind (⟦<Activity<S, D> as Read>⟧.reading bound)
+        ⟦<Activity<S, D> as Roundable>⟧.round_of tag bytes.now rest.now) }
+{
+    match tag {
+        0 | 5 => skip_signed::<S, D>(bytes),
+        1 | 6 => skip_certified::<S, D>(bytes, bound),
+        // A certification is a notarization with another tag.
+        2 => skip_certified::<S, D>(bytes, bound),
+        3 => {
+            let (_, rest) = skip_attestation::<S>(bytes)?;
+            Some(rest)
+        }
+        4 => S::skip_certificate(bytes, bound),
+        _ => None,
     }
 }

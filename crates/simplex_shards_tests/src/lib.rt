@@ -7,6 +7,8 @@ mod begun;
 #[cfg(test)]
 mod called;
 #[cfg(test)]
+mod classed;
+#[cfg(test)]
 mod ordered;
 #[cfg(test)]
 mod parted;

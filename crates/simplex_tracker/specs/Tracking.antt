@@ -1,5 +1,5 @@
 -- What is known of a stream that comes in pieces, and what arose in it.
-use Rattle.std.specs.Prelude.{◌≡◌, ℕ, ◌-◌, ◌^◌, Bool, List, [], min}
+use Rattle.std.specs.Prelude.{◌≡◌, ℕ, ◌-◌, ◌^◌, ◌==◌, Bool, List, [], length, min}
 use Rattle.simplex_base.specs.Format.{IsLawful}
 use Rattle.simplex_base.specs.Positions.{Round}
 use Rattle.simplex_evidence.specs.declared.types.activity.Activity.{Activity}
@@ -55,3 +55,10 @@ pub record HasVotes {S D C P G : Type 0} (basis : Basis S D C P G) (stream : Lis
   pub rest : List ℕ
   pub are_messages : AreMessages basis.format stream messages rest
   pub count_is : count ≡ min (votes_recorded basis.rules.eq (valid_votes basis.rules messages)) (2 ^ 64 - 1)
+
+-- whether a stream ends with a whole message, or is empty: no bytes are left behind its last whole message
+pub record EndsWhole {S D C P G : Type 0} (basis : Basis S D C P G) (stream : List ℕ) (whole : Bool) : Type 0 where
+  pub messages : List (Activity S D C P G)
+  pub rest : List ℕ
+  pub are_messages : AreMessages basis.format stream messages rest
+  pub whole_is : whole ≡ (length rest == 0)

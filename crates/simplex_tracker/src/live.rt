@@ -8,7 +8,7 @@ ghost use Rattle.simplex_detector.specs.Accusation.{round_cmp};
 ghost use Rattle.simplex_detector.specs.Values.{evidence_value};
 ghost use Rattle.simplex_audit.specs.Basis.{basis_from};
 ghost use Rattle.simplex_audit.specs.Report.{IsReport};
-ghost use Rattle.simplex_tracker.specs.Tracking.{HasVotes, fed_of, tracking_over};
+ghost use Rattle.simplex_tracker.specs.Tracking.{EndsWhole, HasVotes, fed_of, tracking_over};
 ghost use Rattle.simplex_tracker.specs.Live.{Advances, AreNews, CanStandFor, Follows, HasEnded, IsShort, LosesNothing, TakesPiece, TracksAll, WaitSame, evidence_waiting, held_by, splits_waiting};
 
 use crate::tracker::Tracker;
@@ -260,6 +260,41 @@ impl<S: Listing<D> + Drop, D: Digest> LiveAuditor<S, D> {
             None => Err(AllocError),
             Some(tracker) => Ok(tracker.votes()),
         }
+    }
+
+    /// Whether the stream so far ends with a whole message, or is empty. `AllocError` only where an allocation failed; nothing
+    /// is lost then.
+    pub fn is_whole(&mut self, alloc: Global) -> Result<bool, AllocError>
+        ensures follows { (floor : positions.Round) (committees : Schedule S) (stream : List ℕ) →
+            Follows floor ⟦<S as Audited<D>>⟧.basis committees stream self.old →
+            Follows floor ⟦<S as Audited<D>>⟧.basis committees stream self.new }
+        ensures whole { IfOk result (λ whole. (floor : positions.Round) (committees : Schedule S)
+            (stream : List ℕ) → Follows floor ⟦<S as Audited<D>>⟧.basis committees stream self.old →
+            EndsWhole (⟦<S as Audited<D>>⟧.basis committees) stream whole) }
+        ensures news { self.new.news ≡ self.old.news }
+    {
+        self.recall(alloc)?;
+        match &self.tracker {
+            None => Err(AllocError),
+            Some(tracker) => Ok(tracker.is_whole()),
+        }
+    }
+
+    /// The committees by which it judges.
+    pub fn committees(&self) -> &Committees<S>
+        ensures { (floor : positions.Round) (committees : Schedule S) (stream : List ℕ) →
+            Follows floor ⟦<S as Audited<D>>⟧.basis committees stream self.now →
+            result.now ≡ committees }
+    {
+        &self.committees
+    }
+
+    /// The first round that it judges.
+    pub fn floor(&self) -> Round
+        ensures { (floor : positions.Round) (committees : Schedule S) (stream : List ℕ) →
+            Follows floor ⟦<S as Audited<D>>⟧.basis committees stream self.now → result ≡ floor }
+    {
+        self.floor
     }
 
     /// Leaves out of what is held what can go, so that it is as few messages as a compaction leaves. It costs a reading of what

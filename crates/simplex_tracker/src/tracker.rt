@@ -8,7 +8,7 @@ ghost use Rattle.simplex_detector.specs.Accusation.{round_cmp};
 ghost use Rattle.simplex_detector.specs.Alarm.{Told, nothing_told, told_from, told_then};
 ghost use Rattle.simplex_audit.specs.Basis.{basis_from};
 ghost use Rattle.simplex_audit.specs.Report.{IsReport};
-ghost use Rattle.simplex_tracker.specs.Tracking.{HasVotes, IsQuiet, Tracks, fed_of, tracking_over};
+ghost use Rattle.simplex_tracker.specs.Tracking.{EndsWhole, HasVotes, IsQuiet, Tracks, fed_of, tracking_over};
 
 use simplex_audit::audit::Report;
 use simplex_audit::basis::Audited;
@@ -190,6 +190,16 @@ impl<S: Listing<D>, D: Digest> Tracker<S, D> {
     {
         floors_rise::<S, D>();
         self.sight.detector.votes()
+    }
+
+    /// Whether the stream so far ends with a whole message, or is empty.
+    pub fn is_whole(&self) -> bool
+        ensures { (floor : positions.Round) (committees : Schedule S) (told : Told D S.Signature)
+            (stream : List ℕ) →
+            Tracks floor (⟦<S as Audited<D>>⟧.basis committees) told stream self.now →
+            EndsWhole (⟦<S as Audited<D>>⟧.basis committees) stream result }
+    {
+        self.decoder.rest().is_empty()
     }
 
     /// How many bytes it was fed.

@@ -66,6 +66,8 @@ fn main() -> Result<(), Box<dyn std::error::Error>> {
     print!("{}", report.text);
     for one in records(&committees, stream.as_bytes())? {
         println!("votes of participant {} at bytes {} and {}", one.signer, one.first_place, one.second_place);
+        // Whoever is shown the two votes can verify them.
+        assert!([&one.first, &one.second].iter().all(|it| network.verify(&it.vote, it.signer, &it.signature)));
     }
 
     // The same votes behind an honest round, with nothing verified yet.

@@ -1,20 +1,17 @@
-use Rattle.std.proofs.Common.{Option, Ok, ap, subst, sym, refl}
-use Rattle.std.specs.Prelude.{IfSome}
-use Rattle.simplex_schemes.specs.Plain.{PlainScheme}
-use Rattle.simplex_schemes.specs.PlainCommittee.{AreCommitteeKeys, IsPlainCommittee}
-use Rattle.simplex_ffi.specs.Keys.{AreOfKeys}
-use Rattle.simplex_ffi.proofs.KeyLemmas.{committee_keys, committee_of}
+use Rattle.std.proofs.Common.{Err, Ok, ap, get_or, arith}
+use Rattle.simplex_ffi.proofs.KeyLemmas.{never_refused, one_keys}
+use Rattle.simplex_ffi.proofs.SizeLemmas.{no_epochs, some_epochs}
 use Rattle.simplex_ffi.proofs.keys.committees.Goals as goal
-
-pub returns-in-Some-clause-some : goal.returns-in-Some-clause-some
-returns-in-Some-clause-some c =
-    subst (AreOfKeys c.args.namespace.now c.args.keys.now) (sym c.every.ensures)
-    (committee_of c.args.namespace.now c.args.keys.now c.in_ok-read_keys.field-0.items c.in-Some.committee
-    (c.if-not-have_keys.ensures.0 refl) c.in_ok-read_keys.ensures
-    (subst (λ (o : Option PlainScheme). IfSome o (IsPlainCommittee c.args.namespace.now c.in_ok-read_keys.field-0.items))
-    c.in-Some.is c.in_ok-committee.ensures.committee))
 
 pub returns-in-None-clause-none : goal.returns-in-None-clause-none
 returns-in-None-clause-none c = λ _ are.
-    c.in_ok-committee.ensures.none.0 (ap Ok c.in-None.is)
-    (subst AreCommitteeKeys (sym c.in_ok-read_keys.ensures) (committee_keys c.args.keys.now are))
+    c.in_ok-committee.ensures.none (ap Ok c.in-None.is)
+    (one_keys c.args.epochs.now c.args.sizes.now c.args.keys.now (no_epochs c.args.epochs.now c.if-is_empty.ensures)
+    (λ n is. omega (arith, c.type_inv.sizes 0, ap (λ ns. get_or ns 0 0) is)) are)
+
+pub returns-in-Err-clause-none : goal.returns-in-Err-clause-none
+returns-in-Err-clause-none c = λ _ are.
+    let is = rw c.in-Some-2.is at c.in_ok-pairs.ensures.epochs in
+    never_refused c.args.epochs.now c.args.sizes.now c.in-Some-2.pairs.items c.in-Err.field-0
+    (some_epochs c.args.epochs.now c.if-is_empty.ensures) are.length_is.0 is (λ e. c.in-Err.ensures.empty.0 (ap Err e))
+    (λ e. c.in-Err.ensures.unordered.0 (ap Err e))

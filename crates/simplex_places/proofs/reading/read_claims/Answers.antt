@@ -53,7 +53,7 @@ returns g c = λ same.
     let rules = claims g committees in
     let next = c.for_each_message.new.visitor in
     let stream = c.args.stream.now in
-    subst (λ (bound : ℕ). AreRead (basis g committees bound) rules places_in stream next.claims.detector
-    next.claims.places.items) same
+    subst (λ (bound : ℕ). AreRead (basis g committees bound) rules places_in stream next.detector
+    next.reader.places.items) same
     (claims_all rules places_in (basis g committees c.args.bound) _ next stream p.rest.now p.read p.stop
     (c.new.ensures Claimed committees) c.new-2.ensures.items refl c.in_ok-for_each_message.ensures.progress)

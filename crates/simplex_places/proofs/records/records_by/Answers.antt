@@ -10,10 +10,13 @@ use Rattle.simplex_detector.specs.Rules.{is_valid}
 use Rattle.simplex_detector.specs.Values.{evidence_value}
 use Rattle.simplex_votes.specs.Votes.{SignedVote}
 use Rattle.simplex_stream.specs.Messages.{AreMessages}
-use Rattle.simplex_places.specs.FirstPlaces.{AreSought, NotesAlong}
+use Rattle.simplex_places.specs.Bytes.{IsVoteAt}
+use Rattle.simplex_places.specs.FirstPlaces.{AreSought, NotesAlong, votes_placed}
+use Rattle.simplex_places.specs.Places.{message_places}
 use Rattle.simplex_places.specs.Records.{IsOfEvidence, IsRecord}
 use Rattle.simplex_places.specs.Votes.{carries, same_signed_vote}
 use Rattle.simplex_places.proofs.RecordLemmas.{all_of_evidence, records_stand}
+use Rattle.simplex_places.proofs.StandingLemmas.{message_within}
 use Rattle.simplex_places.proofs.records.records_by.Given as given
 use Rattle.simplex_places.proofs.records.records_by.Goals as goal
 
@@ -21,16 +24,23 @@ use Rattle.simplex_places.proofs.records.records_by.Goals as goal
 abbrev Message : given.Over → Type 0
 Message g = Activity g.row.S.Denot g.row.D.Denot g.row.S-Certificate.Denot g.row.S-PublicKey.Denot g.row.S-Signature.Denot
 
+-- the formats of payloads and of signatures
+abbrev payload : (g : given.Over) → Format g.row.D.Denot
+payload g = fixed g.D.FixedSize.SIZE g.D.Fixed.bytes_of g.D.Fixed.of_bytes
+
+abbrev signature : (g : given.Over) → Format g.row.S-Signature.Denot
+signature g = fixed g.S.Signature.FixedSize.SIZE g.S.Signature.Fixed.bytes_of g.S.Signature.Fixed.of_bytes
+
 -- the format of messages under a bound
 abbrev format : (g : given.Over) → ℕ → Format (Message g)
 format g bound =
-    activity_format g.D.PartialEq.eq (fixed g.D.FixedSize.SIZE g.D.Fixed.bytes_of g.D.Fixed.of_bytes)
+    activity_format g.D.PartialEq.eq (payload g)
     (record {
       is_value = g.S.Certificate.Read.fits bound;
       encoding = g.S.Certificate.Encoding.encoding;
       reading = g.S.Certificate.Read.reading bound;
     })
-    (fixed g.S.Signature.FixedSize.SIZE g.S.Signature.Fixed.bytes_of g.S.Signature.Fixed.of_bytes)
+    (signature g)
 
 pub returns-clause-whose : goal.returns-clause-whose
 returns-clause-whose g c =
@@ -55,6 +65,11 @@ returns-clause-records g c = IfOk-weaker c.listed.result _ _ (λ found is audit 
     g.met.K.Key.alike in
     let itself : (v : SignedVote g.row.D.Denot g.row.S-Signature.Denot) → same_signed_vote payload_eq signature_eq v v ≡ true =
     λ v. sym (alike v v) ∙ g.met.K.Eq.laws.refl (key_of v) in
+    let payload_is : (x y : g.row.D.Denot) → payload_eq x y ≡ true → (payload g).encoding x ≡ (payload g).encoding y =
+    λ x y. (g.met.D.Fixed.equal x y).0 in
+    let signature_is : (x y : g.row.S-Signature.Denot) → signature_eq x y ≡ true →
+    (signature g).encoding x ≡ (signature g).encoding y =
+    λ x y. (g.met.S.Signature.Fixed.equal x y).0 in
     let es = c.args.report.now.evidence.items in
     let before = c.in_ok-keys.keys in
     let after = c.in_ok-places.places in
@@ -63,12 +78,15 @@ returns-clause-records g c = IfOk-weaker c.listed.result _ _ (λ found is audit 
     noted.are_messages in
     let same = (audit.single messages noted.messages rest noted.rest are bounded).0 in
     let encoding = (format g c.bound.result).encoding in
-    let noted_all = subst (NotesAlong cmp eq key_of (votes_in listed) encoding 0 before after) (sym same) noted.found in
+    let places = message_places (payload g) (signature g) listed in
+    let noted_all = subst (NotesAlong cmp eq key_of (votes_placed (votes_in listed) places) encoding 0 before after) (sym same)
+    noted.found in
     let sought = subst (All (λ e. AreSought cmp key_of before (evidence_value e))) c.as_slice-evidence.ensures.value
     c.in_ok-keys.ensures in
-    let stand = records_stand cmp eq key_of (same_signed_vote payload_eq signature_eq) alike itself (votes_in listed)
-    (is_valid rules) (format g c.bound.result).encoding messages before after noted_all evidence_value payload_eq es
-    (audit.sound messages rest are) sought in
-    subst (AllZip (IsRecord (carries payload_eq signature_eq listed) (format g c.bound.result).encoding messages)
-    (map evidence_value es)) (sym (is ∙ ap (map _) c.as_slice-evidence.ensures.value)) stand)
+    let stand = records_stand cmp eq key_of (payload g) (signature g) payload_eq signature_eq payload_is signature_is alike
+    itself (votes_in listed) places (is_valid rules) encoding c.args.stream.now messages
+    (message_within payload_eq (payload g) g.S.Certificate.Encoding.encoding (signature g) listed g.met.S.Counted.counted
+    c.args.stream.now messages rest are.whole) before after noted_all evidence_value es (audit.sound messages rest are) sought in
+    subst (AllZip (IsRecord (carries payload_eq signature_eq listed) (IsVoteAt (payload g) (signature g) c.args.stream.now)
+    encoding messages) (map evidence_value es)) (sym (is ∙ ap (map _) c.as_slice-evidence.ensures.value)) stand)
     c.listed.ensures

@@ -1,6 +1,6 @@
 use Rattle.std.proofs.Common.{ℕ, false, sym, ap, ◌∙◌}
 use Rattle.simplex_scheme.specs.Committees.{committee_of, size_by}
-use Rattle.simplex_places.specs.Suspects.{suspected_by}
+use Rattle.simplex_places.specs.Suspects.{is_sought, suspected_by}
 use Rattle.simplex_places.specs.declared.places.Placed.{Placed}
 use Rattle.simplex_places.specs.declared.places.AttestationPlace.{AttestationPlace}
 use Rattle.simplex_places.proofs.SuspectLemmas.{one_found, one_left}
@@ -17,10 +17,10 @@ places-preserved g c =
     elim c.if-is_sought.branch [
       | then-is_sought+in_ok-push w ↦
           ap (λ found. found.items) w.found-is
-          ∙ one_found suspected size c.args.places.now c.places.place-index none c.places.found.items w.push.new.self.items
+          ∙ one_found (is_sought suspected size) c.args.places.now c.places.place-index none c.places.found.items w.push.new.self.items
           c.places-test.true (sym c.is_sought.ensures ∙ w.if-is_sought.true) w.in_ok-push.ensures.items c.places.invariant
       | else-is_sought w ↦
           ap (λ found. found.items) w.found-is
-          ∙ one_left suspected size c.args.places.now c.places.place-index none c.places.found.items c.places-test.true
+          ∙ one_left (is_sought suspected size) c.args.places.now c.places.place-index none c.places.found.items c.places-test.true
           (sym c.is_sought.ensures ∙ w.if-is_sought.false) c.places.invariant
     ]

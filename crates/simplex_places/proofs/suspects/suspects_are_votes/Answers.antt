@@ -4,8 +4,8 @@ use Rattle.std.specs.List.{flat_map}
 use Rattle.simplex_base.specs.Format.{fixed}
 use Rattle.simplex_evidence.specs.Activity.{votes_in}
 use Rattle.simplex_detector.specs.Scheme.{rules_of, scheme_of}
-use Rattle.simplex_places.specs.Suspects.{suspected_in}
-use Rattle.simplex_places.proofs.ByteLemmas.{IsCast, sought_stand}
+use Rattle.simplex_places.specs.Suspects.{is_sought, suspected_in}
+use Rattle.simplex_places.proofs.ByteLemmas.{IsCast, passing_stand}
 use Rattle.simplex_places.proofs.suspects.suspects_are_votes.Goals as goal
 
 pub returns : goal.returns
@@ -22,8 +22,8 @@ returns g c committees stream found are =
       rest = are.rest;
       are_messages = are.are_messages;
       each =
-          subst (All (IsCast eq payload g.S.Certificate.Encoding.encoding signature listed g.met.S.Counted.counted stream cast))
+          subst (All (IsCast payload signature stream cast))
           (sym are.found_are)
-          (sought_stand eq payload g.S.Certificate.Encoding.encoding signature listed g.met.S.Counted.counted stream cast
-          (suspected_in rules are.messages) rules.size are.messages are.rest are.are_messages.whole (λ v c. c));
+          (passing_stand eq payload g.S.Certificate.Encoding.encoding signature listed g.met.S.Counted.counted stream cast
+          (is_sought (suspected_in rules are.messages) rules.size) are.messages are.rest are.are_messages.whole (λ v c. c));
     }

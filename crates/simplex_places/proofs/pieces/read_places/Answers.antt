@@ -1,0 +1,43 @@
+use Rattle.std.proofs.Common.{ℕ, refl, subst}
+use Rattle.simplex_base.specs.Format.{Format, fixed}
+use Rattle.simplex_evidence.specs.Activity.{activity_format}
+use Rattle.simplex_scheme.specs.Committees.{Schedule}
+use Rattle.simplex_detector.specs.Scheme.{rules_of, scheme_of}
+use Rattle.simplex_audit.specs.Basis.{Basis}
+use Rattle.simplex_places.specs.Pieces.{ArePlaces}
+use Rattle.simplex_places.specs.Places.{message_places}
+use Rattle.simplex_places.proofs.ReadingLemmas.{read_all}
+use Rattle.simplex_places.proofs.pieces.read_places.Given as given
+use Rattle.simplex_places.proofs.pieces.read_places.Goals as goal
+
+abbrev payload : (g : given.Over) → Format g.row.D.Denot
+payload g = fixed g.D.FixedSize.SIZE g.D.Fixed.bytes_of g.D.Fixed.of_bytes
+
+abbrev signature : (g : given.Over) → Format g.row.S-Signature.Denot
+signature g = fixed g.S.Signature.FixedSize.SIZE g.S.Signature.Fixed.bytes_of g.S.Signature.Fixed.of_bytes
+
+-- the basis of an audit under a bound
+abbrev basis : (g : given.Over) → Schedule g.row.S.Denot → ℕ → Basis g.row.S.Denot g.row.D.Denot
+    g.row.S-Certificate.Denot g.row.S-PublicKey.Denot g.row.S-Signature.Denot
+basis g committees bound = record {
+  bound = bound;
+  format = activity_format g.D.PartialEq.eq (payload g) (record {
+    is_value = g.S.Certificate.Read.fits bound;
+    encoding = g.S.Certificate.Encoding.encoding;
+    reading = g.S.Certificate.Read.reading bound;
+  }) (signature g);
+  rules = rules_of (scheme_of g.D.PartialEq.eq g.S.CertificateScheme.keys g.S.Scheme.good
+      g.S.CertificateVerifier.certified g.S.Listing.listed) committees;
+}
+
+pub returns : goal.returns
+returns g c = λ same.
+    let p = c.in_ok-progress.progress in
+    let places_in = message_places (payload g) (signature g) g.S.Listing.listed in
+    let committees = c.args.committees.now in
+    let next = c.for_each_message.new.visitor in
+    subst (λ (bound : ℕ). ArePlaces (basis g committees bound) places_in c.args.bytes.now next c.is_over-over.result) same
+    (read_all places_in (basis g committees c.args.bound) _ next c.args.bytes.now p.rest.now p.read p.stop
+    c.is_over-over.result c.new.ensures.items refl
+    (λ over. c.is_over-over.ensures over c.args.bound p.rest.now)
+    c.in_ok-progress.ensures.progress)
