@@ -10,7 +10,7 @@ use Rattle.simplex_base.specs.FormatLaws.{IsBytes-after}
 use Rattle.simplex_base.specs.declared.codec.error.Error.{Error}
 use Rattle.simplex_base.specs.declared.codec.error.Error.TheVariants as errors
 use Rattle.simplex_stream.specs.Messages.{IsStuck}
-use Rattle.simplex_stream.specs.Progress.{IsProgress}
+use Rattle.simplex_stream.specs.Progress.{IsProgress, FollowsOn}
 use Rattle.simplex_stream.specs.StreamLaws.{IsNeverEmpty, nothing_stuck}
 
 -- the encodings of the messages so far are a prefix of the stream, and the messages are recorded
@@ -33,6 +33,14 @@ so_far_start format Recorded stream recorded = record {
   room = omega arith;
   recorded = recorded;
 }
+
+-- one message more follows on
+pub follows_next : {M V : Type 0} (follows : List M → V → V → Type 0) →
+    ((ms : List M) (m : M) (a b c : V) → follows ms a b → follows (m ∷ []) b c → follows (ms ++ m ∷ []) a c) →
+    (ms : List M) (m : M) (a b c : V) → FollowsOn follows ms a b → follows (m ∷ []) b c → FollowsOn follows (ms ++ m ∷ []) a c
+follows_next {M} follows more ms m a b c on one first before led =
+    subst (λ (ks : List M). follows ks first c) (append_assoc before ms (m ∷ []))
+    (more (before ++ ms) m first b c (on first before led) one)
 
 -- what one message more leaves: its value, and the bytes before and after it
 pub record IsRead {M : Type 0} (format : Format M) (rest rest' : List ℕ) (m : M) : Type 0 where

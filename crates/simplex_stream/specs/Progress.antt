@@ -1,5 +1,5 @@
 -- What was read of a stream.
-use Rattle.std.specs.Prelude.{◌≡◌, ℕ, List, length, Option}
+use Rattle.std.specs.Prelude.{◌≡◌, ◌+◌, ◌++◌, ℕ, List, length, Option}
 use Rattle.simplex_base.specs.Format.{Format}
 use Rattle.simplex_base.specs.declared.codec.error.Error.{Error}
 use Rattle.simplex_stream.specs.Messages.{AreMessages, IsStop}
@@ -13,3 +13,12 @@ pub record IsProgress {M : Type 0} (format : Format M) (Recorded : List M → Ty
   pub read_is : read ≡ length messages
   pub stop_is : IsStop format.reading rest stop
   pub recorded : Recorded messages
+
+-- with these messages behind them, the messages that led to the first state lead to the second
+abbrev pub FollowsOn : {M V : Type 0} → (List M → V → V → Type 0) → List M → V → V → Type 0
+FollowsOn {M} {V} follows messages a b =
+    (first : V) (before : List M) → follows before first a → follows (before ++ messages) first b
+
+-- where the first state has room for some bytes and more, the second has room for those that are left and more
+abbrev pub LeavesRoom : {V : Type 0} → (V → ℕ → Type 0) → ℕ → ℕ → V → V → Type 0
+LeavesRoom has_room bytes left a b = (more : ℕ) → has_room a (bytes + more) → has_room b (left + more)

@@ -6,7 +6,7 @@ ghost use Rattle.simplex_base.specs.Finality.{IsFinal};
 ghost use Rattle.simplex_base.specs.Reading.{same_error};
 ghost use Rattle.simplex_base.specs.declared.codec.error.Error.TheVariants as errors;
 ghost use Rattle.simplex_stream.specs.Messages.{IsOver, IsStuck, IsStop};
-ghost use Rattle.simplex_stream.specs.Progress.{IsProgress};
+ghost use Rattle.simplex_stream.specs.Progress.{IsProgress, FollowsOn, LeavesRoom};
 
 use crate::fault::refusal;
 use simplex_base::codec::parts::known_bytes;
@@ -139,6 +139,25 @@ pub fn for_each_message<'a, M: Message + Drop, V: Visitor<M>>(
         (λ messages. V.follows context.now messages visitor.old visitor.new) bytes.now p.rest.now p.read
         p.stop) }
     ensures room { IfOk result (λ p. p.read + length p.rest.now ≤ length bytes.now) }
+{
+    read_on::<M, V>(alloc, context, bound, bytes, visitor)
+}
+
+/// Does the same behind whatever messages the visitor took before, and leaves it room for what follows these bytes.
+pub(crate) fn read_on<'a, M: Message + Drop, V: Visitor<M>>(
+    alloc: Global,
+    context: &V::Context,
+    bound: u32,
+    bytes: &'a [u8],
+    visitor: &mut V,
+) -> Result<Progress<'a>, AllocError>
+    requires { V.has_room visitor.old (length bytes.now) }
+    ensures progress { IfOk result (λ p. IsProgress (format_under ⟦<M as Read>⟧ bound)
+        (λ messages. FollowsOn (V.follows context.now) messages visitor.old visitor.new)
+        bytes.now p.rest.now p.read p.stop) }
+    ensures counts { IfOk result (λ p. p.read + length p.rest.now ≤ length bytes.now) }
+    ensures room { IfOk result (λ p.
+        LeavesRoom V.has_room (length bytes.now) (length p.rest.now) visitor.old visitor.new) }
 {
     let mut rest: &[u8] = bytes;
     let mut read = 0;

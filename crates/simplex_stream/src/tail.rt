@@ -1,6 +1,6 @@
 //! The undecoded tail of a stream that comes in pieces.
 
-ghost use Rattle.std.specs.Prelude.{◌≡◌, ◌↔◌, ◌++◌, ◌+◌, ◌<◌, ◌≤◌, ◌^◌, [], IsTrue, OnOk, OnErr, length, drop};
+ghost use Rattle.std.specs.Prelude.{◌≡◌, ◌↔◌, ◌++◌, ◌+◌, ◌-◌, ◌<◌, ◌≤◌, ◌^◌, [], IsTrue, OnOk, OnErr, length, drop};
 ghost use Rattle.simplex_base.specs.Format.{format_under};
 ghost use Rattle.simplex_stream.specs.Tail.{bytes_held, due_of, Awaits};
 
@@ -50,6 +50,20 @@ impl Tail {
         ensures { IsTrue result ↔ (due_of self.now ≤ length (bytes_held self.now) + more) }
     {
         self.due <= self.held.len() + more
+    }
+
+    /// How many bytes are missing before a message may be read at its start.
+    pub(crate) fn missing(&self) -> usize
+        ensures { result ≡ due_of self.now - length (bytes_held self.now) }
+    {
+        self.due.saturating_sub(self.held.len())
+    }
+
+    /// Drops all its bytes.
+    pub(crate) fn clear(&mut self)
+        ensures { bytes_held self.new ≡ [] }
+    {
+        self.held.clear();
     }
 
     /// The allocator of its bytes.

@@ -11,6 +11,13 @@ use Rattle.simplex_audit.proofs.FloorLemmas.{from_first}
 use Rattle.simplex_audit.proofs.compacted_input.compact_input.Invariants.{is_value, whole}
 use Rattle.simplex_audit.proofs.compacted_input.compact_input.Goals as goal
 
+-- before the first read nothing was written
+pub returns-in_err-piece-clause-begun : goal.returns-in_err-piece-clause-begun
+returns-in_err-piece-clause-begun g c =
+    if_err c.from_residual.result _ (known _ _ [] _ (Consumes-nil _) (λ more.
+    begun_so_far (is_value g) c.args.floor (whole g c.args.committees.now) c.new-state.result [] _ _
+    (c.new-state.ensures.compacted _) more))
+
 -- an error leaves a front of the compaction, as it was at the head of the loop
 pub returns-in_err-count-clause-begun : goal.returns-in_err-count-clause-begun
 returns-in_err-count-clause-begun g c =

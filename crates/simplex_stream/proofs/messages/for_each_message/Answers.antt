@@ -1,62 +1,13 @@
-use Rattle.std.proofs.Common.{◌≡◌, ◌+◌, ◌-◌, ℕ, length, subst, arith}
-use Rattle.simplex_base.specs.Format.{Format}
-use Rattle.simplex_stream.proofs.StreamLemmas.{is_read, so_far_next}
-use Rattle.simplex_stream.proofs.messages.for_each_message.Given as given
+use Rattle.std.proofs.Common.{[]}
+use Rattle.std.proofs.lemmas.Result.{IfOk-weaker}
 use Rattle.simplex_stream.proofs.messages.for_each_message.Goals as goal
 
--- the format of messages under a bound
-abbrev format : (g : given.Over) → ℕ → Format g.row.M.Denot
-format g bound = record {
-  is_value = g.M.Read.fits bound;
-  encoding = g.M.Encoding.encoding;
-  reading = g.M.Read.reading bound;
-}
-
-pub overflow_sub-before : goal.overflow_sub-before
-overflow_sub-before g c =
-    let one = is_read (format g c.args.bound) _ c.args.bytes.now c.messages.rest.now c.read_cfg.new.input.now
-    c.messages.read c.in-Ok.message (g.met.M.Read.lawful c.args.bound) (λ i. omega (arith, c.type_inv.bytes i))
-    c.messages.invariant.0 c.in-Ok.ensures in
-    let size = one.size in
-    omega arith
-
-pub take-requires-clause-size : goal.take-requires-clause-size
-take-requires-clause-size g c =
-    let one = is_read (format g c.args.bound) _ c.args.bytes.now c.messages.rest.now c.read_cfg.new.input.now
-    c.messages.read c.in-Ok.message (g.met.M.Read.lawful c.args.bound) (λ i. omega (arith, c.type_inv.bytes i))
-    c.messages.invariant.0 c.in-Ok.ensures in
-    let size = one.size in
-    omega arith
-
-pub take-requires-clause-room : goal.take-requires-clause-room
-take-requires-clause-room g c =
-    let left = length c.read_cfg.new.input.now in
-    let one = is_read (format g c.args.bound) _ c.args.bytes.now c.messages.rest.now c.read_cfg.new.input.now
-    c.messages.read c.in-Ok.message (g.met.M.Read.lawful c.args.bound) (λ i. omega (arith, c.type_inv.bytes i))
-    c.messages.invariant.0 c.in-Ok.ensures in
-    let size = one.size in
-    let whole : length c.messages.rest.now ≡ (length c.messages.rest.now - left) + left = omega arith in
-    g.met.V.Visitor.less c.messages.visitor (length c.messages.rest.now - left) left
-    (subst (g.V.Visitor.has_room c.messages.visitor) whole c.messages.invariant.1)
-
-pub messages-smaller : goal.messages-smaller
-messages-smaller g c =
-    let one = is_read (format g c.args.bound) _ c.args.bytes.now c.messages.rest.now c.read_cfg.new.input.now
-    c.messages.read c.in-Ok.message (g.met.M.Read.lawful c.args.bound) (λ i. omega (arith, c.type_inv.bytes i))
-    c.messages.invariant.0 c.in-Ok.ensures in
-    let size = one.size in
-    let some = g.met.M.Message.never_empty c.in-Ok.message in
-    omega arith
-
-pub messages-preserved : goal.messages-preserved
-messages-preserved g c =
-    let one = is_read (format g c.args.bound) _ c.args.bytes.now c.messages.rest.now c.read_cfg.new.input.now
-    c.messages.read c.in-Ok.message (g.met.M.Read.lawful c.args.bound) (λ i. omega (arith, c.type_inv.bytes i))
-    c.messages.invariant.0 c.in-Ok.ensures in
-    let taken = c.in_ok-take-in-Ok.ensures in (
-      so_far_next (format g c.args.bound) _ _ c.args.bytes.now c.messages.rest.now c.read_cfg.new.input.now
-          c.messages.read c.in-Ok.message g.met.M.Message.never_empty c.messages.invariant.0 one
-          (λ ms follows. g.met.V.Visitor.more c.args.context.now ms c.in-Ok.message _ _ _ follows taken),
-      g.met.V.Visitor.left c.args.context.now c.in-Ok.message _ _ (length c.read_cfg.new.input.now) taken
-          (subst (g.V.Visitor.has_room c.messages.visitor) one.size c.messages.invariant.1),
-    )
+pub returns-clause-progress : goal.returns-clause-progress
+returns-clause-progress g c =
+    IfOk-weaker c.read_on.result _ _ (λ p done. record {
+      messages = done.messages;
+      are_messages = done.are_messages;
+      read_is = done.read_is;
+      stop_is = done.stop_is;
+      recorded = done.recorded _ [] (g.met.V.Visitor.none c.args.context.now c.args.visitor.now);
+    }) c.read_on.ensures.progress

@@ -1,48 +1,29 @@
 use Rattle.std.proofs.lemmas.Grind.{common_steps}
-use Rattle.std.proofs.Common.{◌≡◌, ℕ, List, [], ◌++◌, length, refl, sym, ap, ◌∙◌, arith}
-use Rattle.simplex_base.specs.Format.{Format}
-use Rattle.simplex_stream.specs.Decoder.{undecoded}
-use Rattle.simplex_stream.specs.StreamLaws.{front_dropped}
-use Rattle.simplex_stream.proofs.DecoderLemmas.{decodes_more, decodes_none}
-use Rattle.simplex_stream.proofs.StreamLemmas.{none_left}
-use Rattle.simplex_stream.proofs.decoder.Decoder.feed.Given as given
+use Rattle.std.proofs.lemmas.Result.{IfOk-weaker}
+use Rattle.std.proofs.Common.{◌-◌, length, ap, subst, arith}
+use Rattle.simplex_stream.proofs.DecoderLemmas.{decodes_both, decodes_in_place}
 use Rattle.simplex_stream.proofs.decoder.Decoder.feed.Goals as goal
 
--- the format of messages under a bound
-abbrev format : (g : given.Over) → ℕ → Format g.row.M.Denot
-format g bound = record {
-  is_value = g.M.Read.fits bound;
-  encoding = g.M.Encoding.encoding;
-  reading = g.M.Read.reading bound;
-}
+pub append-requires-clause-room : goal.append-requires-clause-room
+append-requires-clause-room g c =
+    g.met.V.Visitor.less c.args.visitor.now _ (length c.args.piece.now - c.head-head.result)
+    (subst (g.V.Visitor.has_room c.args.visitor.now) (grind (arith, common_steps)) c.requires.room)
 
-pub returns-then-is_empty-clause-decoded : goal.returns-then-is_empty-clause-decoded
-returns-then-is_empty-clause-decoded g c =
-    let p = c.in_ok-progress.progress in
-    let done = c.in_ok-progress.ensures.progress in
-    let same = ap length c.bytes.ensures in
-    let none : undecoded c.args.self.now ≡ [] = none_left (undecoded c.args.self.now) (grind (arith, common_steps, same)) in
-    let left = c.advance.ensures.held ∙ (c.in_ok-push.ensures.held ∙ ap (λ (xs : List ℕ). xs ++ p.rest.now) none) in
-    decodes_more (format g c.args.bound) _ c.args.self.now _ c.args.piece.now c.args.piece.now p.rest.now done.messages p.read
-    refl refl done.read_is left (sym (ap (λ (xs : List ℕ). xs ++ c.args.piece.now) none)) done.are_messages
-    c.advance.ensures.awaits (λ t. c.is_over-self.ensures t c.args.bound p.rest.now done.stop_is) done.recorded
+pub read_in_place-requires-clause-room : goal.read_in_place-requires-clause-room
+read_in_place-requires-clause-room g c =
+    subst (g.V.Visitor.has_room c.append.new.visitor) (grind (arith, common_steps))
+    (c.in_ok-append.ensures.room (length c.args.piece.now - c.head-head.result)
+    (subst (g.V.Visitor.has_room c.args.visitor.now) (grind (arith, common_steps)) c.requires.room))
 
-pub returns-else-not-waits-clause-decoded : goal.returns-else-not-waits-clause-decoded
-returns-else-not-waits-clause-decoded g c =
-    decodes_none (format g c.args.bound) (g.met.M.Read.lawful c.args.bound) _ c.args.self.now _ c.args.piece.now refl refl refl
-    c.in_ok-push-2.ensures.held c.in_ok-push-2.ensures.due (c.waits-waits.ensures c.if-not-waits.false)
-    (g.met.V.Visitor.none c.args.context.now c.args.visitor.now)
+pub returns-then-head-piece-clause-decoded : goal.returns-then-head-piece-clause-decoded
+returns-then-head-piece-clause-decoded g c =
+    IfOk-weaker c.append-then-head-piece.result _ _ (λ done. decodes_both _ (g.V.Visitor.follows c.args.context.now)
+    (g.met.V.Visitor.none c.args.context.now) c.args.piece.now c.head-head.result c.in_ok-append.ensures.decoded)
+    c.append-then-head-piece.ensures.decoded
 
-pub returns-in_ok-progress-2-clause-decoded : goal.returns-in_ok-progress-2-clause-decoded
-returns-in_ok-progress-2-clause-decoded g c =
-    let p = c.in_ok-progress-2.progress in
-    let done = c.in_ok-progress-2.ensures.progress in
-    let room = c.in_ok-progress-2.ensures.room in
-    let bytes = c.bytes-bytes.result.now in
-    let same = ap length c.bytes-bytes.ensures in
-    let left = c.advance-then-not-waits.ensures.held ∙ front_dropped _ p.rest.now _ _
-    (sym c.bytes-bytes.ensures ∙ done.are_messages.whole) (omega arith) in
-    decodes_more (format g c.args.bound) _ c.args.self.now _ c.args.piece.now bytes p.rest.now done.messages p.read
-    refl refl done.read_is left (c.bytes-bytes.ensures ∙ c.in_ok-push-2.ensures.held) done.are_messages
-    c.advance-then-not-waits.ensures.awaits (λ t. c.is_over-self-then-not-waits.ensures t c.args.bound p.rest.now done.stop_is)
-    done.recorded
+pub returns-clause-decoded : goal.returns-clause-decoded
+returns-clause-decoded g c =
+    IfOk-weaker c.read_in_place.result _ _ (λ done. decodes_in_place _ (g.V.Visitor.follows c.args.context.now)
+    (g.met.V.Visitor.none c.args.context.now) c.args.piece.now c.head-head.result c.in_ok-append.ensures.decoded
+    (omega arith) (length c.bytes-left.result.now) (ap length c.bytes-left.ensures) (omega arith))
+    c.read_in_place.ensures.decoded
