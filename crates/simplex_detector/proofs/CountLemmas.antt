@@ -60,13 +60,13 @@ module _ {S D C P G : Type 0} (rules : Rules S D C P G) (messages : List (Activi
     (ordered : IsOrdered round_cmp detector.rounds) (holds : Recalls rules messages detector) where
   -- the detector has as many votes as are to be recorded of the messages
   pub counted_votes : IsEquivalence rules.eq →
-      rounds_count detector.rounds.entries ≡ votes_recorded rules.eq (valid_votes rules messages)
+      rounds_count detector.rounds ≡ votes_recorded rules.eq (valid_votes rules messages)
   counted_votes l =
-      counted detector.rounds.entries (recursion_from_All _ _ (recalls_listed rules messages detector ordered holds)) ∙
-      of_all (map (λ e. e.0) detector.rounds.entries) (recorded_of rules.eq (valid_votes rules messages)) ordered (λ v v_in.
+      counted detector.rounds (recursion_from_All _ _ (recalls_listed rules messages detector ordered holds)) ∙
+      of_all (map (λ e. e.0) detector.rounds) (recorded_of rules.eq (valid_votes rules messages)) ordered (λ v v_in.
       ⊎_elim
       (λ none. absurd (none_of_round rules.eq l (valid_votes rules messages) (round_of v.subject) none.votes v v_in refl))
-      (λ there. Contains-map (λ e. e.0) detector.rounds.entries (round_of v.subject, there.0) there.1)
+      (λ there. Contains-map (λ e. e.0) detector.rounds (round_of v.subject, there.0) there.1)
       (recalled rules messages detector ordered holds (round_of v.subject)))
     where
       counted : (entries : List (Round × RoundState S D P G)) →
@@ -77,11 +77,11 @@ module _ {S D C P G : Type 0} (rules : Rules S D C P G) (messages : List (Activi
 
   -- the splits of the listed rounds are those of the messages
   pub splits_of_detector : AreSplits rules messages
-      (filter_map (split_of rules messages) (map (λ e. e.0) detector.rounds.entries))
-  splits_of_detector = splits_of_rounds rules messages (map (λ e. e.0) detector.rounds.entries) ordered (λ round h.
+      (filter_map (split_of rules messages) (map (λ e. e.0) detector.rounds))
+  splits_of_detector = splits_of_rounds rules messages (map (λ e. e.0) detector.rounds) ordered (λ round h.
       ⊎_elim
       (λ none. absurd (false≢true (none.subjects.split ∙ sym (from_subjects rules messages round) ∙ h)))
-      (λ there. Contains-map (λ e. e.0) detector.rounds.entries (round, there.0) there.1)
+      (λ there. Contains-map (λ e. e.0) detector.rounds (round, there.0) there.1)
       (recalled rules messages detector ordered holds round))
 
 -- what was found, with what one more gives

@@ -1,5 +1,5 @@
 -- What is recorded, round by round, after one more message.
-use Rattle.simplex_detector.proofs.Prelude.{Scheme, Activity, All, All-from_recursion, All-map, AllByRecursion, Attestation, BTreeMap, Bool, Detector, EquivocationKind, HoldsRound, IsEquivalence, IsSized, IsTrue, List, None, Option, Recalls, RecallsAt, RecallsNothing, RecallsRound, RecordsFirsts, Round, RoundState, RoundVotes, Rules, Schedule, SignedVote, Some, SubjectValue, TakesContents, TakesIn, VoteKind, [], activity_round, and-false, and-true, and_left, and_parts, and_right, ap, append-nil, append_assoc, are_split, arith, certified_by, certified_in, certified_subjects, changes_firsts, clash, committee_of, cond, cond-false, contradicts, false, filter, filter-append, first_certified, firsts_of, get, have_news, if_certified, is_at, is_key, is_news, is_of, is_valid, kind_of, length, map, message_is_news, no_slot, nothing_certified, option_to_list, or-false, recorded_in, recursion_from_All, refl, round_cmp, round_count, round_of, rules_of, same_kind, same_round, size_by, slot_of, slots, subject_and_certificate, subject_is_news, subst, sym, true, valid_by, valid_votes, vote_on, votes_in, ℕ, ◌++◌, ◌&&◌, ◌||◌, ◌∙◌, ◌∷◌, ◌≡◌}
+use Rattle.simplex_detector.proofs.Prelude.{Scheme, Activity, All, All-from_recursion, All-map, AllByRecursion, Attestation, Bool, Detector, EquivocationKind, HoldsRound, IsEquivalence, IsSized, IsTrue, List, None, Option, Recalls, RecallsAt, RecallsNothing, RecallsRound, RecordsFirsts, Round, RoundState, RoundVotes, Rules, Schedule, SignedVote, Some, SubjectValue, TakesContents, TakesIn, VoteKind, [], activity_round, and-false, and-true, and_left, and_parts, and_right, ap, append-nil, append_assoc, are_split, arith, certified_by, certified_in, certified_subjects, changes_firsts, clash, committee_of, cond, cond-false, contradicts, false, filter, filter-append, first_certified, firsts_of, get, have_news, if_certified, is_at, is_key, is_news, is_of, is_valid, kind_of, length, map, message_is_news, no_slot, nothing_certified, option_to_list, or-false, recorded_in, recursion_from_All, refl, round_cmp, round_count, round_of, rules_of, same_kind, same_round, size_by, slot_of, slots, subject_and_certificate, subject_is_news, subst, sym, true, valid_by, valid_votes, vote_on, votes_in, ℕ, ◌++◌, ◌&&◌, ◌||◌, ◌∙◌, ◌∷◌, ◌≡◌}
 use Rattle.simplex_detector.proofs.AccountLemmas.{certificate_parts}
 use Rattle.simplex_detector.proofs.EvidenceLemmas.{valid_votes-push}
 use Rattle.simplex_detector.proofs.KnownLemmas.{EachValid, RecordsAreValid, each_appended, each_valid, records_are_valid}
@@ -87,7 +87,7 @@ module _ {S D C P G : Type 0} (rules : Rules S D C P G) (l : IsEquivalence rules
 
   -- what is recorded where only the message's round is changed
   pub recalls_changed : (round : Round) → round ≡ activity_round m →
-      (after : Option (RoundState S D P G)) (old new : BTreeMap Round (RoundState S D P G)) →
+      (after : Option (RoundState S D P G)) (old new : List (Round × RoundState S D P G)) →
       ((q : Round) → get round_cmp new q ≡ cond (is_key (round_cmp round) q) after (get round_cmp old q)) →
       RecallsNext (activity_round m) after →
       Recalls rules messages (let detector : Detector S D P G = record { rounds = old } in detector) → (q : Round) →
@@ -101,7 +101,7 @@ module _ {S D C P G : Type 0} (rules : Rules S D C P G) (l : IsEquivalence rules
 
   -- what is recorded where nothing is of the message's round, before and after
   pub recalls_still_none : (round : Round) → round ≡ activity_round m →
-      (after : RoundState S D P G) (old : BTreeMap Round (RoundState S D P G)) → get round_cmp old round ≡ None →
+      (after : RoundState S D P G) (old : List (Round × RoundState S D P G)) → get round_cmp old round ≡ None →
       ((signer : ℕ) (kind : VoteKind) → slots after.votes signer kind ≡ no_slot) → after.certified ≡ nothing_certified →
       RecallsRound rules (messages ++ m ∷ []) (activity_round m) after →
       Recalls rules messages (let detector : Detector S D P G = record { rounds = old } in detector) → (q : Round) →
@@ -312,17 +312,19 @@ module _ {S D C P G : Type 0} (scheme : Scheme S D C P G) where
   -- an empty state is that of the message's round, where the detector has none
   pub recalls_fresh : (schedule : Schedule S) (m : Activity S D C P G) (s : S) →
       committee_of schedule (activity_round m).epoch ≡ Some s → IsEquivalence scheme.eq →
-      (rounds : BTreeMap Round (RoundState S D P G)) (fresh : RoundState S D P G) →
+      (rounds : List (Round × RoundState S D P G)) (fresh : RoundState S D P G) →
       None ≡ get round_cmp rounds (activity_round m) → IsSized (length (scheme.keys s)) fresh.votes →
+      fresh.votes.round ≡ activity_round m →
       ((signer : ℕ) (kind : VoteKind) → slots fresh.votes signer kind ≡ no_slot) → round_count fresh.votes ≡ 0 →
       fresh.certified ≡ nothing_certified → (messages : List (Activity S D C P G)) →
       Recalls (judges schedule) messages (let detector : Detector S D P G = record { rounds = rounds } in detector) →
       RecallsRound (judges schedule) messages (activity_round m) fresh
-  recalls_fresh schedule m s is l rounds fresh none sized empty no_votes nothing messages holds =
+  recalls_fresh schedule m s is l rounds fresh none sized round_is empty no_votes nothing messages holds =
       let at : RecallsNothing (judges schedule) messages (activity_round m) =
       subst (RecallsAt (judges schedule) messages (activity_round m)) (sym none) (holds (activity_round m)) in record {
         votes = record {
           sized = subst (λ n. IsSized n fresh.votes) (ap (size_by scheme.keys) (sym is)) sized;
+          round_is = round_is;
           held = λ signer kind. empty signer kind ∙ at.votes signer kind;
           counted = no_votes
               ∙ sym (none_in_round scheme.eq l (valid_votes (judges schedule) messages) (activity_round m) at.votes);

@@ -38,11 +38,6 @@ module _ {S D P G : Type 0} (eq : D → D → Bool) (n : ℕ) (vs : List (Signed
       other_among (find (is_at (kind_of v.subject) round v.signer) vs)
       (ap (λ (s : Slot D G). s.other) (sym (holds.held v.signer (kind_of v.subject))) ∙ e)
 
--- what was found of a signer is its vote, in the form of a slot
-pub found_as : {X Y : Type 0} (form : X → Y) (o at : Option X) (x : X) → o ≡ at → o ≡ Some x →
-    option_map form at ≡ Some (form x)
-found_as form o at x same is = ap (option_map form) (sym same ∙ is)
-
 -- each vote is valid by the rules
 abbrev pub EachValid : {S D C P G : Type 0} → Rules S D C P G → List (SignedVote D G) → Type 0
 EachValid rules vs = All (λ v. is_valid rules v ≡ true) vs

@@ -1,7 +1,9 @@
 pub mod Prelude
 pub mod Lists
 pub mod Places
+pub mod RoundMapLemmas
 pub mod EvidenceLemmas
+pub mod BallotLemmas
 pub mod RecordedLemmas
 pub mod ReportLemmas
 pub mod CommitteeLemmas

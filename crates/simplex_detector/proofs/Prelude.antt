@@ -17,11 +17,11 @@ pub use Rattle.std.proofs.lemmas.Map.Keys.{IsStrictlyIncreasing-dedup, Less-from
 pub use Rattle.std.proofs.lemmas.Map.Lookups.{CmpEqualImpliesEq, btree_set_from_contains, exact_pairs, exact_unsigned}
 pub use Rattle.std.proofs.lemmas.Map.Made.{length-le_from_is_member}
 pub use Rattle.std.proofs.lemmas.Map.Steps.{length-le_from_distinct_below, list_any_congr}
-pub use Rattle.std.proofs.lemmas.Map.Views.{All-contains_from_tree_list, Contains-from_any, btree_map_get_iff, btree_set_contains_from_list, btree_set_contains_iff, list_any-from_Contains}
+pub use Rattle.std.proofs.lemmas.Map.Views.{All-contains_from_tree_list, Contains-from_any, btree_set_contains_from_list, btree_set_contains_iff, list_any-from_Contains}
 pub use Rattle.std.proofs.lemmas.Option.{cond_some, same_Some}
 pub use Rattle.std.proofs.lemmas.Result.{IfOk-weaker, on_ok_weaker}
 pub use Rattle.std.proofs.lemmas.Simd.{map-map}
-pub use Rattle.std.specs.BTreeMap.{BTreeMap, IsOrdered, get, is_at as is_key, keys}
+pub use Rattle.std.specs.BTreeMap.{is_at as is_key, keys}
 pub use Rattle.std.specs.BTreeSet.{BTreeSet, contains}
 pub use Rattle.std.specs.Cmp.{IsEquivalence, IsTotalOrder}
 pub use Rattle.std.specs.List.{AllByRecursion, cons_option, count_by, range_with_len, dedup, filter_map, find, flat_map, list_any}
@@ -47,6 +47,7 @@ pub use Rattle.simplex_detector.specs.Line.{line_of, parted}
 pub use Rattle.simplex_detector.specs.News.{have_news, message_is_news, subject_is_news}
 pub use Rattle.simplex_detector.specs.Accusation.{Accusation, is_accused, kind_rank, accused_by, accused_cmp, round_cmp, signer_cmp, signer_in}
 pub use Rattle.simplex_detector.specs.Recorded.{RecordedAreSlots, Slot, changes, equivocation_of, evidence_from, if_differs, is_news, news_after, other_than, recorded_in, recorded_of, slot_of, slot_with, votes_in_slot, votes_recorded}
+pub use Rattle.simplex_detector.specs.RoundMap.{IsOrdered, get}
 pub use Rattle.simplex_detector.specs.Rounds.{HoldsRound, IsSized, RecordsVotes, accuses, ListsSigners, TakesVote, found_at, found_of_kind, if_contradicts, is_for, no_slot, round_count, slots}
 pub use Rattle.simplex_detector.specs.Rules.{AreLawful, HaveCommittees, Rules, is_valid, valid_votes}
 pub use Rattle.simplex_detector.specs.SplitLaws.{EnoughAreAccused, IsAccountable, SignersAreAccountable, shared_signers}

@@ -1,5 +1,5 @@
 -- The state of a part of the rounds is what it was before the states of other rounds were given up.
-use Rattle.simplex_detector.proofs.Prelude.{Equal, Greater, Less, Ordering, nat_cmp, ordering_then, signer_cmp, Activity, All, All-contains, BTreeMap, Bool, CertifiedSubjects, Detector, HoldsRound, List, None, Option, Recalls, RecallsAt, RecallsNothing, RecordsFirsts, Round, RoundState, Rules, SignedVote, Slot, Some, VoteKind, SubjectValue, [], and_left, and_parts, ap, append-nil, append_assoc, arith, certified_subjects, changes, cond, excludes, false, false_from_ne_true, false≢true, filter, filter-append, find, firsts_of, get, in_rounds, is_at, is_from, is_gt, is_key, is_news, kind_of, length, map, no_slot, nothing_certified, other_than, recorded_in, refl, round_cmp, round_of, same_kind, same_round, slot_of, subst, sym, true, valid_votes, ℕ, ◌&&◌, ◌++◌, ◌∙◌, ◌∷◌, ◌≡◌}
+use Rattle.simplex_detector.proofs.Prelude.{Equal, Greater, Less, Ordering, nat_cmp, ordering_then, signer_cmp, Activity, All, All-contains, Bool, CertifiedSubjects, Detector, HoldsRound, List, None, Option, Recalls, RecallsAt, RecallsNothing, RecordsFirsts, Round, RoundState, Rules, SignedVote, Slot, Some, VoteKind, SubjectValue, [], and_left, and_parts, ap, append-nil, append_assoc, arith, certified_subjects, changes, cond, excludes, false, false_from_ne_true, false≢true, filter, filter-append, find, firsts_of, get, in_rounds, is_at, is_from, is_gt, is_key, is_news, kind_of, length, map, no_slot, nothing_certified, other_than, recorded_in, refl, round_cmp, round_of, same_kind, same_round, slot_of, subst, sym, true, valid_votes, ℕ, ◌&&◌, ◌++◌, ◌∙◌, ◌∷◌, ◌≡◌}
 use Rattle.std.specs.Map.{lookup}
 use Rattle.std.specs.Ordering.{ordering_reverse}
 use Rattle.simplex_scheme.specs.declared.kind.VoteKind.TheVariants as kinds
@@ -162,7 +162,7 @@ module _ {S D C P G : Type 0} (rules : Rules S D C P G) (part : Round → Bool) 
   }
 
   -- the state of the part is left if the states of other rounds are given up
-  pub recalls_pruned : (old new : BTreeMap Round (RoundState S D P G)) →
+  pub recalls_pruned : (old new : List (Round × RoundState S D P G)) →
       ((round : Round) → get round_cmp new round ≡ cond (part round) (get round_cmp old round) None) →
       Recalls rules messages (let detector : Detector S D P G = record { rounds = old } in detector) →
       Recalls (in_rounds part rules) messages (let detector : Detector S D P G = record { rounds = new } in detector)

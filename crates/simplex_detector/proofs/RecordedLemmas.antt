@@ -326,6 +326,7 @@ pub same_held : {S D P G : Type 0} (eq : D → D → Bool) (n : ℕ) (vs ws : Li
     recorded_in eq ws round ≡ recorded_in eq vs round → HoldsRound eq n vs round recorded → HoldsRound eq n ws round recorded
 same_held eq n vs ws round recorded same many holds = record {
   sized = holds.sized;
+  round_is = holds.round_is;
   held = λ signer kind. holds.held signer kind ∙ sym (same kind signer);
   counted = holds.counted ∙ sym many;
 }
@@ -348,20 +349,21 @@ module _ {S D P G : Type 0} (eq : D → D → Bool) (l : IsEquivalence eq) (n : 
       (omega (arith, many, recorded_in_push eq vs v (round_of v.subject))) holds
 
   -- a vote that is news is taken
-  pub held_after : (after : RoundVotes S D P G) → v.signer < n → changes eq (slots before v.signer (kind_of v.subject)).earliest
+  pub held_after : (after : RoundVotes S D P G) → changes eq (slots before v.signer (kind_of v.subject)).earliest
       (slots before v.signer (kind_of v.subject)).other v.subject ≡ true → TakesVote eq v before after →
       HoldsRound eq n (vs ++ v ∷ []) (round_of v.subject) after
-  held_after after lt news takes =
+  held_after after news takes =
       let here : of_round (round_of v.subject) v ≡ true = same_round-from (round_of v.subject) (round_of v.subject) refl in
       let at_round : (kind : VoteKind) (signer : ℕ) → is_for v signer kind ≡ is_at kind (round_of v.subject) signer v =
       λ kind signer. ap (λ b. same_kind (kind_of v.subject) kind && (b && eqb v.signer signer)) (sym here) in
       record {
-        sized = takes.sized n holds.sized;
+        sized = takes.sized n holds.sized holds.round_is;
+        round_is = takes.round ∙ holds.round_is;
         held = λ signer kind.
-            takes.taken n holds.sized lt news signer kind
+            takes.taken n holds.sized holds.round_is news signer kind
             ∙ (λ i. cond (at_round kind signer i) (slot_with eq v (holds.held signer kind i)) (holds.held signer kind i))
             ∙ sym (slot_after_vote eq l vs v kind (round_of v.subject) signer);
-        counted = takes.more n holds.sized lt news
+        counted = takes.more n holds.sized news
             ∙ (λ i. holds.counted i + length (cond (sym (and_from _ _ here (sym news_held ∙ news)) i) (v ∷ []) []))
             ∙ sym (recorded_in_push eq vs v (round_of v.subject));
       }

@@ -1,33 +1,39 @@
 -- The evidence in what is recorded, signer by signer and round by round, is the evidence of the votes.
-use Rattle.simplex_detector.proofs.Prelude.{signer_in, Activity, All, All-contains, All-from_recursion, All-push, AllByRecursion, Bool, Conflicting_finalize, Conflicting_notarize, Contains, Contains-append_left, Contains-append_right, Contains-dedup_nat, Contains-permutation, Detector, Equivocation, HoldsRound, IsEquivalence, IsEvidence, IsOrdered, IsPermutation, IsSorted, IsStrictlyIncreasing-dedup, EquivocationKind, Less, List, ListsSigners, Accusation, None, Nullify_finalize, Recalls, RecallsAt, RecallsNothing, RecallsRound, Round, RoundState, RoundVotes, Rules, SignedVote, Slot, Some, VoteKind, [], ap, append-nil, append_assoc, arith, btree_map_get_iff, cond-true, contradicts, dedup, eqb, eqb-true, evidence_from, evidence_of, false≢true, filter_map, filter_map-append, flat_map, flat_map_more, found_at, found_of_kind, get, get_or, if_contradicts, inl, inr, is_some, item_of, kind_rank, length, map, map-append, map-id, accused_by, accused_cmp, nat_cmp, no_slot, option_map, option_to_list, ordering_then, recursion_from_All, refl, round_cmp, signer_cmp, slot_of, slots, sorted_from_strictly_increasing, subst, sym, take, take_more, tied_itself, true, valid_votes, ℕ, ◌++◌, ◌+◌, ◌<◌, ◌∙◌, ◌∷◌, ◌≡◌, ◌⊎◌}
+use Rattle.simplex_detector.proofs.Prelude.{signer_in, Activity, All, All-contains, All-from_recursion, All-push, AllByRecursion, Bool, Conflicting_finalize, Conflicting_notarize, Contains, Contains-append_left, Contains-append_right, Contains-dedup_nat, Contains-permutation, Detector, Equivocation, HoldsRound, IsEquivalence, IsEvidence, IsOrdered, IsPermutation, IsSorted, IsStrictlyIncreasing-dedup, EquivocationKind, Less, List, ListsSigners, Accusation, None, Nullify_finalize, Recalls, RecallsAt, RecallsNothing, RecallsRound, Round, RoundState, RoundVotes, Rules, SignedVote, Slot, Some, VoteKind, [], ap, append-nil, append_assoc, arith, cond-true, contradicts, dedup, eqb, eqb-true, evidence_from, evidence_of, false≢true, filter_map, filter_map-append, flat_map, flat_map_more, found_at, found_of_kind, get, get_or, if_contradicts, inl, inr, is_some, item_of, kind_rank, length, map, map-append, map-id, accused_by, accused_cmp, nat_cmp, no_slot, option_map, option_to_list, ordering_then, recursion_from_All, refl, round_cmp, signer_cmp, slot_of, slots, sorted_from_strictly_increasing, subst, sym, take, take_more, tied_itself, true, valid_votes, ℕ, ◌++◌, ◌+◌, ◌<◌, ◌∙◌, ◌∷◌, ◌≡◌, ◌⊎◌, accuses, or_left, or_right, or_cases, equivocation_of, same_kind, ◌||◌, Option, Contains-push_cases, Contains-push, if◌then◌else◌, false}
 use Rattle.std.specs.List.Sorted.{IsStrictlySortedBy}
 use Rattle.simplex_detector.specs.Accusation.{accusations_of}
 use Rattle.simplex_detector.specs.Evidence.{evidence_against}
 use Rattle.simplex_detector.proofs.EvidenceLemmas.{evidence_is, from_listing}
 use Rattle.simplex_detector.proofs.Lists.{found_mapped, Contains-flat_map, Contains-from_flat_map, Contains-from_map, Contains-map, each, filter_map-joined, found, made_complete, made_ordered, made_sound, some_from_is_some, sorted_joined}
-use Rattle.simplex_detector.proofs.Places.{exact_rounds, round_cmp_total, signer_cmp_total}
-use Rattle.simplex_detector.proofs.RecordedLemmas.{equivocation_of-Some, evidence_of-slots}
+use Rattle.simplex_detector.proofs.Places.{round_cmp_total, signer_cmp_total}
+use Rattle.simplex_detector.proofs.RoundMapLemmas.{get_iff}
+use Rattle.simplex_detector.proofs.BallotLemmas.{same_key}
+use Rattle.simplex_detector.proofs.RecordedLemmas.{evidence_of-slots}
+use Rattle.simplex_scheme.specs.declared.kind.VoteKind.TheVariants as kinds
+use Rattle.simplex_detector.specs.Ballots.{vote_key, vote_of}
+use Rattle.simplex_detector.specs.Rounds.{ballot_at, is_second, placed_key, vote_at}
+use Rattle.simplex_detector.specs.declared.placed.Placed.{Placed}
 
 -- ---- the rounds of a detector
 
 module _ {S D C P G : Type 0} (rules : Rules S D C P G) (messages : List (Activity S D C P G)) (detector : Detector S D P G)
     (ordered : IsOrdered round_cmp detector.rounds) (holds : Recalls rules messages detector) where
   -- what is recorded of a listed round
-  pub recalls_listed : All (λ e. RecallsRound rules messages e.0 e.1) detector.rounds.entries
+  pub recalls_listed : All (λ e. RecallsRound rules messages e.0 e.1) detector.rounds
   recalls_listed =
       each _ _ (λ e e_in. subst (RecallsAt rules messages e.0)
-      ((btree_map_get_iff round_cmp_total exact_rounds detector.rounds ordered e.0 e.1).1 e_in) (holds e.0))
+      ((get_iff detector.rounds ordered e.0 e.1).1 e_in) (holds e.0))
 
   -- a round is listed, or nothing is recorded of it
   pub recalled : (round : Round) → RecallsNothing rules messages round
-      ⊎ ((round_state : RoundState S D P G) × Contains detector.rounds.entries (round, round_state))
+      ⊎ ((round_state : RoundState S D P G) × Contains detector.rounds (round, round_state))
   recalled round =
       (elim (get round_cmp detector.rounds round) as (λ o. get round_cmp detector.rounds round ≡ o →
       RecallsAt rules messages round o → RecallsNothing rules messages round
-      ⊎ ((round_state : RoundState S D P G) × Contains detector.rounds.entries (round, round_state))) [
+      ⊎ ((round_state : RoundState S D P G) × Contains detector.rounds (round, round_state))) [
         | None ↦ λ at r. inl r
         | Some round_state ↦ λ at r.
-            inr (round_state, (btree_map_get_iff round_cmp_total exact_rounds detector.rounds ordered round round_state).0 at)
+            inr (round_state, (get_iff detector.rounds ordered round round_state).0 at)
       ]) refl (holds round)
 
 -- ---- the accusations of a signer and of a round, in order
@@ -83,6 +89,16 @@ ordered_in round signers sorted =
     signers (λ s s_in. ordered_at round s) (subst (IsStrictlySortedBy nat_cmp) (sym (map-id signers)) sorted)
 
 -- ---- what is found in the slots
+
+-- evidence of a kind in the slots of a signer accuses it
+accused : {D G : Type 0} (slot : VoteKind → Slot D G) (kind : EquivocationKind) → is_some (evidence_from slot kind) ≡ true →
+    accuses slot ≡ true
+accused slot Conflicting_notarize h = or_left _ _ h
+accused slot Conflicting_finalize h =
+    or_right (is_some (evidence_from slot Conflicting_notarize)) _ (or_left _ _ h)
+accused slot Nullify_finalize h =
+    or_right (is_some (evidence_from slot Conflicting_notarize)) _
+    (or_right (is_some (evidence_from slot Conflicting_finalize)) _ h)
 
 module _ {D G : Type 0} (eq : D → D → Bool) (vs : List (SignedVote D G)) where
   -- the evidence of an accusation makes that accusation
@@ -143,28 +159,12 @@ module _ {D G : Type 0} (eq : D → D → Bool) (vs : List (SignedVote D G)) whe
     pub listed_in_round : (signers : List ℕ) → ListsSigners recorded signers → (n : Accusation) → n.round ≡ round →
         is_some (evidence_of eq vs n) ≡ true → Contains (names_in round signers) n
     listed_in_round signers lists n here h =
-        let (x, is) = some_from_is_some (evidence_of eq vs n) h in
         let from_slots =
         (λ i. evidence_from (λ kind. (holds.held n.signer kind ∙ ap (λ r. slot_of eq vs kind r n.signer) (sym here)) i) n.kind)
-        ∙ sym (evidence_of-slots eq vs n) ∙ is in
-        Contains-flat_map (accusations_of round) signers n.signer n (of_kind n.kind x from_slots)
+        ∙ sym (evidence_of-slots eq vs n) in
+        Contains-flat_map (accusations_of round) signers n.signer n
+        (lists.complete n.signer (accused (slots recorded n.signer) n.kind (ap is_some from_slots ∙ h)))
         (subst (λ r. Contains (accusations_of r n.signer) n) here (own_name n))
-      where
-        item : {V : Type 0} (signer : V → ℕ) (vote : V → SignedVote D G) (items : List V) (y : SignedVote D G) →
-            ((v : V) → Contains items v → Contains signers (signer v)) →
-            option_map vote (item_of signer items n.signer) ≡ Some y → Contains signers n.signer
-        item signer vote items y all at =
-            let (v, v_in, e, _) = found_mapped vote (λ v. eqb (signer v) n.signer) items y at in
-            subst (Contains signers) (eqb-true _ _ e) (all v v_in)
-
-        of_kind : (kind : EquivocationKind) (x : Equivocation D G) → evidence_from (slots recorded n.signer) kind ≡ Some x →
-            Contains signers n.signer
-        of_kind Conflicting_notarize x is =
-            item _ _ recorded.notarizes.others.items x.second lists.notarizers (equivocation_of-Some _ _ _ x is).1
-        of_kind Conflicting_finalize x is =
-            item _ _ recorded.finalizes.others.items x.second lists.finalizers (equivocation_of-Some _ _ _ x is).1
-        of_kind Nullify_finalize x is =
-            item _ _ recorded.nullifies.items x.first lists.nullifiers (equivocation_of-Some _ _ _ x is).0
 
 -- ---- the walk over the rounds
 
@@ -208,7 +208,7 @@ walked_next {S} {D} {P} {G} eq entries rest later round round_state signers foun
 
 -- the walk over all rounds gives the evidence of the messages' valid votes
 pub report_of_walk : {S D C P G : Type 0} (rules : Rules S D C P G) → IsEquivalence rules.eq → (detector : Detector S D P G) →
-    IsOrdered round_cmp detector.rounds → (found : List (Equivocation D G)) → Walked rules.eq detector.rounds.entries [] found →
+    IsOrdered round_cmp detector.rounds → (found : List (Equivocation D G)) → Walked rules.eq detector.rounds [] found →
     (messages : List (Activity S D C P G)) → Recalls rules messages detector →
     IsEvidence rules.eq (valid_votes rules messages) found
 report_of_walk {S} {D} {C} {P} {G} rules l detector ordered found walked messages holds =
@@ -235,7 +235,7 @@ report_of_walk {S} {D} {C} {P} {G} rules l detector ordered found walked message
     names_of : Step S D P G → List Accusation
     names_of step = names_in step.round step.signers
 
-    over : map entry_in walked.steps ≡ detector.rounds.entries
+    over : map entry_in walked.steps ≡ detector.rounds
     over = sym (append-nil (map entry_in walked.steps)) ∙ walked.over
 
     rounds : (xs : List (Step S D P G)) → map (λ e. e.0) (map entry_in xs) ≡ map (λ step. step.round) xs
@@ -249,7 +249,7 @@ report_of_walk {S} {D} {C} {P} {G} rules l detector ordered found walked message
         HoldsRound rules.eq (rules.size step.round.epoch) vs step.round step.round_state.votes
     held step step_in =
         let recalls : RecallsRound rules messages step.round step.round_state =
-        All-contains (λ e. RecallsRound rules messages e.0 e.1) detector.rounds.entries (entry_in step)
+        All-contains (λ e. RecallsRound rules messages e.0 e.1) detector.rounds (entry_in step)
         (recalls_listed rules messages detector ordered holds)
         (subst (λ es. Contains es (entry_in step)) over (Contains-map entry_in walked.steps step step_in)) in
         recalls.votes
@@ -276,30 +276,74 @@ report_of_walk {S} {D} {C} {P} {G} rules l detector ordered found walked message
               step.round step.round_state.votes (held step step_in) step.signers (lists step step_in) n (λ i. (sym is i).0) h)
         ]
 
--- signers that were collected, sorted and deduplicated
-pub lists_signers : {S D P G : Type 0} (recorded : RoundVotes S D P G)
-    (none notarizers nullifiers finalizers sorted signers : List ℕ) → none ≡ [] →
-    notarizers ≡ none ++ map (λ v. v.attestation.signer) recorded.notarizes.others.items →
-    nullifiers ≡ notarizers ++ map (λ v. v.attestation.signer) recorded.nullifies.items →
-    finalizers ≡ nullifiers ++ map (λ v. v.attestation.signer) recorded.finalizes.others.items →
-    IsPermutation finalizers sorted → IsSorted nat_cmp sorted → signers ≡ dedup eqb sorted → ListsSigners recorded signers
-lists_signers recorded none notarizers nullifiers finalizers sorted signers e0 e1 e2 e3 moved ordered e5 =
-    let a = map (λ v. v.attestation.signer) recorded.notarizes.others.items in
-    let b = map (λ v. v.attestation.signer) recorded.nullifies.items in
-    let c = map (λ v. v.attestation.signer) recorded.finalizes.others.items in
-    let all : finalizers ≡ (a ++ b) ++ c = e3 ∙ ap (λ xs. xs ++ c) (e2 ∙ ap (λ xs. xs ++ b) (e1 ∙ ap (λ xs. xs ++ a) e0)) in
-    let stays : (s : ℕ) → Contains ((a ++ b) ++ c) s → Contains signers s = λ s h. subst (λ xs. Contains xs s) (sym e5)
-    (Contains-dedup_nat sorted s (Contains-permutation finalizers sorted s moved (subst (λ xs. Contains xs s) (sym all) h))) in
-    record {
-      ascending = subst (IsStrictlySortedBy nat_cmp) (sym e5)
-          (sorted_from_strictly_increasing (dedup eqb sorted) (IsStrictlyIncreasing-dedup sorted ordered));
-      notarizers = λ v v_in. stays v.attestation.signer
-          (Contains-append_left (a ++ b) c _ (Contains-append_left a b _ (Contains-map (λ w. w.attestation.signer) _ v v_in)));
-      nullifiers = λ v v_in. stays v.attestation.signer
-          (Contains-append_left (a ++ b) c _ (Contains-append_right a b _ (Contains-map (λ w. w.attestation.signer) _ v v_in)));
-      finalizers = λ v v_in.
-          stays v.attestation.signer (Contains-append_right (a ++ b) c _ (Contains-map (λ w. w.attestation.signer) _ v v_in));
-    }
+-- one vote more of an index was looked at
+pub collected_next : (votes : List Placed) (i : ℕ) (placed : Placed) → i < length votes → placed ≡ get_or votes i placed →
+    (old new : List ℕ) → new ≡ old ++ (if is_second placed then placed.signer ∷ [] else []) →
+    ((p : Placed) → Contains (take i votes) p → is_second p ≡ true → Contains old p.signer) → (p : Placed) →
+    Contains (take (i + 1) votes) p → is_second p ≡ true → Contains new p.signer
+collected_next votes i placed lt is old new pushed so_far p p_in second =
+    elim (Contains-push_cases (take i votes) placed p (subst (λ xs. Contains xs p)
+    (take_more votes i placed lt ∙ ap (λ q. take i votes ++ q ∷ []) (sym is)) p_in)) [
+      | inl before ↦ subst (λ xs. Contains xs p.signer) (sym pushed)
+          (Contains-append_left old _ p.signer (so_far p before second))
+      | inr same ↦
+          let here : new ≡ old ++ p.signer ∷ [] = pushed ∙ ap (λ xs. old ++ xs)
+          (cond-true (is_second placed) (placed.signer ∷ []) [] (ap is_second same ∙ second)
+          ∙ ap (λ (q : Placed). q.signer ∷ []) same) in
+          subst (λ xs. Contains xs p.signer) (sym here) (Contains-push old p.signer)
+    ]
+
+-- signers of an index that were collected, sorted and deduplicated
+pub lists_signers : {S D P G : Type 0} (recorded : RoundVotes S D P G) (collected sorted signers : List ℕ) →
+    ((placed : Placed) → Contains recorded.index placed → is_second placed ≡ true → Contains collected placed.signer) →
+    IsPermutation collected sorted → IsSorted nat_cmp sorted → signers ≡ dedup eqb sorted → ListsSigners recorded signers
+lists_signers {S} {D} {P} {G} recorded collected sorted signers all moved ordered is = record {
+  ascending = subst (IsStrictlySortedBy nat_cmp) (sym is)
+      (sorted_from_strictly_increasing (dedup eqb sorted) (IsStrictlyIncreasing-dedup sorted ordered));
+  complete = λ signer h.
+      let slot = slots recorded signer in
+      let vote = vote_at recorded signer in
+      elim (or_cases (is_some (evidence_from slot Conflicting_notarize)) (is_some (evidence_from slot Conflicting_finalize)
+      || is_some (evidence_from slot Nullify_finalize)) h) [
+        | inl two ↦ second signer kinds.Notarize true
+            (both_some Conflicting_notarize (vote kinds.Notarize false) (vote kinds.Notarize true) two).1 refl
+        | inr rest ↦
+            elim (or_cases (is_some (evidence_from slot Conflicting_finalize))
+            (is_some (evidence_from slot Nullify_finalize)) rest) [
+              | inl two ↦ second signer kinds.Finalize true
+                  (both_some Conflicting_finalize (vote kinds.Finalize false) (vote kinds.Finalize true) two).1 refl
+              | inr two ↦ second signer kinds.Nullify false
+                  (both_some Nullify_finalize (vote kinds.Nullify false) (vote kinds.Finalize false) two).0 refl
+            ]
+      ];
+}
+  where
+    -- evidence has both of its votes
+    both_some : (kind : EquivocationKind) (v w : Option (SignedVote D G)) → is_some (equivocation_of kind v w) ≡ true →
+        (is_some v ≡ true) × (is_some w ≡ true)
+    both_some kind None w h = absurd (false≢true h)
+    both_some kind (Some v) None h = absurd (false≢true h)
+    both_some kind (Some v) (Some w) h = (refl, refl)
+
+    stays : (s : ℕ) → Contains collected s → Contains signers s
+    stays s h =
+        subst (λ xs. Contains xs s) (sym is) (Contains-dedup_nat sorted s (Contains-permutation collected sorted s moved h))
+
+    -- the signer of such a vote is listed
+    second : (signer : ℕ) (kind : VoteKind) (is_other : Bool) → is_some (vote_at recorded signer kind is_other) ≡ true →
+        (same_kind kind kinds.Nullify || is_other) ≡ true → Contains signers signer
+    second signer kind is_other some flag = by (item_of placed_key recorded.index (vote_key signer kind is_other)) refl
+      where
+        by : (o : Option Placed) → item_of placed_key recorded.index (vote_key signer kind is_other) ≡ o →
+            Contains signers signer
+        by None at =
+            absurd (false≢true (sym (ap (λ o. is_some (vote_of recorded.round signer kind (ballot_at recorded.ballots o))) at)
+            ∙ some))
+        by (Some placed) at =
+            let one = found (λ p. eqb (placed_key p) (vote_key signer kind is_other)) recorded.index placed at in
+            let parts = same_key placed.signer signer placed.kind kind placed.is_other is_other (eqb-true _ _ one.1) in
+            stays signer (subst (Contains collected) parts.0 (all placed one.0
+            ((λ i. same_kind (parts.1.0 i) kinds.Nullify || parts.1.1 i) ∙ flag)))
 
 -- what is found of one signer more
 pub found_next : {E : Type 0} (f : ℕ → List E) (old found new : List E) (signers : List ℕ) (i s : ℕ) → i < length signers →

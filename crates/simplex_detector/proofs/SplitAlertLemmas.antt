@@ -1,5 +1,6 @@
 -- Splits that arise message by message.
-use Rattle.simplex_detector.proofs.Prelude.{Activity, All-cons, All-nil, Bool, Contains, Contains-append_left, IsEquivalence, List, None, Option, Round, Rules, Some, Split, [], activity_round, ap, append-nil, append_assoc, certified_in, certified_subjects, cond, eq-eqb, false, false≢true, false_from_ne_true, filter, filter-append, filter_map-append, get, in_rounds, is_eq, is_some, is_split, message_is_news, refl, round_cmp, same_round, split_of, subst, sym, true, ℕ, ◌++◌, ◌∙◌, ◌∷◌, ◌≡◌}
+use Rattle.std.specs.BTreeMap.{get}
+use Rattle.simplex_detector.proofs.Prelude.{Activity, All-cons, All-nil, Bool, Contains, Contains-append_left, IsEquivalence, List, None, Option, Round, Rules, Some, Split, [], activity_round, ap, append-nil, append_assoc, certified_in, certified_subjects, cond, eq-eqb, false, false≢true, false_from_ne_true, filter, filter-append, filter_map-append, in_rounds, is_eq, is_some, is_split, message_is_news, refl, round_cmp, same_round, split_of, subst, sym, true, ℕ, ◌++◌, ◌∙◌, ◌∷◌, ◌≡◌}
 use Rattle.simplex_detector.proofs.AlertLemmas.{equal_from}
 use Rattle.simplex_detector.proofs.IndependenceLemmas.{split_from_rounds, split_in_rounds, split_of_others}
 use Rattle.simplex_detector.proofs.InterchangeLemmas.{same_split_of}

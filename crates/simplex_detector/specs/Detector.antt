@@ -1,6 +1,5 @@
 -- The state of every round so far.
 use Rattle.std.specs.Prelude.{◌≡◌, ℕ, ◌-◌, ◌^◌, All, Bool, true, ◌||◌, List, [], ◌++◌, filter, min, Option, Some, None, if◌then◌else◌}
-use Rattle.std.specs.BTreeMap.{get}
 use Rattle.std.specs.Option.{is_some, option_to_list}
 use Rattle.simplex_base.specs.Positions.{Round}
 use Rattle.simplex_scheme.specs.declared.kind.VoteKind.{VoteKind}
@@ -16,6 +15,7 @@ use Rattle.simplex_detector.specs.FirstCertified.{certified_subjects, first_cert
 use Rattle.simplex_detector.specs.News.{have_news, message_is_news, subject_is_news}
 use Rattle.simplex_detector.specs.Recorded.{slot_of, votes_recorded}
 use Rattle.simplex_detector.specs.Accusation.{round_cmp}
+use Rattle.simplex_detector.specs.RoundMap.{get}
 use Rattle.simplex_detector.specs.Rounds.{no_slot, HoldsRound}
 use Rattle.simplex_detector.specs.Rules.{Rules, HaveCommittees, is_valid, valid_votes}
 use Rattle.simplex_detector.specs.Splits.{if_certified, is_split, split_of, AreSplits}

@@ -5,13 +5,15 @@ pub mod Evidence
 pub mod Recorded
 pub mod Values
 pub mod EncodedEvidence
-pub mod VotePairs
+pub mod Ballots
 pub mod Rounds
 pub mod Laws
 pub mod Line
 pub mod Certificates
 pub mod Splits
 pub mod FirstCertified
+pub mod RoundMap
+pub mod RoundLends
 pub mod Detector
 pub mod DetectorLaws
 pub mod Judging

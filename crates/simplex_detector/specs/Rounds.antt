@@ -1,41 +1,53 @@
 -- The recorded votes of one round, by the votes so far.
-use Rattle.std.specs.Prelude.{◌≡◌, ℕ, ◌+◌, ◌<◌, ◌==◌, ◌&&◌, ◌||◌, ◌⊎◌, Bool, IsTrue, List, length, ◌++◌, Contains, Option, option_map, Some, None, if◌then◌else◌}
-use Rattle.std.specs.Option.{is_some, option_to_list}
-use Rattle.std.specs.List.{flat_map}
+use Rattle.std.specs.Prelude.{◌≡◌, ℕ, ◌+◌, ◌==◌, ◌&&◌, ◌||◌, ◌⊎◌, Bool, true, false, IsTrue, List, length, ◌++◌, Contains, Option, Some, None, if◌then◌else◌}
+use Rattle.std.specs.Option.{IsSome, is_some, option_to_list}
+use Rattle.std.specs.List.{flat_map, slice_get}
 use Rattle.std.specs.List.Sorted.{IsStrictlySortedBy}
 use Rattle.std.specs.Ordering.{nat_cmp}
 use Rattle.simplex_base.specs.Positions.{Round}
 use Rattle.simplex_scheme.specs.declared.kind.VoteKind.{VoteKind}
 use Rattle.simplex_scheme.specs.declared.kind.VoteKind.TheVariants as kinds
 use Rattle.simplex_scheme.specs.Kind.{kind_of, same_kind}
-use Rattle.simplex_votes.specs.Votes.{SignedVote, notarize_vote, nullify_vote, finalize_vote}
+use Rattle.simplex_scheme.specs.Subject.{round_of}
+use Rattle.simplex_votes.specs.Votes.{SignedVote}
 use Rattle.simplex_evidence.specs.Contradiction.{EquivocationKind, Conflicting_notarize, Conflicting_finalize, Nullify_finalize, Equivocation, contradicts}
 use Rattle.simplex_evidence.specs.VoteMap.{item_of}
 use Rattle.simplex_detector.specs.News.{have_news}
-use Rattle.simplex_detector.specs.VotePairs.{pairs_count}
+use Rattle.simplex_detector.specs.Ballots.{vote_key, vote_of}
 use Rattle.simplex_detector.specs.Recorded.{Slot, slot_of, slot_with, changes, evidence_from, recorded_in}
-use Rattle.simplex_detector.specs.declared.vote_pairs.VotePairs.{VotePairs}
+use Rattle.simplex_detector.specs.declared.ballot.Ballot.{Ballot}
+use Rattle.simplex_detector.specs.declared.placed.Placed.{Placed}
 use Rattle.simplex_detector.specs.declared.round_votes.RoundVotes.{RoundVotes}
 
 -- an empty slot
 abbrev pub no_slot : {D G : Type 0} → Slot D G
 no_slot = record { earliest = None; other = None }
 
--- the slot of a signer, from its first and its other vote
-abbrev pub slot_in : {V D G : Type 0} → (V → ℕ) → (V → SignedVote D G) → VotePairs V → ℕ → Slot D G
-slot_in signer_of vote_of pairs signer = record {
-  earliest = option_map vote_of (item_of signer_of pairs.firsts.items signer);
-  other = option_map vote_of (item_of signer_of pairs.others.items signer);
-}
+-- the order of the recorded votes of a round
+abbrev pub placed_key : Placed → ℕ
+placed_key placed = vote_key placed.signer placed.kind placed.is_other
+
+-- whether it is a nullify, or its signer has an earlier vote of its kind
+abbrev pub is_second : Placed → Bool
+is_second placed = same_kind placed.kind kinds.Nullify || placed.is_other
+
+-- the ballot of a vote that stands at a place, if it stands somewhere
+abbrev pub ballot_at : {S D P G : Type 0} → List (Ballot S D P G) → Option Placed → Option (Ballot S D P G)
+ballot_at ballots None = None
+ballot_at ballots (Some placed) = slice_get ballots placed.place
+
+-- the recorded vote of a signer and kind: the earliest, or the other
+abbrev pub vote_at : {S D P G : Type 0} → RoundVotes S D P G → ℕ → VoteKind → Bool → Option (SignedVote D G)
+vote_at recorded signer kind is_other =
+    vote_of recorded.round signer kind
+    (ballot_at recorded.ballots (item_of placed_key recorded.index (vote_key signer kind is_other)))
 
 -- the slots of a signer
 abbrev pub slots : {S D P G : Type 0} → RoundVotes S D P G → ℕ → VoteKind → Slot D G
-slots recorded signer kinds.Notarize = slot_in (λ v. v.attestation.signer) notarize_vote recorded.notarizes signer
-slots recorded signer kinds.Nullify = record {
-  earliest = option_map nullify_vote (item_of (λ v. v.attestation.signer) recorded.nullifies.items signer);
-  other = None;
+slots recorded signer kind = record {
+  earliest = vote_at recorded signer kind false;
+  other = vote_at recorded signer kind true;
 }
-slots recorded signer kinds.Finalize = slot_in (λ v. v.attestation.signer) finalize_vote recorded.finalizes signer
 
 -- a vote is recorded, as its signer's earliest of its kind or as the other
 abbrev pub IsRecorded : {S D P G : Type 0} → RoundVotes S D P G → SignedVote D G → Type 0
@@ -45,29 +57,29 @@ IsRecorded recorded v =
 
 -- how many votes there are
 abbrev pub round_count : {S D P G : Type 0} → RoundVotes S D P G → ℕ
-round_count recorded = pairs_count recorded.notarizes + (length recorded.nullifies.items + pairs_count recorded.finalizes)
+round_count recorded = length recorded.index
 
--- all maps are for n participants
+-- the state is for n participants, and each vote that stands somewhere is there
 pub record IsSized {S D P G : Type 0} (n : ℕ) (recorded : RoundVotes S D P G) : Type 0 where
-  pub notarizes : recorded.notarizes.firsts.participants ≡ n
-  pub other_notarizes : recorded.notarizes.others.participants ≡ n
-  pub nullifies : recorded.nullifies.participants ≡ n
-  pub finalizes : recorded.finalizes.firsts.participants ≡ n
-  pub other_finalizes : recorded.finalizes.others.participants ≡ n
+  pub participants : recorded.participants ≡ n
+  pub whole : (signer : ℕ) (kind : VoteKind) (is_other : Bool) →
+      IsSome (item_of placed_key recorded.index (vote_key signer kind is_other)) →
+      IsSome (vote_at recorded signer kind is_other)
 
 -- whether a vote is of a kind and a signer
 abbrev pub is_for : {D G : Type 0} → SignedVote D G → ℕ → VoteKind → Bool
 is_for v signer kind = same_kind (kind_of v.subject) kind && (v.signer == signer)
 
--- a participant's vote that is news changes its slot, and there is one vote more
+-- a vote of the round that is news changes its slot, and there is one vote more
 pub record TakesVote {S D P G : Type 0} (eq : D → D → Bool) (v : SignedVote D G)
     (before after : RoundVotes S D P G) : Type 0 where
-  pub sized : (n : ℕ) → IsSized n before → IsSized n after
-  pub taken : (n : ℕ) → IsSized n before → v.signer < n → IsTrue (changes eq
+  pub round : after.round ≡ before.round
+  pub sized : (n : ℕ) → IsSized n before → before.round ≡ round_of v.subject → IsSized n after
+  pub taken : (n : ℕ) → IsSized n before → before.round ≡ round_of v.subject → IsTrue (changes eq
       (slots before v.signer (kind_of v.subject)).earliest (slots before v.signer (kind_of v.subject)).other v.subject) →
       (signer : ℕ) (kind : VoteKind) → slots after signer kind
       ≡ (if is_for v signer kind then slot_with eq v (slots before signer kind) else slots before signer kind)
-  pub more : (n : ℕ) → IsSized n before → v.signer < n → IsTrue (changes eq (slots before v.signer (kind_of v.subject)).earliest
+  pub more : (n : ℕ) → IsSized n before → IsTrue (changes eq (slots before v.signer (kind_of v.subject)).earliest
       (slots before v.signer (kind_of v.subject)).other v.subject) →
       round_count after ≡ round_count before + 1
 
@@ -75,6 +87,7 @@ pub record TakesVote {S D P G : Type 0} (eq : D → D → Bool) (v : SignedVote 
 pub record HoldsRound {S D P G : Type 0} (eq : D → D → Bool) (n : ℕ) (vs : List (SignedVote D G)) (round : Round)
     (recorded : RoundVotes S D P G) : Type 0 where
   pub sized : IsSized n recorded
+  pub round_is : recorded.round ≡ round
   pub held : (signer : ℕ) (kind : VoteKind) → slots recorded signer kind ≡ slot_of eq vs kind round signer
   pub counted : round_count recorded ≡ recorded_in eq vs round
 
@@ -113,9 +126,7 @@ accuses slot =
     is_some (evidence_from slot Conflicting_notarize) ||
     (is_some (evidence_from slot Conflicting_finalize) || is_some (evidence_from slot Nullify_finalize))
 
--- the signers ascend, and every signer with another notarize, a nullify or another finalize is among them
+-- the signers ascend, and every signer that is accused is among them
 pub record ListsSigners {S D P G : Type 0} (recorded : RoundVotes S D P G) (signers : List ℕ) : Type 0 where
   pub ascending : IsStrictlySortedBy nat_cmp signers
-  pub notarizers : (v : _) → Contains recorded.notarizes.others.items v → Contains signers v.attestation.signer
-  pub nullifiers : (v : _) → Contains recorded.nullifies.items v → Contains signers v.attestation.signer
-  pub finalizers : (v : _) → Contains recorded.finalizes.others.items v → Contains signers v.attestation.signer
+  pub complete : (signer : ℕ) → IsTrue (accuses (slots recorded signer)) → Contains signers signer

@@ -54,7 +54,7 @@ impl<S: Listing<D>, D: Digest> Alerts<S, D> {
             self.old self.new) }
     {
         let contents = message.contents();
-        let Some(round_state) = detector.rounds.get(&contents.round()) else {
+        let Some(round_state) = detector.rounds.get(contents.round()) else {
             return Ok(());
         };
         let votes = &round_state.votes;

@@ -16,7 +16,7 @@ use crate::evidence::Evidence;
 use crate::judge::Judge;
 use crate::judging::Judging;
 use crate::kept::Kept;
-use crate::pruning::prune_rounds;
+use crate::round_map::RoundMap;
 use crate::round_state::RoundState;
 use crate::rules::Judges;
 use crate::split::Split;
@@ -26,12 +26,11 @@ use simplex_evidence::types::Activity;
 use simplex_scheme::committees::Committees;
 use simplex_scheme::scheme::{Digest, Listing, SchemeTypes, VoteKind};
 use std::alloc::{AllocError, Global};
-use std::collections::BTreeMap;
 
 /// The state of every round so far. A round has a state as soon as something of it is recorded.
 #[derive(Drop)]
 pub struct Detector<S: SchemeTypes, D: Digest> {
-    pub(crate) rounds: BTreeMap<Round, RoundState<S, D>>,
+    pub(crate) rounds: RoundMap<RoundState<S, D>>,
 }
 
 impl<S: Listing<D>, D: Digest> Detector<S, D> {
@@ -40,13 +39,13 @@ impl<S: Listing<D>, D: Digest> Detector<S, D> {
         ensures { RecallsNone ⟦<S as Judges<D>>⟧.rules_under result }
     {
         Detector {
-            rounds: BTreeMap::new(alloc),
+            rounds: RoundMap::new(alloc),
         }
     }
 
-    /// Records one message, and returns whether it is news: whether it changed the state. Its round is looked up once, and
-    /// again if it is new. `AllocError` only if an allocation failed: the message may then be recorded in part, and nothing is
-    /// stated of what the detector returns from then on, so drop it.
+    /// Records one message, and returns whether it is news: whether it changed the state. Its round is searched once, and again
+    /// if it is new, but not if it is the round of the message before. `AllocError` only if an allocation failed: the message
+    /// may then be recorded in part, and nothing is stated of what the detector returns from then on, so drop it.
     pub fn observe(
         &mut self,
         alloc: Global,
@@ -113,11 +112,11 @@ impl<S: Listing<D>, D: Digest> Detector<S, D> {
             return Ok(false);
         };
         let judge = Judge { committee, judging };
-        if let Some(round_state) = self.rounds.get_mut(&round) {
-            return round_state.observe(&judge, &contents, apart);
+        if let Some(round_state) = self.rounds.get_mut(round) {
+            return round_state.observe(alloc, &judge, &contents, apart);
         }
-        let mut round_state = RoundState::new(alloc, committee.participants().len());
-        let news = round_state.observe(&judge, &contents, apart)?;
+        let mut round_state = RoundState::new(alloc, round, committee.participants().len());
+        let news = round_state.observe(alloc, &judge, &contents, apart)?;
         if !round_state.is_empty() {
             self.rounds.insert(round, round_state)?;
         }
@@ -132,7 +131,7 @@ impl<S: Listing<D>, D: Digest> Detector<S, D> {
             Recalls rules messages self.old →
             Recalls (in_rounds (is_from floor) rules) messages self.new }
     {
-        prune_rounds(&mut self.rounds, floor);
+        self.rounds.prune(floor);
     }
 
     /// The evidence in the valid votes so far: at most one for each round, signer and kind, in that order.
@@ -173,7 +172,7 @@ impl<S: Listing<D>, D: Digest> Detector<S, D> {
     pub fn split_of(&self, committees: &Committees<S>, round: Round) -> Option<Split>
         ensures { GivesSplitOf ⟦<S as Judges<D>>⟧.rules_under committees.now round self.now result }
     {
-        match self.rounds.get(&round) {
+        match self.rounds.get(round) {
             None => None,
             Some(round_state) => round_state.split(committees, round),
         }
@@ -184,7 +183,7 @@ impl<S: Listing<D>, D: Digest> Detector<S, D> {
     pub fn has_certified(&self, round: Round, kind: VoteKind) -> Option<bool>
         ensures { TellsCertified ⟦<S as Judges<D>>⟧.rules_under round kind self.now result }
     {
-        match self.rounds.get(&round) {
+        match self.rounds.get(round) {
             None => Some(false),
             Some(round_state) => round_state.has_certified(kind),
         }

@@ -12,7 +12,7 @@ ghost use Rattle.simplex_detector.specs.Detector.{TakesIn, TakesContents, GivesS
 ghost use Rattle.simplex_detector.specs.Kept.{GathersContents};
 
 use crate::apart::Apart;
-use crate::certified_subjects::CertifiedSubjects;
+use crate::certified::Certified;
 use crate::judge::{Judge, Signatures};
 use crate::round_votes::{RoundVotes, either};
 use crate::rules::Judges;
@@ -29,20 +29,21 @@ pub struct RoundState<S: SchemeTypes, D: Digest> {
     /// The recorded valid votes.
     pub votes: RoundVotes<S, D>,
     /// The recorded certified subjects.
-    certified: CertifiedSubjects<D>,
+    certified: Certified<D>,
 }
 
 impl<S: SchemeTypes, D: Digest> RoundState<S, D> {
     /// The empty state of a round whose committee has this many participants.
-    pub fn new(alloc: Global, participants: usize) -> Self
+    pub fn new(alloc: Global, round: Round, participants: usize) -> Self
+        ensures round { result.votes.round ≡ round }
         ensures sized { IsSized participants result.votes }
         ensures empty { (signer : ℕ) (kind : kinds.VoteKind) → slots result.votes signer kind ≡ no_slot }
         ensures none { round_count result.votes ≡ 0 }
         ensures certified { result.certified ≡ nothing_certified }
     {
         RoundState {
-            votes: RoundVotes::new(alloc, participants),
-            certified: CertifiedSubjects::new(),
+            votes: RoundVotes::new(alloc, round, participants),
+            certified: Certified::new(),
         }
     }
 
@@ -76,6 +77,7 @@ impl<S: Listing<D>, D: Digest> RoundState<S, D> {
     /// votes of a certificate whose subject is no news are gathered, if they are wanted and news.
     pub fn observe(
         &mut self,
+        alloc: Global,
         judge: &Judge<'_, S>,
         contents: &Contents<'_, S, D>,
         apart: &mut Apart<S, D>,
@@ -91,7 +93,7 @@ impl<S: Listing<D>, D: Digest> RoundState<S, D> {
         match contents {
             Contents::Vote(vote) => self.observe_vote(judge, vote),
             Contents::Certificate(subject, certificate) => {
-                self.observe_certificate(judge, subject, certificate, apart)
+                self.observe_certificate(alloc, judge, subject, certificate, apart)
             }
             Contents::Evidence(first, second) => {
                 let one = self.observe_vote(judge, first)?;
@@ -122,6 +124,7 @@ impl<S: Listing<D>, D: Digest> RoundState<S, D> {
     /// verified by itself. Returns whether one of the votes is valid and news, or the certified subject is news.
     fn observe_certificate(
         &mut self,
+        alloc: Global,
         judge: &Judge<'_, S>,
         subject: &Subject<'_, D>,
         certificate: &S::Certificate,
@@ -139,7 +142,7 @@ impl<S: Listing<D>, D: Digest> RoundState<S, D> {
     {
         let signatures = self
             .certified
-            .observe(judge, subject, certificate, &self.votes);
+            .observe(alloc, judge, subject, certificate, &self.votes)?;
         let attestations = S::attestations(certificate);
         let news = self
             .votes

@@ -1,10 +1,11 @@
 -- What halving finds among items in the order of their signers, and what an item put into its gap leaves.
-use Rattle.std.proofs.Common.{◌≡◌, ℕ, zero, suc, ◌+◌, ◌-◌, ◌<◌, ◌≤◌, inl, inr, List, [], ◌∷◌, length, get_or, Some, None, IsSome, Result, Ok, Err, IfOk, IfErr, sym, ap, subst, refl, arith}
+use Rattle.std.proofs.Common.{◌≡◌, ℕ, zero, suc, ◌+◌, ◌-◌, ◌<◌, ◌≤◌, ◌∙◌, inl, inr, List, [], ◌∷◌, length, get_or, Some, None, IsSome, Result, Ok, Err, IfOk, IfErr, sym, ap, subst, refl, arith}
 use Rattle.std.specs.List.{insert, slice_get}
+use Rattle.std.proofs.lemmas.List.{get_or_default}
 use Rattle.std.specs.List.Sorted.{IsPermutation, IsSearchInRange, IsBinarySearchResult, IsNonDecreasingBy}
 use Rattle.std.specs.Ordering.{nat_cmp, ordering_index}
 use Rattle.std.proofs.lemmas.Cmp.{ranked}
-use Rattle.std.proofs.lemmas.Option.{get_or_from_slice_get}
+use Rattle.std.proofs.lemmas.Option.{get_or_from_slice_get, slice_get-get_or}
 use Rattle.std.proofs.lemmas.List.Sorted.{IsPermutation-insert}
 use Rattle.std.proofs.lemmas.List.Edits.{length-insert, get_or-insert_below, get_or-insert_at, get_or-insert_above}
 use Rattle.std.proofs.lemmas.Bool.{cases_lt}
@@ -66,6 +67,26 @@ module _ {X : Type 0} (signer : X → ℕ) where
     greater_after = λ i d le below. absurd (omega arith);
   }
 
+  -- a signer above that of an item is above those of all items before it
+  pub above : (xs : List X) → IsBySigner signer xs → (last s : ℕ) (x : X) → last < length xs → x ≡ get_or xs last x →
+      signer x < s → (i : ℕ) (d : X) → i ≤ last → signer (get_or xs i d) < s
+  above xs ordered last s x in_range is lt i d le =
+      let here : signer (get_or xs last d) ≡ signer x = ap signer (get_or_default xs last d x in_range ∙ sym is) in
+      elim (cases_lt i last) [
+        | inl less ↦ omega (arith, here, lt, ordered i last d less in_range)
+        | inr ge ↦ (let e : i ≡ last = omega arith in rw e (omega (arith, here, lt)))
+      ]
+
+  -- a signer below that of an item is below those of all items behind it
+  pub below : (xs : List X) → IsBySigner signer xs → (first s : ℕ) (x : X) → first < length xs → x ≡ get_or xs first x →
+      s < signer x → (i : ℕ) (d : X) → first ≤ i → i < length xs → s < signer (get_or xs i d)
+  below xs ordered first s x in_range is lt i d le i_lt =
+      let here : signer (get_or xs first d) ≡ signer x = ap signer (get_or_default xs first d x in_range ∙ sym is) in
+      elim (cases_lt first i) [
+        | inl less ↦ omega (arith, here, lt, ordered first i d less i_lt)
+        | inr ge ↦ (let e : i ≡ first = omega arith in rw e (omega (arith, here, lt)))
+      ]
+
   -- ---- the item of a signer
 
   -- an item is its signer's
@@ -87,6 +108,17 @@ module _ {X : Type 0} (signer : X → ℕ) where
   pub some_item : (xs : List X) → IsBySigner signer xs → (place s : ℕ) (d : X) → place < length xs →
       signer (get_or xs place d) ≡ s → IsSome (item_of signer xs s)
   some_item xs ordered place s d lt has = rw (← has, item_at xs ordered place d lt) refl
+
+  -- what stands at a place is the item of its signer
+  pub stands_at : (xs : List X) → IsBySigner signer xs → (place s : ℕ) → place < length xs →
+      ((d : X) → signer (get_or xs place d) ≡ s) →
+      IsSome (item_of signer xs s) × (slice_get xs place ≡ item_of signer xs s)
+  stands_at [] ordered place s lt has = absurd (omega arith)
+  stands_at (x ∷ xs) ordered place s lt has =
+      let there = slice_get-get_or (x ∷ xs) place x lt in
+      let mine : item_of signer (x ∷ xs) s ≡ Some (get_or (x ∷ xs) place x) =
+      subst (λ k. item_of signer (x ∷ xs) k ≡ Some (get_or (x ∷ xs) place x)) (has x) (item_at (x ∷ xs) ordered place x lt) in
+      (subst IsSome (sym mine) refl, there ∙ sym mine)
 
   -- a signer that stands at no place has none
   pub no_item : (xs : List X) (s : ℕ) → ((i : ℕ) (d : X) → i < length xs → (signer (get_or xs i d) ≡ s → ⊥)) →
@@ -121,7 +153,8 @@ module _ {X : Type 0} (signer : X → ℕ) where
   others_stay [] (suc place) y s other = grind (arith, nat_tests)
   others_stay (x ∷ xs) (suc place) y s other = grind (arith, nat_tests, others_stay xs place y s other)
 
-  adds_only : (xs : List X) (place : ℕ) (y : X) → IsGap signer xs (signer y) place → AddsOnly signer xs (insert xs place y) y
+  pub adds_only : (xs : List X) (place : ℕ) (y : X) → IsGap signer xs (signer y) place →
+      AddsOnly signer xs (insert xs place y) y
   adds_only xs place y gap = record {
     added = added_here xs place y (λ i d lt within same. omega (arith, gap.smaller_before i d lt));
     others = λ s other. others_stay xs place y s other;

@@ -11,4 +11,5 @@
 #![tactic(auto)]
 
 mod derived;
+pub mod sorted;
 pub mod types;

@@ -20,7 +20,7 @@ pub rounds-preserved : goal.rounds-preserved
 rounds-preserved g c =
     let (signers, lists, is) = c.in_ok-report_to.ensures.appended in
     record {
-      walked = walked_next g.D.PartialEq.eq c.args.self.now.rounds.entries c.rounds.round_state-iterator c.next.new.self
+      walked = walked_next g.D.PartialEq.eq c.args.self.now.rounds c.rounds.round_state-iterator c.next.new.self
           c.in-Some.field-0-0.now c.in-Some.round_state.now signers (map evidence_value c.rounds.found.items)
           (map evidence_value c.report_to.new.found.items) c.in-Some.ensures.steps lists is c.rounds.invariant.walked;
       encoded = c.in_ok-report_to.ensures.encoded c.rounds.invariant.encoded;
@@ -32,5 +32,5 @@ returns-clause-evidence g c = λ judging schedule messages.
     report_of_walk (rules_under (scheme_of g.D.PartialEq.eq g.S.CertificateScheme.keys g.S.Scheme.good
     g.S.CertificateVerifier.certified g.S.Listing.listed) judging schedule) g.met.D.Eq.laws c.args.self.now ordered
     (map evidence_value c.rounds.found.items)
-    (subst (λ rest. Walked g.D.PartialEq.eq c.args.self.now.rounds.entries rest (map evidence_value c.rounds.found.items))
+    (subst (λ rest. Walked g.D.PartialEq.eq c.args.self.now.rounds rest (map evidence_value c.rounds.found.items))
     c.in-None.ensures.steps.0 c.rounds.invariant.walked) messages

@@ -1,8 +1,10 @@
-use Rattle.simplex_detector.proofs.Prelude.{IfOk-weaker, on_ok_weaker, IsSized, IsSome, Judging, RecallsAt, Round, Some, [], activity_round, ap, committee_of, cond, get, is_key, length, refl, round_cmp, subst, sym, ◌++◌, ◌∙◌, ◌∷◌, ◌≡◌, Scheme, scheme_of, scheme_under, rules_of}
+use Rattle.simplex_detector.proofs.Prelude.{IfOk-weaker, on_ok_weaker, IsSized, IsSome, Judging, RecallsAt, Some, activity_round, ap, committee_of, get, is_key, length, refl, round_cmp, subst, sym, ◌∙◌, Scheme, scheme_of, scheme_under, rules_of}
+use Rattle.std.specs.Map.{set_value}
 use Rattle.simplex_evidence.specs.Activity.{contents_of}
 use Rattle.simplex_evidence.specs.Contents.{contents_round}
 use Rattle.simplex_detector.proofs.DetectorLemmas.{news_taken, no_news_no_committee, votes_here, recalls_changed, recalls_still_none, recalls_fresh, recalls_taken, recalls_no_committee}
 use Rattle.simplex_detector.proofs.GatherLemmas.{gathered_taken, none_gathered}
+use Rattle.simplex_detector.proofs.RoundMapLemmas.{set_updates}
 use Rattle.simplex_detector.proofs.detector.Detector.record.Given as given
 use Rattle.simplex_detector.proofs.detector.Detector.record.Goals as goal
 
@@ -37,7 +39,6 @@ returns-in-Some-get_mut g c =
     let judge = sym (c.in-Some.ensures ∙ ap (committee_of c.args.committees.now) (c.epoch.ensures ∙ ap (λ r. r.epoch) at)) in
     let found = c.in-Some-get_mut.ensures.value in
     let after = c.observe.new.self in
-    let updates = c.get_mut.follows.holds after in
     let takes = (rw c.contents-contents.ensures.value at c.observe.ensures.takes) c.contents-contents.ensures.conflict in
     record {
       records = IfOk-weaker c.observe.result _ _ (λ news taken messages holds.
@@ -47,7 +48,9 @@ returns-in-Some-get_mut g c =
           news c.in-Some-get_mut.round_state.now after taken before in
           recalls_changed all g.met.D.Eq.laws messages m (votes_here g.D.PartialEq.eq g.S.Listing.listed
           (contents_of c.args.message.now) c.contents-contents.ensures.conflict) c.round-round.result at (Some after)
-          c.args.self.now.rounds (c.get_mut.follows.lender after) (updates.3 (subst IsSome found refl)).0 own holds) takes;
+          c.args.self.now.rounds
+          (set_value (is_key (round_cmp c.round-round.result)) c.args.self.now.rounds after)
+          (set_updates c.args.self.now.rounds c.round-round.result after (subst IsSome found refl)) own holds) takes;
       news = IfOk-weaker c.observe.result _ _ (λ news taken messages holds.
           let before = subst (RecallsAt all messages (activity_round m))
           (sym (found ∙ ap (get round_cmp c.args.self.now.rounds) at)) (holds (activity_round m)) in
@@ -74,15 +77,15 @@ returns-in_ok-insert g c =
     let after = c.observe-2.new.self in
     let fresh = recalls_fresh (scheme g c.args.judging.now) c.args.committees.now m c.in-Some.committee.now judge
     g.met.D.Eq.laws c.args.self.now.rounds c.new-round_state.result (none ∙ ap (get round_cmp c.args.self.now.rounds) at) sized
-    c.new-round_state.ensures.empty c.new-round_state.ensures.none c.new-round_state.ensures.certified in
+    (c.new-round_state.ensures.round ∙ at) c.new-round_state.ensures.empty c.new-round_state.ensures.none
+    c.new-round_state.ensures.certified in
     let takes = (rw c.contents-contents.ensures.value at c.in_ok-news.ensures.takes) c.contents-contents.ensures.conflict in
     let gathers = rw c.contents-contents.ensures.value at c.in_ok-news.ensures.gathers in
     record {
       records = λ messages holds. recalls_changed all g.met.D.Eq.laws messages m
           (votes_here g.D.PartialEq.eq g.S.Listing.listed (contents_of c.args.message.now) c.contents-contents.ensures.conflict)
           c.round-round.result at (Some after) c.args.self.now.rounds c.insert.new.self
-          (subst (λ rounds. (q : Round) → get round_cmp c.insert.new.self q ≡ cond (is_key (round_cmp c.round-round.result) q)
-          (Some after) (get round_cmp rounds q)) c.get_mut.follows.holds-at-none c.in_ok-insert.ensures.updates.0)
+          c.in_ok-insert.ensures.inserted
           (recalls_taken (scheme g c.args.judging.now) c.args.committees.now messages m c.in-Some.committee.now judge
           c.in_ok-news.news c.new-round_state.result after takes (fresh messages holds)) holds;
       news = λ messages holds. news_taken (scheme g c.args.judging.now) c.args.committees.now messages m
@@ -106,18 +109,17 @@ returns-else-not-is_empty g c =
     let empty = c.if-not-is_empty.false in
     let fresh = recalls_fresh (scheme g c.args.judging.now) c.args.committees.now m c.in-Some.committee.now judge
     g.met.D.Eq.laws c.args.self.now.rounds c.new-round_state.result (none ∙ ap (get round_cmp c.args.self.now.rounds) at) sized
-    c.new-round_state.ensures.empty c.new-round_state.ensures.none c.new-round_state.ensures.certified in
+    (c.new-round_state.ensures.round ∙ at) c.new-round_state.ensures.empty c.new-round_state.ensures.none
+    c.new-round_state.ensures.certified in
     let takes = (rw c.contents-contents.ensures.value at c.in_ok-news.ensures.takes) c.contents-contents.ensures.conflict in
     let gathers = rw c.contents-contents.ensures.value at c.in_ok-news.ensures.gathers in
     record {
-      records = λ messages holds.
-          subst (λ rounds. (round : Round) → RecallsAt all (messages ++ m ∷ []) round (get round_cmp rounds round))
-          (sym c.get_mut.follows.holds-at-none)
-          (recalls_still_none all g.met.D.Eq.laws messages m (votes_here g.D.PartialEq.eq g.S.Listing.listed
-          (contents_of c.args.message.now) c.contents-contents.ensures.conflict) c.round-round.result at after
+      records = λ messages holds. recalls_still_none all g.met.D.Eq.laws messages m
+          (votes_here g.D.PartialEq.eq g.S.Listing.listed (contents_of c.args.message.now) c.contents-contents.ensures.conflict)
+          c.round-round.result at after
           c.args.self.now.rounds (sym none) (c.is_empty.ensures.votes empty) (c.is_empty.ensures.certified empty)
           (recalls_taken (scheme g c.args.judging.now) c.args.committees.now messages m c.in-Some.committee.now judge
-          c.in_ok-news.news c.new-round_state.result after takes (fresh messages holds)) holds);
+          c.in_ok-news.news c.new-round_state.result after takes (fresh messages holds)) holds;
       news = λ messages holds. news_taken (scheme g c.args.judging.now) c.args.committees.now messages m
           c.in-Some.committee.now judge c.in_ok-news.news c.new-round_state.result after takes (fresh messages holds);
       gathers = λ messages holds. gathered_taken (scheme g c.args.judging.now) c.args.committees.now messages m

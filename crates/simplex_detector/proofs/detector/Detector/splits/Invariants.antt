@@ -9,7 +9,7 @@ invariant-rounds g l =
     g.S.CertificateVerifier.certified g.S.Listing.listed) judging l.committees in
     (messages : List
     (Activity g.row.S.Denot g.row.D.Denot g.row.S-Certificate.Denot g.row.S-PublicKey.Denot g.row.S-Signature.Denot)) →
-    HaveCommittees rules → AllByRecursion (λ e. RecallsRound rules messages e.0 e.1) l.self.rounds.entries →
+    HaveCommittees rules → AllByRecursion (λ e. RecallsRound rules messages e.0 e.1) l.self.rounds →
     AllByRecursion (λ e. RecallsRound rules messages e.0 e.1) l.round-iterator ×
     (l.splits.items ++ filter_map (split_of rules messages) (map (λ e. e.0) l.round-iterator)
-    ≡ filter_map (split_of rules messages) (map (λ e. e.0) l.self.rounds.entries))
+    ≡ filter_map (split_of rules messages) (map (λ e. e.0) l.self.rounds))

@@ -18,13 +18,13 @@ returns g c =
     certifies)).each_good in
     record {
       takes = rw c.either.ensures (takes_certificate _ s x c.args.certificate.now _ c.attestations-attestations.ensures
-          c.in_ok-news.news c.are_known.result c.args.self.now _ c.observe-signatures.ensures.records
-          (λ valid. c.are_known.ensures ∙ (ap are_known (c.observe-signatures.ensures.verified valid) ∙ known_tells _))
+          c.in_ok-news.news c.are_known.result c.args.self.now _ c.in_ok-signatures.ensures.records
+          (λ valid. c.are_known.ensures ∙ (ap are_known (c.in_ok-signatures.ensures.verified valid) ∙ known_tells _))
           (λ valid. c.in_ok-news.ensures.records (holds_of_listed good _ _ _ _ _ c.attestations-attestations.ensures
-          (c.observe-signatures.ensures.verified valid) valid_if_certified)));
+          (c.in_ok-signatures.ensures.verified valid) valid_if_certified)));
       gathers = gathers_certificate _ s x c.args.certificate.now _ c.attestations-attestations.ensures _ c.args.self.now _ _
           c.in_ok-news.ensures.wanted
-          (λ valid. ap are_known (c.observe-signatures.ensures.verified valid) ∙ known_tells _)
+          (λ valid. ap are_known (c.in_ok-signatures.ensures.verified valid) ∙ known_tells _)
           (λ valid. c.in_ok-news.ensures.gathers (holds_of_listed good _ _ _ _ _ c.attestations-attestations.ensures
-          (c.observe-signatures.ensures.verified valid) valid_if_certified));
+          (c.in_ok-signatures.ensures.verified valid) valid_if_certified));
     }
