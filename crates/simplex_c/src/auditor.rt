@@ -14,14 +14,14 @@ ghost use Rattle.simplex_base.specs.Positions as positions;
 ghost use Rattle.simplex_scheme.specs.Committees.{Schedule};
 ghost use Rattle.simplex_schemes.specs.Plain.{PlainScheme};
 ghost use Rattle.simplex_schemes.specs.Vouched.{VouchedScheme};
-ghost use Rattle.simplex_ffi.specs.Keys.{AreKeys, AreOfKeys, IsLengthOfKeys};
-ghost use Rattle.simplex_ffi.specs.Signatures.{IsVouchedSize};
-ghost use Rattle.simplex_ffi.specs.Sizes.{AreCommitteeSizes, AreSizes};
+ghost use Rattle.simplex_border.specs.Keys.{AreKeys, AreOfKeys, IsLengthOfKeys};
+ghost use Rattle.simplex_border.specs.Signatures.{IsVouchedSize};
+ghost use Rattle.simplex_border.specs.Sizes.{AreCommitteeSizes, AreSizes};
 ghost use Rattle.simplex_handle.specs.Owned.{InHandle};
 ghost use Rattle.simplex_handle.specs.Roster.{IsOfSize, OfKeys, Roster};
 ghost use Rattle.simplex_handle.specs.Standing.{Beginning, Counting, Deferring, Feeding, Following, Pruning, Reporting, Saving, Telling};
 
-use simplex_ffi::answer::ReportSummary;
+use simplex_border::answer::ReportSummary;
 use simplex_handle::auditor::{AnyAuditor, Judged};
 use simplex_handle::calls;
 use simplex_handle::handle::Handle;

@@ -1,5 +1,6 @@
 //! The auditor for callers that speak the C ABI (bindings/simplex_audit.h). Each export calls a
-//! function of `simplex_ffi`, for signatures of a size that of the size, and has its contract.
+//! function of `simplex_ffi`, `simplex_border` or `simplex_handle`, for signatures of a size that of the
+//! size, and has its contract.
 //!
 //! A call that audits, stores, lists, cuts, elects, writes, reads or verifies returns a status:
 //!
@@ -27,13 +28,14 @@ ghost use Rattle.simplex_lead.specs.Windows.{FitsWindow, IsAdmitted, IsOutbound}
 ghost use Rattle.simplex_schemes.specs.Plain.{PlainScheme};
 ghost use Rattle.simplex_scheme.specs.Committees.{Schedule};
 ghost use Rattle.simplex_schemes.specs.Vouched.{VouchedScheme};
-ghost use Rattle.simplex_ffi.specs.Answer.{AreRecorded, AreStored, AreAttestationsGiven, IsAudited};
-ghost use Rattle.simplex_ffi.specs.Keys.{AreKeys, AreOfKeys, IsLengthOfKeys};
+ghost use Rattle.simplex_border.specs.Answer.{IsAudited};
+ghost use Rattle.simplex_border.specs.Keys.{AreKeys, AreOfKeys, IsLengthOfKeys};
+ghost use Rattle.simplex_border.specs.Signatures.{ForSizes, IsSignatureSize, IsVouchedSize};
+ghost use Rattle.simplex_border.specs.Sizes.{AreSizes, AreCommitteeSizes};
+ghost use Rattle.simplex_ffi.specs.Answer.{AreRecorded, AreStored, AreAttestationsGiven};
 ghost use Rattle.simplex_ffi.specs.Leaders.{LeadsRound};
 ghost use Rattle.simplex_ffi.specs.Rows.{AreClasses, AreClassesGiven, AreRangesGiven, AreRowsGiven, RowsFit};
 ghost use Rattle.simplex_shards.specs.Ranges.{AreWithin, bytes_of_ranges};
-ghost use Rattle.simplex_ffi.specs.Signatures.{ForSizes, IsSignatureSize, IsVouchedSize};
-ghost use Rattle.simplex_ffi.specs.Sizes.{AreSizes, AreCommitteeSizes};
 ghost use Rattle.simplex_shards.specs.Cut.{mixed_class};
 
 mod auditor;
@@ -41,16 +43,17 @@ mod refusals;
 
 use simplex_audit::basis::Audited;
 use simplex_base::codec::Fixed;
-use simplex_ffi::answer::ReportSummary;
+use simplex_border::answer;
+use simplex_border::answer::ReportSummary;
+use simplex_border::signatures::{VouchedSize, vouched_size};
 use simplex_ffi::classes::{class_of, classes_of_stream, ranges_of_class};
 use simplex_ffi::parts::{ranges_of_size, ranges_plain};
 use simplex_ffi::plain::{answer_plain, store_plain};
 use simplex_ffi::records::{records_plain, records_vouched};
 use simplex_ffi::rows::{Indexed, rows_of_stream};
-use simplex_ffi::signatures::{VouchedSize, vouched_size};
 use simplex_ffi::suspects::suspects_vouched;
 use simplex_ffi::vouched::{answer_vouched, store_vouched};
-use simplex_ffi::{answer, leaders, numbers};
+use simplex_ffi::{leaders, numbers};
 use simplex_places::located::Located;
 use simplex_places::records::Record;
 use simplex_places::repeats::Unverified;

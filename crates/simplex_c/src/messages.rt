@@ -6,11 +6,11 @@ ghost use Rattle.simplex_base.specs.Format.{format_of};
 ghost use Rattle.simplex_scheme.specs.Committees.{Schedule};
 ghost use Rattle.simplex_schemes.specs.Plain.{PlainScheme};
 ghost use Rattle.simplex_schemes.specs.Vouched.{VouchedScheme};
-ghost use Rattle.simplex_ffi.specs.Keys.{AreKeys, AreOfKeys, IsLengthOfKeys};
+ghost use Rattle.simplex_border.specs.Keys.{AreKeys, AreOfKeys, IsLengthOfKeys};
+ghost use Rattle.simplex_border.specs.Signatures.{ForSizes, IsSignatureSize, IsVouchedSize};
+ghost use Rattle.simplex_border.specs.Sizes.{AreSizes, AreCommitteeSizes};
 ghost use Rattle.simplex_ffi.specs.Messages.{ArePut, AreSigners, IsCertificateKind, IsVoteByNumbers, IsWritten, attestations_by, certificate_message, signature_bytes, signed_bytes, subject_by, vote_message, votes_listed};
 ghost use Rattle.simplex_ffi.specs.Proof.{IsJudged};
-ghost use Rattle.simplex_ffi.specs.Signatures.{ForSizes, IsSignatureSize, IsVouchedSize};
-ghost use Rattle.simplex_ffi.specs.Sizes.{AreSizes, AreCommitteeSizes};
 
 use simplex_audit::basis::Audited;
 use simplex_base::codec::{Encoding, Read};

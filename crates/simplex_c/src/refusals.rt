@@ -12,12 +12,12 @@
 //! - 8: it is not known whether a key stands twice, because an allocation failed; all else is right.
 
 ghost use Rattle.std.specs.Prelude.{◌≡◌, ◌≢◌, ◌↔◌, length};
-ghost use Rattle.simplex_ffi.specs.Keys.{AreKeys, IsLengthOfKeys};
-ghost use Rattle.simplex_ffi.specs.Refusals.{AskedOfKeys, AskedOfVouched, IsFirstRefusal};
-ghost use Rattle.simplex_ffi.specs.Signatures.{IsVouchedSize};
-ghost use Rattle.simplex_ffi.specs.Sizes.{AreCommitteeSizes};
+ghost use Rattle.simplex_border.specs.Keys.{AreKeys, IsLengthOfKeys};
+ghost use Rattle.simplex_border.specs.Refusals.{AskedOfKeys, AskedOfVouched, IsFirstRefusal};
+ghost use Rattle.simplex_border.specs.Signatures.{IsVouchedSize};
+ghost use Rattle.simplex_border.specs.Sizes.{AreCommitteeSizes};
 
-use simplex_ffi::refusals::{refusal_plain, refusal_vouched};
+use simplex_border::refusals::{refusal_plain, refusal_vouched};
 use std::alloc::Global;
 
 /// Says why a call that takes signatures of so many bytes, epochs and sizes refuses them: a number from

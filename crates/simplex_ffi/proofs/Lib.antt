@@ -1,6 +1,3 @@
-pub mod KeyLemmas
-pub mod SizeLemmas
-pub mod RefusalLemmas
 pub mod ClassLemmas
 pub mod EndedLemmas
 pub mod FeedLemmas

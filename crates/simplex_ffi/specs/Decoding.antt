@@ -10,7 +10,7 @@ use Rattle.simplex_places.specs.Bytes.{AreSomeAt}
 use Rattle.simplex_places.specs.Places.{message_places}
 use Rattle.simplex_places.specs.declared.places.AttestationPlace.{AttestationPlace}
 use Rattle.simplex_shards.specs.declared.index.Row.{Row}
-use Rattle.simplex_ffi.specs.Answer.{IsPut}
+use Rattle.simplex_border.specs.Answer.{IsPut}
 use Rattle.simplex_ffi.specs.declared.decoding.MessageHead.{MessageHead}
 
 -- the parent of a proposal; 0 of a round

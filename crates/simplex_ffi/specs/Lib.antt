@@ -1,10 +1,6 @@
 pub mod Answer
 pub mod Decoding
-pub mod Keys
 pub mod Leaders
 pub mod Messages
 pub mod Proof
-pub mod Refusals
 pub mod Rows
-pub mod Signatures
-pub mod Sizes

@@ -9,7 +9,7 @@ use Rattle.simplex_scheme.specs.Subject.{SubjectValue, Notarizes, Nullifies, Fin
 use Rattle.simplex_scheme.specs.declared.scheme.Attestation.{Attestation}
 use Rattle.simplex_evidence.specs.declared.types.activity.Activity.{Activity}
 use Rattle.simplex_evidence.specs.declared.types.activity.Activity.TheVariants as activity
-use Rattle.simplex_ffi.specs.Answer.{IsPut}
+use Rattle.simplex_border.specs.Answer.{IsPut}
 use Rattle.simplex_ffi.specs.declared.votes.Said.{Said}
 use Rattle.simplex_ffi.specs.declared.votes.Said.TheVariants as said
 

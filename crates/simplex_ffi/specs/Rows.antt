@@ -8,8 +8,8 @@ use Rattle.simplex_shards.specs.declared.classes.ClassRanges.{ClassRanges}
 use Rattle.simplex_shards.specs.declared.index.Row.{Row}
 use Rattle.simplex_shards.specs.declared.index.Table.{Table}
 use Rattle.simplex_shards.specs.declared.ranges.Range.{Range}
-use Rattle.simplex_ffi.specs.Answer.{IsPut, ended_of, place_of_fault}
-use Rattle.simplex_ffi.specs.declared.answer.ReportSummary.{ReportSummary}
+use Rattle.simplex_border.specs.Answer.{IsPut, ended_of, place_of_fault}
+use Rattle.simplex_border.specs.declared.answer.ReportSummary.{ReportSummary}
 
 -- The numbers are those of a table: how many rows it has, and its fault. Nothing was audited.
 pub record IsTableSummary (table : Table) (summary : ReportSummary) : Type 0 where

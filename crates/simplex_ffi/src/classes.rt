@@ -3,13 +3,13 @@
 ghost use Rattle.std.specs.Prelude.{◌≡◌, ◌≢◌, ◌⊎◌, ◌<◌, ◌≤◌, ◌↔◌, IfOk, IfSome, IsTrue, None, length, map};
 ghost use Rattle.std.specs.List.{flat_map};
 ghost use Rattle.simplex_shards.specs.Cut.{class_under, classes_of, mixed_class};
+ghost use Rattle.simplex_border.specs.Signatures.{ForSizes, IsSignatureSize};
 ghost use Rattle.simplex_ffi.specs.Rows.{AreClasses, AreClassesGiven, AreRangesGiven, IsClassSummary, RowsFit, all_ranges, ends_from};
-ghost use Rattle.simplex_ffi.specs.Signatures.{ForSizes, IsSignatureSize};
 
-use crate::answer::{ARGUMENTS, MEMORY, ReportSummary, SHORT, WHOLE, ended, place, put};
 use crate::rows::Indexed;
-use crate::signatures::{VouchedSize, vouched_size};
 use simplex_base::positions::{Epoch, Round, View};
+use simplex_border::answer::{ARGUMENTS, MEMORY, ReportSummary, SHORT, WHOLE, ended, place, put};
+use simplex_border::signatures::{VouchedSize, vouched_size};
 use simplex_evidence::types::Activity;
 use simplex_scheme::scheme::{Digest, Sha256Digest};
 use simplex_schemes::plain::Plain;
@@ -124,9 +124,9 @@ fn even_cut(seed: u64, classes: usize) -> Option<Cut>
 }
 
 /// Puts the ranges of all classes of a stream at the start of a buffer, one class after another, and where those of each class
-/// end there into `ends`. The status is [`WHOLE`], [`FAULT`](crate::answer::FAULT), [`MEMORY`] or [`SHORT`]; or [`ARGUMENTS`]
-/// if there are no classes or 2^32 or more. Nothing is written after [`ARGUMENTS`] and [`MEMORY`]. If the buffer is too short
-/// it and `ends` are as before, and the summary has the number of ranges that is needed.
+/// end there into `ends`. The status is [`WHOLE`], [`FAULT`](simplex_border::answer::FAULT), [`MEMORY`] or [`SHORT`]; or
+/// [`ARGUMENTS`] if there are no classes or 2^32 or more. Nothing is written after [`ARGUMENTS`] and [`MEMORY`]. If the buffer
+/// is too short it and `ends` are as before, and the summary has the number of ranges that is needed.
 fn put_classes<S: SkipCertificate<D>, D: Digest>(
     alloc: Global,
     bound: u32,
@@ -165,9 +165,9 @@ fn put_classes<S: SkipCertificate<D>, D: Digest>(
 /// into as many classes as `ends` has room for, and where the ranges of each class end there into `ends`. Signatures have so
 /// many bytes: 32 under the plain scheme; or 48, 64 or 96, each with the caller's verdict behind it. Certificates are read
 /// under `bound`, the number of participants of the greatest committee. The status is [`WHOLE`],
-/// [`FAULT`](crate::answer::FAULT), [`MEMORY`] or [`SHORT`]; or [`ARGUMENTS`] if signatures have no such size, the bound is 0,
-/// or there are no classes or 2^32 or more. Nothing is written after [`ARGUMENTS`] and [`MEMORY`]. If the buffer is too short
-/// it and `ends` are as before, and the summary has the number of ranges that is needed.
+/// [`FAULT`](simplex_border::answer::FAULT), [`MEMORY`] or [`SHORT`]; or [`ARGUMENTS`] if signatures have no such size, the
+/// bound is 0, or there are no classes or 2^32 or more. Nothing is written after [`ARGUMENTS`] and [`MEMORY`]. If the buffer is
+/// too short it and `ends` are as before, and the summary has the number of ranges that is needed.
 pub fn classes_of_stream(
     alloc: Global,
     signature: u32,

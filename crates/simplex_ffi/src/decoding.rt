@@ -6,14 +6,14 @@ ghost use Rattle.simplex_base.specs.Format.{format_of, format_under};
 ghost use Rattle.simplex_evidence.specs.Activity.{contents_of};
 ghost use Rattle.simplex_scheme.specs.Subject.{subject_value};
 ghost use Rattle.simplex_places.specs.declared.places.AttestationPlace as places;
+ghost use Rattle.simplex_border.specs.Signatures.{ForSizes, IsSignatureSize};
 ghost use Rattle.simplex_ffi.specs.Decoding.{IsFront, IsGiven, head_of, parent_of, parents_of};
 ghost use Rattle.simplex_ffi.specs.declared.decoding.MessageHead as heads;
-ghost use Rattle.simplex_ffi.specs.Signatures.{ForSizes, IsSignatureSize};
 
-use crate::answer::{ARGUMENTS, FAULT, MEMORY, SHORT, WHOLE, put};
 use crate::front::read_front;
-use crate::signatures::{VouchedSize, vouched_size};
 use simplex_base::codec::{Encoding, Fixed, Read};
+use simplex_border::answer::{ARGUMENTS, FAULT, MEMORY, SHORT, WHOLE, put};
+use simplex_border::signatures::{VouchedSize, vouched_size};
 use simplex_evidence::types::{Activity, Contents};
 use simplex_places::located::{Counted, Located};
 use simplex_places::places::{AttestationPlace, attestations_of};

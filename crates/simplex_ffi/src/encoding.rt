@@ -4,16 +4,16 @@ ghost use Rattle.std.specs.Prelude.{◌≡◌, ◌≢◌, ◌==◌, ◌⊎◌, �
 ghost use Rattle.simplex_base.specs.Format.{format_of};
 ghost use Rattle.simplex_scheme.specs.Subject.{IsSubject, message_of};
 ghost use Rattle.simplex_schemes.specs.Listed.{AreListed, ListedFits, listed_encoding};
+ghost use Rattle.simplex_border.specs.Signatures.{ForSizes, IsSignatureSize};
 ghost use Rattle.simplex_ffi.specs.Messages.{AreSigners, IsCertificateKind, IsVoteByNumbers, IsWritten, attestations_by, certificate_message, certificate_tag, said_value, signature_bytes, subject_by, vote_message, votes_listed};
-ghost use Rattle.simplex_ffi.specs.Signatures.{ForSizes, IsSignatureSize};
 
-use crate::answer::{ARGUMENTS, MEMORY};
-use crate::signatures::{VouchedSize, vouched_size};
 use crate::votes::{Said, put_bytes, said_by};
 use simplex_base::codec::counted::{size_counted, write_counted};
 use simplex_base::codec::fixed_bytes::Role;
 use simplex_base::codec::{EncodeSize, Encoding, Fixed, FixedSize, Read, Write};
 use simplex_base::positions::Participant;
+use simplex_border::answer::{ARGUMENTS, MEMORY};
+use simplex_border::signatures::{VouchedSize, vouched_size};
 use simplex_evidence::types::Activity;
 use simplex_scheme::scheme::{
     Attestation, CertificateScheme, Digest, Listing, SchemeTypes, Set, Sha256Digest,
@@ -73,8 +73,8 @@ fn bytes_of<S: CertificateScheme, D: Digest>(
 }
 
 /// Puts a vote, as a message, at the start of a buffer, and writes how many bytes it has. The status is
-/// [`WHOLE`](crate::answer::WHOLE), [`MEMORY`] or [`SHORT`](crate::answer::SHORT), or [`ARGUMENTS`] if the signature has not
-/// the bytes that signatures have. Nothing is written after [`ARGUMENTS`] and [`MEMORY`].
+/// [`WHOLE`](simplex_border::answer::WHOLE), [`MEMORY`] or [`SHORT`](simplex_border::answer::SHORT), or [`ARGUMENTS`] if the
+/// signature has not the bytes that signatures have. Nothing is written after [`ARGUMENTS`] and [`MEMORY`].
 fn put_vote<S: CertificateScheme, D: Digest>(
     alloc: Global,
     said: Said<D>,
@@ -106,9 +106,9 @@ fn put_vote<S: CertificateScheme, D: Digest>(
 /// Puts a vote, as a message, at the start of a buffer, and writes how many bytes it has. Signatures have so many bytes: 32
 /// under the plain scheme; or 48, 64 or 96, each with the caller's verdict behind it, which stands behind the signature that is
 /// given and is copied as it is. What the vote says is given as to [`signed_bytes_of`](crate::votes::signed_bytes_of). The
-/// status is [`WHOLE`](crate::answer::WHOLE), [`MEMORY`] or [`SHORT`](crate::answer::SHORT); or [`ARGUMENTS`] if signatures
-/// have no such size, the signature has another size, or the numbers are of no vote. Nothing is written after [`ARGUMENTS`] and
-/// [`MEMORY`]. If the buffer is too short it is as before, and the length that is needed is written.
+/// status is [`WHOLE`](simplex_border::answer::WHOLE), [`MEMORY`] or [`SHORT`](simplex_border::answer::SHORT); or [`ARGUMENTS`]
+/// if signatures have no such size, the signature has another size, or the numbers are of no vote. Nothing is written after
+/// [`ARGUMENTS`] and [`MEMORY`]. If the buffer is too short it is as before, and the length that is needed is written.
 pub fn write_vote(
     alloc: Global,
     signature: u32,
@@ -329,8 +329,9 @@ fn bytes_of_certificate<S: Lists<D>, D: Digest>(
 }
 
 /// Puts a certificate, as a message, at the start of a buffer, and writes how many bytes it has. The status is
-/// [`WHOLE`](crate::answer::WHOLE), [`MEMORY`] or [`SHORT`](crate::answer::SHORT), or [`ARGUMENTS`] if they are not the signers
-/// of a certificate or there is not one signature for each. Nothing is written after [`ARGUMENTS`] and [`MEMORY`].
+/// [`WHOLE`](simplex_border::answer::WHOLE), [`MEMORY`] or [`SHORT`](simplex_border::answer::SHORT), or [`ARGUMENTS`] if they
+/// are not the signers of a certificate or there is not one signature for each. Nothing is written after [`ARGUMENTS`] and
+/// [`MEMORY`].
 fn put_certificate<S: Lists<D>, D: Digest>(
     alloc: Global,
     accepted: bool,
@@ -382,8 +383,8 @@ fn votes_listed(kind: u32) -> u32
 /// Puts a certificate, as a message, at the start of a buffer, and writes how many bytes it has. `kind` is the message's tag: 1
 /// for a notarization, 2 for a certification, 4 for a nullification, 6 for a finalization. What is certified is given as to
 /// [`signed_bytes_of`](crate::votes::signed_bytes_of). The signers ascend, from 1 to 2^32 - 1 of them, and their signatures
-/// stand one after another, each as [`write_vote`] takes it. The status is [`WHOLE`](crate::answer::WHOLE), [`MEMORY`] or
-/// [`SHORT`](crate::answer::SHORT); or [`ARGUMENTS`] if signatures have no such size, they are not the signers of a
+/// stand one after another, each as [`write_vote`] takes it. The status is [`WHOLE`](simplex_border::answer::WHOLE), [`MEMORY`]
+/// or [`SHORT`](simplex_border::answer::SHORT); or [`ARGUMENTS`] if signatures have no such size, they are not the signers of a
 /// certificate, there is not one signature for each, or the numbers are of no certificate. Nothing is written after
 /// [`ARGUMENTS`] and [`MEMORY`]. If the buffer is too short it is as before, and the length that is needed is written.
 pub fn write_certificate(

@@ -4,8 +4,8 @@ ghost use Rattle.std.specs.Prelude.{◌≡◌, ◌≢◌, ◌⊎◌, ◌≤◌, 
 ghost use Rattle.std.specs.Option.{option_copied};
 ghost use Rattle.simplex_ffi.specs.Leaders.{LeadsRound};
 
-use crate::answer::{ARGUMENTS, MEMORY, WHOLE};
 use simplex_base::positions::{Epoch, Round, TermLength, View, ViewDelta};
+use simplex_border::answer::{ARGUMENTS, MEMORY, WHOLE};
 use simplex_lead::elector::{Elector, RoundRobin, can_be_stable};
 use simplex_scheme::scheme::{Hasher, Sha256, Sha256Digest};
 use simplex_schemes::marked::Marked;

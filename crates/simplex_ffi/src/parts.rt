@@ -8,21 +8,21 @@ ghost use Rattle.simplex_scheme.specs.Committees.{Schedule};
 ghost use Rattle.simplex_schemes.specs.Plain.{PlainScheme};
 ghost use Rattle.simplex_schemes.specs.Vouched.{VouchedScheme};
 ghost use Rattle.simplex_shards.specs.Ranges.{AreWithin, bytes_of_ranges, end_of_range, range_bytes};
-ghost use Rattle.simplex_ffi.specs.Answer.{IsAudited};
-ghost use Rattle.simplex_ffi.specs.Keys.{AreKeys, AreOfKeys, IsLengthOfKeys};
-ghost use Rattle.simplex_ffi.specs.Signatures.{ForSizes, IsVouchedSize};
-ghost use Rattle.simplex_ffi.specs.Sizes.{AreSizes, AreCommitteeSizes};
+ghost use Rattle.simplex_border.specs.Answer.{IsAudited};
+ghost use Rattle.simplex_border.specs.Keys.{AreKeys, AreOfKeys, IsLengthOfKeys};
+ghost use Rattle.simplex_border.specs.Signatures.{ForSizes, IsVouchedSize};
+ghost use Rattle.simplex_border.specs.Sizes.{AreSizes, AreCommitteeSizes};
 
-use crate::answer::{ARGUMENTS, MEMORY, ReportSummary, write_report};
-use crate::signatures::{VouchedSize, vouched_size};
 use crate::within::are_within;
-use crate::{keys, sizes};
 use simplex_audit::audit::{Committees, Report};
 use simplex_audit::auditor::Auditor;
 use simplex_audit::basis::Audited;
 use simplex_audit::text::text;
 use simplex_base::codec::Fixed;
 use simplex_base::codec::fixed_bytes::Role;
+use simplex_border::answer::{ARGUMENTS, MEMORY, ReportSummary, write_report};
+use simplex_border::signatures::{VouchedSize, vouched_size};
+use simplex_border::{keys, sizes};
 use simplex_scheme::scheme::{Digest, Listing, Sha256Digest};
 use simplex_schemes::plain::Plain;
 use simplex_schemes::vouched::{Role48, Role64, Role96, Vouched};
@@ -84,8 +84,8 @@ fn account_ranges<S: Listing<D>, D: Digest>(
     Ok((report, lines))
 }
 
-/// Audits the bytes of some ranges of a stream, one range after another, as [`answer`](crate::answer::answer) does a stream. No
-/// byte is copied but those of a message that is in two ranges.
+/// Audits the bytes of some ranges of a stream, one range after another, as [`answer`](simplex_border::answer::answer) does a
+/// stream. No byte is copied but those of a message that is in two ranges.
 pub fn answer_ranges<S: Listing<D>, D: Digest>(
     alloc: Global,
     committees: &Committees<S>,

@@ -3,14 +3,15 @@
 ghost use Rattle.std.specs.Prelude.{◌≡◌, ◌≢◌, ◌⊎◌, ◌++◌, length};
 ghost use Rattle.simplex_schemes.specs.Plain.{PlainScheme};
 ghost use Rattle.simplex_scheme.specs.Committees.{Schedule};
-ghost use Rattle.simplex_ffi.specs.Answer.{AreStored, IsAudited};
-ghost use Rattle.simplex_ffi.specs.Keys.{AreKeys, AreOfKeys, IsLengthOfKeys};
+ghost use Rattle.simplex_border.specs.Answer.{IsAudited};
+ghost use Rattle.simplex_border.specs.Keys.{AreKeys, AreOfKeys, IsLengthOfKeys};
+ghost use Rattle.simplex_ffi.specs.Answer.{AreStored};
 
-use crate::answer::{ARGUMENTS, MEMORY, ReportSummary, answer};
-use crate::keys::committees;
 use crate::store::store;
 use simplex_audit::basis::Audited;
 use simplex_base::codec::Fixed;
+use simplex_border::answer::{ARGUMENTS, MEMORY, ReportSummary, answer};
+use simplex_border::keys::committees;
 use simplex_scheme::scheme::Sha256Digest;
 use simplex_schemes::plain::Plain;
 use std::alloc::Global;

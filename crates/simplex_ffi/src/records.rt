@@ -7,16 +7,18 @@ ghost use Rattle.simplex_scheme.specs.Committees.{Schedule};
 ghost use Rattle.simplex_places.specs.Records.{AreRecords};
 ghost use Rattle.simplex_schemes.specs.Plain.{PlainScheme};
 ghost use Rattle.simplex_schemes.specs.Vouched.{VouchedScheme};
+ghost use Rattle.simplex_border.specs.Keys.{AreKeys, AreOfKeys, IsLengthOfKeys};
+ghost use Rattle.simplex_border.specs.Sizes.{AreSizes, AreCommitteeSizes};
 ghost use Rattle.simplex_ffi.specs.Answer.{AreRecorded};
-ghost use Rattle.simplex_ffi.specs.Keys.{AreKeys, AreOfKeys, IsLengthOfKeys};
-ghost use Rattle.simplex_ffi.specs.Sizes.{AreSizes, AreCommitteeSizes};
 
-use crate::answer::{ARGUMENTS, MEMORY, ReportSummary, SHORT, account, ended, put, summarize};
-use crate::{keys, sizes};
 use simplex_audit::audit::{Committees, Report};
 use simplex_audit::basis::Audited;
 use simplex_base::codec::Fixed;
 use simplex_base::codec::fixed_bytes::Role;
+use simplex_border::answer::{
+    ARGUMENTS, MEMORY, ReportSummary, SHORT, account, ended, put, summarize,
+};
+use simplex_border::{keys, sizes};
 use simplex_places::located::{Counted, Located};
 use simplex_places::records::{Record, records};
 use simplex_scheme::scheme::{Digest, Sha256Digest};
@@ -42,9 +44,9 @@ fn account_records<S: Counted<D>, D: Digest>(
 }
 
 /// Audits a stream, and puts the evidence of the report at the start of a buffer, as records. The status is
-/// [`WHOLE`](crate::answer::WHOLE), [`FAULT`](crate::answer::FAULT), [`MEMORY`] or [`SHORT`]. Where an allocation failed
-/// nothing is written; where the buffer is too short it is as before, and the summary has the number of records that is
-/// needed.
+/// [`WHOLE`](simplex_border::answer::WHOLE), [`FAULT`](simplex_border::answer::FAULT), [`MEMORY`] or [`SHORT`]. Where an
+/// allocation failed nothing is written; where the buffer is too short it is as before, and the summary has the number of
+/// records that is needed.
 fn answer_records<S: Counted<D>, D: Digest>(
     alloc: Global,
     committees: &Committees<S>,
@@ -71,8 +73,8 @@ fn answer_records<S: Counted<D>, D: Digest>(
 
 /// Audits a stream whose signatures have `N` bytes, the last of which is the caller's verdict, under the committees of these
 /// sizes, and puts the evidence of the report at the start of a buffer, as records. The status is
-/// [`WHOLE`](crate::answer::WHOLE), [`FAULT`](crate::answer::FAULT), [`MEMORY`] or [`SHORT`], or [`ARGUMENTS`] where there are
-/// no such committees, and then nothing is written.
+/// [`WHOLE`](simplex_border::answer::WHOLE), [`FAULT`](simplex_border::answer::FAULT), [`MEMORY`] or [`SHORT`], or
+/// [`ARGUMENTS`] where there are no such committees, and then nothing is written.
 pub fn records_vouched<R: Role<N>, const N: usize>(
     alloc: Global,
     epochs: &[u64],

@@ -7,13 +7,13 @@ ghost use Rattle.simplex_shards.specs.Classes.{AreClassRanges};
 ghost use Rattle.simplex_shards.specs.Index.{IsIndex};
 ghost use Rattle.simplex_shards.specs.declared.classes.ClassRanges as found;
 ghost use Rattle.simplex_shards.specs.declared.index.Table as tables;
+ghost use Rattle.simplex_border.specs.Signatures.{ForSizes, IsSignatureSize};
 ghost use Rattle.simplex_ffi.specs.Rows.{AreRowsGiven, IsTableSummary};
-ghost use Rattle.simplex_ffi.specs.Signatures.{ForSizes, IsSignatureSize};
 
-use crate::answer::{ARGUMENTS, MEMORY, ReportSummary, SHORT, ended, place, put};
-use crate::signatures::{VouchedSize, vouched_size};
 use simplex_base::codec::Read;
 use simplex_base::positions::Roundable;
+use simplex_border::answer::{ARGUMENTS, MEMORY, ReportSummary, SHORT, ended, place, put};
+use simplex_border::signatures::{VouchedSize, vouched_size};
 use simplex_evidence::types::Activity;
 use simplex_scheme::scheme::{Digest, Listing, Sha256Digest};
 use simplex_schemes::plain::Plain;
@@ -53,9 +53,9 @@ fn summarize_table(table: &Table) -> ReportSummary
     }
 }
 
-/// Puts a row for each message of a stream at the start of a buffer. The status is [`WHOLE`](crate::answer::WHOLE),
-/// [`FAULT`](crate::answer::FAULT), [`MEMORY`] or [`SHORT`]. If an allocation failed nothing is written; if the buffer is too
-/// short it is as before, and the summary has the number of rows that is needed.
+/// Puts a row for each message of a stream at the start of a buffer. The status is [`WHOLE`](simplex_border::answer::WHOLE),
+/// [`FAULT`](simplex_border::answer::FAULT), [`MEMORY`] or [`SHORT`]. If an allocation failed nothing is written; if the buffer
+/// is too short it is as before, and the summary has the number of rows that is needed.
 fn put_rows<S: Listing<D>, D: Digest>(
     alloc: Global,
     bound: u32,
@@ -81,10 +81,10 @@ fn put_rows<S: Listing<D>, D: Digest>(
 
 /// Puts a row for each message of a stream at the start of a buffer, if signatures have so many bytes: 32 under the plain
 /// scheme; or 48, 64 or 96, each with the caller's verdict behind it. Certificates are read under `bound`, the number of
-/// participants of the greatest committee. The status is [`WHOLE`](crate::answer::WHOLE), [`FAULT`](crate::answer::FAULT),
-/// [`MEMORY`] or [`SHORT`]; or [`ARGUMENTS`] if signatures have no such size or the bound is 0. Nothing is written after
-/// [`ARGUMENTS`] and [`MEMORY`]. If the buffer is too short it is as before, and the summary has the number of rows that is
-/// needed.
+/// participants of the greatest committee. The status is [`WHOLE`](simplex_border::answer::WHOLE),
+/// [`FAULT`](simplex_border::answer::FAULT), [`MEMORY`] or [`SHORT`]; or [`ARGUMENTS`] if signatures have no such size or the
+/// bound is 0. Nothing is written after [`ARGUMENTS`] and [`MEMORY`]. If the buffer is too short it is as before, and the
+/// summary has the number of rows that is needed.
 pub fn rows_of_stream(
     alloc: Global,
     signature: u32,

@@ -4,10 +4,10 @@ ghost use Rattle.std.specs.Prelude.{◌≡◌, ◌≢◌, ◌+◌, ◌<◌, ◌+
 ghost use Rattle.simplex_audit.specs.Holding.{IsStored};
 ghost use Rattle.simplex_ffi.specs.Answer.{AreStored};
 
-use crate::answer::{MEMORY, SHORT, WHOLE, put};
 use simplex_audit::audit::Committees;
 use simplex_audit::basis::Audited;
 use simplex_audit::ledger::Ledger;
+use simplex_border::answer::{MEMORY, SHORT, WHOLE, put};
 use simplex_scheme::scheme::{Digest, Listing};
 use std::alloc::{AllocError, Global};
 

@@ -3,14 +3,14 @@
 ghost use Rattle.std.specs.Prelude.{◌≡◌, ◌≢◌, ◌⊎◌, ◌-◌, IfOk};
 ghost use Rattle.simplex_scheme.specs.Committees.{Schedule};
 ghost use Rattle.simplex_schemes.specs.Vouched.{VouchedScheme};
+ghost use Rattle.simplex_border.specs.Sizes.{AreSizes, AreCommitteeSizes};
 ghost use Rattle.simplex_ffi.specs.Answer.{AreAttestationsGiven, AreUnverified};
-ghost use Rattle.simplex_ffi.specs.Sizes.{AreSizes, AreCommitteeSizes};
 
-use crate::answer::{ARGUMENTS, MEMORY, SHORT, WHOLE, put};
-use crate::sizes::committees;
 use simplex_audit::audit::Committees;
 use simplex_audit::basis::Audited;
 use simplex_base::codec::fixed_bytes::Role;
+use simplex_border::answer::{ARGUMENTS, MEMORY, SHORT, WHOLE, put};
+use simplex_border::sizes::committees;
 use simplex_places::located::{Counted, Located};
 use simplex_places::repeats::{Unverified, with_firsts};
 use simplex_places::suspects::suspects;

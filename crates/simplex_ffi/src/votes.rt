@@ -5,10 +5,10 @@ ghost use Rattle.simplex_base.specs.Format.{format_of};
 ghost use Rattle.simplex_scheme.specs.Subject.{message_of, subject_value};
 ghost use Rattle.simplex_ffi.specs.Messages.{ArePut, IsVoteByNumbers, said_value, signed_bytes, subject_by};
 
-use crate::answer::{ARGUMENTS, MEMORY, SHORT, WHOLE, put};
 use simplex_base::codec::varint::write_u64;
 use simplex_base::codec::{Fixed, Read};
 use simplex_base::positions::{Epoch, Round, View};
+use simplex_border::answer::{ARGUMENTS, MEMORY, SHORT, WHOLE, put};
 use simplex_scheme::scheme::{
     CertificateSubject, Digest, Namespace, Proposal, Sha256Digest, Subject,
 };

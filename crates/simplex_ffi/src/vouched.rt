@@ -3,15 +3,16 @@
 ghost use Rattle.std.specs.Prelude.{◌≡◌, ◌≢◌, ◌⊎◌, ◌++◌};
 ghost use Rattle.simplex_scheme.specs.Committees.{Schedule};
 ghost use Rattle.simplex_schemes.specs.Vouched.{VouchedScheme};
-ghost use Rattle.simplex_ffi.specs.Answer.{AreStored, IsAudited};
-ghost use Rattle.simplex_ffi.specs.Sizes.{AreSizes, AreCommitteeSizes};
+ghost use Rattle.simplex_border.specs.Answer.{IsAudited};
+ghost use Rattle.simplex_border.specs.Sizes.{AreSizes, AreCommitteeSizes};
+ghost use Rattle.simplex_ffi.specs.Answer.{AreStored};
 
-use crate::answer::{ARGUMENTS, MEMORY, ReportSummary, answer};
-use crate::sizes::committees;
 use crate::store::store;
 use simplex_audit::basis::Audited;
 use simplex_base::codec::Fixed;
 use simplex_base::codec::fixed_bytes::Role;
+use simplex_border::answer::{ARGUMENTS, MEMORY, ReportSummary, answer};
+use simplex_border::sizes::committees;
 use simplex_scheme::scheme::Sha256Digest;
 use simplex_schemes::vouched::Vouched;
 use std::alloc::Global;

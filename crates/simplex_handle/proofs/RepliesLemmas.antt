@@ -13,7 +13,7 @@ use Rattle.simplex_places.specs.Pieces.{IsPiece}
 use Rattle.simplex_places.specs.declared.pieces.Piece.{Piece}
 use Rattle.simplex_places.specs.declared.places.Placed.{Placed}
 use Rattle.simplex_places.specs.declared.repeats.Unverified.{Unverified}
-use Rattle.simplex_ffi.specs.Answer.{IsPut}
+use Rattle.simplex_border.specs.Answer.{IsPut}
 use Rattle.simplex_tracker.specs.Live.{Follows, WaitSame}
 use Rattle.simplex_tracker.specs.Tracking.{EndsWhole}
 use Rattle.simplex_tracker.specs.declared.live.LiveAuditor.{LiveAuditor}

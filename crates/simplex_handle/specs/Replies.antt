@@ -19,8 +19,8 @@ use Rattle.simplex_places.specs.Pieces.{IsPiece}
 use Rattle.simplex_places.specs.declared.pieces.Piece.{Piece}
 use Rattle.simplex_places.specs.declared.places.Placed.{Placed}
 use Rattle.simplex_places.specs.declared.repeats.Unverified.{Unverified}
-use Rattle.simplex_ffi.specs.Answer.{IsPut, IsSummary, ended_of}
-use Rattle.simplex_ffi.specs.declared.answer.ReportSummary.{ReportSummary}
+use Rattle.simplex_border.specs.Answer.{IsPut, IsSummary, ended_of}
+use Rattle.simplex_border.specs.declared.answer.ReportSummary.{ReportSummary}
 use Rattle.simplex_tracker.specs.Live.{AreNews, CanStandFor, Follows, HasEnded, IsShort, LosesNothing, TakesPiece, WaitSame, evidence_waiting, splits_waiting}
 use Rattle.simplex_tracker.specs.Tracking.{EndsWhole, HasVotes}
 use Rattle.simplex_tracker.specs.declared.live.LiveAuditor.{LiveAuditor}
@@ -57,9 +57,9 @@ pub record IsTold {S D P G : Type 0} (bytes_of : D → List ℕ) (before after :
   pub no_evidence_waits : status ≡ 0 → evidence_waiting new ≡ []
   pub no_split_waits : status ≡ 0 → splits_waiting new ≡ []
 
--- A piece follows a stream that ends with a whole message. What has to be verified of the piece before it is fed, from the floor
--- on, stands at the start of the buffer, with 0, or with 1 if the stream has a fault behind the piece's whole messages; or the
--- buffer is too short and as before, with 4. Signatures have `size` bytes before the verdict, and `places_in` gives the
+-- A piece follows a stream that ends with a whole message. What has to be verified of the piece before it is fed, from the
+-- floor on, stands at the start of the buffer, with 0, or with 1 if the stream has a fault behind the piece's whole messages;
+-- or the buffer is too short and as before, with 4. Signatures have `size` bytes before the verdict, and `places_in` gives the
 -- attestations of a message that begins at a place.
 pub record IsPieceGiven {S D C P G : Type 0} (floor : Round) (basis : Basis S D C P G)
     (places_in : ℕ → Activity S D C P G → List Placed) (size : ℕ) (stream bytes : List ℕ) (before after : List Unverified)
@@ -101,8 +101,8 @@ module _ {S D C P G : Type 0} (floor : Round) (basis : Schedule S → Basis S D 
     pub stays : Stays old new
     pub counted : status ≡ 0 → HasVotes (basis_from floor (basis committees)) stream count
 
-  -- What has to be verified of a piece is put, but after a failed allocation. It is refused, with 2, if the stream ends within a
-  -- message, or callers do not verify the signatures, which then have no size.
+  -- What has to be verified of a piece is put, but after a failed allocation. It is refused, with 2, if the stream ends within
+  -- a message, or callers do not verify the signatures, which then have no size.
   pub record Defers (places_in : ℕ → Activity S D C P G → List Placed) (size : ℕ) (bytes : List ℕ)
       (before after : List Unverified) (needed whole status : ℕ) (old new : LiveAuditor S D P G) : Type 0 where
     pub stays : Stays old new

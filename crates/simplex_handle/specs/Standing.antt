@@ -10,7 +10,7 @@ use Rattle.simplex_evidence.specs.declared.types.activity.Activity.{Activity}
 use Rattle.simplex_places.specs.Places.{message_places}
 use Rattle.simplex_places.specs.declared.places.Placed.{Placed}
 use Rattle.simplex_places.specs.declared.repeats.Unverified.{Unverified}
-use Rattle.simplex_ffi.specs.declared.answer.ReportSummary.{ReportSummary}
+use Rattle.simplex_border.specs.declared.answer.ReportSummary.{ReportSummary}
 use Rattle.simplex_tracker.specs.Live.{Follows}
 use Rattle.simplex_tracker.specs.declared.live.LiveAuditor.{LiveAuditor}
 use Rattle.simplex_handle.specs.Replies as replies

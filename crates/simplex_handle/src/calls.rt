@@ -6,9 +6,9 @@ ghost use Rattle.simplex_base.specs.Positions as positions;
 ghost use Rattle.simplex_scheme.specs.Committees.{Schedule};
 ghost use Rattle.simplex_schemes.specs.Plain.{PlainScheme};
 ghost use Rattle.simplex_schemes.specs.Vouched.{VouchedScheme};
-ghost use Rattle.simplex_ffi.specs.Keys.{AreKeys, AreOfKeys, IsLengthOfKeys};
-ghost use Rattle.simplex_ffi.specs.Signatures.{IsVouchedSize};
-ghost use Rattle.simplex_ffi.specs.Sizes.{AreCommitteeSizes, AreSizes};
+ghost use Rattle.simplex_border.specs.Keys.{AreKeys, AreOfKeys, IsLengthOfKeys};
+ghost use Rattle.simplex_border.specs.Signatures.{IsVouchedSize};
+ghost use Rattle.simplex_border.specs.Sizes.{AreCommitteeSizes, AreSizes};
 ghost use Rattle.simplex_handle.specs.Roster.{IsOfSize, OfKeys, Roster};
 ghost use Rattle.simplex_handle.specs.Standing.{Beginning, Counting, Deferring, Feeding, Following, Pruning, Reporting, Saving, Telling};
 ghost use Rattle.simplex_handle.specs.Owned.{InHandle};
@@ -16,7 +16,7 @@ ghost use Rattle.simplex_handle.specs.Owned.{InHandle};
 use crate::auditor::{AnyAuditor, Judged};
 use crate::handle::{Handle, put_back, take};
 use simplex_base::positions::{Epoch, Round, View};
-use simplex_ffi::answer::{ARGUMENTS, MEMORY, ReportSummary, WHOLE};
+use simplex_border::answer::{ARGUMENTS, MEMORY, ReportSummary, WHOLE};
 use simplex_places::repeats::Unverified;
 use std::alloc::Global;
 
@@ -173,10 +173,10 @@ pub fn votes(alloc: Global, handle: &mut Handle, count: &mut usize) -> u32
 }
 
 /// Puts what has to be verified of a piece into a buffer, before it is fed: the attestations of the whole messages at its front
-/// whose rounds are at the floor or above it and whose signers are in the committee of the epoch, each with the first that is the
-/// same; and writes how many these are, and how many bytes the messages have. The piece follows what was fed, which has to end
-/// with a whole message. The status is [`WHOLE`]; 1 if no message follows those of the piece, whatever comes; [`MEMORY`]; 4, the
-/// buffer being too short; or [`ARGUMENTS`] also if what was fed ends within a message, or the auditor is one of keys.
+/// whose rounds are at the floor or above it and whose signers are in the committee of the epoch, each with the first that is
+/// the same; and writes how many these are, and how many bytes the messages have. The piece follows what was fed, which has to
+/// end with a whole message. The status is [`WHOLE`]; 1 if no message follows those of the piece, whatever comes; [`MEMORY`];
+/// 4, the buffer being too short; or [`ARGUMENTS`] also if what was fed ends within a message, or the auditor is one of keys.
 pub fn unverified(
     alloc: Global,
     handle: &mut Handle,

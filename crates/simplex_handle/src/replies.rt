@@ -7,7 +7,7 @@ ghost use Rattle.simplex_scheme.specs.Committees.{Schedule};
 ghost use Rattle.simplex_audit.specs.Basis.{basis_from};
 ghost use Rattle.simplex_audit.specs.Report.{IsReport};
 ghost use Rattle.simplex_audit.specs.Run.{report_text};
-ghost use Rattle.simplex_ffi.specs.Answer.{IsPut};
+ghost use Rattle.simplex_border.specs.Answer.{IsPut};
 ghost use Rattle.simplex_tracker.specs.Live.{CanStandFor, Follows, IsShort, evidence_waiting, splits_waiting};
 ghost use Rattle.simplex_tracker.specs.Tracking.{EndsWhole};
 ghost use Rattle.simplex_handle.specs.Replies.{Counts, Defers, Feeds, IsPieceGiven, Prunes, Reports, Saves, Stays, Tells, news_text};
@@ -16,7 +16,7 @@ use simplex_audit::audit::Report;
 use simplex_audit::basis::Audited;
 use simplex_audit::text::text;
 use simplex_base::positions::Round;
-use simplex_ffi::answer::{
+use simplex_border::answer::{
     ARGUMENTS, FAULT, MEMORY, ReportSummary, SHORT, WHOLE, put, write_report,
 };
 use simplex_places::located::{Counted, Located};

@@ -1,5 +1,5 @@
 use Rattle.std.proofs.Common.{◌≡◌, ◌∙◌, ap, length, refl, rules, subst}
-use Rattle.simplex_ffi.specs.Answer.{IsPut}
+use Rattle.simplex_border.specs.Answer.{IsPut}
 use Rattle.simplex_handle.proofs.RepliesLemmas.{waits}
 use Rattle.simplex_handle.proofs.replies.tell.Goals as goal
 

@@ -1,5 +1,5 @@
 use Rattle.std.proofs.Common.{◌∙◌, ap, refl}
-use Rattle.simplex_ffi.specs.Signatures.{size_in_bytes}
+use Rattle.simplex_border.specs.Signatures.{size_in_bytes}
 use Rattle.simplex_handle.specs.Roster.{Of48, Of64, Of96}
 use Rattle.simplex_handle.proofs.RepliesLemmas.{at_some}
 use Rattle.simplex_handle.proofs.auditor.AnyAuditor.of_sizes.Goals as goal

@@ -1,0 +1,4 @@
+pub mod KeyLemmas
+pub mod SizeLemmas
+pub mod RefusalLemmas
+pub mod EndedLemmas

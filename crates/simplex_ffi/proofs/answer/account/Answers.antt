@@ -1,5 +1,0 @@
-use Rattle.std.proofs.Common.{rules}
-use Rattle.simplex_ffi.proofs.answer.account.Goals as goal
-
-pub returns : goal.returns
-returns g c = (c.in_ok-report.ensures.audit, search rules)
