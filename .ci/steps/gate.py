@@ -36,6 +36,7 @@ STEPS = [
     "refusals inspect",
     "refusals simplex_message_tests",
     "refusals simplex_audit_tests",
+    "refusals simplex_places_tests",
     "refusals simplex_monitor_tests",
     "refusals simplex_shards_tests",
     "refusals simplex_program_tests",

@@ -21,21 +21,21 @@ pub struct Outcome {
 }
 
 /// One marked committee of this many participants for every epoch.
-pub(crate) fn marked(alloc: Global, participants: u32) -> Result<Committees<Marked>, Fail>
+pub fn marked(alloc: Global, participants: u32) -> Result<Committees<Marked>, Fail>
     requires { 1 ≤ participants }
 {
     Ok(Committees::every(Marked::new(alloc, participants, None)?))
 }
 
 /// A marked committee of four for epoch 0, and one of one for epoch 1.
-pub(crate) fn four_and_one(alloc: Global) -> Result<Committees<Marked>, Fail> {
+pub fn four_and_one(alloc: Global) -> Result<Committees<Marked>, Fail> {
     let four = (Epoch::new(0), Marked::new(alloc, 4, None)?);
     let one = (Epoch::new(1), Marked::new(alloc, 1, None)?);
     Ok(Committees::try_from_vec(Vec::from_array(alloc, [four, one])?)?)
 }
 
 /// What the audit of a stream returns.
-pub(crate) fn outcome_of<S: Listing<D>, D: Digest>(
+pub fn outcome_of<S: Listing<D>, D: Digest>(
     alloc: Global,
     committees: &Committees<S>,
     stream: &[u8],
@@ -44,7 +44,7 @@ pub(crate) fn outcome_of<S: Listing<D>, D: Digest>(
 }
 
 /// What the deferred audit of a stream returns.
-pub(crate) fn deferred_outcome_of<S: Listing<D>, D: Digest>(
+pub fn deferred_outcome_of<S: Listing<D>, D: Digest>(
     alloc: Global,
     committees: &Committees<S>,
     stream: &[u8],

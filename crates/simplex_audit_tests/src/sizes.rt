@@ -3,7 +3,7 @@
 ghost use Rattle.std.proofs.Common.{lit<, lit≤};
 
 use crate::outcome::outcome_of;
-use crate::suspects::Committee;
+use crate::verdicts::Committee;
 use simplex_audit::audit::{Committees, audit};
 use simplex_base::codec::fixed_bytes::{FixedBytes, Role};
 use simplex_base::codec::{Write, decode, decode_cfg};

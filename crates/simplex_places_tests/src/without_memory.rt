@@ -2,8 +2,8 @@
 //!
 //! Step `refusals` of the gate runs each test here with every allocation made to fail, from that of `memory_ends` on.
 
-use crate::outcome::marked;
 use simplex_audit::audit::{Auditor, Committees, CommitteesError, audit};
+use simplex_audit_tests::outcome::marked;
 use simplex_base::positions::{Epoch, Participant, Round, View};
 use simplex_places::places::AttestationPlace;
 use simplex_places::records::{NULLIFY_FINALIZE, Record, VotePlace};

@@ -9,7 +9,7 @@ ghost use Rattle.simplex_scheme.specs.Committee.{IsInOrder, is_quorum, quorum_of
 ghost use Rattle.simplex_schemes.specs.CommitteeLaws.{quorum_meaning, listed_size};
 ghost use Rattle.simplex_schemes.specs.Marked.{marked_good};
 ghost use Rattle.simplex_schemes.specs.MarkedLaws.{marked_members};
-ghost use Rattle.simplex_audit_tests.specs.Counted.{nobody};
+ghost use Rattle.simplex_places_tests.specs.Counted.{nobody};
 
 use simplex_base::codec::Fixed;
 use simplex_base::codec::fixed_bytes::FixedBytes;

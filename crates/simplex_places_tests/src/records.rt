@@ -1,7 +1,7 @@
 //! The evidence of a report as records, with both votes as they stand in the stream.
 
-use crate::suspects::Committee;
 use simplex_audit::audit::{Committees, audit};
+use simplex_audit_tests::verdicts::Committee;
 use simplex_places::records::{
     CONFLICTING_FINALIZE, CONFLICTING_NOTARIZE, NOWHERE, NULLIFY_FINALIZE, Record, VotePlace,
     records,

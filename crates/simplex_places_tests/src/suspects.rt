@@ -1,11 +1,9 @@
 //! The attestations that have to be verified, and that the report depends on no other verdicts.
 
-ghost use Rattle.std.proofs.Common.{lit<, lit≤};
-
-use crate::against_model::{TAILS, stream_of};
-use crate::outcome::{Outcome, outcome_of};
 use simplex_audit::audit::Committees;
-use simplex_base::codec::fixed_bytes::Role;
+use simplex_audit_tests::outcome::{Outcome, outcome_of};
+use simplex_audit_tests::streams::{TAILS, stream_of};
+use simplex_audit_tests::verdicts::Committee;
 use simplex_base::positions::Epoch;
 use simplex_places::places::AttestationPlace;
 use simplex_places::suspects::suspects;
@@ -13,16 +11,6 @@ use simplex_schemes::marked::MarkedDigest;
 use simplex_schemes::vouched::Vouched;
 use std::alloc::{AllocError, Global};
 use std::test::Fail;
-
-/// The role of a signature that is its verdict.
-pub(crate) enum Verdict {}
-
-impl Role<1> for Verdict {
-    ghost sized = { (lit< tt, lit≤ tt) };
-}
-
-/// A committee whose signatures are their verdicts.
-pub(crate) type Committee = Vouched<Verdict, 1>;
 
 /// A committee of four for epoch 0, and one of one for epoch 1.
 fn committees(alloc: Global) -> Result<Committees<Committee>, Fail> {
