@@ -9,8 +9,8 @@ use Rattle.simplex_places.specs.declared.places.Placed.{Placed}
 use Rattle.simplex_places.specs.declared.reading.ClaimReader.{ClaimReader}
 use Rattle.simplex_places.specs.declared.reading.PlaceReader.{PlaceReader}
 
--- the attestations of these messages were appended, the first message beginning at the place: `places_in` gives the attestations
--- of a message that begins at a place
+-- the attestations of these messages were appended, the first message beginning at the place: `places_in` gives the
+-- attestations of a message that begins at a place
 pub record ReadsPlaces {M : Type 0} (places_in : ℕ → M → List Placed) (encoding : M → List ℕ) (messages : List M)
     (old new : PlaceReader) : Type 0 where
   pub places_are : new.places.items ≡ old.places.items ++ places_along places_in encoding old.place messages

@@ -14,8 +14,8 @@ use Rattle.simplex_places.specs.declared.places.AttestationPlace.{AttestationPla
 use Rattle.simplex_places.specs.declared.places.Placed.{Placed}
 use Rattle.simplex_places.specs.declared.reading.PlaceReader.{PlaceReader}
 
--- Whether an attestation has to be verified before an audit from a floor on: its round is at the floor or above it, and its signer
--- is in the committee of the round's epoch.
+-- Whether an attestation has to be verified before an audit from a floor on: its round is at the floor or above it, and its
+-- signer is in the committee of the round's epoch.
 abbrev pub is_judged : Round → (ℕ → ℕ) → Placed → Bool
 is_judged floor size p = is_from floor (round_at p.attestation) && nat_lt p.attestation.signer (size p.attestation.epoch)
 
@@ -29,10 +29,10 @@ pub record ArePlaces {S D C P G : Type 0} (basis : Basis S D C P G) (places_in :
   pub place_is : reader.place ≡ length (flat_map basis.format.encoding messages)
   pub over_is : IsTrue over → IsOver basis.format.reading rest
 
--- The attestations of the whole messages at the front of a piece, `whole` bytes together, that have to be verified, in the order
--- of the piece, each with the index of the first of them that is the same, the verdicts apart. A signature has `size` bytes before
--- its verdict. If the piece is over, no message follows the last one, whatever comes. `places_in` gives all attestations of a
--- message that begins at a place.
+-- The attestations of the whole messages at the front of a piece, `whole` bytes together, that have to be verified, in the
+-- order of the piece, each with the index of the first of them that is the same, the verdicts apart. A signature has `size`
+-- bytes before its verdict. If the piece is over, no message follows the last one, whatever comes. `places_in` gives all
+-- attestations of a message that begins at a place.
 pub record IsPiece {S D C P G : Type 0} (floor : Round) (basis : Basis S D C P G)
     (places_in : ℕ → Activity S D C P G → List Placed) (size : ℕ) (bytes : List ℕ) (piece : Piece) : Type 0 where
   pub messages : List (Activity S D C P G)

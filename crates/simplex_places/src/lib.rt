@@ -3,8 +3,8 @@
 //!
 //! [`suspects::suspects`] gives the attestations, each as a [`places::AttestationPlace`], and [`records::records`] the
 //! evidence, each as a [`records::Record`]. A place is a 0-based offset in the stream. [`pieces`] has the attestations of a
-//! piece, and [`repeats`] says which attestations of a list are the same. [`located`] has the schemes for which places are known: those whose certificates are encoded as the
-//! attestations that they list.
+//! piece, and [`repeats`] says which attestations of a list are the same. [`located`] has the schemes for which places are
+//! known: those whose certificates are encoded as the attestations that they list.
 //!
 //! The static library rests on all six. The private modules read a stream without verifying anything, and find the first
 //! places of sought votes.

@@ -30,7 +30,8 @@ module _ (S P : Type 0) {D C G : Type 0} (eq : D → D → Bool) (payload : Form
       (both number_64 payload).reading bytes ≡ Ok (behind, middle) →
       (proposal_format payload).reading body ≡ Ok (record { round = round; parent = behind.0; payload = behind.1 }, middle)
   proposal_read body middle round behind head e =
-      made_ok (λ p. record { round = p.0; parent = p.1.0; payload = p.1.1 }) (both round_format (both number_64 payload)).reading
+      made_ok (λ p. record { round = p.0; parent = p.1.0; payload = p.1.1 })
+      (both round_format (both number_64 payload)).reading
       body middle (round, behind)
       (both_ok round_format.reading (both number_64 payload).reading body bytes middle round behind head e)
 
@@ -40,7 +41,8 @@ module _ (S P : Type 0) {D C G : Type 0} (eq : D → D → Bool) (payload : Form
       let proposal : Proposal D = record { round = round; parent = s.1.0.0; payload = s.1.0.1 } in
       let read = made_ok (λ p. record { proposal = p.0; attestation = p.1 })
       (both_at (proposal_format payload).reading (attestation_format {S = S} {P = P} signature).reading) body rest
-      (proposal, s.2.0) (both_ok (proposal_format payload).reading (attestation_format {S = S} {P = P} signature).reading body s.0
+      (proposal, s.2.0) (both_ok (proposal_format payload).reading (attestation_format {S = S} {P = P} signature).reading body
+      s.0
       rest proposal s.2.0 (proposal_read body s.0 round s.1.0 head s.1.1) s.2.1) in (
         activity.Notarize (record { proposal = proposal; attestation = s.2.0 }),
         refl,
@@ -52,7 +54,8 @@ module _ (S P : Type 0) {D C G : Type 0} (eq : D → D → Bool) (payload : Form
       let proposal : Proposal D = record { round = round; parent = s.1.0.0; payload = s.1.0.1 } in
       let read = made_ok (λ p. record { proposal = p.0; attestation = p.1 })
       (both_at (proposal_format payload).reading (attestation_format {S = S} {P = P} signature).reading) body rest
-      (proposal, s.2.0) (both_ok (proposal_format payload).reading (attestation_format {S = S} {P = P} signature).reading body s.0
+      (proposal, s.2.0) (both_ok (proposal_format payload).reading (attestation_format {S = S} {P = P} signature).reading body
+      s.0
       rest proposal s.2.0 (proposal_read body s.0 round s.1.0 head s.1.1) s.2.1) in (
         activity.Finalize (record { proposal = proposal; attestation = s.2.0 }),
         refl,
@@ -65,15 +68,18 @@ module _ (S P : Type 0) {D C G : Type 0} (eq : D → D → Bool) (payload : Form
       ≡ Ok ((record { round = round; parent = s.1.0.0; payload = s.1.0.1 }, s.2.0), rest)
   certified_read body round head s =
       both_ok (proposal_format payload).reading certificate.reading body s.0 rest
-      (record { round = round; parent = s.1.0.0; payload = s.1.0.1 }) s.2.0 (proposal_read body s.0 round s.1.0 head s.1.1) s.2.1
+      (record { round = round; parent = s.1.0.0; payload = s.1.0.1 }) s.2.0 (proposal_read body s.0 round s.1.0 head s.1.1)
+      s.2.1
 
   pub notarization_behind : Certified → Behind 1
   notarization_behind s body round head =
       let proposal : Proposal D = record { round = round; parent = s.1.0.0; payload = s.1.0.1 } in (
         activity.Notarization (record { proposal = proposal; certificate = s.2.0 }),
         refl,
-        made_ok (λ n. activity.Notarization n) (notarization_format {S = S} {P = P} {G = G} payload certificate).reading body rest _
-            (made_ok (λ p. record { proposal = p.0; certificate = p.1 }) (both_at (proposal_format payload).reading certificate.reading)
+        made_ok (λ n. activity.Notarization n) (notarization_format {S = S} {P = P} {G = G} payload certificate).reading body
+            rest _
+            (made_ok (λ p. record { proposal = p.0; certificate = p.1 })
+            (both_at (proposal_format payload).reading certificate.reading)
             body rest (proposal, s.2.0) (certified_read body round head s)),
       )
 
@@ -82,7 +88,8 @@ module _ (S P : Type 0) {D C G : Type 0} (eq : D → D → Bool) (payload : Form
       let proposal : Proposal D = record { round = round; parent = s.1.0.0; payload = s.1.0.1 } in (
         activity.Certification (record { proposal = proposal; certificate = s.2.0 }),
         refl,
-        made_ok (λ n. activity.Certification n) (notarization_format {S = S} {P = P} {G = G} payload certificate).reading body rest
+        made_ok (λ n. activity.Certification n) (notarization_format {S = S} {P = P} {G = G} payload certificate).reading body
+            rest
             _ (made_ok (λ p. record { proposal = p.0; certificate = p.1 })
             (both_at (proposal_format payload).reading certificate.reading) body rest (proposal, s.2.0)
             (certified_read body round head s)),
@@ -93,8 +100,10 @@ module _ (S P : Type 0) {D C G : Type 0} (eq : D → D → Bool) (payload : Form
       let proposal : Proposal D = record { round = round; parent = s.1.0.0; payload = s.1.0.1 } in (
         activity.Finalization (record { proposal = proposal; certificate = s.2.0 }),
         refl,
-        made_ok (λ n. activity.Finalization n) (finalization_format {S = S} {P = P} {G = G} payload certificate).reading body rest _
-            (made_ok (λ p. record { proposal = p.0; certificate = p.1 }) (both_at (proposal_format payload).reading certificate.reading)
+        made_ok (λ n. activity.Finalization n) (finalization_format {S = S} {P = P} {G = G} payload certificate).reading body
+            rest _
+            (made_ok (λ p. record { proposal = p.0; certificate = p.1 })
+            (both_at (proposal_format payload).reading certificate.reading)
             body rest (proposal, s.2.0) (certified_read body round head s)),
       )
 
@@ -114,7 +123,8 @@ module _ (S P : Type 0) {D C G : Type 0} (eq : D → D → Bool) (payload : Form
     made_ok (λ v. activity.Nullify v) (nullify_format {S = S} {P = P} signature).reading body rest _
         (made_ok (λ p. record { round = p.0; attestation = p.1 })
         (both_at round_format.reading (attestation_format {S = S} {P = P} signature).reading) body rest (round, s.0)
-        (both_ok round_format.reading (attestation_format {S = S} {P = P} signature).reading body bytes rest round s.0 head s.1)),
+        (both_ok round_format.reading (attestation_format {S = S} {P = P} signature).reading body bytes rest round s.0 head
+        s.1)),
   )
 
   pub nullification_behind : Skips certificate.reading bytes rest → Behind 4

@@ -26,8 +26,8 @@ const BROKEN: [&[u8]; 3] = [
     &[0, 0, 8, 5],
 ];
 
-/// A notarization for each way in which it is none under the bound: its signers do not ascend, one is at the bound, its count is 0
-/// or above the bound, or it ends early.
+/// A notarization for each way in which it is none under the bound: its signers do not ascend, one is at the bound, its count
+/// is 0 or above the bound, or it ends early.
 const UNLISTED: [&[u8]; 6] = [
     &[1, 0, 11, 5, 6, 2, 2, 0xaa, 1, 0xaa],
     &[1, 0, 11, 5, 6, 2, 1, 0xaa, 1, 0xaa],

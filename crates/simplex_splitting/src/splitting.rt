@@ -79,9 +79,9 @@ fn sum_up<M: Message + Roundable + Drop>(cutter: &Cutter) -> Result<Totals, Allo
 
 /// Cuts all that a reader gives: to the part of each class its messages are appended, in the order of the input and as they
 /// stand there. Certificates are read under `bound`, which has to be the number of participants of the greatest committee of
-/// the whole audit. The input is read in pieces of up to 65,536 bytes, and the messages that a piece completes are appended before
-/// the next one is read. Held are their bytes and those after the last whole message. If these are refused whatever follows,
-/// the rest is read and dropped. Nothing is verified.
+/// the whole audit. The input is read in pieces of up to 65,536 bytes, and the messages that a piece completes are appended
+/// before the next one is read. Held are their bytes and those after the last whole message. If these are refused whatever
+/// follows, the rest is read and dropped. Nothing is verified.
 ///
 /// `Read` exactly if a read failed, `Write` exactly if a part cannot be written; an interrupted read counts as failed.
 /// `OutOfMemory` only after an allocation failed, and `TooLong` if the reader gave more than 2^64 - 1 bytes. After each of them

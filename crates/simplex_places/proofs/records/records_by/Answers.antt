@@ -86,7 +86,8 @@ returns-clause-records g c = IfOk-weaker c.listed.result _ _ (λ found is audit 
     let stand = records_stand cmp eq key_of (payload g) (signature g) payload_eq signature_eq payload_is signature_is alike
     itself (votes_in listed) places (is_valid rules) encoding c.args.stream.now messages
     (message_within payload_eq (payload g) g.S.Certificate.Encoding.encoding (signature g) listed g.met.S.Counted.counted
-    c.args.stream.now messages rest are.whole) before after noted_all evidence_value es (audit.sound messages rest are) sought in
+    c.args.stream.now messages rest are.whole) before after noted_all evidence_value es (audit.sound messages rest are) sought
+    in
     subst (AllZip (IsRecord (carries payload_eq signature_eq listed) (IsVoteAt (payload g) (signature g) c.args.stream.now)
     encoding messages) (map evidence_value es)) (sym (is ∙ ap (map _) c.as_slice-evidence.ensures.value)) stand)
     c.listed.ensures

@@ -17,10 +17,12 @@ places-preserved g c =
     elim c.if-is_sought.branch [
       | then-is_sought+in_ok-push w ↦
           ap (λ found. found.items) w.found-is
-          ∙ one_found (is_sought suspected size) c.args.places.now c.places.place-index none c.places.found.items w.push.new.self.items
+          ∙ one_found (is_sought suspected size) c.args.places.now c.places.place-index none c.places.found.items
+          w.push.new.self.items
           c.places-test.true (sym c.is_sought.ensures ∙ w.if-is_sought.true) w.in_ok-push.ensures.items c.places.invariant
       | else-is_sought w ↦
           ap (λ found. found.items) w.found-is
-          ∙ one_left (is_sought suspected size) c.args.places.now c.places.place-index none c.places.found.items c.places-test.true
+          ∙ one_left (is_sought suspected size) c.args.places.now c.places.place-index none c.places.found.items
+          c.places-test.true
           (sym c.is_sought.ensures ∙ w.if-is_sought.false) c.places.invariant
     ]

@@ -63,7 +63,8 @@ returns g c =
     c.in_default.is c.in_ok-message.ensures in
     let stopped = c.in_ok-stop.ensures stuck in
     let progress = so_far_end (format g c.args.bound) g.M.Roundable.round_of g.M.Tabular.row_of g.met.M.Tabular.row_is
-    (class_under c.args.cut.now) c.args.stream.now _ c.messages.locator c.messages.rest.now c.messages.read c.in_ok-stop.stop far
+    (class_under c.args.cut.now) c.args.stream.now _ c.messages.locator c.messages.rest.now c.messages.read c.in_ok-stop.stop
+    far
     stuck stopped in
     let place = so_far_place (format g c.args.bound) g.M.Roundable.round_of g.M.Tabular.row_of g.met.M.Tabular.row_is
     (class_under c.args.cut.now) c.args.stream.now _ c.messages.locator c.messages.rest.now c.messages.read refl far in
