@@ -138,8 +138,8 @@ pub enum Message<'a> {
 #[derive(Clone, Copy)]
 pub struct Reader<'a> {
     pub rest: &'a [u8],
-    signature_bytes: usize,
-    bound: u64,
+    pub signature_bytes: usize,
+    pub bound: u64,
 }
 
 impl<'a> Reader<'a> {
@@ -258,8 +258,8 @@ pub enum VoteKind {
 
 #[derive(Clone, Copy, PartialEq)]
 pub struct Proposal {
-    parent: u64,
-    payload: [u8; 32],
+    pub parent: u64,
+    pub payload: [u8; 32],
 }
 
 /// What stands for the proposal of a nullify.
@@ -537,7 +537,7 @@ fn committee(base: &str, texts: &[String]) -> Option<Plain> {
     plain(base.as_bytes(), texts.iter().map(|text| key(text)).collect::<Option<_>>()?)
 }
 
-fn committees(arguments: &[String]) -> Option<Committees<Plain>> {
+pub fn committees(arguments: &[String]) -> Option<Committees<Plain>> {
     let (base, mut texts) = arguments.split_first()?;
     if !texts.first()?.starts_with('@') {
         return Some(Committees::Every(committee(base, texts)?));

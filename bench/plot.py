@@ -12,8 +12,8 @@ FIGURES = ROOT / "bench/figures.csv"
 PROGRAMS = [("audit", "#2b6cb0"), ("audit_stored", "#dd8a1c")]
 # of each plot: its title, the columns of its bars, and the greatest ratio on its axis
 PLOTS = {
-    "speed": ("Processor time, as a ratio to an auditor by hand", ("time_audit", "time_stored"), 1.5),
-    "memory": ("Memory, as a ratio to an auditor by hand", ("memory_audit", "memory_stored"), 4),
+    "speed": ("Processor time, as a ratio to an auditor by hand", ("time_audit", "time_stored"), 3),
+    "memory": ("Memory, as a ratio to an auditor by hand", ("memory_audit", "memory_stored"), 3),
 }
 NOTE = "The same streams, each program at its least time and most memory of several turns: bench/README.md"
 WIDTH, LEFT, RIGHT, TOP, ROW, BAR = 860, 300, 40, 92, 38, 13
@@ -40,7 +40,7 @@ def line(x, top, bottom, colour, dashes=""):
 
 def axis(greatest, bottom):
     """Faint lines at ratios, and a dark one at 1: the auditor by hand."""
-    steps = 6 if greatest < 2 else 4
+    steps = 6
     for step in range(steps + 1):
         ratio = greatest * step / steps
         yield line(place(ratio, greatest), TOP, bottom, "#e3e8ee")
@@ -84,10 +84,16 @@ def drawn(name):
     return "\n".join([*parts, text(20, height - 12, NOTE, "small faint"), "</svg>\n"])
 
 
+def greater(rows):
+    """The rows without those whose stream comes again with more rounds."""
+    kinds = [(it["stream"], it["participants"], it["piped"]) for it in rows]
+    return [row for at, row in enumerate(rows) if kinds[at] not in kinds[at + 1:]]
+
+
 def row_of_bench(row):
     """A row of the table in bench/README.md."""
-    stream = f"{row['stream']}, {row['participants']} participants, {row['rounds']} rounds{', piped' if row['piped'] else ''}"
-    columns = ("megabytes", "time_audit", "time_stored", "twice", "memory_audit", "memory_stored", "held")
+    stream = f"`{row['stream']} {row['participants']} {row['rounds']}`{', piped' if row['piped'] else ''}"
+    columns = ("megabytes", "time_audit", "time_stored", "memory_audit", "memory_stored", "held")
     return f"| {' | '.join([stream, *(row[it] for it in columns)])} |"
 
 
@@ -99,10 +105,10 @@ def row_of_readme(row):
 
 
 def differing():
-    """What is not as the figures have it."""
+    """What is not as the figures have it. Of a stream in two sizes bench/README.md has the greater alone."""
     pages = {it: (ROOT / it).read_text() for it in ("bench/README.md", "README.md")}
     rows = figures()
-    wanted = [("bench/README.md", row_of_bench(it)) for it in rows]
+    wanted = [("bench/README.md", row_of_bench(it)) for it in greater(rows)]
     wanted += [("README.md", row_of_readme(it)) for it in rows if it["summary"]]
     yield from (f"{page} has no row {row}" for page, row in wanted if row not in pages[page])
     for name in PLOTS:
