@@ -35,8 +35,8 @@ fn stream(alloc: Global) -> Result<Vec<u8>, Fail> {
     Ok(bytes)
 }
 
-/// Feeds the stream in pieces of so many bytes, and compares a report with the audit of what was fed, at each multiple of
-/// `step` bytes.
+/// Feeds the stream in pieces of `size` bytes. After each multiple of `step` bytes it compares a report with the audit of what
+/// was fed.
 fn check(rt: &impl Abort, alloc: Global, size: usize, step: usize) -> Result<(), Fail>
     requires size { 0 < size }
     requires step { 0 < step }
