@@ -11,7 +11,7 @@ PAGE = ROOT / "docs/CLAUSES.md"
 HEAD = """# Clauses
 
 Every public function with the names of its clauses, by crate and by file of `crates/CRATE/src/`, without `.rt`; those of
-callers and tests are left out. Step `clauses` makes this page from the sources, and the gate compares it.
+callers, of tests and inside the detector are left out. Step `clauses` makes this page of the sources, the gate compares it.
 
 - Behind a type or a trait stand its functions, behind a function its clauses. What a clause states stands in the file.
   `read_u64 and _u32` are `read_u64` and `read_u32`.
@@ -27,6 +27,12 @@ FUNCTION = re.compile(r"( *)(pub )?(?:const |final |unsafe |extern \"C\" )*fn (\
 CLAUSE = re.compile(r" *(requires|ensures)(?: (\w+))? \{")
 GHOST = re.compile(r"    ghost (\w+): \{")
 LEFT_OUT = re.compile(r"faulty_io|conformance|examples|.*_tests$")
+# public for the crates of the detector alone
+INSIDE = {
+    "simplex_rules": {"certified_subjects", "pruning"},
+    "simplex_ballots": {"apart", "round_votes"},
+    "simplex_detector": {"round_map", "round_state"},
+}
 
 
 def header(lines, at):
@@ -197,6 +203,8 @@ def page():
         sections = {} if LEFT_OUT.match(crate) else listed(modules(source), bound)
         lines += [f"## {crate}\n"] if sections else []
         for module, files in sections.items():
+            if module in INSIDE.get(crate, ()):
+                continue
             for file, entries in files.items():
                 path = file.relative_to(source).as_posix()
                 folder, own = path.rpartition("/")[0], path.removesuffix(".rt")

@@ -17,7 +17,7 @@ TABLES = {
     "audit": {
         "simplex_audit/src/audit.rt": ["fn audit"],
         "simplex_audit/src/basis.rt": ["ghost basis"],
-        "simplex_detector/src/rules.rt": ["ghost scheme"],
+        "simplex_rules/src/rules.rt": ["ghost scheme"],
         "simplex_evidence/src/types/activity.rt": ["ghost is_value", "ghost fits", "ghost reading", "ghost encoding"],
         "simplex_base/src/codec/parts.rt": ["ghost is_value", "ghost fits", "ghost reading", "ghost encoding"],
     },

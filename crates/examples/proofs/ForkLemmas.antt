@@ -11,12 +11,12 @@ use Rattle.simplex_votes.specs.Encodings.{IsFinalization}
 use Rattle.simplex_votes.specs.Votes.{SignedVote}
 use Rattle.simplex_evidence.specs.Contradiction.{EquivocationKind, Equivocation, Conflicting_notarize, Conflicting_finalize, Nullify_finalize}
 use Rattle.simplex_scheme.specs.Committees.{bound_of}
-use Rattle.simplex_detector.specs.Evidence.{IsEvidence}
-use Rattle.simplex_detector.specs.Laws.{AccusesExactly}
-use Rattle.simplex_detector.specs.Accusation.{is_accused}
-use Rattle.simplex_detector.specs.Rules.{Rules, valid_votes}
-use Rattle.simplex_detector.specs.Splits.{is_accused_in}
-use Rattle.simplex_detector.specs.SplitLaws.{IsAccountable, shared_signers}
+use Rattle.simplex_rules.specs.Evidence.{IsEvidence}
+use Rattle.simplex_rules.specs.Laws.{AccusesExactly}
+use Rattle.simplex_rules.specs.Accusation.{is_accused}
+use Rattle.simplex_rules.specs.Rules.{Rules, valid_votes}
+use Rattle.simplex_rules.specs.Splits.{is_accused_in}
+use Rattle.simplex_rules.specs.SplitLaws.{IsAccountable, shared_signers}
 use Rattle.simplex_evidence.specs.declared.types.activity.Activity.{Activity}
 use Rattle.simplex_stream.specs.Messages.{AreMessages}
 use Rattle.simplex_votes.specs.declared.types.finalization.Finalization.{Finalization}

@@ -5,8 +5,8 @@ use Rattle.simplex_schemes.specs.Plain.{PlainScheme}
 use Rattle.simplex_schemes.specs.PlainCommittee.{IsPlainCommittee}
 use Rattle.simplex_scheme.specs.Subject.{round_of}
 use Rattle.simplex_scheme.specs.Committees.{Schedule, Every}
-use Rattle.simplex_detector.specs.Values.{evidence_value}
-use Rattle.simplex_detector.specs.declared.evidence.Evidence.{Evidence}
+use Rattle.simplex_rules.specs.Values.{evidence_value}
+use Rattle.simplex_rules.specs.declared.evidence.Evidence.{Evidence}
 use Rattle.simplex_audit.specs.Basis.{Basis}
 use Rattle.simplex_audit.specs.Report.{IsReport}
 use Rattle.simplex_audit.specs.declared.audit.Report.{Report}

@@ -9,12 +9,12 @@ use Rattle.simplex_votes.specs.Encodings.{IsFinalization}
 use Rattle.simplex_votes.specs.declared.types.finalization.Finalization.{Finalization}
 use Rattle.simplex_evidence.specs.Contradiction.{EquivocationKind, Equivocation}
 use Rattle.simplex_evidence.specs.declared.types.activity.Activity.TheVariants as activity
-use Rattle.simplex_detector.specs.Certificates.{subjects_contradict}
+use Rattle.simplex_rules.specs.Certificates.{subjects_contradict}
 use Rattle.simplex_scheme.specs.Committees.{Schedule, bound_of, certified_by, committee_of}
-use Rattle.simplex_detector.specs.Accusation.{accused_by}
-use Rattle.simplex_detector.specs.Evidence.{IsEvidence}
-use Rattle.simplex_detector.specs.Rules.{Rules, valid_votes}
-use Rattle.simplex_detector.specs.Values.{evidence_value}
+use Rattle.simplex_rules.specs.Accusation.{accused_by}
+use Rattle.simplex_rules.specs.Evidence.{IsEvidence}
+use Rattle.simplex_rules.specs.Rules.{Rules, valid_votes}
+use Rattle.simplex_rules.specs.Values.{evidence_value}
 use Rattle.examples.specs.declared.light_client.Followed.{Followed}
 use Rattle.examples.specs.declared.light_client.Followed.TheVariants as followed
 

@@ -7,7 +7,7 @@ ghost use Rattle.simplex_base.specs.Reading.{Fails, all_of};
 ghost use Rattle.simplex_base.specs.declared.codec.error.Error.TheVariants as errors;
 ghost use Rattle.simplex_evidence.specs.declared.types.activity.Activity.TheVariants as activity;
 ghost use Rattle.simplex_scheme.specs.Committees.{Schedule, bound_of};
-ghost use Rattle.simplex_detector.specs.Values.{evidence_value};
+ghost use Rattle.simplex_rules.specs.Values.{evidence_value};
 ghost use Rattle.examples.specs.Following.{BlamesEnough, Follows, IsEvidenceOfBoth, IsFollowed, is_final, is_fork, is_later, latest_after};
 ghost use Rattle.simplex_votes.specs.Encodings.{IsFinalization};
 ghost use Rattle.simplex_votes.specs.declared.types.finalization.Finalization as finalizations;

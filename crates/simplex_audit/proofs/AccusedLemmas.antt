@@ -3,10 +3,10 @@ use Rattle.std.proofs.Common.{ℕ, List, ◌++◌, subst, sym, Result, Ok, Err, 
 use Rattle.std.specs.Prelude.{All, IsTrue}
 use Rattle.simplex_base.specs.Format.{Format, IsLawful}
 use Rattle.simplex_evidence.specs.declared.types.activity.Activity.{Activity}
-use Rattle.simplex_detector.specs.Evidence.{IsEvidence}
-use Rattle.simplex_detector.specs.Accusation.{Accusation, is_accused}
-use Rattle.simplex_detector.specs.Rules.{Rules, AreLawful, valid_votes}
-use Rattle.simplex_detector.specs.Splits.{AreSplits}
+use Rattle.simplex_rules.specs.Evidence.{IsEvidence}
+use Rattle.simplex_rules.specs.Accusation.{Accusation, is_accused}
+use Rattle.simplex_rules.specs.Rules.{Rules, AreLawful, valid_votes}
+use Rattle.simplex_rules.specs.Splits.{AreSplits}
 use Rattle.simplex_audit.specs.Basis.{Basis}
 use Rattle.simplex_audit.specs.Guarantees.{IsAudit}
 use Rattle.simplex_audit.specs.MessageLaws.{MessageLaws}

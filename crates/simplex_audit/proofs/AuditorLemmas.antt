@@ -6,11 +6,11 @@ use Rattle.simplex_base.specs.Positions.{Round}
 use Rattle.simplex_base.specs.declared.codec.error.Error.{Error}
 use Rattle.simplex_evidence.specs.declared.types.activity.Activity.{Activity}
 use Rattle.simplex_scheme.specs.Committees.{Schedule}
-use Rattle.simplex_detector.specs.Independence.{in_rounds, is_from}
-use Rattle.simplex_detector.specs.Rules.{AreLawful, Rules, HaveCommittees}
+use Rattle.simplex_rules.specs.Independence.{in_rounds, is_from}
+use Rattle.simplex_rules.specs.Rules.{AreLawful, Rules, HaveCommittees}
 use Rattle.simplex_detector.specs.Detector.{Recalls, RecallsMore}
 use Rattle.simplex_detector.specs.declared.detector.Detector.{Detector}
-use Rattle.simplex_detector.specs.declared.judging.Judging.{Judging}
+use Rattle.simplex_rules.specs.declared.judging.Judging.{Judging}
 use Rattle.simplex_audit.specs.Auditor.{AnswersFrom, StandsFrom, auditing_over}
 use Rattle.simplex_audit.specs.Basis.{Basis, basis_from}
 use Rattle.simplex_stream.specs.Decoder.{HasDecoded, DecodesMore, bytes_fed, undecoded, messages_read}

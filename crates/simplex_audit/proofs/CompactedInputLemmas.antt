@@ -13,11 +13,11 @@ use Rattle.simplex_base.specs.Positions.{Round}
 use Rattle.simplex_base.specs.declared.codec.error.Error.{Error}
 use Rattle.simplex_evidence.specs.declared.types.activity.Activity.{Activity}
 use Rattle.simplex_detector.specs.Detector.{Recalls, RecallsMore}
-use Rattle.simplex_detector.specs.News.{compacted, messages_kept}
-use Rattle.simplex_detector.specs.NewsLaws.{kept-append}
-use Rattle.simplex_detector.specs.Rules.{Rules}
-use Rattle.simplex_detector.specs.declared.judging.Judging.{Judging}
-use Rattle.simplex_detector.specs.declared.judging.Judging.TheVariants.{From}
+use Rattle.simplex_rules.specs.News.{compacted, messages_kept}
+use Rattle.simplex_rules.specs.NewsLaws.{kept-append}
+use Rattle.simplex_rules.specs.Rules.{Rules}
+use Rattle.simplex_rules.specs.declared.judging.Judging.{Judging}
+use Rattle.simplex_rules.specs.declared.judging.Judging.TheVariants.{From}
 use Rattle.simplex_stream.specs.Decoder.{DecodesMore, HasDecoded, bytes_fed, decoding_over, messages_read, undecoded}
 use Rattle.simplex_stream.specs.Fault.{IsFault, fault_of}
 use Rattle.simplex_stream.specs.Messages.{AreMessages, IsStop, IsStuck}

@@ -11,17 +11,18 @@ use Rattle.simplex_evidence.specs.Contradiction.{Conflicting_finalize, Conflicti
 use Rattle.simplex_evidence.specs.declared.types.activity.Activity.{Activity}
 use Rattle.simplex_evidence.specs.declared.types.activity.Activity.TheVariants as activity
 use Rattle.simplex_detector.specs.Detector.{Recalls}
-use Rattle.simplex_detector.specs.Evidence.{IsEvidence}
-use Rattle.simplex_detector.specs.Interchange.{AreInterchangeable}
-use Rattle.simplex_detector.specs.Kept.{TellsKept, kept_by}
-use Rattle.simplex_detector.specs.Laws.{EvidenceIsUnique}
-use Rattle.simplex_detector.specs.News.{FewAreKept, IsCompaction, IsTheirs, compacted, kept_of}
-use Rattle.simplex_detector.specs.Rules.{Rules, valid_votes}
-use Rattle.simplex_detector.specs.SplitLaws.{SplitsAreUnique}
-use Rattle.simplex_detector.specs.Splits.{AreSplits}
-use Rattle.simplex_detector.specs.declared.judging.Judging.{Judging}
-use Rattle.simplex_detector.specs.declared.kept.Kept.{Kept}
-use Rattle.simplex_detector.specs.declared.split.Split.{Split}
+use Rattle.simplex_rules.specs.Evidence.{IsEvidence}
+use Rattle.simplex_rules.specs.Interchange.{AreInterchangeable}
+use Rattle.simplex_detector.specs.Gathered.{TellsKept}
+use Rattle.simplex_ballots.specs.Kept.{kept_by}
+use Rattle.simplex_rules.specs.Laws.{EvidenceIsUnique}
+use Rattle.simplex_rules.specs.News.{FewAreKept, IsCompaction, IsTheirs, compacted, kept_of}
+use Rattle.simplex_rules.specs.Rules.{Rules, valid_votes}
+use Rattle.simplex_rules.specs.SplitLaws.{SplitsAreUnique}
+use Rattle.simplex_rules.specs.Splits.{AreSplits}
+use Rattle.simplex_rules.specs.declared.judging.Judging.{Judging}
+use Rattle.simplex_ballots.specs.declared.kept.Kept.{Kept}
+use Rattle.simplex_rules.specs.declared.split.Split.{Split}
 use Rattle.simplex_stream.specs.Fault.{fault_of}
 use Rattle.simplex_stream.specs.Messages.{AreMessages}
 use Rattle.simplex_stream.specs.Progress.{IsProgress}

@@ -4,11 +4,11 @@ use Rattle.std.specs.Ordering.{ord_max}
 use Rattle.simplex_base.specs.Format.{IsLawful}
 use Rattle.simplex_base.specs.Positions.{Round}
 use Rattle.simplex_evidence.specs.declared.types.activity.Activity.{Activity}
-use Rattle.simplex_detector.specs.Accusation.{round_cmp}
+use Rattle.simplex_rules.specs.Accusation.{round_cmp}
 use Rattle.simplex_scheme.specs.Committees.{Schedule}
 use Rattle.simplex_detector.specs.Detector.{Recalls}
-use Rattle.simplex_detector.specs.Independence.{FloorsRise, RoundsAreIndependent, evidence_within, first_round, in_rounds, is_from, splits_within}
-use Rattle.simplex_detector.specs.Rules.{Rules, valid_votes}
+use Rattle.simplex_rules.specs.Independence.{FloorsRise, RoundsAreIndependent, evidence_within, first_round, in_rounds, is_from, splits_within}
+use Rattle.simplex_rules.specs.Rules.{Rules, valid_votes}
 use Rattle.simplex_detector.specs.declared.detector.Detector.{Detector}
 use Rattle.simplex_stream.specs.StreamLaws.{messages_once}
 use Rattle.simplex_audit.specs.Auditor.{StandsFrom}

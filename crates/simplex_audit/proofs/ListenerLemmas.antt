@@ -6,14 +6,14 @@ use Rattle.simplex_base.specs.Format.{Format}
 use Rattle.simplex_base.specs.Positions.{Round}
 use Rattle.simplex_evidence.specs.declared.types.activity.Activity.{Activity}
 use Rattle.simplex_scheme.specs.Committees.{Schedule}
-use Rattle.simplex_detector.specs.Accusation.{round_cmp}
-use Rattle.simplex_detector.specs.Alarm.{Sounds, SoundsMore, SoundsUntold, Told, nothing_told, told_from, told_then}
-use Rattle.simplex_detector.specs.Alerts.{IsEachOnce}
+use Rattle.simplex_rules.specs.Accusation.{round_cmp}
+use Rattle.simplex_alarm.specs.Alarm.{Sounds, SoundsMore, SoundsUntold, Told, nothing_told, told_from, told_then}
+use Rattle.simplex_alarm.specs.Alerts.{IsEachOnce}
 use Rattle.simplex_detector.specs.Detector.{RecallsMore}
-use Rattle.simplex_detector.specs.Independence.{FloorsRise, in_rounds, is_from}
-use Rattle.simplex_detector.specs.Rules.{AreLawful, Rules, valid_votes}
-use Rattle.simplex_detector.specs.declared.alarm.Alarm.{Alarm}
-use Rattle.simplex_detector.specs.declared.alarm.News.{News}
+use Rattle.simplex_rules.specs.Independence.{FloorsRise, in_rounds, is_from}
+use Rattle.simplex_rules.specs.Rules.{AreLawful, Rules, valid_votes}
+use Rattle.simplex_alarm.specs.declared.alarm.Alarm.{Alarm}
+use Rattle.simplex_alarm.specs.declared.alarm.News.{News}
 use Rattle.simplex_detector.specs.declared.detector.Detector.{Detector}
 use Rattle.simplex_stream.specs.Decoder.{HasDecoded, DecodesMore, undecoded}
 use Rattle.simplex_stream.specs.Messages.{AreMessages}

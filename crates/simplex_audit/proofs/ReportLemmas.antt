@@ -4,10 +4,10 @@ use Rattle.std.specs.Prelude.{All}
 use Rattle.std.proofs.lemmas.List.Elements.{All-map}
 use Rattle.simplex_base.specs.Format.{Format}
 use Rattle.simplex_evidence.specs.Activity.{IsActivity}
-use Rattle.simplex_detector.specs.EncodedEvidence.{IsEncoded}
-use Rattle.simplex_detector.specs.Values.{activity_of}
-use Rattle.simplex_detector.specs.declared.evidence.Evidence.{Evidence}
-use Rattle.simplex_detector.specs.declared.evidence.Evidence.TheVariants as variants
+use Rattle.simplex_rules.specs.EncodedEvidence.{IsEncoded}
+use Rattle.simplex_rules.specs.Values.{activity_of}
+use Rattle.simplex_rules.specs.declared.evidence.Evidence.{Evidence}
+use Rattle.simplex_rules.specs.declared.evidence.Evidence.TheVariants as variants
 
 -- evidence that can be encoded is a message, for any type of certificates
 is_message : {S D C P G : Type 0} (eq : D → D → Bool) (payload : Format D) (is_certificate : C → Type 0) (signature : Format G)

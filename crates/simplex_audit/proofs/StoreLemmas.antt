@@ -11,12 +11,12 @@ use Rattle.simplex_votes.specs.Votes.{SignedVote, is_of}
 use Rattle.simplex_evidence.specs.Activity.{votes_in}
 use Rattle.simplex_evidence.specs.Contradiction as contradiction
 use Rattle.simplex_evidence.specs.declared.types.activity.Activity.{Activity}
-use Rattle.simplex_detector.specs.Evidence.{IsEvidence, IsEquivocation}
-use Rattle.simplex_detector.specs.Accusation.{Accusation, is_accused}
-use Rattle.simplex_detector.specs.Rules.{Rules, valid_votes, is_valid}
-use Rattle.simplex_detector.specs.Values.{activity_of, evidence_value}
-use Rattle.simplex_detector.specs.declared.evidence.Evidence.{Evidence}
-use Rattle.simplex_detector.specs.declared.evidence.Evidence.TheVariants as variants
+use Rattle.simplex_rules.specs.Evidence.{IsEvidence, IsEquivocation}
+use Rattle.simplex_rules.specs.Accusation.{Accusation, is_accused}
+use Rattle.simplex_rules.specs.Rules.{Rules, valid_votes, is_valid}
+use Rattle.simplex_rules.specs.Values.{activity_of, evidence_value}
+use Rattle.simplex_rules.specs.declared.evidence.Evidence.{Evidence}
+use Rattle.simplex_rules.specs.declared.evidence.Evidence.TheVariants as variants
 use Rattle.simplex_audit.specs.Basis.{Basis}
 use Rattle.simplex_audit.specs.Guarantees.{EvidenceIsDetermined, HasOneReading}
 use Rattle.simplex_stream.specs.Messages.{AreMessages}

@@ -4,9 +4,9 @@ use Rattle.simplex_base.specs.Format.{Format, Readable, format_under}
 use Rattle.simplex_base.specs.Positions.{Round}
 use Rattle.simplex_evidence.specs.declared.types.activity.Activity.{Activity}
 use Rattle.simplex_scheme.specs.Committees.{Schedule, bound_of}
-use Rattle.simplex_detector.specs.Scheme.{rules_of, Scheme}
-use Rattle.simplex_detector.specs.Independence.{in_rounds, is_from}
-use Rattle.simplex_detector.specs.Rules.{Rules}
+use Rattle.simplex_rules.specs.Scheme.{rules_of, Scheme}
+use Rattle.simplex_rules.specs.Independence.{in_rounds, is_from}
+use Rattle.simplex_rules.specs.Rules.{Rules}
 
 -- How messages are read, and the rules by which they are judged. S, P and G are the types of the scheme, its keys and its
 -- signatures, C that of its certificates, and D that of payloads.

@@ -6,8 +6,8 @@ use Rattle.simplex_base.specs.Format.{IsLawful}
 use Rattle.simplex_base.specs.Positions.{Round}
 use Rattle.simplex_evidence.specs.declared.types.activity.Activity.{Activity}
 use Rattle.simplex_detector.specs.Detector.{Recalls}
-use Rattle.simplex_detector.specs.News.{compacted}
-use Rattle.simplex_detector.specs.declared.judging.Judging.TheVariants.{From}
+use Rattle.simplex_rules.specs.News.{compacted}
+use Rattle.simplex_rules.specs.declared.judging.Judging.TheVariants.{From}
 use Rattle.simplex_stream.specs.Decoder.{HasDecoded, bytes_fed, decoding_over}
 use Rattle.simplex_stream.specs.Messages.{AreMessages}
 use Rattle.simplex_stream.specs.Text.{AppendsBeginning}

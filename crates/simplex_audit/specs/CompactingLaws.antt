@@ -8,11 +8,11 @@ use Rattle.simplex_base.specs.Format.{Format}
 use Rattle.simplex_evidence.specs.Activity.{IsActivity}
 use Rattle.simplex_evidence.specs.declared.types.activity.Activity.{Activity}
 use Rattle.simplex_detector.specs.Detector.{Recalls}
-use Rattle.simplex_detector.specs.News.{certifies_no_news, kept_of, message_is_news, message_on, messages_kept, valid_votes_in, vote_message, votes_alone}
-use Rattle.simplex_detector.specs.NewsLaws.{kept_next}
-use Rattle.simplex_detector.specs.Recorded.{news_after}
-use Rattle.simplex_detector.specs.Rules.{Rules, valid_votes}
-use Rattle.simplex_detector.specs.declared.judging.Judging.{Judging}
+use Rattle.simplex_rules.specs.News.{certifies_no_news, kept_of, message_is_news, message_on, messages_kept, valid_votes_in, vote_message, votes_alone}
+use Rattle.simplex_rules.specs.NewsLaws.{kept_next}
+use Rattle.simplex_rules.specs.Recorded.{news_after}
+use Rattle.simplex_rules.specs.Rules.{Rules, valid_votes}
+use Rattle.simplex_rules.specs.declared.judging.Judging.{Judging}
 use Rattle.simplex_scheme.specs.Subject.{Finalizes, Notarizes, Nullifies, SubjectValue}
 use Rattle.simplex_scheme.specs.declared.scheme.Attestation.{Attestation}
 use Rattle.simplex_votes.specs.Votes.{SignedVote}

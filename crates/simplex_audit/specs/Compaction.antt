@@ -2,7 +2,7 @@
 use Rattle.std.specs.Prelude.{◌≡◌, ℕ, List, [], ◌++◌, length, Option}
 use Rattle.std.specs.List.{flat_map}
 use Rattle.simplex_evidence.specs.declared.types.activity.Activity.{Activity}
-use Rattle.simplex_detector.specs.News.{FewAreKept, IsCompaction, compacted}
+use Rattle.simplex_rules.specs.News.{FewAreKept, IsCompaction, compacted}
 use Rattle.simplex_audit.specs.Basis.{Basis}
 use Rattle.simplex_audit.specs.Report.{IsReport, evidence_in}
 use Rattle.simplex_audit.specs.declared.audit.Report.{Report}

@@ -4,10 +4,10 @@ use Rattle.simplex_base.specs.Format.{Readable, format_under}
 use Rattle.simplex_scheme.specs.Subject.{SubjectValue}
 use Rattle.simplex_evidence.specs.declared.types.activity.Activity.{Activity}
 use Rattle.simplex_scheme.specs.Committees.{Schedule, bound_of}
-use Rattle.simplex_detector.specs.Judging.{rules_under}
-use Rattle.simplex_detector.specs.Scheme.{Scheme}
-use Rattle.simplex_detector.specs.Suspects.{judged_by, JudgeAlike}
-use Rattle.simplex_detector.specs.declared.judging.Judging.{Judging}
+use Rattle.simplex_rules.specs.Judging.{rules_under}
+use Rattle.simplex_rules.specs.Scheme.{Scheme}
+use Rattle.simplex_rules.specs.Suspects.{judged_by, JudgeAlike}
+use Rattle.simplex_rules.specs.declared.judging.Judging.{Judging}
 use Rattle.simplex_audit.specs.Basis.{Basis}
 use Rattle.simplex_audit.specs.Guarantees.{OfMessages}
 use Rattle.simplex_audit.specs.Report.{IsReport}

@@ -3,12 +3,12 @@ use Rattle.std.specs.Prelude.{◌≡◌, ℕ, List, ◌++◌, map, Contains, IsT
 use Rattle.std.specs.List.{flat_map}
 use Rattle.simplex_evidence.specs.declared.types.activity.Activity.{Activity}
 use Rattle.simplex_scheme.specs.Committees.{Schedule}
-use Rattle.simplex_detector.specs.Evidence.{IsEvidence}
-use Rattle.simplex_detector.specs.Laws.{AccusesExactly}
-use Rattle.simplex_detector.specs.Accusation.{Accusation, is_accused, accused_by}
-use Rattle.simplex_detector.specs.Rules.{valid_votes}
-use Rattle.simplex_detector.specs.Values.{activity_of, evidence_value}
-use Rattle.simplex_detector.specs.declared.evidence.Evidence.{Evidence}
+use Rattle.simplex_rules.specs.Evidence.{IsEvidence}
+use Rattle.simplex_rules.specs.Laws.{AccusesExactly}
+use Rattle.simplex_rules.specs.Accusation.{Accusation, is_accused, accused_by}
+use Rattle.simplex_rules.specs.Rules.{valid_votes}
+use Rattle.simplex_rules.specs.Values.{activity_of, evidence_value}
+use Rattle.simplex_rules.specs.declared.evidence.Evidence.{Evidence}
 use Rattle.simplex_audit.specs.Auditor.{Stands, fed_of}
 use Rattle.simplex_audit.specs.Basis.{Basis}
 use Rattle.simplex_stream.specs.Messages.{AreMessages}

@@ -3,12 +3,12 @@ use Rattle.std.specs.Prelude.{◌≡◌, ℕ, List, []}
 use Rattle.simplex_base.specs.Positions.{Round}
 use Rattle.simplex_scheme.specs.Committees.{Schedule}
 use Rattle.simplex_evidence.specs.declared.types.activity.Activity.{Activity}
-use Rattle.simplex_detector.specs.Alarm.{Sounds, SoundsMore, Told, told_then}
-use Rattle.simplex_detector.specs.Alerts.{IsEachOnce}
-use Rattle.simplex_detector.specs.Rules.{Rules, valid_votes}
-use Rattle.simplex_detector.specs.SplitAlerts.{splits_arising}
-use Rattle.simplex_detector.specs.declared.alarm.News.{News}
-use Rattle.simplex_detector.specs.declared.judging.Judging.{Judging}
+use Rattle.simplex_alarm.specs.Alarm.{Sounds, SoundsMore, Told, told_then}
+use Rattle.simplex_alarm.specs.Alerts.{IsEachOnce}
+use Rattle.simplex_rules.specs.Rules.{Rules, valid_votes}
+use Rattle.simplex_rules.specs.Arising.{splits_arising}
+use Rattle.simplex_alarm.specs.declared.alarm.News.{News}
+use Rattle.simplex_rules.specs.declared.judging.Judging.{Judging}
 use Rattle.simplex_audit.specs.Auditor.{StandsFrom}
 use Rattle.simplex_audit.specs.Basis.{Basis, basis_from}
 use Rattle.simplex_audit.specs.Recording.{RecordsMore}

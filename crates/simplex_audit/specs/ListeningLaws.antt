@@ -1,9 +1,9 @@
 -- Messages that are watched one after another.
 use Rattle.std.proofs.Common.{List, [], ◌∷◌, ◌++◌, sym, subst, append_assoc, append-nil}
 use Rattle.simplex_evidence.specs.declared.types.activity.Activity.{Activity}
-use Rattle.simplex_detector.specs.Alarm.{Sounds, SoundsMore}
-use Rattle.simplex_detector.specs.Rules.{Rules}
-use Rattle.simplex_detector.specs.declared.judging.Judging.{Judging}
+use Rattle.simplex_alarm.specs.Alarm.{Sounds, SoundsMore}
+use Rattle.simplex_rules.specs.Rules.{Rules}
+use Rattle.simplex_rules.specs.declared.judging.Judging.{Judging}
 use Rattle.simplex_audit.specs.Listening.{WatchesMore}
 use Rattle.simplex_audit.specs.RecordingLaws.{records_none, records_more}
 use Rattle.simplex_audit.specs.declared.listener.Watcher.{Watcher}

@@ -3,14 +3,14 @@ use Rattle.std.specs.Prelude.{List, map, All}
 use Rattle.simplex_votes.specs.Votes.{SignedVote}
 use Rattle.simplex_evidence.specs.Contradiction.{Equivocation}
 use Rattle.simplex_evidence.specs.declared.types.activity.Activity.{Activity}
-use Rattle.simplex_detector.specs.Evidence.{IsEvidence, IsEquivocation}
-use Rattle.simplex_detector.specs.Laws.{EvidenceIsUnique, AccusesExactly, ReorderingAccusesSame, AccusedStay, IsEvidenceAgain}
-use Rattle.simplex_detector.specs.Rules.{Rules, AreLawful, valid_votes}
-use Rattle.simplex_detector.specs.Splits.{AreSplits}
-use Rattle.simplex_detector.specs.SplitLaws.{EnoughAreAccused, SignersAreAccountable, SplitsAreUnique, SplitsHaveAccused}
-use Rattle.simplex_detector.specs.Values.{evidence_value}
-use Rattle.simplex_detector.specs.declared.evidence.Evidence as recorded
-use Rattle.simplex_detector.specs.declared.split.Split.{Split}
+use Rattle.simplex_rules.specs.Evidence.{IsEvidence, IsEquivocation}
+use Rattle.simplex_rules.specs.Laws.{EvidenceIsUnique, AccusesExactly, ReorderingAccusesSame, AccusedStay, IsEvidenceAgain}
+use Rattle.simplex_rules.specs.Rules.{Rules, AreLawful, valid_votes}
+use Rattle.simplex_rules.specs.Splits.{AreSplits}
+use Rattle.simplex_rules.specs.SplitLaws.{EnoughAreAccused, SignersAreAccountable, SplitsAreUnique, SplitsHaveAccused}
+use Rattle.simplex_rules.specs.Values.{evidence_value}
+use Rattle.simplex_rules.specs.declared.evidence.Evidence as recorded
+use Rattle.simplex_rules.specs.declared.split.Split.{Split}
 
 -- The laws of the evidence and the splits of any messages under these rules, as `simplex_detector` states them.
 pub record MessageLaws {S D C P G : Type 0} (rules : Rules S D C P G) : Type 0 where

@@ -3,8 +3,8 @@ use Rattle.std.proofs.Common.{List, [], ◌∷◌, ◌++◌, refl, subst, ◌∙
 use Rattle.simplex_evidence.specs.declared.types.activity.Activity.{Activity}
 use Rattle.simplex_detector.specs.Detector.{RecallsMore}
 use Rattle.simplex_detector.specs.DetectorLaws.{recalls_none, recalls_on}
-use Rattle.simplex_detector.specs.Rules.{Rules}
-use Rattle.simplex_detector.specs.declared.judging.Judging.{Judging}
+use Rattle.simplex_rules.specs.Rules.{Rules}
+use Rattle.simplex_rules.specs.declared.judging.Judging.{Judging}
 use Rattle.simplex_audit.specs.Recording.{RecordsMore}
 use Rattle.simplex_audit.specs.declared.reading.Recorder.{Recorder}
 

@@ -4,11 +4,11 @@ use Rattle.std.specs.List.{flat_map}
 use Rattle.simplex_base.specs.Positions.{Round}
 use Rattle.simplex_evidence.specs.Contradiction.{Equivocation}
 use Rattle.simplex_evidence.specs.declared.types.activity.Activity.{Activity}
-use Rattle.simplex_detector.specs.Evidence.{IsEvidence}
-use Rattle.simplex_detector.specs.Independence.{evidence_within, is_from, splits_within}
-use Rattle.simplex_detector.specs.Rules.{valid_votes}
-use Rattle.simplex_detector.specs.Splits.{AreSplits}
-use Rattle.simplex_detector.specs.Values.{activity_of, evidence_value}
+use Rattle.simplex_rules.specs.Evidence.{IsEvidence}
+use Rattle.simplex_rules.specs.Independence.{evidence_within, is_from, splits_within}
+use Rattle.simplex_rules.specs.Rules.{valid_votes}
+use Rattle.simplex_rules.specs.Splits.{AreSplits}
+use Rattle.simplex_rules.specs.Values.{activity_of, evidence_value}
 use Rattle.simplex_audit.specs.Basis.{Basis}
 use Rattle.simplex_stream.specs.Messages.{AreMessages}
 use Rattle.simplex_stream.specs.Fault.{IsFault}

@@ -9,11 +9,11 @@ ghost use Rattle.simplex_audit.specs.declared.audit.Report as reports;
 ghost use Rattle.simplex_stream.specs.Messages.{AreMessages};
 ghost use Rattle.simplex_evidence.specs.declared.types.activity.Activity.{Activity};
 ghost use Rattle.std.specs.Ordering.{ord_max};
-ghost use Rattle.simplex_detector.specs.Accusation.{round_cmp};
+ghost use Rattle.simplex_rules.specs.Accusation.{round_cmp};
 ghost use Rattle.simplex_scheme.specs.Committees.{Schedule};
-ghost use Rattle.simplex_detector.specs.Independence.{first_round};
-ghost use Rattle.simplex_detector.specs.Recorded.{RecordedAreSlots, FewAreRecorded, votes_recorded};
-ghost use Rattle.simplex_detector.specs.Rules.{valid_votes};
+ghost use Rattle.simplex_rules.specs.Independence.{first_round};
+ghost use Rattle.simplex_rules.specs.Recorded.{RecordedAreSlots, FewAreRecorded, votes_recorded};
+ghost use Rattle.simplex_rules.specs.Rules.{valid_votes};
 
 use crate::audit::Report;
 use crate::basis::Audited;
@@ -22,11 +22,11 @@ use crate::reading::{Recorder, reading_bound};
 use crate::reporting::make_report;
 use simplex_base::positions::{Epoch, Round, View};
 use simplex_detector::detector::Detector;
-use simplex_detector::judging::Judging;
-use simplex_detector::laws::{
+use simplex_evidence::types::Activity;
+use simplex_laws::laws::{
     few_votes_are_recorded, floors_rise, recorded_votes_have_room, rounds_are_independent,
 };
-use simplex_evidence::types::Activity;
+use simplex_rules::judging::Judging;
 use simplex_scheme::committees::Committees;
 use simplex_scheme::scheme::{Digest, Listing, SchemeTypes};
 use simplex_stream::decoder::Decoder;

@@ -3,11 +3,11 @@
 ghost use Rattle.simplex_audit.specs.Basis.{Basis, basis_of};
 ghost use Rattle.simplex_audit.specs.Deferred.{basis_under};
 ghost use Rattle.simplex_scheme.specs.Committees.{Schedule};
-ghost use Rattle.simplex_detector.specs.declared.judging.Judging.{Judging};
+ghost use Rattle.simplex_rules.specs.declared.judging.Judging.{Judging};
 
 use simplex_base::codec::Read;
-use simplex_detector::rules::Decides;
 use simplex_evidence::types::Activity;
+use simplex_rules::rules::Decides;
 use simplex_scheme::scheme::{Digest, Listing};
 
 /// A scheme whose committees judge the messages of streams. Every scheme that lists attestations is one; there is

@@ -4,7 +4,7 @@ ghost use Rattle.std.specs.Prelude.{◌≡◌, ◌≢◌, ◌↔◌, ◌+◌, �
 ghost use Rattle.std.specs.Io.KnownBytes.{Consumes, IsAtEnd};
 ghost use Rattle.simplex_base.specs.Positions as positions;
 ghost use Rattle.simplex_scheme.specs.Committees.{Schedule};
-ghost use Rattle.simplex_detector.specs.Independence.{first_round};
+ghost use Rattle.simplex_rules.specs.Independence.{first_round};
 ghost use Rattle.simplex_audit.specs.Basis.{basis_from};
 ghost use Rattle.simplex_audit.specs.CompactedInput.{BeginsCompaction, HasCompacted, WritesCompaction, fed_of, unwritten};
 ghost use Rattle.simplex_stream.specs.Watched.{inner_of, has_failed, is_flushed};
@@ -13,8 +13,8 @@ use crate::basis::Audited;
 use crate::compaction::{Compactor, compacting_bound};
 use simplex_base::codec::Encoding;
 use simplex_base::positions::Round;
-use simplex_detector::laws::floors_rise;
 use simplex_evidence::types::Activity;
+use simplex_laws::laws::floors_rise;
 use simplex_scheme::committees::Committees;
 use simplex_scheme::scheme::{Digest, Listing, SchemeTypes};
 use simplex_stream::decoder::Decoder;

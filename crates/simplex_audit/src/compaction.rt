@@ -7,22 +7,22 @@ ghost use Rattle.simplex_audit.specs.Compacting.{KeepsCompaction, StartsCompacti
 ghost use Rattle.simplex_audit.specs.Compaction.{IsCompacted};
 ghost use Rattle.simplex_base.specs.Format.{IsLawful};
 ghost use Rattle.simplex_base.specs.Positions as positions;
-ghost use Rattle.simplex_detector.specs.Independence.{first_round};
-ghost use Rattle.simplex_detector.specs.Kept.{kept_by};
+ghost use Rattle.simplex_rules.specs.Independence.{first_round};
+ghost use Rattle.simplex_ballots.specs.Kept.{kept_by};
 
 use crate::basis::Audited;
 use crate::reading::{Recorder, reading_bound};
+use simplex_ballots::kept::Kept;
 use simplex_base::codec::{EncodeSize, Encoding, Write};
 use simplex_base::positions::Round;
 use simplex_detector::detector::Detector;
-use simplex_detector::judging::Judging;
-use simplex_detector::kept::Kept;
-use simplex_detector::laws::{
+use simplex_evidence::types::Activity;
+use simplex_laws::laws::{
     evidence_is_determined, floors_rise, news_suffices, rounds_are_independent,
     splits_are_determined,
 };
-use simplex_detector::rules::Judges;
-use simplex_evidence::types::Activity;
+use simplex_rules::judging::Judging;
+use simplex_rules::rules::Judges;
 use simplex_scheme::committees::Committees;
 use simplex_scheme::scheme::{Digest, Listing, SchemeTypes};
 use simplex_stream::fault::{Fault, fault_at};

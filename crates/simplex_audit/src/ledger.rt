@@ -3,7 +3,7 @@
 ghost use Rattle.std.specs.Prelude.{◌≡◌, ◌+◌, ◌<◌, ◌^◌, ◌++◌, ℕ, List, [], IfOk, OnOk, length};
 ghost use Rattle.std.specs.List.{flat_map};
 ghost use Rattle.simplex_scheme.specs.Committees.{Schedule};
-ghost use Rattle.simplex_detector.specs.Values.{activity_of};
+ghost use Rattle.simplex_rules.specs.Values.{activity_of};
 ghost use Rattle.simplex_audit.specs.Holding.{IsEvidenceOf, IsStored, WasFed, bytes_fed};
 
 use crate::audit::{Committees, Evidence, audit_deferred};

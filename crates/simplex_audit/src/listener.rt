@@ -4,19 +4,19 @@ ghost use Rattle.std.specs.Prelude.{◌≡◌, ◌+◌, ◌<◌, ◌^◌, ⊤, �
 ghost use Rattle.std.specs.Ordering.{ord_max};
 ghost use Rattle.simplex_base.specs.Positions as positions;
 ghost use Rattle.simplex_scheme.specs.Committees.{Schedule};
-ghost use Rattle.simplex_detector.specs.Accusation.{round_cmp};
-ghost use Rattle.simplex_detector.specs.Alarm as alarms;
+ghost use Rattle.simplex_rules.specs.Accusation.{round_cmp};
+ghost use Rattle.simplex_alarm.specs.Alarm as alarms;
 
 use crate::auditor::Auditor;
 use crate::basis::Audited;
 use crate::reading::Recorder;
+use simplex_alarm::alarm::Alarm;
+pub use simplex_alarm::alarm::News;
 use simplex_base::positions::Round;
-use simplex_detector::alarm::Alarm;
-pub use simplex_detector::alarm::News;
-use simplex_detector::judging::Judging;
-use simplex_detector::laws::{floors_rise, rounds_are_independent};
-use simplex_detector::rules::Judges;
 use simplex_evidence::types::Activity;
+use simplex_laws::laws::{floors_rise, rounds_are_independent};
+use simplex_rules::judging::Judging;
+use simplex_rules::rules::Judges;
 use simplex_scheme::committees::Committees;
 use simplex_scheme::scheme::{Digest, Listing, SchemeTypes};
 use simplex_stream::messages::Visitor;
@@ -75,7 +75,7 @@ pub struct Listener<'a, S: SchemeTypes, D: Digest> {
 impl<'a, S: Listing<D>, D: Digest> Listener<'a, S, D> {
     ghost use Rattle.simplex_audit.specs.Auditor.{fed_of, floor_of};
     ghost use Rattle.simplex_audit.specs.Listening.{HearsFrom, TellsRest, auditor_of};
-    ghost use Rattle.simplex_detector.specs.Independence.{first_round};
+    ghost use Rattle.simplex_rules.specs.Independence.{first_round};
 
     /// A listener of these committees that was fed nothing.
     pub fn new(alloc: Global, committees: &'a Committees<S>) -> Self

@@ -3,8 +3,8 @@
 ghost use Rattle.std.specs.Prelude.{◌≡◌, ◌+◌, ℕ, List, All, length, IfOk};
 ghost use Rattle.simplex_stream.specs.Progress.{IsProgress};
 ghost use Rattle.simplex_audit.specs.Report.{IsReport, as_messages};
-ghost use Rattle.simplex_detector.specs.Rules.{HaveCommittees};
-ghost use Rattle.simplex_detector.specs.declared.judging.Judging.{Judging};
+ghost use Rattle.simplex_rules.specs.Rules.{HaveCommittees};
+ghost use Rattle.simplex_rules.specs.declared.judging.Judging.{Judging};
 ghost use Rattle.simplex_detector.specs.Detector.{Recalls};
 
 use crate::audit::Report;

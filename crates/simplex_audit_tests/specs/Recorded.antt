@@ -2,8 +2,8 @@
 use Rattle.std.specs.Prelude.{◌≡◌, ℕ, List}
 use Rattle.simplex_evidence.specs.declared.types.activity.Activity.{Activity}
 use Rattle.simplex_scheme.specs.Committees.{Schedule}
-use Rattle.simplex_detector.specs.Recorded.{votes_recorded}
-use Rattle.simplex_detector.specs.Rules.{valid_votes}
+use Rattle.simplex_rules.specs.Recorded.{votes_recorded}
+use Rattle.simplex_rules.specs.Rules.{valid_votes}
 use Rattle.simplex_audit.specs.Auditor.{Stands}
 use Rattle.simplex_audit.specs.Basis.{Basis}
 use Rattle.simplex_stream.specs.Messages.{AreMessages}

@@ -4,7 +4,7 @@ use crate::outcome::marked;
 use simplex_audit::audit::Committees;
 use simplex_audit::listener::{Listener, News};
 use simplex_base::positions::{Epoch, Round, View};
-use simplex_detector::evidence::EquivocationKind;
+use simplex_rules::evidence::EquivocationKind;
 use simplex_schemes::marked::{Marked, MarkedDigest};
 use std::alloc::{AllocError, Global};
 use std::process::Abort;

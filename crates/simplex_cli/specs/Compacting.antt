@@ -4,7 +4,7 @@ use Rattle.std.specs.Io.KnownBytes.{Consumes, IsAtEnd}
 use Rattle.simplex_base.specs.Positions.{Round}
 use Rattle.simplex_schemes.specs.Plain.{PlainScheme}
 use Rattle.simplex_scheme.specs.Committees.{Schedule}
-use Rattle.simplex_detector.specs.Independence.{first_round}
+use Rattle.simplex_rules.specs.Independence.{first_round}
 use Rattle.simplex_stream.specs.declared.fault.Fault.{Fault}
 use Rattle.simplex_audit.specs.Basis.{basis_from}
 use Rattle.simplex_audit.specs.CompactedInput.{BeginsCompaction, WritesCompaction}

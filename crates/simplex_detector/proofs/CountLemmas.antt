@@ -1,32 +1,28 @@
 -- How many votes are recorded, how many are accused in a round, and the split that this gives.
-use Rattle.simplex_detector.proofs.Prelude.{CertifiedSubjects, RecordsFirsts, VoteKind, certified_subjects, first_certified, firsts_of, nothing_certified, Accusation, Activity, AllByRecursion, AreSplits, Bool, Conflicting_finalize, Conflicting_notarize, Contains, Detector, Equal, EquivocationKind, HaveCommittees, HoldsRound, IsEquivalence, IsOrdered, Less, List, None, Nullify_finalize, Option, Recalls, RecallsRound, Round, RoundState, RoundVotes, Rules, SignedVote, Some, [], accused_count, accuses, ap, append_assoc, arith, cond, cond-false, cond-true, cons_option, count_by, eqb-true, evidence_from, false, false_from_ne_true, false≢true, faults_of, filter, filter_map, get_or-range_with_len, is_accused, is_accused_in, is_some, is_split, length, length-filter, length-filter_both, length-range_with_len, map, nat_eq, not, not-true, option_to_list, range_with_len, recorded_of, recursion_from_All, refl, round_cmp, round_count, round_of, slots, split_of, subst, suc, sum_by-cons, sym, tied_itself, true, valid_votes, votes_recorded, zero, ℕ, ⊎_elim, ◌++◌, ◌+◌, ◌-◌, ◌<◌, ◌||◌, ◌∙◌, ◌∷◌, ◌≡◌, ◌≤◌}
-use Rattle.std.specs.Int.{from_bool}
+use Rattle.simplex_rules.proofs.Prelude.{RecordsFirsts, VoteKind, certified_subjects, first_certified, firsts_of, nothing_certified, Accusation, Activity, AllByRecursion, AreSplits, Bool, Conflicting_finalize, Conflicting_notarize, Contains, Equal, EquivocationKind, HaveCommittees, IsEquivalence, Less, List, None, Nullify_finalize, Option, Round, Rules, SignedVote, Some, [], accused_count, ap, append_assoc, arith, cond, cond-false, cond-true, cons_option, count_by, eqb-true, evidence_from, false, false_from_ne_true, false≢true, faults_of, filter, filter_map, get_or-range_with_len, is_accused, is_accused_in, is_some, is_split, length, length-filter, length-filter_both, length-range_with_len, map, nat_eq, not, not-true, option_to_list, range_with_len, recorded_of, recursion_from_All, refl, round_cmp, round_of, split_of, subst, suc, sym, tied_itself, true, valid_votes, votes_recorded, zero, ℕ, ⊎_elim, ◌++◌, ◌+◌, ◌<◌, ◌||◌, ◌∙◌, ◌∷◌, ◌≡◌}
+use Rattle.simplex_rules.specs.declared.certified_subjects.CertifiedSubjects.{CertifiedSubjects}
+use Rattle.simplex_detector.specs.declared.detector.Detector.{Detector}
+use Rattle.simplex_ballots.specs.Rounds.{HoldsRound, accuses, round_count, slots}
+use Rattle.simplex_detector.specs.RoundMap.{IsOrdered}
+use Rattle.simplex_detector.specs.Detector.{Recalls, RecallsRound}
+use Rattle.simplex_detector.specs.declared.round_state.RoundState.{RoundState}
+use Rattle.simplex_ballots.specs.declared.round_votes.RoundVotes.{RoundVotes}
 use Rattle.std.specs.List.{IsDistinct}
 use Rattle.std.specs.List.Sorted.{IsStrictlySortedBy}
-use Rattle.simplex_detector.proofs.AccountLemmas.{IsDistinct-filter, counted_signer, distinct_count-at_least, distinct_count-at_most, kind_from_accused_in}
-use Rattle.simplex_detector.proofs.EvidenceLemmas.{evidence_exists, valid_from, votes_from_accused}
-use Rattle.simplex_detector.proofs.Lists.{Contains-cons_cases, Contains-filter, Contains-first, Contains-from_filter, Contains-map, Contains-none, found}
-use Rattle.simplex_detector.proofs.Places.{is_of-true, round_cmp_total, same_round-from, same_round-true}
-use Rattle.simplex_detector.proofs.RecordedLemmas.{evidence_of-slots, none_of_round, of_round}
+use Rattle.simplex_rules.proofs.AccountLemmas.{IsDistinct-filter, counted_signer, distinct_count-at_least, distinct_count-at_most, kind_from_accused_in}
+use Rattle.simplex_rules.proofs.EvidenceLemmas.{evidence_exists, valid_from, votes_from_accused}
+use Rattle.simplex_rules.proofs.Lists.{Contains-cons_cases, Contains-filter, Contains-first, Contains-from_filter, Contains-map, Contains-none, found}
+use Rattle.simplex_rules.proofs.Places.{is_of-true, round_cmp_total, same_round-from, same_round-true}
+use Rattle.simplex_rules.proofs.RecordedLemmas.{evidence_of-slots, of_round}
+use Rattle.simplex_ballots.proofs.HeldLemmas.{none_of_round}
 use Rattle.simplex_detector.proofs.ReportLemmas.{recalled, recalls_listed}
-use Rattle.simplex_detector.proofs.SplitLemmas.{from_subjects, splits_of_rounds}
+use Rattle.simplex_rules.proofs.SplitLemmas.{from_subjects, splits_of_rounds}
+use Rattle.simplex_rules.proofs.Filters.{filter_filtered}
 
 -- how many of some votes are of some rounds, counted round by round
 abbrev of_rounds : {D G : Type 0} → List Round → List (SignedVote D G) → ℕ
 of_rounds [] vs = 0
 of_rounds (r ∷ rounds) vs = length (filter (of_round r) vs) + of_rounds rounds vs
-
--- filtering by a weaker test first changes nothing
-pub filter_filtered : {X : Type 0} (p q : X → Bool) → ((x : X) → p x ≡ true → q x ≡ true) → (xs : List X) →
-    filter p (filter q xs) ≡ filter p xs
-filter_filtered p q weaker [] = refl
-filter_filtered p q weaker (x ∷ xs) =
-    (elim (q x) as (λ b. q x ≡ b →
-    filter p (cond b (x ∷ filter q xs) (filter q xs)) ≡ cond (p x) (x ∷ filter p xs) (filter p xs)) [
-      | true ↦ λ d i. cond (p x) (x ∷ filter_filtered p q weaker xs i) (filter_filtered p q weaker xs i)
-      | false ↦ λ d. filter_filtered p q weaker xs ∙ sym
-          (cond-false (p x) (x ∷ filter p xs) (filter p xs) (false_from_ne_true (p x) (λ e. false≢true (sym d ∙ weaker x e))))
-    ]) refl
 
 -- where the rounds of all votes are among rounds that rise, counting round by round counts all votes
 of_all : {D G : Type 0} (rounds : List Round) (vs : List (SignedVote D G)) → IsStrictlySortedBy round_cmp rounds →
@@ -172,31 +168,6 @@ split_found rules l e messages round round_state recalls split n size named leas
     (λ i. Some (record { round = round; named = accused_is i; least = least_of i }))
     ∙ sym (cond-true (is_split rules messages round) _ None (from_subjects rules messages round ∙ sym recalls.subjects.split
     ∙ split))
-
--- ---- how many of the participants are accused
-
--- one participant more is looked at
-pub counted_next : (test : ℕ → Bool) (number end count next all : ℕ) → number < end →
-    next ≡ count + from_bool (test number) →
-    count + count_by test (range_with_len number (end - number)) ≡ all →
-    next + count_by test (range_with_len (number + 1) (end - (number + 1))) ≡ all
-counted_next test number end count next all lt is so_far =
-    let left : end - number ≡ suc (end - (number + 1)) = omega (arith, lt) in
-    let more = range_with_len (number + 1) (end - (number + 1)) in
-    let one = elim (test number) as (λ b. from_bool b ≡ cond b 1 0) [ true ↦ refl | false ↦ refl ] in
-    omega (
-      arith,
-      is,
-      so_far,
-      one,
-      ap (λ k. count_by test (range_with_len number k)) left,
-      sum_by-cons (λ q. cond (test q) 1 0) number more,
-    )
-
--- it counts at most one
-pub at_most_one : (b : Bool) → from_bool b ≤ 1
-at_most_one true = omega arith
-at_most_one false = omega arith
 
 -- ---- one round
 

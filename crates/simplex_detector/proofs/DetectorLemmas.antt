@@ -1,32 +1,20 @@
 -- What is recorded, round by round, after one more message.
-use Rattle.simplex_detector.proofs.Prelude.{Scheme, Activity, All, All-from_recursion, All-map, AllByRecursion, Attestation, Bool, Detector, EquivocationKind, HoldsRound, IsEquivalence, IsSized, IsTrue, List, None, Option, Recalls, RecallsAt, RecallsNothing, RecallsRound, RecordsFirsts, Round, RoundState, RoundVotes, Rules, Schedule, SignedVote, Some, SubjectValue, TakesContents, TakesIn, VoteKind, [], activity_round, and-false, and-true, and_left, and_parts, and_right, ap, append-nil, append_assoc, are_split, arith, certified_by, certified_in, certified_subjects, changes_firsts, clash, committee_of, cond, cond-false, contradicts, false, filter, filter-append, first_certified, firsts_of, get, have_news, if_certified, is_at, is_key, is_news, is_of, is_valid, kind_of, length, map, message_is_news, no_slot, nothing_certified, option_to_list, or-false, recorded_in, recursion_from_All, refl, round_cmp, round_count, round_of, rules_of, same_kind, same_round, size_by, slot_of, slots, subject_and_certificate, subject_is_news, subst, sym, true, valid_by, valid_votes, vote_on, votes_in, ℕ, ◌++◌, ◌&&◌, ◌||◌, ◌∙◌, ◌∷◌, ◌≡◌}
-use Rattle.simplex_detector.proofs.AccountLemmas.{certificate_parts}
-use Rattle.simplex_detector.proofs.EvidenceLemmas.{valid_votes-push}
+use Rattle.simplex_rules.proofs.Prelude.{Scheme, Activity, All, AllByRecursion, Attestation, Bool, IsEquivalence, List, None, Option, RecordsFirsts, Round, Rules, Schedule, SignedVote, Some, SubjectValue, VoteKind, [], activity_round, and-false, and-true, and_left, and_right, ap, append-nil, append_assoc, are_split, arith, certified_by, certified_in, certified_subjects, changes_firsts, committee_of, cond, cond-false, false, filter, filter-append, first_certified, firsts_of, have_news, if_certified, is_at, is_key, is_news, is_valid, kind_of, length, map, message_is_news, nothing_certified, option_to_list, or-false, recorded_in, recursion_from_All, refl, round_cmp, round_of, rules_of, same_kind, same_round, size_by, slot_of, subject_and_certificate, subject_is_news, subst, sym, true, valid_by, valid_votes, vote_on, votes_in, ℕ, ◌++◌, ◌&&◌, ◌||◌, ◌∙◌, ◌∷◌, ◌≡◌}
+use Rattle.simplex_detector.specs.declared.detector.Detector.{Detector}
+use Rattle.simplex_ballots.specs.Rounds.{HoldsRound, IsSized, no_slot, round_count, slots}
+use Rattle.simplex_detector.specs.Detector.{Recalls, RecallsAt, RecallsNothing, RecallsRound, TakesContents, TakesIn}
+use Rattle.simplex_detector.specs.declared.round_state.RoundState.{RoundState}
+use Rattle.simplex_ballots.specs.declared.round_votes.RoundVotes.{RoundVotes}
+use Rattle.simplex_detector.specs.RoundMap.{get}
+use Rattle.simplex_rules.proofs.AccountLemmas.{certificate_parts}
+use Rattle.simplex_rules.proofs.EvidenceLemmas.{valid_votes-push}
 use Rattle.simplex_detector.proofs.KnownLemmas.{EachValid, RecordsAreValid, each_appended, each_valid, records_are_valid}
-use Rattle.simplex_detector.proofs.Places.{is_of-true, key_tells, other_round}
-use Rattle.simplex_detector.proofs.RecordedLemmas.{RecordsMore, have_news-append, none_in_round, of_round, recorded_in_push, same_held, slot_after_vote}
-use Rattle.simplex_detector.proofs.SplitLemmas.{news_recorded, records_other_message, subjects_push}
+use Rattle.simplex_rules.proofs.Places.{key_tells, other_round}
+use Rattle.simplex_ballots.proofs.HeldLemmas.{RecordsMore, none_in_round, same_held}
+use Rattle.simplex_rules.proofs.RecordedLemmas.{have_news-append, of_round, recorded_in_push, slot_after_vote}
+use Rattle.simplex_rules.proofs.SplitLemmas.{news_recorded, records_other_message, subjects_push}
 use Rattle.simplex_evidence.specs.Activity.{contents_of}
-use Rattle.simplex_evidence.specs.Contents.{ContentsValue, OneVote, OneCertificate, TwoVotes, AreInConflict, contents_round, contents_votes}
-
--- a vote is of a round
-abbrev pub IsHere : {D G : Type 0} → Round → SignedVote D G → Type 0
-IsHere round v = round_of v.subject ≡ round
-
--- two votes that contradict are of one round
-pub one_round : {D G : Type 0} (eq : D → D → Bool) (kind : EquivocationKind) (v w : SignedVote D G) →
-    IsTrue (contradicts eq kind v w) → round_of w.subject ≡ round_of v.subject
-one_round eq kind v w h =
-    (is_of-true (round_of v.subject) v.signer w
-    (and_parts (is_of (round_of v.subject) v.signer w) (clash eq kind v.subject w.subject) h).0).0
-
--- so are the votes that a message holds
-pub votes_here : {S D C P G : Type 0} (eq : D → D → Bool) (listed : C → List (Attestation S P G)) (held : ContentsValue D C G) →
-    AreInConflict eq held → All (IsHere (contents_round held)) (contents_votes listed held)
-votes_here eq listed (OneVote v) conflict = All-from_recursion (IsHere (round_of v.subject)) (v ∷ []) (refl, tt)
-votes_here eq listed (OneCertificate x c) conflict = All-map (IsHere (round_of x)) (vote_on x) (listed c) (λ k e lt. refl)
-votes_here eq listed (TwoVotes v w) (kind, clashes) =
-    All-from_recursion (IsHere (round_of v.subject)) (v ∷ w ∷ []) (refl, (one_round eq kind v w clashes, tt))
+use Rattle.simplex_rules.proofs.MessageLemmas.{IsHere}
 
 -- ---- other rounds
 

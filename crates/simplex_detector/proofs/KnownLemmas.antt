@@ -1,10 +1,11 @@
 -- The recorded votes are among the votes so far, so what is recorded of valid votes is known to be valid.
-use Rattle.simplex_detector.proofs.Prelude.{All, All-append, All-contains, Bool, Contains, HoldsRound, List, None, Option, Round, RoundVotes, Rules, Schedule, Scheme, SignedVote, Slot, Some, and_parts, ap, committee_of, excludes, filter, filter_passes, find, flat_map, inl, inr, is_at, is_valid, kind_of, option_map, other_than, round_of, rules_of, sym, true, valid_by, valid_votes, votes_in, ℕ, ◌&&◌, ◌++◌, ◌∙◌, ◌≡◌}
+use Rattle.simplex_rules.proofs.Prelude.{All, All-append, All-contains, Bool, Contains, List, None, Option, Round, Rules, Schedule, Scheme, SignedVote, Slot, Some, and_parts, ap, committee_of, excludes, filter, filter_passes, find, flat_map, inl, inr, is_at, is_valid, kind_of, option_map, other_than, round_of, rules_of, sym, true, valid_by, valid_votes, votes_in, ℕ, ◌&&◌, ◌++◌, ◌∙◌, ◌≡◌}
+use Rattle.simplex_ballots.specs.Rounds.{HoldsRound, IsRecorded}
+use Rattle.simplex_ballots.specs.declared.round_votes.RoundVotes.{RoundVotes}
 use Rattle.simplex_scheme.specs.Known.{AreValid}
 use Rattle.simplex_evidence.specs.declared.types.activity.Activity.{Activity}
-use Rattle.simplex_detector.specs.Rounds.{IsRecorded}
-use Rattle.simplex_detector.proofs.Lists.{found}
-use Rattle.simplex_detector.proofs.Places.{Spot, is_at-true}
+use Rattle.simplex_rules.proofs.Lists.{found}
+use Rattle.simplex_rules.proofs.Places.{Spot, is_at-true}
 
 module _ {S D P G : Type 0} (eq : D → D → Bool) (n : ℕ) (vs : List (SignedVote D G)) (round : Round)
     (recorded : RoundVotes S D P G) (holds : HoldsRound eq n vs round recorded) (v : SignedVote D G) where

@@ -1,15 +1,19 @@
 -- The state of a part of the rounds is what it was before the states of other rounds were given up.
-use Rattle.simplex_detector.proofs.Prelude.{Equal, Greater, Less, Ordering, nat_cmp, ordering_then, signer_cmp, Activity, All, All-contains, Bool, CertifiedSubjects, Detector, HoldsRound, List, None, Option, Recalls, RecallsAt, RecallsNothing, RecordsFirsts, Round, RoundState, Rules, SignedVote, Slot, Some, VoteKind, SubjectValue, [], and_left, and_parts, ap, append-nil, append_assoc, arith, certified_subjects, changes, cond, excludes, false, false_from_ne_true, false≢true, filter, filter-append, find, firsts_of, get, in_rounds, is_at, is_from, is_gt, is_key, is_news, kind_of, length, map, no_slot, nothing_certified, other_than, recorded_in, refl, round_cmp, round_of, same_kind, same_round, slot_of, subst, sym, true, valid_votes, ℕ, ◌&&◌, ◌++◌, ◌∙◌, ◌∷◌, ◌≡◌}
+use Rattle.simplex_rules.proofs.Prelude.{Activity, Bool, List, None, Option, RecordsFirsts, Round, Rules, SignedVote, Slot, Some, VoteKind, SubjectValue, [], and_left, and_parts, ap, append-nil, append_assoc, arith, certified_subjects, changes, cond, excludes, false, false_from_ne_true, false≢true, filter, filter-append, find, firsts_of, in_rounds, is_at, is_key, is_news, kind_of, length, nothing_certified, other_than, recorded_in, refl, round_cmp, round_of, same_kind, same_round, slot_of, subst, sym, true, valid_votes, ℕ, ◌&&◌, ◌++◌, ◌∙◌, ◌∷◌, ◌≡◌}
+use Rattle.simplex_rules.specs.declared.certified_subjects.CertifiedSubjects.{CertifiedSubjects}
+use Rattle.simplex_detector.specs.declared.detector.Detector.{Detector}
+use Rattle.simplex_ballots.specs.Rounds.{HoldsRound, no_slot}
+use Rattle.simplex_detector.specs.Detector.{Recalls, RecallsAt, RecallsNothing}
+use Rattle.simplex_detector.specs.declared.round_state.RoundState.{RoundState}
+use Rattle.simplex_detector.specs.RoundMap.{get}
 use Rattle.std.specs.Map.{lookup}
-use Rattle.std.specs.Ordering.{ordering_reverse}
 use Rattle.simplex_scheme.specs.declared.kind.VoteKind.TheVariants as kinds
-use Rattle.simplex_detector.specs.Accusation.{key_cmp, way_rank}
-use Rattle.simplex_detector.specs.declared.evidence.Accusation.{Accusation}
-use Rattle.simplex_detector.proofs.Filters.{filter_all, find_filtered}
-use Rattle.simplex_detector.proofs.IndependenceLemmas.{below_floor, is_subject_of, is_vote_of, split-from_within, split-within, subjects_in_rounds, votes_in_rounds, within}
-use Rattle.simplex_detector.proofs.Lists.{Contains-from_filter, Contains-map, each, none_found}
-use Rattle.simplex_detector.proofs.Places.{Spot, is_at-true, key_tells, round_cmp_total, same_round-true}
-use Rattle.simplex_detector.proofs.RecordedLemmas.{of_round, recorded_in_push, same_held}
+use Rattle.simplex_rules.proofs.Filters.{find_filtered}
+use Rattle.simplex_rules.proofs.PartLemmas.{is_subject_of, is_vote_of, split-from_within, split-within, subjects_in_rounds, votes_in_rounds, within}
+use Rattle.simplex_rules.proofs.Lists.{Contains-from_filter, none_found}
+use Rattle.simplex_rules.proofs.Places.{Spot, is_at-true, key_tells, same_round-true}
+use Rattle.simplex_rules.proofs.RecordedLemmas.{of_round, recorded_in_push}
+use Rattle.simplex_ballots.proofs.HeldLemmas.{same_held}
 
 -- ---- votes
 
@@ -215,39 +219,3 @@ lookup-within {X} part round (e ∷ entries) =
         (λ i. lookup (is_key (round_cmp round)) (cond (same i) (e ∷ kept) kept)) ∙ take rest (part round) at refl
         ∙ (λ i. cond (part round) (cond (sym at i) (Some e.1) found) None)
     by rest false at = skip rest (part e.0) at ∙ (λ i. cond (part round) (cond (sym at i) (Some e.1) found) None)
-
--- ---- what is kept by round
-
--- what is not above a round from a floor on is from the floor on
-from_floor : (floor first round : Round) → is_from floor first ≡ true → is_gt (round_cmp first round) ≡ false →
-    is_from floor round ≡ true
-from_floor floor first round at h =
-    (elim (is_from floor round) as (λ b. is_from floor round ≡ b → b ≡ true) [
-      | true ↦ λ here. refl
-      | false ↦ λ away. absurd (false≢true (sym h
-          ∙ ap is_gt (round_cmp_total.antisymm first round ∙ ap ordering_reverse (below_floor floor round first away at))))
-    ]) refl
-
--- if the first round is from a floor on, all are
-pub all_from_floor : {V : Type 0} (floor first : Round) → is_from floor first ≡ true → (entries : List (Round × V)) →
-    All (λ round. is_gt (round_cmp first round) ≡ false) (map (λ entry. entry.0) entries) →
-    filter (λ entry. is_from floor entry.0) entries ≡ entries
-all_from_floor floor first at entries all =
-    filter_all (λ entry. is_from floor entry.0) entries (each (λ entry. is_from floor entry.0 ≡ true) entries (λ entry e_in.
-    from_floor floor first entry.0 at (All-contains (λ round. is_gt (round_cmp first round) ≡ false)
-    (map (λ entry. entry.0) entries) entry.0 all (Contains-map (λ entry. entry.0) entries entry e_in))))
-
--- if the first accusation is of a round from a floor on, all are
-pub accusations_from_floor : (floor : Round) (first : Accusation) → is_from floor first.accused.round ≡ true →
-    (keys : List Accusation) → All (λ q. is_gt (key_cmp first q) ≡ false) keys →
-    filter (λ q. is_from floor q.accused.round) keys ≡ keys
-accusations_from_floor floor first at keys all =
-    filter_all (λ q. is_from floor q.accused.round) keys (each (λ q. is_from floor q.accused.round ≡ true) keys (λ q q_in.
-    from_floor floor first.accused.round q.accused.round at (not_above _ (nat_cmp first.accused.signer q.accused.signer)
-    (not_above (signer_cmp first.accused q.accused) (nat_cmp (way_rank first.kind) (way_rank q.kind))
-    (All-contains (λ q. is_gt (key_cmp first q) ≡ false) keys q all q_in)))))
-  where
-    not_above : (o p : Ordering) → is_gt (ordering_then o p) ≡ false → is_gt o ≡ false
-    not_above Less p h = refl
-    not_above Equal p h = refl
-    not_above Greater p h = h

@@ -1,18 +1,19 @@
 -- The evidence in what is recorded, signer by signer and round by round, is the evidence of the votes.
-use Rattle.simplex_detector.proofs.Prelude.{signer_in, Activity, All, All-contains, All-from_recursion, All-push, AllByRecursion, Bool, Conflicting_finalize, Conflicting_notarize, Contains, Contains-append_left, Contains-append_right, Contains-dedup_nat, Contains-permutation, Detector, Equivocation, HoldsRound, IsEquivalence, IsEvidence, IsOrdered, IsPermutation, IsSorted, IsStrictlyIncreasing-dedup, EquivocationKind, Less, List, ListsSigners, Accusation, None, Nullify_finalize, Recalls, RecallsAt, RecallsNothing, RecallsRound, Round, RoundState, RoundVotes, Rules, SignedVote, Slot, Some, VoteKind, [], ap, append-nil, append_assoc, arith, cond-true, contradicts, dedup, eqb, eqb-true, evidence_from, evidence_of, false≢true, filter_map, filter_map-append, flat_map, flat_map_more, found_at, found_of_kind, get, get_or, if_contradicts, inl, inr, is_some, item_of, kind_rank, length, map, map-append, map-id, accused_by, accused_cmp, nat_cmp, no_slot, option_map, option_to_list, ordering_then, recursion_from_All, refl, round_cmp, signer_cmp, slot_of, slots, sorted_from_strictly_increasing, subst, sym, take, take_more, tied_itself, true, valid_votes, ℕ, ◌++◌, ◌+◌, ◌<◌, ◌∙◌, ◌∷◌, ◌≡◌, ◌⊎◌, accuses, or_left, or_right, or_cases, equivocation_of, same_kind, ◌||◌, Option, Contains-push_cases, Contains-push, if◌then◌else◌, false}
+use Rattle.simplex_rules.proofs.Prelude.{signer_in, Activity, All, All-contains, All-from_recursion, All-push, AllByRecursion, Bool, Conflicting_finalize, Conflicting_notarize, Contains, Equivocation, IsEquivalence, IsEvidence, EquivocationKind, Less, List, Accusation, None, Nullify_finalize, Round, Rules, SignedVote, Slot, Some, VoteKind, [], ap, append-nil, append_assoc, arith, cond-true, contradicts, evidence_from, evidence_of, false≢true, filter_map, filter_map-append, flat_map, flat_map_more, inl, inr, is_some, kind_rank, map, map-append, map-id, accused_by, accused_cmp, nat_cmp, option_to_list, ordering_then, recursion_from_All, refl, round_cmp, signer_cmp, slot_of, subst, sym, tied_itself, true, valid_votes, ℕ, ◌++◌, ◌∙◌, ◌∷◌, ◌≡◌, ◌⊎◌, or_left, or_right}
+use Rattle.simplex_detector.specs.declared.detector.Detector.{Detector}
+use Rattle.simplex_ballots.specs.Rounds.{HoldsRound, ListsSigners, found_at, found_of_kind, if_contradicts, no_slot, slots, accuses}
+use Rattle.simplex_detector.specs.RoundMap.{IsOrdered, get}
+use Rattle.simplex_detector.specs.Detector.{Recalls, RecallsAt, RecallsNothing, RecallsRound}
+use Rattle.simplex_detector.specs.declared.round_state.RoundState.{RoundState}
+use Rattle.simplex_ballots.specs.declared.round_votes.RoundVotes.{RoundVotes}
 use Rattle.std.specs.List.Sorted.{IsStrictlySortedBy}
-use Rattle.simplex_detector.specs.Accusation.{accusations_of}
-use Rattle.simplex_detector.specs.Evidence.{evidence_against}
-use Rattle.simplex_detector.proofs.EvidenceLemmas.{evidence_is, from_listing}
-use Rattle.simplex_detector.proofs.Lists.{found_mapped, Contains-flat_map, Contains-from_flat_map, Contains-from_map, Contains-map, each, filter_map-joined, found, made_complete, made_ordered, made_sound, some_from_is_some, sorted_joined}
-use Rattle.simplex_detector.proofs.Places.{round_cmp_total, signer_cmp_total}
+use Rattle.simplex_rules.specs.Accusation.{accusations_of}
+use Rattle.simplex_rules.specs.Evidence.{evidence_against}
+use Rattle.simplex_rules.proofs.EvidenceLemmas.{evidence_is, from_listing}
+use Rattle.simplex_rules.proofs.Lists.{Contains-flat_map, Contains-from_flat_map, Contains-from_map, Contains-map, each, filter_map-joined, found, made_complete, made_ordered, made_sound, sorted_joined}
+use Rattle.simplex_rules.proofs.Places.{round_cmp_total, signer_cmp_total}
 use Rattle.simplex_detector.proofs.RoundMapLemmas.{get_iff}
-use Rattle.simplex_detector.proofs.BallotLemmas.{same_key}
-use Rattle.simplex_detector.proofs.RecordedLemmas.{evidence_of-slots}
-use Rattle.simplex_scheme.specs.declared.kind.VoteKind.TheVariants as kinds
-use Rattle.simplex_detector.specs.Ballots.{vote_key, vote_of}
-use Rattle.simplex_detector.specs.Rounds.{ballot_at, is_second, placed_key, vote_at}
-use Rattle.simplex_detector.specs.declared.placed.Placed.{Placed}
+use Rattle.simplex_rules.proofs.RecordedLemmas.{evidence_of-slots}
 
 -- ---- the rounds of a detector
 
@@ -275,80 +276,3 @@ report_of_walk {S} {D} {C} {P} {G} rules l detector ordered found walked message
               Contains-flat_map names_of walked.steps step n step_in (listed_in_round rules.eq vs (rules.size step.round.epoch)
               step.round step.round_state.votes (held step step_in) step.signers (lists step step_in) n (λ i. (sym is i).0) h)
         ]
-
--- one vote more of an index was looked at
-pub collected_next : (votes : List Placed) (i : ℕ) (placed : Placed) → i < length votes → placed ≡ get_or votes i placed →
-    (old new : List ℕ) → new ≡ old ++ (if is_second placed then placed.signer ∷ [] else []) →
-    ((p : Placed) → Contains (take i votes) p → is_second p ≡ true → Contains old p.signer) → (p : Placed) →
-    Contains (take (i + 1) votes) p → is_second p ≡ true → Contains new p.signer
-collected_next votes i placed lt is old new pushed so_far p p_in second =
-    elim (Contains-push_cases (take i votes) placed p (subst (λ xs. Contains xs p)
-    (take_more votes i placed lt ∙ ap (λ q. take i votes ++ q ∷ []) (sym is)) p_in)) [
-      | inl before ↦ subst (λ xs. Contains xs p.signer) (sym pushed)
-          (Contains-append_left old _ p.signer (so_far p before second))
-      | inr same ↦
-          let here : new ≡ old ++ p.signer ∷ [] = pushed ∙ ap (λ xs. old ++ xs)
-          (cond-true (is_second placed) (placed.signer ∷ []) [] (ap is_second same ∙ second)
-          ∙ ap (λ (q : Placed). q.signer ∷ []) same) in
-          subst (λ xs. Contains xs p.signer) (sym here) (Contains-push old p.signer)
-    ]
-
--- signers of an index that were collected, sorted and deduplicated
-pub lists_signers : {S D P G : Type 0} (recorded : RoundVotes S D P G) (collected sorted signers : List ℕ) →
-    ((placed : Placed) → Contains recorded.index placed → is_second placed ≡ true → Contains collected placed.signer) →
-    IsPermutation collected sorted → IsSorted nat_cmp sorted → signers ≡ dedup eqb sorted → ListsSigners recorded signers
-lists_signers {S} {D} {P} {G} recorded collected sorted signers all moved ordered is = record {
-  ascending = subst (IsStrictlySortedBy nat_cmp) (sym is)
-      (sorted_from_strictly_increasing (dedup eqb sorted) (IsStrictlyIncreasing-dedup sorted ordered));
-  complete = λ signer h.
-      let slot = slots recorded signer in
-      let vote = vote_at recorded signer in
-      elim (or_cases (is_some (evidence_from slot Conflicting_notarize)) (is_some (evidence_from slot Conflicting_finalize)
-      || is_some (evidence_from slot Nullify_finalize)) h) [
-        | inl two ↦ second signer kinds.Notarize true
-            (both_some Conflicting_notarize (vote kinds.Notarize false) (vote kinds.Notarize true) two).1 refl
-        | inr rest ↦
-            elim (or_cases (is_some (evidence_from slot Conflicting_finalize))
-            (is_some (evidence_from slot Nullify_finalize)) rest) [
-              | inl two ↦ second signer kinds.Finalize true
-                  (both_some Conflicting_finalize (vote kinds.Finalize false) (vote kinds.Finalize true) two).1 refl
-              | inr two ↦ second signer kinds.Nullify false
-                  (both_some Nullify_finalize (vote kinds.Nullify false) (vote kinds.Finalize false) two).0 refl
-            ]
-      ];
-}
-  where
-    -- evidence has both of its votes
-    both_some : (kind : EquivocationKind) (v w : Option (SignedVote D G)) → is_some (equivocation_of kind v w) ≡ true →
-        (is_some v ≡ true) × (is_some w ≡ true)
-    both_some kind None w h = absurd (false≢true h)
-    both_some kind (Some v) None h = absurd (false≢true h)
-    both_some kind (Some v) (Some w) h = (refl, refl)
-
-    stays : (s : ℕ) → Contains collected s → Contains signers s
-    stays s h =
-        subst (λ xs. Contains xs s) (sym is) (Contains-dedup_nat sorted s (Contains-permutation collected sorted s moved h))
-
-    -- the signer of such a vote is listed
-    second : (signer : ℕ) (kind : VoteKind) (is_other : Bool) → is_some (vote_at recorded signer kind is_other) ≡ true →
-        (same_kind kind kinds.Nullify || is_other) ≡ true → Contains signers signer
-    second signer kind is_other some flag = by (item_of placed_key recorded.index (vote_key signer kind is_other)) refl
-      where
-        by : (o : Option Placed) → item_of placed_key recorded.index (vote_key signer kind is_other) ≡ o →
-            Contains signers signer
-        by None at =
-            absurd (false≢true (sym (ap (λ o. is_some (vote_of recorded.round signer kind (ballot_at recorded.ballots o))) at)
-            ∙ some))
-        by (Some placed) at =
-            let one = found (λ p. eqb (placed_key p) (vote_key signer kind is_other)) recorded.index placed at in
-            let parts = same_key placed.signer signer placed.kind kind placed.is_other is_other (eqb-true _ _ one.1) in
-            stays signer (subst (Contains collected) parts.0 (all placed one.0
-            ((λ i. same_kind (parts.1.0 i) kinds.Nullify || parts.1.1 i) ∙ flag)))
-
--- what is found of one signer more
-pub found_next : {E : Type 0} (f : ℕ → List E) (old found new : List E) (signers : List ℕ) (i s : ℕ) → i < length signers →
-    s ≡ get_or signers i 0 → found ≡ old ++ flat_map f (take i signers) → new ≡ found ++ f s →
-    new ≡ old ++ flat_map f (take (i + 1) signers)
-found_next f old found new signers i s lt at so_far is =
-    is ∙ ap (λ es. es ++ f s) so_far ∙ flat_map_more f old (take i signers) s ∙
-    ap (λ ss. old ++ flat_map f ss) (ap (λ q. take i signers ++ q ∷ []) at ∙ sym (take_more signers i 0 lt))

@@ -12,8 +12,8 @@ use Rattle.std.specs.List.{cons_option}
 use Rattle.std.specs.Map.{keys_of, lookup, set_value}
 use Rattle.std.specs.Ordering.{match_ordering}
 use Rattle.simplex_base.specs.Positions.{Round}
-use Rattle.simplex_detector.proofs.Places.{exact_rounds, key_tells, round_cmp_total}
-use Rattle.simplex_detector.specs.Accusation.{round_cmp}
+use Rattle.simplex_rules.proofs.Places.{exact_rounds, key_tells, round_cmp_total}
+use Rattle.simplex_rules.specs.Accusation.{round_cmp}
 use Rattle.simplex_detector.specs.declared.round_map.RoundMap.TheInside.{Inside}
 use Rattle.simplex_detector.specs.RoundMap.{ArePlaced, IsFree, IsPlaceOf, IsOrdered, IsSound, Updates, get, placed}
 use Rattle.slab.specs.Slab as slab

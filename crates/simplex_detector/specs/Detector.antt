@@ -10,17 +10,17 @@ use Rattle.simplex_evidence.specs.Contents.{ContentsValue, contents_round, conte
 use Rattle.simplex_evidence.specs.Contradiction.{Equivocation}
 use Rattle.simplex_evidence.specs.declared.types.activity.Activity.{Activity}
 use Rattle.simplex_scheme.specs.Committees.{Schedule, committee_of}
-use Rattle.simplex_detector.specs.Evidence.{IsEvidence}
-use Rattle.simplex_detector.specs.FirstCertified.{certified_subjects, first_certified, nothing_certified, RecordsFirsts}
-use Rattle.simplex_detector.specs.News.{have_news, message_is_news, subject_is_news}
-use Rattle.simplex_detector.specs.Recorded.{slot_of, votes_recorded}
-use Rattle.simplex_detector.specs.Accusation.{round_cmp}
+use Rattle.simplex_rules.specs.Evidence.{IsEvidence}
+use Rattle.simplex_rules.specs.FirstCertified.{certified_subjects, first_certified, nothing_certified, RecordsFirsts}
+use Rattle.simplex_rules.specs.News.{have_news, message_is_news, subject_is_news}
+use Rattle.simplex_rules.specs.Recorded.{slot_of, votes_recorded}
+use Rattle.simplex_rules.specs.Accusation.{round_cmp}
 use Rattle.simplex_detector.specs.RoundMap.{get}
-use Rattle.simplex_detector.specs.Rounds.{no_slot, HoldsRound}
-use Rattle.simplex_detector.specs.Rules.{Rules, HaveCommittees, is_valid, valid_votes}
-use Rattle.simplex_detector.specs.Splits.{if_certified, is_split, split_of, AreSplits}
-use Rattle.simplex_detector.specs.declared.judging.Judging.{Judging}
-use Rattle.simplex_detector.specs.declared.split.Split.{Split}
+use Rattle.simplex_ballots.specs.Rounds.{no_slot, HoldsRound}
+use Rattle.simplex_rules.specs.Rules.{Rules, HaveCommittees, is_valid, valid_votes}
+use Rattle.simplex_rules.specs.Splits.{if_certified, is_split, split_of, AreSplits}
+use Rattle.simplex_rules.specs.declared.judging.Judging.{Judging}
+use Rattle.simplex_rules.specs.declared.split.Split.{Split}
 use Rattle.simplex_detector.specs.declared.round_state.RoundState.{RoundState}
 use Rattle.simplex_detector.specs.declared.detector.Detector.{Detector}
 

@@ -5,11 +5,11 @@ ghost use Rattle.std.specs.Option.{is_some};
 ghost use Rattle.simplex_scheme.specs.Kind.{kind_of};
 ghost use Rattle.simplex_scheme.specs.Known.{AreValid};
 ghost use Rattle.simplex_scheme.specs.Subject.{SubjectValue, subject_value, round_of};
-ghost use Rattle.simplex_detector.specs.Judging.{certified_under, valid_under};
-ghost use Rattle.simplex_detector.specs.FirstCertified.{nothing_certified, RecordsFirsts, firsts_of, changes_firsts};
+ghost use Rattle.simplex_rules.specs.Judging.{certified_under, valid_under};
+ghost use Rattle.simplex_rules.specs.FirstCertified.{nothing_certified, RecordsFirsts, firsts_of, changes_firsts};
 
-use crate::certified_subjects::CertifiedSubjects;
-use crate::judge::{Judge, Signatures};
+use simplex_rules::certified_subjects::CertifiedSubjects;
+use simplex_rules::judge::{Judge, Signatures};
 use simplex_scheme::scheme::{Digest, Known, Listing, Subject, VoteKind};
 use std::alloc::{AllocError, Global};
 use std::marker::Model;
@@ -23,8 +23,8 @@ pub struct Certified<D> {
 impl<D> Model for Certified<D> {
     ghost use Rattle.std.specs.Box.{box_value};
     ghost use Rattle.std.specs.Option.{option_map, unwrap_or};
-    ghost use Rattle.simplex_detector.specs.FirstCertified.{nothing_certified};
-    ghost use Rattle.simplex_detector.specs.declared.certified_subjects.CertifiedSubjects.{CertifiedSubjects};
+    ghost use Rattle.simplex_rules.specs.FirstCertified.{nothing_certified};
+    ghost use Rattle.simplex_rules.specs.declared.certified_subjects.CertifiedSubjects.{CertifiedSubjects};
 
     ghost Value = { CertifiedSubjects D };
 

@@ -5,24 +5,25 @@ ghost use Rattle.std.specs.Option.{option_to_list};
 ghost use Rattle.simplex_base.specs.Format.{format_of};
 ghost use Rattle.simplex_detector.specs.Detector.{RecallsNone, RecallsMore, TellsNews, GivesEvidence, GivesSplitOf, GivesSplits, CountsVotes, Recalls, TellsCertified};
 ghost use Rattle.simplex_evidence.specs.declared.types.activity.Activity.{Activity};
-ghost use Rattle.simplex_detector.specs.EncodedEvidence.{IsEncoded};
-ghost use Rattle.simplex_detector.specs.Independence.{in_rounds, is_from};
-ghost use Rattle.simplex_detector.specs.Kept.{GathersMessage, TellsKept, is_kept};
-ghost use Rattle.simplex_detector.specs.Rules.{Rules};
-ghost use Rattle.simplex_detector.specs.Values.{evidence_value};
+ghost use Rattle.simplex_rules.specs.EncodedEvidence.{IsEncoded};
+ghost use Rattle.simplex_rules.specs.Independence.{in_rounds, is_from};
+ghost use Rattle.simplex_detector.specs.Gathered.{GathersMessage, TellsKept};
+ghost use Rattle.simplex_ballots.specs.Kept.{is_kept};
+ghost use Rattle.simplex_rules.specs.Rules.{Rules};
+ghost use Rattle.simplex_rules.specs.Values.{evidence_value};
 
-use crate::apart::Apart;
-use crate::evidence::Evidence;
-use crate::judge::Judge;
-use crate::judging::Judging;
-use crate::kept::Kept;
 use crate::round_map::RoundMap;
 use crate::round_state::RoundState;
-use crate::rules::Judges;
-use crate::split::Split;
+use simplex_ballots::apart::Apart;
+use simplex_ballots::kept::Kept;
 use simplex_base::codec::Read;
 use simplex_base::positions::Round;
 use simplex_evidence::types::Activity;
+use simplex_rules::evidence::Evidence;
+use simplex_rules::judge::Judge;
+use simplex_rules::judging::Judging;
+use simplex_rules::rules::Judges;
+use simplex_rules::split::Split;
 use simplex_scheme::committees::Committees;
 use simplex_scheme::scheme::{Digest, Listing, SchemeTypes, VoteKind};
 use std::alloc::{AllocError, Global};
@@ -30,7 +31,8 @@ use std::alloc::{AllocError, Global};
 /// The state of every round so far. A round has a state as soon as something of it is recorded.
 #[derive(Drop)]
 pub struct Detector<S: SchemeTypes, D: Digest> {
-    pub(crate) rounds: RoundMap<RoundState<S, D>>,
+    /// The rounds of which something is recorded.
+    pub rounds: RoundMap<RoundState<S, D>>,
 }
 
 impl<S: Listing<D>, D: Digest> Detector<S, D> {

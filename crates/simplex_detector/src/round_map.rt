@@ -6,13 +6,13 @@ ghost use Rattle.std.specs.Borrow.{sem};
 ghost use Rattle.std.specs.Iterator.{at_most};
 ghost use Rattle.std.specs.Map.Iter.{TakesFirst, deref_pair};
 ghost use Rattle.std.specs.Option.{option_copied_mut};
-ghost use Rattle.simplex_detector.specs.Accusation.{round_cmp};
-ghost use Rattle.simplex_detector.specs.Independence.{is_from};
+ghost use Rattle.simplex_rules.specs.Accusation.{round_cmp};
+ghost use Rattle.simplex_rules.specs.Independence.{is_from};
 ghost use Rattle.simplex_detector.specs.RoundMap.{get, IsOrdered, IsPlaceOf, Updates};
 ghost use Rattle.simplex_detector.specs.RoundLends.{lends_value};
 
-use crate::pruning::pop_below;
 use simplex_base::positions::Round;
+use simplex_rules::pruning::pop_below;
 use slab::Slab;
 use std::alloc::{AllocError, Global};
 use std::collections::{BTreeMap, btree_map};

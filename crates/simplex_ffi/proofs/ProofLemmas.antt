@@ -12,8 +12,8 @@ use Rattle.simplex_evidence.specs.Conflict.{finalize_evidence, notarize_evidence
 use Rattle.simplex_evidence.specs.Contents.{AreInConflict, ContentsValue, TwoVotes, contents_round, contents_verify, contents_votes}
 use Rattle.simplex_evidence.specs.declared.types.activity.Activity.{Activity}
 use Rattle.simplex_evidence.specs.declared.types.activity.Activity.TheVariants as activity
-use Rattle.simplex_detector.specs.Rules.{Rules, is_valid, valid_votes}
-use Rattle.simplex_detector.specs.Scheme.{Scheme, rules_of}
+use Rattle.simplex_rules.specs.Rules.{Rules, is_valid, valid_votes}
+use Rattle.simplex_rules.specs.Scheme.{Scheme, rules_of}
 use Rattle.simplex_audit.specs.Basis.{Basis}
 use Rattle.simplex_ffi.specs.Proof.{IsJudged, IsMessageJudged, accusation_by, are_valid, equivocation_of}
 use Rattle.simplex_ffi.specs.declared.proof.Accusation.{Accusation}
@@ -21,7 +21,7 @@ use Rattle.simplex_scheme.specs.Subject.{SubjectValue, Notarizes, Nullifies, Fin
 use Rattle.simplex_scheme.specs.declared.proposal.Proposal.{Proposal}
 use Rattle.simplex_votes.specs.Votes.{SignedVote, is_of, same_proposal}
 use Rattle.simplex_evidence.specs.Contradiction.{EquivocationKind, Conflicting_notarize, Conflicting_finalize, Nullify_finalize, Equivocation, clash, contradicts}
-use Rattle.simplex_detector.specs.Accusation.{accused_by, is_accused}
+use Rattle.simplex_rules.specs.Accusation.{accused_by, is_accused}
 
 -- a number is itself
 number_same : (n : ℕ) → (n == n) ≡ true

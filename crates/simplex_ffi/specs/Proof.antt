@@ -5,8 +5,8 @@ use Rattle.simplex_evidence.specs.Conflict.{finalize_evidence, notarize_evidence
 use Rattle.simplex_evidence.specs.Contradiction.{Equivocation, contradicts}
 use Rattle.simplex_evidence.specs.declared.types.activity.Activity.{Activity}
 use Rattle.simplex_evidence.specs.declared.types.activity.Activity.TheVariants as activity
-use Rattle.simplex_detector.specs.Accusation.{accused_by, is_accused, kind_rank}
-use Rattle.simplex_detector.specs.Rules.{Rules, is_valid, valid_votes}
+use Rattle.simplex_rules.specs.Accusation.{accused_by, is_accused, kind_rank}
+use Rattle.simplex_rules.specs.Rules.{Rules, is_valid, valid_votes}
 use Rattle.simplex_audit.specs.Basis.{Basis}
 use Rattle.simplex_ffi.specs.declared.proof.Accusation.{Accusation}
 

@@ -7,7 +7,7 @@ use Rattle.simplex_scheme.specs.Committees.{Schedule}
 use Rattle.simplex_schemes.specs.Plain.{PlainScheme}
 use Rattle.simplex_schemes.specs.Vouched.{VouchedScheme}
 use Rattle.simplex_evidence.specs.declared.types.activity.Activity.{Activity}
-use Rattle.simplex_detector.specs.declared.alarm.News.{News}
+use Rattle.simplex_alarm.specs.declared.alarm.News.{News}
 use Rattle.simplex_audit.specs.Basis.{Basis}
 use Rattle.simplex_places.specs.Pieces.{IsPiece}
 use Rattle.simplex_places.specs.declared.pieces.Piece.{Piece}

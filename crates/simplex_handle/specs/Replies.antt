@@ -6,11 +6,11 @@ use Rattle.simplex_base.specs.Positions.{Round}
 use Rattle.simplex_scheme.specs.Committees.{Schedule}
 use Rattle.simplex_evidence.specs.Contradiction.{Equivocation}
 use Rattle.simplex_evidence.specs.declared.types.activity.Activity.{Activity}
-use Rattle.simplex_detector.specs.Accusation.{round_cmp}
-use Rattle.simplex_detector.specs.Independence.{first_round}
-use Rattle.simplex_detector.specs.Line.{line_of}
-use Rattle.simplex_detector.specs.Splits.{split_line}
-use Rattle.simplex_detector.specs.declared.split.Split.{Split}
+use Rattle.simplex_rules.specs.Accusation.{round_cmp}
+use Rattle.simplex_rules.specs.Independence.{first_round}
+use Rattle.simplex_rules.specs.Line.{line_of}
+use Rattle.simplex_rules.specs.Splits.{split_line}
+use Rattle.simplex_rules.specs.declared.split.Split.{Split}
 use Rattle.simplex_audit.specs.Basis.{Basis, basis_from}
 use Rattle.simplex_audit.specs.Report.{IsReport}
 use Rattle.simplex_audit.specs.Run.{report_text, text_of}

@@ -5,8 +5,8 @@ use Rattle.simplex_scheme.specs.Subject.{SubjectValue, round_of}
 use Rattle.simplex_scheme.specs.declared.scheme.Attestation.{Attestation}
 use Rattle.simplex_votes.specs.Votes.{SignedVote}
 use Rattle.simplex_scheme.specs.Committees.{Schedule}
-use Rattle.simplex_detector.specs.Scheme.{rules_of, Scheme}
-use Rattle.simplex_detector.specs.Rules.{Rules, is_valid}
+use Rattle.simplex_rules.specs.Scheme.{rules_of, Scheme}
+use Rattle.simplex_rules.specs.Rules.{Rules, is_valid}
 use Rattle.simplex_inspect.specs.Validity.{validity_of_signature, validity_of_certificate}
 use Rattle.simplex_inspect.specs.declared.validity.Validity.{Validity}
 

@@ -7,8 +7,8 @@ ghost use Rattle.simplex_inspect.specs.Inspected.{Lines, lines_of};
 ghost use Rattle.simplex_inspect.specs.Shown.{Shown, shown_of};
 
 use simplex_base::codec::{Fixed, Read};
-use simplex_detector::rules::Decides;
 use simplex_evidence::types::Activity;
+use simplex_rules::rules::Decides;
 use simplex_scheme::scheme::{Digest, Listing};
 
 /// A scheme whose messages can be shown. Every scheme that lists attestations is one; there is nothing to implement or to

@@ -5,8 +5,8 @@ use Rattle.std.specs.Io.KnownBytes.{Appends, Consumes, IsAtEnd}
 use Rattle.std.specs.List.{flat_map}
 use Rattle.std.specs.Prelude.{IsTrue, OnErr}
 use Rattle.simplex_scheme.specs.Committees.{Schedule}
-use Rattle.simplex_detector.specs.Alarm.{Told, nothing_told, told_then}
-use Rattle.simplex_detector.specs.declared.alarm.News.{News}
+use Rattle.simplex_alarm.specs.Alarm.{Told, nothing_told, told_then}
+use Rattle.simplex_alarm.specs.declared.alarm.News.{News}
 use Rattle.simplex_stream.specs.Text.{AppendsBeginning}
 use Rattle.simplex_audit.specs.Basis.{Basis}
 use Rattle.simplex_audit.specs.Outcome.{ReaderUse, WriterUse}

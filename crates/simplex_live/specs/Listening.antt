@@ -2,8 +2,8 @@
 use Rattle.std.specs.Prelude.{◌≡◌, ◌+◌, ◌-◌, ◌^◌, ℕ, ◌++◌, Bool, List, [], IsTrue, false, length, min, option_map}
 use Rattle.std.specs.Io.KnownBytes.{Consumes, IsAtEnd}
 use Rattle.simplex_scheme.specs.Committees.{Schedule}
-use Rattle.simplex_detector.specs.Alarm.{Told, nothing_told}
-use Rattle.simplex_detector.specs.declared.alarm.News.{News}
+use Rattle.simplex_alarm.specs.Alarm.{Told, nothing_told}
+use Rattle.simplex_alarm.specs.declared.alarm.News.{News}
 use Rattle.simplex_stream.specs.declared.fault.Fault.{Fault}
 use Rattle.simplex_audit.specs.Basis.{Basis}
 use Rattle.simplex_audit.specs.Outcome.{ReaderUse, WriterUse}

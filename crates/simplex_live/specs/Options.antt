@@ -2,7 +2,7 @@
 use Rattle.std.specs.Prelude.{◌≡◌, ℕ, ◌-◌, ◌^◌, List, ◌∷◌, Option, None, Some, codes, max, min, option_map}
 use Rattle.simplex_lead.specs.declared.lookahead.Lookahead.{Lookahead}
 use Rattle.simplex_cli.specs.Options.{AreBehindOption, BeginWith}
-use Rattle.simplex_detector.specs.Independence.{first_round}
+use Rattle.simplex_rules.specs.Independence.{first_round}
 use Rattle.simplex_monitor.specs.Window.{first_window}
 use Rattle.simplex_monitor.specs.declared.window.Window.{Window}
 use Rattle.simplex_live.specs.declared.options.Options.{Options}

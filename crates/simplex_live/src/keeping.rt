@@ -2,7 +2,7 @@
 //! that follows can be read.
 
 ghost use Rattle.std.specs.Prelude.{◌≡◌, IfErr, List, ℕ};
-ghost use Rattle.simplex_detector.specs.Alarm.{Told};
+ghost use Rattle.simplex_alarm.specs.Alarm.{Told};
 ghost use Rattle.simplex_live.specs.Ending.{IsOfWords};
 ghost use Rattle.simplex_monitor.specs.Hearing.{AllTold};
 ghost use Rattle.simplex_monitor.specs.Monitoring.{Listens, fed_of};

@@ -8,8 +8,8 @@ use Rattle.simplex_scheme.specs.declared.kind.VoteKind.{VoteKind}
 use Rattle.simplex_evidence.specs.Activity.{contents_of, subject_and_certificate}
 use Rattle.simplex_evidence.specs.Contents.{OneCertificate, contents_certificate, contents_round}
 use Rattle.simplex_evidence.specs.declared.types.activity.Activity.{Activity}
-use Rattle.simplex_detector.specs.Independence.{is_from}
-use Rattle.simplex_detector.specs.Splits.{if_certified}
+use Rattle.simplex_rules.specs.Independence.{is_from}
+use Rattle.simplex_rules.specs.Splits.{if_certified}
 use Rattle.simplex_audit.specs.Basis.{Basis}
 use Rattle.simplex_monitor.specs.Watching.{Advances, KeepsCounts, KeepsFrom, TellsIfCertified}
 use Rattle.simplex_monitor.specs.Window.{floor_of}

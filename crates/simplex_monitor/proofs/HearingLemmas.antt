@@ -8,8 +8,8 @@ use Rattle.std.proofs.Math.Seq.{take-append_seam}
 use Rattle.std.proofs.lemmas.Grind.{flat_map-append}
 use Rattle.std.proofs.lemmas.List.{take-append-drop}
 use Rattle.simplex_scheme.specs.Committees.{Schedule}
-use Rattle.simplex_detector.specs.Alarm.{Told, told_then}
-use Rattle.simplex_detector.specs.declared.alarm.News.{News}
+use Rattle.simplex_alarm.specs.Alarm.{Told, told_then}
+use Rattle.simplex_alarm.specs.declared.alarm.News.{News}
 use Rattle.simplex_base.specs.declared.codec.error.Error.{Error}
 use Rattle.simplex_stream.specs.Decoder.{bytes_fed, decoding_over, undecoded}
 use Rattle.simplex_stream.specs.Fault.{IsFault, fault_of}

@@ -1,10 +1,9 @@
 -- What is held of messages, when one more comes and when the floor rises.
 use Rattle.std.proofs.Common.{◌≡◌, ℕ, Bool, true, false, ◌∙◌, List, [], ◌∷◌, ◌++◌, Option, Some, None, Result, Ok, Err, cond, ap, refl, subst, sym, append-nil}
-use Rattle.std.specs.Prelude.{All, IfSome, IsTrue, OnOk, Vec, filter}
+use Rattle.std.specs.Prelude.{All, IfSome, IsTrue, OnOk, Vec, filter, is_some}
 use Rattle.std.specs.Global.{Global}
 use Rattle.std.specs.List.{flat_map}
 use Rattle.std.specs.Bool.{then_some}
-use Rattle.std.specs.Prelude.{is_some}
 use Rattle.std.specs.Ordering.{ord_max}
 use Rattle.std.proofs.lemmas.Grind.{flat_map-append}
 use Rattle.std.proofs.lemmas.Option.{same_Some}
@@ -13,15 +12,16 @@ use Rattle.simplex_base.specs.Format.{Format}
 use Rattle.simplex_base.specs.Positions.{Round}
 use Rattle.simplex_evidence.specs.Activity.{IsActivity, activity_round}
 use Rattle.simplex_evidence.specs.declared.types.activity.Activity.{Activity}
-use Rattle.simplex_detector.specs.Accusation.{round_cmp}
+use Rattle.simplex_rules.specs.Accusation.{round_cmp}
 use Rattle.simplex_detector.specs.Detector.{Recalls}
-use Rattle.simplex_detector.specs.Independence.{FloorsRise, IsOfOneRound, in_rounds, is_from, of_rounds}
-use Rattle.simplex_detector.specs.Interchange.{HaveSameState, SameStateJoined}
-use Rattle.simplex_detector.specs.Kept.{TellsKept, kept_by}
-use Rattle.simplex_detector.specs.News.{CompactsNext, IsCompaction, compacted, kept_of}
-use Rattle.simplex_detector.specs.Rules.{Rules}
+use Rattle.simplex_rules.specs.Independence.{FloorsRise, IsOfOneRound, in_rounds, is_from, of_rounds}
+use Rattle.simplex_rules.specs.Interchange.{HaveSameState, SameStateJoined}
+use Rattle.simplex_detector.specs.Gathered.{TellsKept}
+use Rattle.simplex_ballots.specs.Kept.{kept_by}
+use Rattle.simplex_rules.specs.News.{CompactsNext, IsCompaction, compacted, kept_of}
+use Rattle.simplex_rules.specs.Rules.{Rules}
 use Rattle.simplex_detector.specs.declared.detector.Detector.{Detector}
-use Rattle.simplex_detector.specs.declared.kept.Kept.{Kept}
+use Rattle.simplex_ballots.specs.declared.kept.Kept.{Kept}
 use Rattle.simplex_stream.specs.Messages.{AreMessages}
 use Rattle.simplex_stream.specs.StreamLaws.{IsNeverEmpty, are_joined}
 use Rattle.simplex_audit.specs.Basis.{Basis}

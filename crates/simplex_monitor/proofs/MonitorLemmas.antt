@@ -10,30 +10,29 @@ use Rattle.std.specs.Prelude.{All, Contains, Vec, filter, ◌&&◌, ◌==◌}
 use Rattle.simplex_base.specs.Format.{Format, IsLawful}
 use Rattle.simplex_base.specs.Positions.{Round, same_round}
 use Rattle.simplex_evidence.specs.Activity.{votes_in}
-use Rattle.simplex_evidence.specs.Contradiction.{first_kind}
+use Rattle.simplex_evidence.specs.Contradiction.{first_kind, Equivocation}
 use Rattle.simplex_scheme.specs.Kind.{kind_of, same_kind}
 use Rattle.simplex_scheme.specs.Subject.{round_of}
 use Rattle.simplex_votes.specs.Votes.{SignedVote, is_at, is_of}
-use Rattle.simplex_detector.specs.Accusation.{Accusation, accused_by}
-use Rattle.simplex_detector.specs.declared.alerts.Alerts.{Alerts}
+use Rattle.simplex_rules.specs.Accusation.{Accusation, accused_by}
+use Rattle.simplex_alarm.specs.declared.alerts.Alerts.{Alerts}
 use Rattle.simplex_monitor.proofs.TakenLemmas.{same_round-true}
 use Rattle.simplex_monitor.proofs.WatchingLemmas.{filter_twice}
-use Rattle.simplex_evidence.specs.Contradiction.{Equivocation}
 use Rattle.simplex_evidence.specs.declared.types.activity.Activity.{Activity}
 use Rattle.simplex_scheme.specs.Committees.{Schedule, size_by}
-use Rattle.simplex_detector.specs.Alarm.{Sounds, SoundsUntold, Told, nothing_told, told_from, told_then}
-use Rattle.simplex_detector.specs.Alerts.{IsEachOnce, Tells, untold}
+use Rattle.simplex_alarm.specs.Alarm.{Sounds, SoundsUntold, Told, nothing_told, told_from, told_then}
+use Rattle.simplex_alarm.specs.Alerts.{IsEachOnce, Tells, untold}
 use Rattle.simplex_detector.specs.Detector.{Recalls}
-use Rattle.simplex_detector.specs.Evidence.{IsEvidence, evidence_of, with_first}
-use Rattle.simplex_detector.specs.Independence.{IsOfOneRound, in_rounds, is_from, splits_within}
-use Rattle.simplex_detector.specs.Recorded.{recorded_in, votes_recorded}
-use Rattle.simplex_detector.specs.Rules.{HaveCommittees, Rules, is_valid, valid_votes}
-use Rattle.simplex_detector.specs.SplitAlerts.{splits_arising}
-use Rattle.simplex_detector.specs.Splits.{AreSplits}
-use Rattle.simplex_detector.specs.Values.{evidence_value}
-use Rattle.simplex_detector.specs.declared.alarm.Alarm.{Alarm}
-use Rattle.simplex_detector.specs.declared.alarm.News.{News}
-use Rattle.simplex_detector.specs.declared.split.Split.{Split}
+use Rattle.simplex_rules.specs.Evidence.{IsEvidence, evidence_of, with_first}
+use Rattle.simplex_rules.specs.Independence.{IsOfOneRound, in_rounds, is_from, splits_within}
+use Rattle.simplex_rules.specs.Recorded.{recorded_in, votes_recorded}
+use Rattle.simplex_rules.specs.Rules.{HaveCommittees, Rules, is_valid, valid_votes}
+use Rattle.simplex_rules.specs.Arising.{splits_arising}
+use Rattle.simplex_rules.specs.Splits.{AreSplits}
+use Rattle.simplex_rules.specs.Values.{evidence_value}
+use Rattle.simplex_alarm.specs.declared.alarm.Alarm.{Alarm}
+use Rattle.simplex_alarm.specs.declared.alarm.News.{News}
+use Rattle.simplex_rules.specs.declared.split.Split.{Split}
 use Rattle.simplex_stream.specs.Decoder.{HasDecoded, DecodesMore, decoding_over}
 use Rattle.simplex_stream.specs.declared.decoder.Decoder.{Decoder}
 use Rattle.simplex_audit.specs.Basis.{Basis}

@@ -3,7 +3,7 @@ use Rattle.std.proofs.Common.{◌≡◌, ℕ, ◌+◌, ◌<◌, ◌≤◌, ◌�
 use Rattle.std.proofs.lemmas.Bool.{cases_lt}
 use Rattle.std.specs.Ordering.{is_lt, ord_max}
 use Rattle.simplex_base.specs.Positions.{Round}
-use Rattle.simplex_detector.specs.Accusation.{round_cmp}
+use Rattle.simplex_rules.specs.Accusation.{round_cmp}
 use Rattle.simplex_lead.specs.declared.lookahead.Lookahead.{Lookahead}
 use Rattle.simplex_monitor.specs.Bounded.{IsInSight, IsNearby}
 use Rattle.simplex_monitor.specs.Window.{AdmitsVote, IsInOrder, IsNear, window_after}

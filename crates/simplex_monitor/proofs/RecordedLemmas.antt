@@ -15,10 +15,10 @@ use Rattle.simplex_evidence.specs.Contents.{AreInConflict, ContentsValue, OneCer
 use Rattle.simplex_evidence.specs.Contradiction.{Conflicting_finalize, Conflicting_notarize, Nullify_finalize}
 use Rattle.simplex_evidence.specs.declared.types.activity.Activity.{Activity}
 use Rattle.simplex_evidence.specs.declared.types.activity.Activity.TheVariants as activity
-use Rattle.simplex_detector.specs.Independence.{IsOfOneRound, in_rounds, is_from}
-use Rattle.simplex_detector.specs.Recorded.{is_news, news_after, recorded_in, recorded_of, votes_recorded}
-use Rattle.simplex_detector.specs.Rules.{Rules, is_valid, valid_votes}
-use Rattle.simplex_detector.specs.Splits.{certified_in, if_certified}
+use Rattle.simplex_rules.specs.Independence.{IsOfOneRound, in_rounds, is_from}
+use Rattle.simplex_rules.specs.Recorded.{is_news, news_after, recorded_in, recorded_of, votes_recorded}
+use Rattle.simplex_rules.specs.Rules.{Rules, is_valid, valid_votes}
+use Rattle.simplex_rules.specs.Splits.{certified_in, if_certified}
 use Rattle.simplex_monitor.specs.Bounded.{IsNearby, views_of}
 use Rattle.simplex_monitor.specs.Taken.{AreTaken, Takes, certified_rounds, finalized_rounds, window_of}
 use Rattle.simplex_monitor.specs.Window.{IsInOrder, floor_of, window_after}

@@ -9,7 +9,7 @@ use Rattle.std.specs.Cmp.{IsTotalOrder}
 use Rattle.std.specs.Ordering.{is_le, is_lt, nat_cmp, ord_max, ordering_reverse}
 use Rattle.std.specs.Prelude.{Contains, filter}
 use Rattle.simplex_base.specs.Positions.{Round}
-use Rattle.simplex_detector.specs.Accusation.{round_cmp}
+use Rattle.simplex_rules.specs.Accusation.{round_cmp}
 use Rattle.simplex_monitor.specs.Heads.{greatest}
 
 pub round_total : IsTotalOrder round_cmp

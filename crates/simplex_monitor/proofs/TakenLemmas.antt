@@ -15,10 +15,10 @@ use Rattle.simplex_scheme.specs.declared.kind.VoteKind.{VoteKind}
 use Rattle.simplex_scheme.specs.declared.kind.VoteKind.TheVariants as kinds
 use Rattle.simplex_evidence.specs.Activity.{subject_and_certificate}
 use Rattle.simplex_evidence.specs.declared.types.activity.Activity.{Activity}
-use Rattle.simplex_detector.specs.FirstCertified.{certified_subjects, first_certified}
-use Rattle.simplex_detector.specs.Independence.{in_rounds}
-use Rattle.simplex_detector.specs.Rules.{Rules}
-use Rattle.simplex_detector.specs.Splits.{certified_in, if_certified, is_certified_message}
+use Rattle.simplex_rules.specs.FirstCertified.{certified_subjects, first_certified}
+use Rattle.simplex_rules.specs.Independence.{in_rounds}
+use Rattle.simplex_rules.specs.Rules.{Rules}
+use Rattle.simplex_rules.specs.Splits.{certified_in, if_certified, is_certified_message}
 use Rattle.simplex_monitor.specs.Taken.{certified_rounds, finalized_rounds, window_of}
 use Rattle.simplex_monitor.specs.Window.{IsInOrder, window_after}
 use Rattle.simplex_monitor.specs.declared.window.Window.{Window}

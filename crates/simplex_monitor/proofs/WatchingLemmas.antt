@@ -10,17 +10,17 @@ use Rattle.simplex_base.specs.Positions.{Round}
 use Rattle.simplex_evidence.specs.Activity.{activity_round}
 use Rattle.simplex_evidence.specs.Contradiction.{Equivocation}
 use Rattle.simplex_evidence.specs.declared.types.activity.Activity.{Activity}
-use Rattle.simplex_detector.specs.Accusation.{accused_by, round_cmp}
-use Rattle.simplex_detector.specs.Alarm.{Sounds, SoundsFrom, SoundsMore, Told, nothing_told, told_from}
+use Rattle.simplex_rules.specs.Accusation.{accused_by, round_cmp}
+use Rattle.simplex_alarm.specs.Alarm.{Sounds, SoundsFrom, SoundsMore, Told, nothing_told, told_from}
 use Rattle.simplex_detector.specs.Detector.{Recalls, RecallsMore}
-use Rattle.simplex_detector.specs.Independence.{FloorsRise, evidence_within, in_rounds, is_from, splits_within}
-use Rattle.simplex_detector.specs.FirstCertified.{certified_subjects, first_certified}
-use Rattle.simplex_detector.specs.Rules.{HaveCommittees, Rules}
-use Rattle.simplex_detector.specs.Splits.{is_split}
+use Rattle.simplex_rules.specs.Independence.{FloorsRise, evidence_within, in_rounds, is_from, splits_within}
+use Rattle.simplex_rules.specs.FirstCertified.{certified_subjects, first_certified}
+use Rattle.simplex_rules.specs.Rules.{HaveCommittees, Rules}
+use Rattle.simplex_rules.specs.Splits.{is_split}
 use Rattle.simplex_scheme.specs.declared.kind.VoteKind.{VoteKind}
-use Rattle.simplex_detector.specs.declared.alarm.Alarm.{Alarm}
+use Rattle.simplex_alarm.specs.declared.alarm.Alarm.{Alarm}
 use Rattle.simplex_detector.specs.declared.detector.Detector.{Detector}
-use Rattle.simplex_detector.specs.declared.split.Split.{Split}
+use Rattle.simplex_rules.specs.declared.split.Split.{Split}
 use Rattle.simplex_audit.specs.Basis.{Basis}
 use Rattle.simplex_monitor.specs.Heads.{greatest}
 use Rattle.simplex_monitor.specs.Taken.{Takes, window_of}

@@ -5,7 +5,7 @@ use Rattle.std.proofs.lemmas.List.Elements.{Contains-append_right, filter-append
 use Rattle.std.specs.Ordering.{is_le, ord_max}
 use Rattle.std.specs.Prelude.{Contains, filter, nat_lt}
 use Rattle.simplex_base.specs.Positions.{Round}
-use Rattle.simplex_detector.specs.Accusation.{round_cmp}
+use Rattle.simplex_rules.specs.Accusation.{round_cmp}
 use Rattle.simplex_lead.specs.Windows.{FitsWindow, IsAdmitted, IsRetained}
 use Rattle.simplex_monitor.specs.Heads.{greatest, of_earlier_epochs}
 use Rattle.simplex_monitor.specs.Window.{AdmitsCertificate, AdmitsVote, IsInOrder, IsNear, floor_of, window_after}

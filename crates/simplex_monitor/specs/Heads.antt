@@ -2,7 +2,7 @@
 use Rattle.std.specs.Prelude.{List, [], ◌∷◌, filter, nat_lt}
 use Rattle.std.specs.Ordering.{ord_max}
 use Rattle.simplex_base.specs.Positions.{Round}
-use Rattle.simplex_detector.specs.Accusation.{round_cmp}
+use Rattle.simplex_rules.specs.Accusation.{round_cmp}
 
 -- the greatest of a round and others, in the order of rounds
 abbrev pub greatest : Round → List Round → Round

@@ -3,12 +3,12 @@ use Rattle.std.specs.Prelude.{◌≡◌, ◌++◌, ◌+◌, ◌≤◌, ℕ, List
 use Rattle.std.specs.List.{flat_map}
 use Rattle.std.specs.Io.KnownBytes.{Appends}
 use Rattle.simplex_scheme.specs.Committees.{Schedule}
-use Rattle.simplex_detector.specs.Alarm.{Told, told_then}
-use Rattle.simplex_detector.specs.Alerts.{untold}
-use Rattle.simplex_detector.specs.Line.{line_of}
-use Rattle.simplex_detector.specs.Splits.{split_line}
-use Rattle.simplex_detector.specs.Values.{evidence_value}
-use Rattle.simplex_detector.specs.declared.alarm.News.{News}
+use Rattle.simplex_alarm.specs.Alarm.{Told, told_then}
+use Rattle.simplex_alarm.specs.Alerts.{untold}
+use Rattle.simplex_rules.specs.Line.{line_of}
+use Rattle.simplex_rules.specs.Splits.{split_line}
+use Rattle.simplex_rules.specs.Values.{evidence_value}
+use Rattle.simplex_alarm.specs.declared.alarm.News.{News}
 use Rattle.simplex_stream.specs.Text.{AppendsBeginning}
 use Rattle.simplex_audit.specs.Basis.{Basis}
 use Rattle.simplex_audit.specs.Run.{text_of}

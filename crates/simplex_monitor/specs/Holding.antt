@@ -5,8 +5,8 @@ use Rattle.std.specs.List.{flat_map}
 use Rattle.simplex_base.specs.Positions.{Round}
 use Rattle.simplex_evidence.specs.Activity.{activity_round}
 use Rattle.simplex_evidence.specs.declared.types.activity.Activity.{Activity}
-use Rattle.simplex_detector.specs.Independence.{in_rounds, is_from}
-use Rattle.simplex_detector.specs.Interchange.{HaveSameState}
+use Rattle.simplex_rules.specs.Independence.{in_rounds, is_from}
+use Rattle.simplex_rules.specs.Interchange.{HaveSameState}
 use Rattle.simplex_stream.specs.Messages.{AreMessages}
 use Rattle.simplex_audit.specs.Basis.{Basis}
 

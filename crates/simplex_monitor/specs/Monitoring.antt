@@ -6,16 +6,16 @@ use Rattle.simplex_base.specs.Format.{Format, IsLawful}
 use Rattle.simplex_scheme.specs.Committees.{Schedule}
 use Rattle.simplex_evidence.specs.Contradiction.{Equivocation}
 use Rattle.simplex_evidence.specs.declared.types.activity.Activity.{Activity}
-use Rattle.simplex_detector.specs.Alarm.{Told, told_from, told_then}
-use Rattle.simplex_detector.specs.Alerts.{IsEachOnce}
-use Rattle.simplex_detector.specs.Evidence.{IsEvidence}
-use Rattle.simplex_detector.specs.Independence.{in_rounds, is_from}
-use Rattle.simplex_detector.specs.Recorded.{votes_recorded}
-use Rattle.simplex_detector.specs.Rules.{HaveCommittees, Rules, valid_votes}
-use Rattle.simplex_detector.specs.SplitAlerts.{splits_arising}
-use Rattle.simplex_detector.specs.Splits.{AreSplits}
-use Rattle.simplex_detector.specs.declared.alarm.News.{News}
-use Rattle.simplex_detector.specs.declared.split.Split.{Split}
+use Rattle.simplex_alarm.specs.Alarm.{Told, told_from, told_then}
+use Rattle.simplex_alarm.specs.Alerts.{IsEachOnce}
+use Rattle.simplex_rules.specs.Evidence.{IsEvidence}
+use Rattle.simplex_rules.specs.Independence.{in_rounds, is_from}
+use Rattle.simplex_rules.specs.Recorded.{votes_recorded}
+use Rattle.simplex_rules.specs.Rules.{HaveCommittees, Rules, valid_votes}
+use Rattle.simplex_rules.specs.Arising.{splits_arising}
+use Rattle.simplex_rules.specs.Splits.{AreSplits}
+use Rattle.simplex_alarm.specs.declared.alarm.News.{News}
+use Rattle.simplex_rules.specs.declared.split.Split.{Split}
 use Rattle.simplex_stream.specs.Fault.{IsFault}
 use Rattle.simplex_stream.specs.Messages.{AreMessages}
 use Rattle.simplex_stream.specs.declared.fault.Fault.{Fault}

@@ -6,7 +6,7 @@ use Rattle.std.proofs.lemmas.List.Elements.{filter-append}
 use Rattle.simplex_base.specs.Positions.{Round}
 use Rattle.simplex_evidence.specs.Activity.{activity_round}
 use Rattle.simplex_evidence.specs.declared.types.activity.Activity.{Activity}
-use Rattle.simplex_detector.specs.Independence.{is_from, of_rounds}
+use Rattle.simplex_rules.specs.Independence.{is_from, of_rounds}
 use Rattle.simplex_monitor.specs.declared.sieve.Sieve.{Sieve}
 
 module _ {S D C P G : Type 0} (encoding : Activity S D C P G → List ℕ) where

@@ -6,9 +6,9 @@ use Rattle.simplex_scheme.specs.Subject.{round_of}
 use Rattle.simplex_scheme.specs.declared.kind.VoteKind.TheVariants as kinds
 use Rattle.simplex_evidence.specs.Activity.{activity_round}
 use Rattle.simplex_evidence.specs.declared.types.activity.Activity.{Activity}
-use Rattle.simplex_detector.specs.FirstCertified.{certified_subjects}
-use Rattle.simplex_detector.specs.Rules.{Rules}
-use Rattle.simplex_detector.specs.Splits.{is_certified_message}
+use Rattle.simplex_rules.specs.FirstCertified.{certified_subjects}
+use Rattle.simplex_rules.specs.Rules.{Rules}
+use Rattle.simplex_rules.specs.Splits.{is_certified_message}
 use Rattle.simplex_monitor.specs.Window.{AdmitsCertificate, AdmitsVote, window_after}
 use Rattle.simplex_monitor.specs.declared.window.Window.{Window}
 

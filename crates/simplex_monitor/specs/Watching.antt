@@ -6,13 +6,13 @@ use Rattle.simplex_base.specs.Positions.{Round}
 use Rattle.simplex_scheme.specs.declared.kind.VoteKind.{VoteKind}
 use Rattle.simplex_evidence.specs.Activity.{activity_round}
 use Rattle.simplex_evidence.specs.declared.types.activity.Activity.{Activity}
-use Rattle.simplex_detector.specs.Accusation.{round_cmp}
-use Rattle.simplex_detector.specs.Alarm.{Sounds, Told, told_from}
+use Rattle.simplex_rules.specs.Accusation.{round_cmp}
+use Rattle.simplex_alarm.specs.Alarm.{Sounds, Told, told_from}
 use Rattle.simplex_detector.specs.Detector.{Recalls}
-use Rattle.simplex_detector.specs.FirstCertified.{certified_subjects, first_certified}
-use Rattle.simplex_detector.specs.Independence.{in_rounds, is_from}
-use Rattle.simplex_detector.specs.Rules.{HaveCommittees}
-use Rattle.simplex_detector.specs.Splits.{is_certified_message}
+use Rattle.simplex_rules.specs.FirstCertified.{certified_subjects, first_certified}
+use Rattle.simplex_rules.specs.Independence.{in_rounds, is_from}
+use Rattle.simplex_rules.specs.Rules.{HaveCommittees}
+use Rattle.simplex_rules.specs.Splits.{is_certified_message}
 use Rattle.simplex_audit.specs.Basis.{Basis}
 use Rattle.simplex_monitor.specs.Holding.{StandsIfHeld}
 use Rattle.simplex_monitor.specs.Taken.{AreTaken, window_of}

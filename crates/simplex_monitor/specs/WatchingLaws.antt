@@ -1,7 +1,7 @@
 -- Messages that come one after another.
 use Rattle.std.proofs.Common.{◌≡◌, ℕ, ◌+◌, List, [], ◌∷◌, ◌++◌, inl, inr, refl, sym, ap, subst, ◌∙◌, arith, append_assoc, append-nil}
 use Rattle.simplex_evidence.specs.declared.types.activity.Activity.{Activity}
-use Rattle.simplex_detector.specs.Rules.{Rules}
+use Rattle.simplex_rules.specs.Rules.{Rules}
 use Rattle.simplex_audit.specs.Basis.{Basis}
 use Rattle.simplex_monitor.specs.Taken.{AreTaken}
 use Rattle.simplex_monitor.specs.Watching.{Watches, WatchesMore}

@@ -4,8 +4,8 @@ use Rattle.std.specs.Ordering.{is_le, ord_max}
 use Rattle.simplex_base.specs.Positions.{Round}
 use Rattle.simplex_lead.specs.Windows.{FitsWindow, IsAdmitted}
 use Rattle.simplex_lead.specs.declared.lookahead.Lookahead.{Lookahead}
-use Rattle.simplex_detector.specs.Accusation.{round_cmp}
-use Rattle.simplex_detector.specs.Independence.{is_from}
+use Rattle.simplex_rules.specs.Accusation.{round_cmp}
+use Rattle.simplex_rules.specs.Independence.{is_from}
 use Rattle.simplex_monitor.specs.Heads.{greatest, of_earlier_epochs}
 use Rattle.simplex_monitor.specs.declared.window.Window.{Window}
 

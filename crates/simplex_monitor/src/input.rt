@@ -2,8 +2,8 @@
 
 ghost use Rattle.std.specs.Prelude.{◌≡◌, ◌≢◌, ◌↔◌, ◌+◌, ◌<◌, ◌≤◌, ◌^◌, ◌++◌, ◌∷◌, [], ℕ, List, false, Ok, Err, IsTrue, IfOk, IfErr, OnOk, OnErr, length, take};
 ghost use Rattle.std.specs.Io.KnownBytes.{Appends, Consumes, IsAtEnd, Keeps};
-ghost use Rattle.simplex_detector.specs.Alarm.{Told};
-ghost use Rattle.simplex_detector.specs.declared.alarm.News as alarm;
+ghost use Rattle.simplex_alarm.specs.Alarm.{Told};
+ghost use Rattle.simplex_alarm.specs.declared.alarm.News as alarm;
 ghost use Rattle.simplex_monitor.specs.Hearing.{AllTold, Heard, Hears, HearsBeginning, news_text};
 ghost use Rattle.simplex_monitor.specs.Monitoring.{Listens, fed_of};
 ghost use Rattle.simplex_monitor.specs.declared.monitor.Monitor as monitors;

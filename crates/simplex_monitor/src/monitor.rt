@@ -1,11 +1,10 @@
 //! An auditor that listens to the network for long.
 
-ghost use Rattle.std.specs.Prelude.{◌≡◌, ◌+◌, ◌-◌, ◌<◌, ◌≤◌, ◌^◌, ◌++◌, ℕ, List, [], map, min, length, IfOk, IfSome, IsTrue, OnErr, OnOk};
+ghost use Rattle.std.specs.Prelude.{◌≡◌, ◌+◌, ◌-◌, ◌<◌, ◌≤◌, ◌^◌, ◌++◌, ℕ, List, [], map, min, length, IfOk, IfSome, IsTrue, OnErr, OnOk, is_some};
 ghost use Rattle.std.specs.List.{flat_map};
-ghost use Rattle.std.specs.Prelude.{is_some};
 ghost use Rattle.simplex_scheme.specs.Committees.{Schedule};
-ghost use Rattle.simplex_detector.specs.Alarm.{Told, nothing_told, told_then};
-ghost use Rattle.simplex_detector.specs.Values.{evidence_value};
+ghost use Rattle.simplex_alarm.specs.Alarm.{Told, nothing_told, told_then};
+ghost use Rattle.simplex_rules.specs.Values.{evidence_value};
 ghost use Rattle.simplex_monitor.specs.Hearing.{AllTold};
 ghost use Rattle.simplex_monitor.specs.Holding.{Holds, HoldsNoOther};
 ghost use Rattle.simplex_monitor.specs.Monitoring.{AreFewVotes, EndsAt, HasEvidence, HasSplits, HasVotes, Listens, TellsRest, fed_of, held_of, listening_over, watcher_of};
@@ -15,16 +14,16 @@ ghost use Rattle.simplex_monitor.specs.declared.window.Window as windows;
 use crate::sieve::messages_from;
 use crate::watcher::Watcher;
 use crate::window::Window;
+pub use simplex_alarm::alarm::News;
 use simplex_audit::basis::Audited;
 use simplex_base::positions::{Round, ViewDelta};
-pub use simplex_detector::alarm::News;
-use simplex_detector::evidence::Evidence;
-use simplex_detector::laws::{
+use simplex_evidence::types::Activity;
+use simplex_laws::laws::{
     committees_are_lawful, few_votes_are_recorded, floors_rise, rounds_are_independent,
 };
-use simplex_detector::split::Split;
-use simplex_evidence::types::Activity;
 use simplex_lead::Lookahead;
+use simplex_rules::evidence::Evidence;
+use simplex_rules::split::Split;
 use simplex_scheme::committees::Committees;
 use simplex_scheme::scheme::{Digest, Listing, SchemeTypes};
 use simplex_stream::decoder::Decoder;

@@ -3,15 +3,15 @@
 ghost use Rattle.std.specs.Prelude.{◌≡◌, ℕ, List, [], ⊤, IfOk};
 ghost use Rattle.std.specs.List.{flat_map};
 ghost use Rattle.simplex_base.specs.Format.{format_under};
-ghost use Rattle.simplex_detector.specs.Independence.{is_from, of_rounds};
+ghost use Rattle.simplex_rules.specs.Independence.{is_from, of_rounds};
 ghost use Rattle.simplex_evidence.specs.declared.types.activity.Activity as activities;
 ghost use Rattle.simplex_stream.specs.Messages.{AreMessages};
 
 use crate::window::is_at_least;
 use simplex_audit::compaction::append_news;
+use simplex_ballots::kept::Kept;
 use simplex_base::codec::{Encoding, Read};
 use simplex_base::positions::{Round, Roundable};
-use simplex_detector::kept::Kept;
 use simplex_evidence::types::Activity;
 use simplex_scheme::scheme::{Digest, Listing};
 use simplex_stream::messages::{Visitor, for_each_message};

@@ -6,25 +6,23 @@ ghost use Rattle.simplex_evidence.specs.Activity.{activity_round};
 ghost use Rattle.simplex_scheme.specs.Committees.{Schedule};
 ghost use Rattle.simplex_scheme.specs.Kind.{same_kind};
 ghost use Rattle.simplex_scheme.specs.declared.kind.VoteKind.TheVariants as kinds;
-ghost use Rattle.simplex_detector.specs.Alarm.{nothing_told};
-ghost use Rattle.simplex_detector.specs.Splits.{is_certified_message};
+ghost use Rattle.simplex_alarm.specs.Alarm.{nothing_told};
+ghost use Rattle.simplex_rules.specs.Splits.{is_certified_message};
 ghost use Rattle.simplex_monitor.specs.Taken.{Takes};
 ghost use Rattle.simplex_monitor.specs.Watching.{Advances, KeepsCounts, KeepsFrom, PrunesTo, RecordsOne, TellsIfCertified, Watches, WatchesMore};
 ghost use Rattle.simplex_monitor.specs.Window.{AdmitsCertificate, IsInOrder, window_after};
 ghost use Rattle.simplex_monitor.specs.declared.window.Window as windows;
 
 use crate::window::{Window, is_at_least};
+use simplex_alarm::alarm::Alarm;
 use simplex_audit::basis::Audited;
 use simplex_audit::compaction::append_news;
 use simplex_base::positions::{Round, Roundable};
-use simplex_detector::alarm::Alarm;
 use simplex_detector::detector::Detector;
-use simplex_detector::judging::Judging;
-use simplex_detector::laws::{
-    floors_rise, news_suffices, rounds_are_independent, same_state_suffices,
-};
-use simplex_detector::rules::Judges;
 use simplex_evidence::types::{Activity, Contents};
+use simplex_laws::laws::{floors_rise, news_suffices, rounds_are_independent, same_state_suffices};
+use simplex_rules::judging::Judging;
+use simplex_rules::rules::Judges;
 use simplex_scheme::committees::Committees;
 use simplex_scheme::scheme::{Digest, Listing, SchemeTypes, VoteKind};
 use simplex_stream::messages::Visitor;

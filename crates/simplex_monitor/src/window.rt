@@ -3,8 +3,8 @@
 ghost use Rattle.std.specs.Prelude.{◌≡◌, ◌↔◌, ◌+◌, ◌<◌, ◌≤◌, ◌++◌, ◌∷◌, [], IsTrue, List, Contains, Option, Some, None, if◌then◌else◌, true};
 ghost use Rattle.std.specs.Ordering.{ord_max};
 ghost use Rattle.simplex_base.specs.Positions as positions;
-ghost use Rattle.simplex_detector.specs.Accusation.{round_cmp};
-ghost use Rattle.simplex_detector.specs.Independence.{is_from};
+ghost use Rattle.simplex_rules.specs.Accusation.{round_cmp};
+ghost use Rattle.simplex_rules.specs.Independence.{is_from};
 ghost use Rattle.simplex_lead.specs.Windows.{FitsWindow, IsAdmitted, IsRetained};
 ghost use Rattle.simplex_monitor.specs.Window.{AdmitsCertificate, AdmitsVote, IsInOrder, IsNear, first_window, floor_of, window_after};
 ghost use Rattle.simplex_monitor.specs.declared.window.Window as windows;

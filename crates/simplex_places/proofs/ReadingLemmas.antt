@@ -7,7 +7,7 @@ use Rattle.simplex_stream.specs.PlaceLaws.{place_behind_one}
 use Rattle.simplex_stream.specs.Progress.{IsProgress}
 use Rattle.simplex_evidence.specs.declared.types.activity.Activity.{Activity}
 use Rattle.simplex_detector.specs.Detector.{Recalls}
-use Rattle.simplex_detector.specs.Rules.{Rules}
+use Rattle.simplex_rules.specs.Rules.{Rules}
 use Rattle.simplex_audit.specs.Basis.{Basis}
 use Rattle.simplex_places.specs.Claims.{ReadsClaims, ReadsPlaces}
 use Rattle.simplex_places.specs.Pieces.{ArePlaces}

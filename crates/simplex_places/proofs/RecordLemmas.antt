@@ -14,7 +14,7 @@ use Rattle.simplex_scheme.specs.Subject.{SubjectValue, Notarizes, Nullifies, Fin
 use Rattle.simplex_scheme.specs.declared.proposal.Proposal.{Proposal}
 use Rattle.simplex_votes.specs.Votes.{SignedVote, is_of, same_proposal}
 use Rattle.simplex_evidence.specs.Contradiction.{Equivocation, clash}
-use Rattle.simplex_detector.specs.Evidence.{IsEquivocation}
+use Rattle.simplex_rules.specs.Evidence.{IsEquivocation}
 use Rattle.simplex_places.specs.Bytes.{IsVoteAt}
 use Rattle.simplex_places.specs.FirstPlaces.{AreSought, IsSought, NotesAlong, carried_at, first_found, found_in, or_found, votes_placed}
 use Rattle.simplex_places.specs.Places.{kind_number}

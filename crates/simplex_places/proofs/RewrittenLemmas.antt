@@ -12,11 +12,11 @@ use Rattle.simplex_scheme.specs.Subject.{SubjectValue, round_of}
 use Rattle.simplex_scheme.specs.declared.scheme.Attestation.{Attestation}
 use Rattle.simplex_evidence.specs.declared.types.activity.Activity.{Activity}
 use Rattle.simplex_evidence.specs.Activity.{votes_in}
-use Rattle.simplex_detector.specs.Evidence.{IsEvidence}
-use Rattle.simplex_detector.specs.Rules.{AreLawful, Rules, valid_votes}
-use Rattle.simplex_detector.specs.Splits.{AreSplits}
-use Rattle.simplex_detector.specs.Agreement.{AgreeOnSuspects, SuspectsDecide, claim_of}
-use Rattle.simplex_detector.specs.Suspects.{is_suspect, is_suspect_round}
+use Rattle.simplex_rules.specs.Evidence.{IsEvidence}
+use Rattle.simplex_rules.specs.Rules.{AreLawful, Rules, valid_votes}
+use Rattle.simplex_rules.specs.Splits.{AreSplits}
+use Rattle.simplex_rules.specs.Agreement.{AgreeOnSuspects, SuspectsDecide, claim_of}
+use Rattle.simplex_rules.specs.Suspects.{is_suspect, is_suspect_round}
 use Rattle.simplex_audit.specs.Basis.{Basis}
 use Rattle.simplex_stream.specs.Messages.{AreMessages}
 use Rattle.simplex_stream.specs.Fault.{IsFault}

@@ -4,7 +4,7 @@ use Rattle.std.specs.Prelude.{◌&&◌, ◌↔◌, if◌then◌else◌, All, Con
 use Rattle.std.proofs.lemmas.List.{map-append}
 use Rattle.std.proofs.lemmas.List.Elements.{All-cons, All-contains, All-head, All-nil, All-tail, filter_more}
 use Rattle.simplex_base.specs.Positions.{Round}
-use Rattle.simplex_detector.specs.Suspects.{Suspected}
+use Rattle.simplex_rules.specs.Suspects.{Suspected}
 use Rattle.simplex_places.specs.Suspects.{is_sought, passing_of, round_at, sought_of}
 use Rattle.simplex_places.specs.declared.places.Placed.{Placed}
 use Rattle.simplex_places.specs.declared.places.AttestationPlace.{AttestationPlace}

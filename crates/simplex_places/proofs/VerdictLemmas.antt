@@ -18,10 +18,10 @@ use Rattle.simplex_votes.specs.declared.types.nullify.Nullify.{Nullify}
 use Rattle.simplex_evidence.specs.Activity.{activity_format, subject_and_certificate, votes_in}
 use Rattle.simplex_evidence.specs.declared.types.activity.Activity.{Activity}
 use Rattle.simplex_evidence.specs.declared.types.activity.Activity.TheVariants as activity
-use Rattle.simplex_detector.specs.FirstCertified.{certified_subjects}
-use Rattle.simplex_detector.specs.Rules.{Rules}
-use Rattle.simplex_detector.specs.Splits.{certified_in, if_certified}
-use Rattle.simplex_detector.specs.Agreement.{claim_of}
+use Rattle.simplex_rules.specs.FirstCertified.{certified_subjects}
+use Rattle.simplex_rules.specs.Rules.{Rules}
+use Rattle.simplex_rules.specs.Splits.{certified_in, if_certified}
+use Rattle.simplex_rules.specs.Agreement.{claim_of}
 use Rattle.simplex_places.specs.Places.{behind, certificate_places, message_places, pair_places, placed_at, places_along, places_from, signed_at, vote_places}
 use Rattle.simplex_places.specs.Suspects.{round_at}
 use Rattle.simplex_places.specs.declared.places.Placed.{Placed}

@@ -4,7 +4,7 @@ use Rattle.std.specs.List.{flat_map}
 use Rattle.simplex_stream.specs.PlaceLaws.{place_behind}
 use Rattle.simplex_evidence.specs.declared.types.activity.Activity.{Activity}
 use Rattle.simplex_detector.specs.DetectorLaws.{recalls_none, recalls_on}
-use Rattle.simplex_detector.specs.Rules.{Rules}
+use Rattle.simplex_rules.specs.Rules.{Rules}
 use Rattle.simplex_places.specs.Claims.{ReadsClaims, ReadsPlaces}
 use Rattle.simplex_places.specs.Places.{places_along}
 use Rattle.simplex_places.specs.declared.places.Placed.{Placed}

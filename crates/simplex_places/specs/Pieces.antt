@@ -3,7 +3,7 @@ use Rattle.std.specs.Prelude.{◌≡◌, ℕ, ◌&&◌, Bool, IsTrue, List, leng
 use Rattle.std.specs.List.{flat_map}
 use Rattle.simplex_base.specs.Positions.{Round}
 use Rattle.simplex_evidence.specs.declared.types.activity.Activity.{Activity}
-use Rattle.simplex_detector.specs.Independence.{is_from}
+use Rattle.simplex_rules.specs.Independence.{is_from}
 use Rattle.simplex_audit.specs.Basis.{Basis}
 use Rattle.simplex_stream.specs.Messages.{AreMessages, IsOver}
 use Rattle.simplex_places.specs.Places.{places_along}

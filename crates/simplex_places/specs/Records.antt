@@ -8,7 +8,7 @@ use Rattle.simplex_scheme.specs.Subject.{round_of}
 use Rattle.simplex_votes.specs.Votes.{SignedVote}
 use Rattle.simplex_evidence.specs.Contradiction.{Equivocation}
 use Rattle.simplex_evidence.specs.declared.types.activity.Activity.{Activity}
-use Rattle.simplex_detector.specs.Accusation.{kind_rank}
+use Rattle.simplex_rules.specs.Accusation.{kind_rank}
 use Rattle.simplex_audit.specs.Basis.{Basis}
 use Rattle.simplex_audit.specs.Guarantees.{OfMessages}
 use Rattle.simplex_audit.specs.Report.{evidence_in}

@@ -4,11 +4,11 @@ use Rattle.std.specs.BTreeSet.{contains}
 use Rattle.simplex_base.specs.Positions.{Round}
 use Rattle.simplex_evidence.specs.declared.types.activity.Activity.{Activity}
 use Rattle.simplex_detector.specs.Detector.{Recalls}
-use Rattle.simplex_detector.specs.Accusation.{round_cmp, signer_cmp, signer_in}
-use Rattle.simplex_detector.specs.Rules.{Rules}
-use Rattle.simplex_detector.specs.Suspects.{Suspected, is_suspect, is_suspect_round}
+use Rattle.simplex_rules.specs.Accusation.{round_cmp, signer_cmp, signer_in}
+use Rattle.simplex_rules.specs.Rules.{Rules}
+use Rattle.simplex_rules.specs.Suspects.{Suspected, is_suspect, is_suspect_round}
 use Rattle.simplex_detector.specs.declared.detector.Detector.{Detector}
-use Rattle.simplex_detector.specs.declared.judging.SuspectSigners.{SuspectSigners}
+use Rattle.simplex_rules.specs.declared.judging.SuspectSigners.{SuspectSigners}
 use Rattle.simplex_audit.specs.Basis.{Basis}
 use Rattle.simplex_stream.specs.Messages.{AreMessages}
 use Rattle.simplex_places.specs.Places.{places_along}

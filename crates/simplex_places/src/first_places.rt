@@ -6,15 +6,15 @@ ghost use Rattle.simplex_base.specs.Format.{format_under};
 ghost use Rattle.simplex_scheme.specs.Subject.{subject_value};
 ghost use Rattle.simplex_evidence.specs.Activity.{votes_in};
 ghost use Rattle.simplex_votes.specs.Votes.{vote_on};
-ghost use Rattle.simplex_detector.specs.Values.{evidence_value};
+ghost use Rattle.simplex_rules.specs.Values.{evidence_value};
 ghost use Rattle.simplex_places.specs.FirstPlaces.{AreFound, AreSought, Notes, carried_at, found_if, or_found, votes_placed};
 
 use crate::located::{Counted, Located};
 use crate::places::{Placed, push_message};
 use crate::votes::{Key, attested, first, second};
 use simplex_base::codec::{Encoding, Read};
-use simplex_detector::evidence::Evidence;
 use simplex_evidence::types::{Activity, Contents};
+use simplex_rules::evidence::Evidence;
 use simplex_scheme::scheme::{Attestation, Digest, Listing, SchemeTypes, Subject};
 use simplex_stream::messages::{Visitor, for_each_message};
 use std::alloc::{AllocError, Global};

@@ -1,8 +1,8 @@
 //! Reads the messages of a stream one after another, with nothing verified, and notes where their attestations stand.
 
 ghost use Rattle.std.specs.Prelude.{◌≡◌, ◌+◌, ◌<◌, ◌^◌, [], ◌∷◌, length, IfOk, OnOk};
-ghost use Rattle.simplex_detector.specs.Rules.{AreLawful};
-ghost use Rattle.simplex_detector.specs.declared.judging.Judging.TheVariants.{Claimed};
+ghost use Rattle.simplex_rules.specs.Rules.{AreLawful};
+ghost use Rattle.simplex_rules.specs.declared.judging.Judging.TheVariants.{Claimed};
 ghost use Rattle.simplex_places.specs.Claims.{ReadsPlaces};
 ghost use Rattle.simplex_places.specs.Suspects.{AreRead};
 
@@ -11,10 +11,10 @@ use crate::places::{Placed, push_message};
 use simplex_audit::basis::Audited;
 use simplex_base::codec::Encoding;
 use simplex_detector::detector::Detector;
-use simplex_detector::judging::Judging;
-use simplex_detector::laws::committees_are_lawful;
-use simplex_detector::rules::Judges;
 use simplex_evidence::types::Activity;
+use simplex_laws::laws::committees_are_lawful;
+use simplex_rules::judging::Judging;
+use simplex_rules::rules::Judges;
 use simplex_scheme::committees::Committees;
 use simplex_scheme::scheme::{Digest, SchemeTypes};
 use simplex_stream::messages::{Visitor, for_each_message};

@@ -6,10 +6,10 @@ ghost use Rattle.simplex_base.specs.Positions as positions;
 ghost use Rattle.simplex_evidence.specs.declared.types.activity.Activity as activities;
 ghost use Rattle.simplex_scheme.specs.Committees.{Schedule, committee_of, size_by};
 ghost use Rattle.simplex_detector.specs.Detector.{Recalls};
-ghost use Rattle.simplex_detector.specs.Accusation.{round_cmp, signer_cmp, signer_in};
-ghost use Rattle.simplex_detector.specs.Rules.{AreLawful};
-ghost use Rattle.simplex_detector.specs.Suspects.{is_suspect, is_suspect_round};
-ghost use Rattle.simplex_detector.specs.declared.judging.Judging.TheVariants.{Claimed};
+ghost use Rattle.simplex_rules.specs.Accusation.{round_cmp, signer_cmp, signer_in};
+ghost use Rattle.simplex_rules.specs.Rules.{AreLawful};
+ghost use Rattle.simplex_rules.specs.Suspects.{is_suspect, is_suspect_round};
+ghost use Rattle.simplex_rules.specs.declared.judging.Judging.TheVariants.{Claimed};
 ghost use Rattle.simplex_places.specs.Bytes.{AreVotesAt};
 ghost use Rattle.simplex_places.specs.Suspects.{HaveToBeVerified, is_sought, sought_of, suspected_by};
 ghost use Rattle.simplex_places.specs.Verdicts.{DetermineTheReport};
@@ -24,9 +24,9 @@ use simplex_base::codec::Read;
 use simplex_base::codec::fixed_bytes::Role;
 use simplex_base::positions::{Epoch, Participant, Round, View};
 use simplex_detector::detector::Detector;
-use simplex_detector::evidence::SignerInRound;
-use simplex_detector::judging::{SuspectSigners, suspects_of};
-use simplex_detector::laws::{suspects_decide, suspects_determine_reports, suspects_suffice};
+use simplex_laws::laws::{suspects_decide, suspects_determine_reports, suspects_suffice};
+use simplex_rules::evidence::SignerInRound;
+use simplex_rules::judging::{SuspectSigners, suspects_of};
 use simplex_scheme::committees::Committees;
 use simplex_scheme::scheme::{CertificateScheme, Digest};
 use simplex_schemes::vouched::Vouched;
@@ -143,7 +143,7 @@ pub fn suspects_are_enough<D: Digest, R: Role<N>, const N: usize>(
 /// their rounds, standalone and in evidence, and, for each certificate of a suspect round, all
 /// attestations whose signers are in the committee of the epoch. That no other vote and no other
 /// certificate has a part in the evidence and the splits is a law of the judging (`suspects_suffice`
-/// in `simplex_detector::laws`). That no other verdict has one is [`suspects_are_enough`]. Nothing is
+/// in `simplex_laws::laws`). That no other verdict has one is [`suspects_are_enough`]. Nothing is
 /// verified here, so the stream may hold any verdicts. It is read once, in memory that is bounded by
 /// the stream and the sizes of the committees. `AllocError` is returned only after an allocation
 /// failed.

@@ -3,12 +3,12 @@
 ghost use Rattle.std.specs.Prelude.{◌≡◌, refl};
 ghost use Rattle.simplex_scheme.specs.Subject.{subject_value};
 ghost use Rattle.simplex_votes.specs.Votes.{SignedVote, notarize_vote, nullify_vote, finalize_vote, vote_on};
-ghost use Rattle.simplex_detector.specs.Values.{evidence_value};
+ghost use Rattle.simplex_rules.specs.Values.{evidence_value};
 ghost use Rattle.simplex_places.specs.Votes.{proposal_of, same_signed_vote, vote_key};
 ghost use Rattle.simplex_places.specs.KeyLaws.{keys_alike};
 
 use simplex_base::positions::{Participant, Round, Roundable};
-use simplex_detector::evidence::Evidence;
+use simplex_rules::evidence::Evidence;
 use simplex_scheme::scheme::{
     Attestation, Digest, Proposal, SchemeTypes, Signature, Subject, VoteKind,
 };

@@ -17,14 +17,14 @@ use Rattle.simplex_votes.specs.Votes.{SignedVote, is_of}
 use Rattle.simplex_evidence.specs.Activity.{activity_round, votes_in}
 use Rattle.simplex_evidence.specs.Contradiction.{Conflicting_finalize, Conflicting_notarize, Equivocation, EquivocationKind, Nullify_finalize, contradicts}
 use Rattle.simplex_evidence.specs.declared.types.activity.Activity.{Activity}
-use Rattle.simplex_detector.specs.Accusation.{Accusation, accused_by, accused_cmp, is_accused}
-use Rattle.simplex_detector.specs.Certificates.{messages_contradict}
-use Rattle.simplex_detector.specs.Evidence.{IsEvidence}
-use Rattle.simplex_detector.specs.Laws.{AccusesExactly}
-use Rattle.simplex_detector.specs.Rules.{Rules, is_valid, valid_votes}
-use Rattle.simplex_detector.specs.SplitLaws.{SplitsAreUnique}
-use Rattle.simplex_detector.specs.Splits.{AreSplits, accused_count, is_accused_in, is_certified_message, is_split, split_of}
-use Rattle.simplex_detector.specs.declared.split.Split.{Split}
+use Rattle.simplex_rules.specs.Accusation.{Accusation, accused_by, accused_cmp, is_accused}
+use Rattle.simplex_rules.specs.Certificates.{messages_contradict}
+use Rattle.simplex_rules.specs.Evidence.{IsEvidence}
+use Rattle.simplex_rules.specs.Laws.{AccusesExactly}
+use Rattle.simplex_rules.specs.Rules.{Rules, is_valid, valid_votes}
+use Rattle.simplex_rules.specs.SplitLaws.{SplitsAreUnique}
+use Rattle.simplex_rules.specs.Splits.{AreSplits, accused_count, is_accused_in, is_certified_message, is_split, split_of}
+use Rattle.simplex_rules.specs.declared.split.Split.{Split}
 use Rattle.simplex_audit.specs.Basis.{Basis}
 use Rattle.simplex_audit.specs.Report.{evidence_in}
 use Rattle.simplex_shards.proofs.CanonicalLemmas.{first_or_later, here, later, same_mapped, same_order, same_truth}

@@ -12,14 +12,14 @@ use Rattle.simplex_votes.specs.Votes.{SignedVote}
 use Rattle.simplex_evidence.specs.Activity.{activity_round, contents_of, votes_in}
 use Rattle.simplex_evidence.specs.Contents.{ContentsValue, OneCertificate, OneVote, TwoVotes, contents_certificate, contents_round}
 use Rattle.simplex_evidence.specs.declared.types.activity.Activity.{Activity}
-use Rattle.simplex_detector.specs.Accusation.{accused_by}
-use Rattle.simplex_detector.specs.Evidence.{IsEquivocation}
+use Rattle.simplex_rules.specs.Accusation.{accused_by}
+use Rattle.simplex_rules.specs.Evidence.{IsEquivocation}
 use Rattle.simplex_evidence.specs.Contradiction.{Equivocation}
-use Rattle.simplex_detector.specs.Certificates.{messages_contradict}
-use Rattle.simplex_detector.specs.Independence.{IsOfOneRound, in_rounds, of_rounds}
-use Rattle.simplex_detector.specs.Rules.{Rules, is_valid, valid_votes}
-use Rattle.simplex_detector.specs.Splits.{AreSplits, accused_count, if_certified, is_certified_message, is_split, split_of}
-use Rattle.simplex_detector.specs.declared.split.Split.{Split}
+use Rattle.simplex_rules.specs.Certificates.{messages_contradict}
+use Rattle.simplex_rules.specs.Independence.{IsOfOneRound, in_rounds, of_rounds}
+use Rattle.simplex_rules.specs.Rules.{Rules, is_valid, valid_votes}
+use Rattle.simplex_rules.specs.Splits.{AreSplits, accused_count, if_certified, is_certified_message, is_split, split_of}
+use Rattle.simplex_rules.specs.declared.split.Split.{Split}
 
 -- ---- lists
 

@@ -20,15 +20,15 @@ use Rattle.simplex_votes.specs.Votes.{SignedVote}
 use Rattle.simplex_evidence.specs.Activity.{activity_round}
 use Rattle.simplex_evidence.specs.Contradiction.{Conflicting_finalize, Conflicting_notarize, Equivocation, EquivocationKind, Nullify_finalize}
 use Rattle.simplex_evidence.specs.declared.types.activity.Activity.{Activity}
-use Rattle.simplex_detector.specs.Accusation.{Accusation, accused_by, accused_cmp, kind_rank, round_cmp, signer_cmp, signer_in, way_of, way_rank}
-use Rattle.simplex_detector.specs.Evidence.{IsEquivocation, IsEvidence}
-use Rattle.simplex_detector.specs.Independence.{IsOfOneRound, PartsAddUp, in_rounds, of_rounds}
-use Rattle.simplex_detector.specs.Rules.{valid_votes}
-use Rattle.simplex_detector.specs.Splits.{AreSplits, split_of}
-use Rattle.simplex_detector.specs.Values.{evidence_value}
-use Rattle.simplex_detector.specs.declared.evidence.Evidence.{Evidence}
-use Rattle.simplex_detector.specs.declared.evidence.SignerInRound.{SignerInRound}
-use Rattle.simplex_detector.specs.declared.split.Split.{Split}
+use Rattle.simplex_rules.specs.Accusation.{Accusation, accused_by, accused_cmp, kind_rank, round_cmp, signer_cmp, signer_in, way_of, way_rank}
+use Rattle.simplex_rules.specs.Evidence.{IsEquivocation, IsEvidence}
+use Rattle.simplex_rules.specs.Independence.{IsOfOneRound, PartsAddUp, in_rounds, of_rounds}
+use Rattle.simplex_rules.specs.Rules.{valid_votes}
+use Rattle.simplex_rules.specs.Splits.{AreSplits, split_of}
+use Rattle.simplex_rules.specs.Values.{evidence_value}
+use Rattle.simplex_rules.specs.declared.evidence.Evidence.{Evidence}
+use Rattle.simplex_rules.specs.declared.evidence.SignerInRound.{SignerInRound}
+use Rattle.simplex_rules.specs.declared.split.Split.{Split}
 use Rattle.simplex_audit.specs.Basis.{Basis}
 use Rattle.simplex_audit.specs.Report.{IsReport, evidence_in}
 use Rattle.simplex_audit.specs.declared.audit.Report.{Report}

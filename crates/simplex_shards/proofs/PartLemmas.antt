@@ -16,13 +16,13 @@ use Rattle.simplex_evidence.specs.Contradiction.{Conflicting_finalize, Conflicti
 use Rattle.simplex_evidence.specs.declared.types.activity.Activity.{Activity}
 use Rattle.simplex_evidence.specs.declared.types.activity.Activity.TheVariants as activity
 use Rattle.simplex_detector.specs.Detector.{Recalls, RecallsMore}
-use Rattle.simplex_detector.specs.Evidence.{IsEvidence}
-use Rattle.simplex_detector.specs.Independence.{IsOfOneRound, RoundsAreIndependent, evidence_within, in_rounds, of_rounds, splits_within}
-use Rattle.simplex_detector.specs.Laws.{EvidenceIsUnique}
-use Rattle.simplex_detector.specs.Rules.{Rules, valid_votes}
-use Rattle.simplex_detector.specs.SplitLaws.{SplitsAreUnique}
-use Rattle.simplex_detector.specs.Splits.{AreSplits}
-use Rattle.simplex_detector.specs.declared.split.Split.{Split}
+use Rattle.simplex_rules.specs.Evidence.{IsEvidence}
+use Rattle.simplex_rules.specs.Independence.{IsOfOneRound, RoundsAreIndependent, evidence_within, in_rounds, of_rounds, splits_within}
+use Rattle.simplex_rules.specs.Laws.{EvidenceIsUnique}
+use Rattle.simplex_rules.specs.Rules.{Rules, valid_votes}
+use Rattle.simplex_rules.specs.SplitLaws.{SplitsAreUnique}
+use Rattle.simplex_rules.specs.Splits.{AreSplits}
+use Rattle.simplex_rules.specs.declared.split.Split.{Split}
 use Rattle.simplex_audit.specs.Basis.{Basis}
 use Rattle.simplex_audit.specs.Report.{IsReport, evidence_in}
 use Rattle.simplex_audit.specs.declared.audit.Report.{Report}

@@ -6,8 +6,8 @@ use Rattle.std.proofs.lemmas.Cmp.{nat_cmp_total, on_total, then_total}
 use Rattle.std.proofs.lemmas.Map.Lookups.{CmpEqualImpliesEq, exact_pairs, exact_unsigned}
 use Rattle.simplex_base.specs.Positions.{Round}
 use Rattle.simplex_evidence.specs.Contradiction.{EquivocationKind, Conflicting_finalize, Conflicting_notarize, Nullify_finalize}
-use Rattle.simplex_detector.specs.Accusation.{Accusation, accused_cmp, kind_rank, round_cmp, signer_cmp, signer_in}
-use Rattle.simplex_detector.specs.declared.evidence.SignerInRound.{SignerInRound}
+use Rattle.simplex_rules.specs.Accusation.{Accusation, accused_cmp, kind_rank, round_cmp, signer_cmp, signer_in}
+use Rattle.simplex_rules.specs.declared.evidence.SignerInRound.{SignerInRound}
 
 pub round_total : IsTotalOrder round_cmp
 round_total = then_total (on_total (λ (r : Round). r.epoch) nat_cmp_total) (on_total (λ (r : Round). r.view) nat_cmp_total)

@@ -1,6 +1,6 @@
 -- Who is accused by streams with the same messages.
 use Rattle.std.specs.Prelude.{◌≡◌, ℕ, List, map}
-use Rattle.simplex_detector.specs.Accusation.{accused_by}
+use Rattle.simplex_rules.specs.Accusation.{accused_by}
 use Rattle.simplex_audit.specs.Basis.{Basis}
 use Rattle.simplex_audit.specs.Report.{IsReport, evidence_in}
 use Rattle.simplex_audit.specs.declared.audit.Report.{Report}

@@ -8,8 +8,8 @@ use Rattle.simplex_stream.specs.declared.fault.Fault.{Fault}
 use Rattle.simplex_scheme.specs.Committees.{Schedule}
 use Rattle.simplex_evidence.specs.Activity.{activity_round}
 use Rattle.simplex_evidence.specs.declared.types.activity.Activity.{Activity}
-use Rattle.simplex_detector.specs.Accusation.{Accusation, signer_in, way_of, way_rank}
-use Rattle.simplex_detector.specs.declared.evidence.SignerInRound.{SignerInRound}
+use Rattle.simplex_rules.specs.Accusation.{Accusation, signer_in, way_of, way_rank}
+use Rattle.simplex_rules.specs.declared.evidence.SignerInRound.{SignerInRound}
 use Rattle.simplex_audit.specs.Basis.{Basis}
 use Rattle.simplex_audit.specs.Report.{IsReport}
 use Rattle.simplex_audit.specs.declared.audit.Report.{Report}

@@ -6,10 +6,10 @@ use Rattle.simplex_stream.specs.Fault.{IsFault}
 use Rattle.simplex_stream.specs.Messages.{AreMessages}
 use Rattle.simplex_evidence.specs.declared.types.activity.Activity.{Activity}
 use Rattle.simplex_detector.specs.Detector.{RecallsMore}
-use Rattle.simplex_detector.specs.Evidence.{IsEvidence}
-use Rattle.simplex_detector.specs.Independence.{evidence_within, in_rounds, of_rounds, splits_within}
-use Rattle.simplex_detector.specs.Rules.{Rules, valid_votes}
-use Rattle.simplex_detector.specs.Splits.{AreSplits}
+use Rattle.simplex_rules.specs.Evidence.{IsEvidence}
+use Rattle.simplex_rules.specs.Independence.{evidence_within, in_rounds, of_rounds, splits_within}
+use Rattle.simplex_rules.specs.Rules.{Rules, valid_votes}
+use Rattle.simplex_rules.specs.Splits.{AreSplits}
 use Rattle.simplex_audit.specs.Basis.{Basis}
 use Rattle.simplex_audit.specs.Report.{evidence_in}
 use Rattle.simplex_audit.specs.declared.audit.Report.{Report}

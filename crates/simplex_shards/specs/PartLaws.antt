@@ -6,8 +6,8 @@ use Rattle.simplex_evidence.specs.Activity.{activity_round}
 use Rattle.simplex_evidence.specs.declared.types.activity.Activity.{Activity}
 use Rattle.simplex_detector.specs.Detector.{RecallsMore}
 use Rattle.simplex_detector.specs.DetectorLaws.{recalls_none, recalls_on}
-use Rattle.simplex_detector.specs.Independence.{of_rounds}
-use Rattle.simplex_detector.specs.Rules.{Rules}
+use Rattle.simplex_rules.specs.Independence.{of_rounds}
+use Rattle.simplex_rules.specs.Rules.{Rules}
 use Rattle.simplex_shards.specs.Cut.{class_under}
 use Rattle.simplex_shards.specs.Part.{RecordsPart, is_class, part_of}
 use Rattle.simplex_shards.specs.declared.cut.Cut.{Cut}

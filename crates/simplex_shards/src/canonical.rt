@@ -14,7 +14,7 @@ ghost use Rattle.simplex_shards.specs.declared.canonical.CanonicalForm as forms;
 use crate::laws::format_laws;
 use simplex_audit::basis::Audited;
 use simplex_base::codec::{Encoding, Read, Write};
-use simplex_detector::laws::{evidence_is_determined, splits_are_determined};
+use simplex_laws::laws::{evidence_is_determined, splits_are_determined};
 use simplex_scheme::scheme::{Digest, Listing};
 use simplex_stream::fault::{Fault, fault_at};
 use simplex_stream::messages::{Message, Visitor, for_each_message};

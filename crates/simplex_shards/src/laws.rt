@@ -1,12 +1,12 @@
 //! Laws of messages that are read under committees.
 
 ghost use Rattle.simplex_base.specs.Format.{IsLawful};
-ghost use Rattle.simplex_detector.specs.Independence.{IsOfOneRound};
+ghost use Rattle.simplex_rules.specs.Independence.{IsOfOneRound};
 ghost use Rattle.simplex_evidence.specs.declared.types.activity.Activity.{Activity};
 ghost use Rattle.simplex_scheme.specs.Committees.{Schedule};
 
 use simplex_audit::basis::Audited;
-use simplex_detector::laws::rounds_are_independent;
+use simplex_laws::laws::rounds_are_independent;
 use simplex_scheme::scheme::{Digest, Listing};
 
 /// Messages are read lawfully, and the votes of each are of its round. A call gives its caller what the clauses state.

@@ -3,15 +3,15 @@
 ghost use Rattle.std.specs.Prelude.{◌≡◌, ◌-◌, ◌^◌, IfOk, IsPermutation, OnOk, min};
 ghost use Rattle.std.specs.List.{flat_map, sum_by};
 ghost use Rattle.std.specs.List.Sorted.{IsSortedByKey};
-ghost use Rattle.simplex_detector.specs.Accusation.{accused_by, accused_cmp, round_cmp, way_rank};
-ghost use Rattle.simplex_detector.specs.Values.{evidence_value};
+ghost use Rattle.simplex_rules.specs.Accusation.{accused_by, accused_cmp, round_cmp, way_rank};
+ghost use Rattle.simplex_rules.specs.Values.{evidence_value};
 ghost use Rattle.simplex_shards.specs.Merge.{IsGathered, MergesParts, MergesShards, sort_key};
 
 use crate::laws::format_laws;
 use simplex_audit::audit::{Evidence, Fault, Report, Split};
 use simplex_audit::basis::Audited;
-use simplex_detector::evidence::{EquivocationKind, SignerInRound};
-use simplex_detector::laws::{evidence_is_determined, rounds_are_independent};
+use simplex_laws::laws::{evidence_is_determined, rounds_are_independent};
+use simplex_rules::evidence::{EquivocationKind, SignerInRound};
 use simplex_scheme::scheme::{Digest, Listing, SchemeTypes};
 use std::alloc::{AllocError, Global};
 

@@ -3,7 +3,7 @@
 ghost use Rattle.std.specs.Prelude.{◌≡◌, ◌+◌, ◌<◌, ◌^◌, IfOk};
 ghost use Rattle.simplex_audit.specs.Report.{IsReport};
 ghost use Rattle.simplex_audit.specs.declared.audit.Report as reports;
-ghost use Rattle.simplex_detector.specs.declared.judging.Judging.TheVariants.{Verified};
+ghost use Rattle.simplex_rules.specs.declared.judging.Judging.TheVariants.{Verified};
 ghost use Rattle.simplex_shards.specs.Cut.{class_under};
 ghost use Rattle.simplex_shards.specs.Part.{IsPartAudit, IsPartOf, is_class};
 
@@ -14,12 +14,12 @@ use simplex_audit::basis::Audited;
 use simplex_base::codec::Encoding;
 use simplex_base::positions::Roundable;
 use simplex_detector::detector::Detector;
-use simplex_detector::judging::Judging;
-use simplex_detector::laws::{
+use simplex_evidence::types::Activity;
+use simplex_laws::laws::{
     committees_are_lawful, evidence_is_determined, rounds_are_independent, splits_are_determined,
 };
-use simplex_detector::rules::Judges;
-use simplex_evidence::types::Activity;
+use simplex_rules::judging::Judging;
+use simplex_rules::rules::Judges;
 use simplex_scheme::committees::Committees;
 use simplex_scheme::scheme::{Digest, Listing, SchemeTypes};
 use simplex_stream::fault::fault_at;

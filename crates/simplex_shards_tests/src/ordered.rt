@@ -2,7 +2,7 @@
 
 use crate::begun::{IN_ORDER, Message, SIZE, TAILS, four, stream_of};
 use simplex_audit::audit::{Committees, audit};
-use simplex_detector::evidence::Accusation;
+use simplex_rules::evidence::Accusation;
 use simplex_schemes::marked::{Marked, MarkedDigest};
 use simplex_shards::canonical::canonical;
 use std::alloc::Global;

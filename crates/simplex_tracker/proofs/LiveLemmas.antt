@@ -15,17 +15,17 @@ use Rattle.simplex_scheme.specs.Committees.{Schedule}
 use Rattle.simplex_votes.specs.Votes.{SignedVote}
 use Rattle.simplex_evidence.specs.Contradiction.{Equivocation}
 use Rattle.simplex_evidence.specs.declared.types.activity.Activity.{Activity}
-use Rattle.simplex_detector.specs.Accusation.{Accusation, accused_by, accused_cmp, round_cmp}
-use Rattle.simplex_detector.specs.Alarm.{Told, told_from, told_then}
-use Rattle.simplex_detector.specs.Alerts.{IsEachOnce, times_accused}
-use Rattle.simplex_detector.specs.Evidence.{evidence_of}
-use Rattle.simplex_detector.specs.Independence.{FloorsRise, first_round, in_rounds, is_from}
-use Rattle.simplex_detector.specs.Interchange.{HaveSameState, SameStateJoined}
-use Rattle.simplex_detector.specs.News.{compacted}
-use Rattle.simplex_detector.specs.Rules.{Rules, valid_votes}
-use Rattle.simplex_detector.specs.SplitAlerts.{splits_arising}
-use Rattle.simplex_detector.specs.Values.{evidence_value}
-use Rattle.simplex_detector.specs.declared.alarm.News.{News}
+use Rattle.simplex_rules.specs.Accusation.{Accusation, accused_by, accused_cmp, round_cmp}
+use Rattle.simplex_alarm.specs.Alarm.{Told, told_from, told_then}
+use Rattle.simplex_alarm.specs.Alerts.{IsEachOnce, times_accused}
+use Rattle.simplex_rules.specs.Evidence.{evidence_of}
+use Rattle.simplex_rules.specs.Independence.{FloorsRise, first_round, in_rounds, is_from}
+use Rattle.simplex_rules.specs.Interchange.{HaveSameState, SameStateJoined}
+use Rattle.simplex_rules.specs.News.{compacted}
+use Rattle.simplex_rules.specs.Rules.{Rules, valid_votes}
+use Rattle.simplex_rules.specs.Arising.{splits_arising}
+use Rattle.simplex_rules.specs.Values.{evidence_value}
+use Rattle.simplex_alarm.specs.declared.alarm.News.{News}
 use Rattle.simplex_stream.specs.Decoder.{undecoded}
 use Rattle.simplex_stream.specs.Fault.{IsFault}
 use Rattle.simplex_stream.specs.Messages.{AreMessages}

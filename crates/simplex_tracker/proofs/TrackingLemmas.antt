@@ -5,16 +5,16 @@ use Rattle.simplex_base.specs.Format.{Format}
 use Rattle.simplex_base.specs.Positions.{Round}
 use Rattle.simplex_base.specs.declared.codec.error.Error.{Error}
 use Rattle.simplex_evidence.specs.declared.types.activity.Activity.{Activity}
-use Rattle.simplex_detector.specs.Accusation.{round_cmp}
-use Rattle.simplex_detector.specs.Alarm.{Sounds, SoundsMore, SoundsUntold, Told, told_from, told_then}
+use Rattle.simplex_rules.specs.Accusation.{round_cmp}
+use Rattle.simplex_alarm.specs.Alarm.{Sounds, SoundsMore, SoundsUntold, Told, told_from, told_then}
 use Rattle.simplex_detector.specs.Detector.{Recalls, RecallsMore}
-use Rattle.simplex_detector.specs.Evidence.{IsEvidence}
-use Rattle.simplex_detector.specs.Independence.{FloorsRise, in_rounds, is_from}
-use Rattle.simplex_detector.specs.Recorded.{votes_recorded}
-use Rattle.simplex_detector.specs.Rules.{HaveCommittees, Rules, valid_votes}
-use Rattle.simplex_detector.specs.Splits.{AreSplits}
-use Rattle.simplex_detector.specs.declared.alarm.Alarm.{Alarm}
-use Rattle.simplex_detector.specs.declared.alarm.News.{News}
+use Rattle.simplex_rules.specs.Evidence.{IsEvidence}
+use Rattle.simplex_rules.specs.Independence.{FloorsRise, in_rounds, is_from}
+use Rattle.simplex_rules.specs.Recorded.{votes_recorded}
+use Rattle.simplex_rules.specs.Rules.{HaveCommittees, Rules, valid_votes}
+use Rattle.simplex_rules.specs.Splits.{AreSplits}
+use Rattle.simplex_alarm.specs.declared.alarm.Alarm.{Alarm}
+use Rattle.simplex_alarm.specs.declared.alarm.News.{News}
 use Rattle.simplex_detector.specs.declared.detector.Detector.{Detector}
 use Rattle.simplex_stream.specs.Decoder.{DecodesMore, HasDecoded, bytes_fed, messages_read, undecoded}
 use Rattle.simplex_stream.specs.Fault.{fault_of}

@@ -7,17 +7,17 @@ use Rattle.simplex_scheme.specs.Committees.{Schedule}
 use Rattle.simplex_votes.specs.Votes.{SignedVote}
 use Rattle.simplex_evidence.specs.Contradiction.{Equivocation}
 use Rattle.simplex_evidence.specs.declared.types.activity.Activity.{Activity}
-use Rattle.simplex_detector.specs.Accusation.{Accusation, accused_by}
-use Rattle.simplex_detector.specs.Alarm.{Told}
-use Rattle.simplex_detector.specs.Alerts.{times_accused}
-use Rattle.simplex_detector.specs.Evidence.{evidence_of}
-use Rattle.simplex_detector.specs.Interchange.{HaveSameState}
-use Rattle.simplex_detector.specs.News.{FewAreKept, compacted}
-use Rattle.simplex_detector.specs.Rules.{valid_votes}
-use Rattle.simplex_detector.specs.SplitAlerts.{splits_arising}
-use Rattle.simplex_detector.specs.Values.{evidence_value}
-use Rattle.simplex_detector.specs.declared.alarm.News.{News}
-use Rattle.simplex_detector.specs.declared.split.Split.{Split}
+use Rattle.simplex_rules.specs.Accusation.{Accusation, accused_by}
+use Rattle.simplex_alarm.specs.Alarm.{Told}
+use Rattle.simplex_alarm.specs.Alerts.{times_accused}
+use Rattle.simplex_rules.specs.Evidence.{evidence_of}
+use Rattle.simplex_rules.specs.Interchange.{HaveSameState}
+use Rattle.simplex_rules.specs.News.{FewAreKept, compacted}
+use Rattle.simplex_rules.specs.Rules.{valid_votes}
+use Rattle.simplex_rules.specs.Arising.{splits_arising}
+use Rattle.simplex_rules.specs.Values.{evidence_value}
+use Rattle.simplex_alarm.specs.declared.alarm.News.{News}
+use Rattle.simplex_rules.specs.declared.split.Split.{Split}
 use Rattle.simplex_stream.specs.Messages.{AreMessages, IsOver}
 use Rattle.simplex_audit.specs.Basis.{Basis, basis_from}
 use Rattle.simplex_tracker.specs.Tracking.{IsQuiet, Tracks}

@@ -3,13 +3,13 @@ use Rattle.std.specs.Prelude.{◌≡◌, ℕ, ◌-◌, ◌^◌, ◌==◌, Bool, 
 use Rattle.simplex_base.specs.Format.{IsLawful}
 use Rattle.simplex_base.specs.Positions.{Round}
 use Rattle.simplex_evidence.specs.declared.types.activity.Activity.{Activity}
-use Rattle.simplex_detector.specs.Alarm.{Sounds, SoundsMore, Told}
-use Rattle.simplex_detector.specs.Alerts.{untold}
+use Rattle.simplex_alarm.specs.Alarm.{Sounds, SoundsMore, Told}
+use Rattle.simplex_alarm.specs.Alerts.{untold}
 use Rattle.simplex_detector.specs.Detector.{Recalls, RecallsMore}
-use Rattle.simplex_detector.specs.Recorded.{votes_recorded}
-use Rattle.simplex_detector.specs.Rules.{HaveCommittees, Rules, valid_votes}
-use Rattle.simplex_detector.specs.declared.judging.Judging.{Judging}
-use Rattle.simplex_detector.specs.declared.judging.Judging.TheVariants.{From}
+use Rattle.simplex_rules.specs.Recorded.{votes_recorded}
+use Rattle.simplex_rules.specs.Rules.{HaveCommittees, Rules, valid_votes}
+use Rattle.simplex_rules.specs.declared.judging.Judging.{Judging}
+use Rattle.simplex_rules.specs.declared.judging.Judging.TheVariants.{From}
 use Rattle.simplex_stream.specs.Decoder.{HasDecoded, bytes_fed, decoding_over}
 use Rattle.simplex_stream.specs.Messages.{AreMessages}
 use Rattle.simplex_audit.specs.Basis.{Basis, basis_from}

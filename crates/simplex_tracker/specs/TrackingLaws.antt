@@ -2,12 +2,12 @@
 use Rattle.std.proofs.Common.{List, [], ◌∷◌, ◌++◌, refl, sym, subst, ◌∙◌, append_assoc, append-nil}
 use Rattle.simplex_base.specs.Positions.{Round}
 use Rattle.simplex_evidence.specs.declared.types.activity.Activity.{Activity}
-use Rattle.simplex_detector.specs.Alarm.{Sounds, SoundsMore}
+use Rattle.simplex_alarm.specs.Alarm.{Sounds, SoundsMore}
 use Rattle.simplex_detector.specs.Detector.{RecallsMore}
 use Rattle.simplex_detector.specs.DetectorLaws.{recalls_none, recalls_on}
-use Rattle.simplex_detector.specs.Rules.{Rules}
-use Rattle.simplex_detector.specs.declared.judging.Judging.{Judging}
-use Rattle.simplex_detector.specs.declared.judging.Judging.TheVariants.{From}
+use Rattle.simplex_rules.specs.Rules.{Rules}
+use Rattle.simplex_rules.specs.declared.judging.Judging.{Judging}
+use Rattle.simplex_rules.specs.declared.judging.Judging.TheVariants.{From}
 use Rattle.simplex_tracker.specs.Tracking.{SeesMore}
 use Rattle.simplex_tracker.specs.declared.tracker.Sight.{Sight}
 

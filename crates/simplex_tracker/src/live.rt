@@ -4,20 +4,20 @@ ghost use Rattle.std.specs.Prelude.{◌≡◌, ◌≢◌, ◌+◌, ◌<◌, ◌�
 ghost use Rattle.std.specs.Ordering.{ord_max};
 ghost use Rattle.simplex_base.specs.Positions as positions;
 ghost use Rattle.simplex_scheme.specs.Committees.{Schedule};
-ghost use Rattle.simplex_detector.specs.Accusation.{round_cmp};
-ghost use Rattle.simplex_detector.specs.Values.{evidence_value};
+ghost use Rattle.simplex_rules.specs.Accusation.{round_cmp};
+ghost use Rattle.simplex_rules.specs.Values.{evidence_value};
 ghost use Rattle.simplex_audit.specs.Basis.{basis_from};
 ghost use Rattle.simplex_audit.specs.Report.{IsReport};
 ghost use Rattle.simplex_tracker.specs.Tracking.{EndsWhole, HasVotes, fed_of, tracking_over};
 ghost use Rattle.simplex_tracker.specs.Live.{Advances, AreNews, CanStandFor, Follows, HasEnded, IsShort, LosesNothing, TakesPiece, TracksAll, WaitSame, evidence_waiting, held_by, splits_waiting};
 
 use crate::tracker::Tracker;
+use simplex_alarm::alarm::News;
 use simplex_audit::audit::Report;
 use simplex_audit::basis::Audited;
 use simplex_audit::compaction::{Compaction, compact};
 use simplex_base::positions::{Epoch, Round, View};
-use simplex_detector::alarm::News;
-use simplex_detector::laws::{floors_rise, rounds_are_independent, same_state_suffices};
+use simplex_laws::laws::{floors_rise, rounds_are_independent, same_state_suffices};
 use simplex_scheme::committees::Committees;
 use simplex_scheme::scheme::{Digest, Listing, SchemeTypes};
 use simplex_stream::fault::Fault;
@@ -57,7 +57,7 @@ pub struct LiveAuditor<S: SchemeTypes, D: Digest> {
 }
 
 impl<S: Listing<D> + Drop, D: Digest> LiveAuditor<S, D> {
-    ghost use Rattle.simplex_detector.specs.Independence.{first_round};
+    ghost use Rattle.simplex_rules.specs.Independence.{first_round};
 
     /// An auditor of these committees that was fed what another one held, or nothing. What arises in that waits to be handed
     /// over again. `AllocError` only where an allocation failed.

@@ -4,21 +4,21 @@ ghost use Rattle.std.specs.Prelude.{◌≡◌, ◌+◌, ◌<◌, ◌^◌, ◌-�
 ghost use Rattle.std.specs.Ordering.{ord_max};
 ghost use Rattle.simplex_base.specs.Positions as positions;
 ghost use Rattle.simplex_scheme.specs.Committees.{Schedule};
-ghost use Rattle.simplex_detector.specs.Accusation.{round_cmp};
-ghost use Rattle.simplex_detector.specs.Alarm.{Told, nothing_told, told_from, told_then};
+ghost use Rattle.simplex_rules.specs.Accusation.{round_cmp};
+ghost use Rattle.simplex_alarm.specs.Alarm.{Told, nothing_told, told_from, told_then};
 ghost use Rattle.simplex_audit.specs.Basis.{basis_from};
 ghost use Rattle.simplex_audit.specs.Report.{IsReport};
 ghost use Rattle.simplex_tracker.specs.Tracking.{EndsWhole, HasVotes, IsQuiet, Tracks, fed_of, tracking_over};
 
+use simplex_alarm::alarm::{Alarm, News};
 use simplex_audit::audit::Report;
 use simplex_audit::basis::Audited;
 use simplex_base::positions::Round;
-use simplex_detector::alarm::{Alarm, News};
 use simplex_detector::detector::Detector;
-use simplex_detector::judging::Judging;
-use simplex_detector::laws::{committees_are_lawful, floors_rise, rounds_are_independent};
-use simplex_detector::rules::Judges;
 use simplex_evidence::types::Activity;
+use simplex_laws::laws::{committees_are_lawful, floors_rise, rounds_are_independent};
+use simplex_rules::judging::Judging;
+use simplex_rules::rules::Judges;
 use simplex_scheme::committees::Committees;
 use simplex_scheme::scheme::{Digest, Listing, SchemeTypes};
 use simplex_stream::decoder::Decoder;

@@ -2,8 +2,8 @@ use Rattle.std.proofs.Common.{arith, refl}
 use Rattle.simplex_audit.proofs.AccusedLemmas.{if_ok, if_both, audited, accused_stay}
 use Rattle.simplex_stream.specs.StreamLaws.{messages_once}
 use Rattle.simplex_scheme.specs.Committees.{Schedule}
-use Rattle.simplex_detector.specs.Rules.{Rules}
-use Rattle.simplex_detector.specs.Scheme.{rules_of, scheme_of}
+use Rattle.simplex_rules.specs.Rules.{Rules}
+use Rattle.simplex_rules.specs.Scheme.{rules_of, scheme_of}
 use Rattle.simplex_audit.proofs.audit.audit.Given as given
 use Rattle.simplex_audit.proofs.audit.audit.Goals as goal
 

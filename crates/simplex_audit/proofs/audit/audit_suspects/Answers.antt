@@ -4,9 +4,9 @@ use Rattle.std.specs.BTreeSet.{contains}
 use Rattle.std.proofs.lemmas.Bool.{eqb-true}
 use Rattle.std.proofs.lemmas.Simd.{map-map}
 use Rattle.simplex_scheme.specs.Subject.{round_of}
-use Rattle.simplex_detector.specs.Accusation.{round_cmp, signer_cmp}
-use Rattle.simplex_detector.specs.Suspects.{suspect_of}
-use Rattle.simplex_detector.specs.Values.{evidence_value}
+use Rattle.simplex_rules.specs.Accusation.{round_cmp, signer_cmp}
+use Rattle.simplex_rules.specs.Suspects.{suspect_of}
+use Rattle.simplex_rules.specs.Values.{evidence_value}
 use Rattle.simplex_audit.specs.Report.{evidence_in}
 use Rattle.simplex_audit.proofs.DeferredLemmas.{nobody_reported, suspects_reported}
 use Rattle.simplex_audit.proofs.audit.audit_suspects.Goals as goal

@@ -4,10 +4,10 @@ use Rattle.simplex_base.specs.Format.{Format, fixed}
 use Rattle.simplex_evidence.specs.Activity.{IsActivity, activity_format}
 use Rattle.simplex_evidence.specs.declared.types.activity.Activity.{Activity}
 use Rattle.simplex_scheme.specs.Committees.{bound_of}
-use Rattle.simplex_detector.specs.Independence.{IsOfOneRound, in_rounds, is_from}
-use Rattle.simplex_detector.specs.Rules.{HaveCommittees, valid_votes}
-use Rattle.simplex_detector.specs.Scheme.{rules_of, scheme_of}
-use Rattle.simplex_detector.specs.declared.judging.Judging.TheVariants.{From}
+use Rattle.simplex_rules.specs.Independence.{IsOfOneRound, in_rounds, is_from}
+use Rattle.simplex_rules.specs.Rules.{HaveCommittees, valid_votes}
+use Rattle.simplex_rules.specs.Scheme.{rules_of, scheme_of}
+use Rattle.simplex_rules.specs.declared.judging.Judging.TheVariants.{From}
 use Rattle.simplex_audit.specs.Basis.{Basis}
 use Rattle.simplex_audit.proofs.CompactionLemmas.{in_conflict, keeps_compaction, kept_are_values}
 use Rattle.simplex_audit.proofs.compaction.compacting_bound.Given as given

@@ -1,5 +1,5 @@
 use Rattle.std.proofs.Common.{sym, ◌∙◌}
-use Rattle.simplex_detector.specs.Independence.{first_round}
+use Rattle.simplex_rules.specs.Independence.{first_round}
 use Rattle.simplex_audit.proofs.AccusedLemmas.{if_ok}
 use Rattle.simplex_audit.proofs.AuditorLemmas.{answers_fed, answers_over}
 use Rattle.simplex_audit.proofs.input.take_piece.Goals as goal

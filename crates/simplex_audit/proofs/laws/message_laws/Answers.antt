@@ -1,7 +1,7 @@
 use Rattle.std.proofs.Common.{sym, subst}
 use Rattle.std.specs.Prelude.{All}
-use Rattle.simplex_detector.specs.Evidence.{IsEquivocation, IsEvidence}
-use Rattle.simplex_detector.specs.Laws.{AccusesExactly, EvidenceIsUnique}
+use Rattle.simplex_rules.specs.Evidence.{IsEquivocation, IsEvidence}
+use Rattle.simplex_rules.specs.Laws.{AccusesExactly, EvidenceIsUnique}
 use Rattle.simplex_audit.proofs.laws.message_laws.Goals as goal
 
 pub returns : goal.returns

@@ -2,8 +2,8 @@ use Rattle.std.proofs.Common.{◌≡◌, ℕ, List, take}
 use Rattle.std.specs.List.{flat_map}
 use Rattle.simplex_base.specs.Format.{fixed}
 use Rattle.simplex_evidence.specs.Activity.{activity_encoding}
-use Rattle.simplex_detector.specs.Values.{activity_of}
-use Rattle.simplex_detector.specs.declared.evidence.Evidence.{Evidence}
+use Rattle.simplex_rules.specs.Values.{activity_of}
+use Rattle.simplex_rules.specs.declared.evidence.Evidence.{Evidence}
 use Rattle.simplex_audit.proofs.ledger.write_all.Given as goal
 
 -- an evidence as a message

@@ -1,5 +1,5 @@
 use Rattle.std.proofs.Common.{ap, sym, ◌∙◌, Some}
-use Rattle.simplex_detector.proofs.Places.{same_round-true}
+use Rattle.simplex_rules.proofs.Places.{same_round-true}
 use Rattle.simplex_detector.proofs.round_map.place_of.Goals as goal
 
 pub returns-then-eq : goal.returns-then-eq

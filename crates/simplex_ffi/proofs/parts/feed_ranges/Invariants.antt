@@ -3,7 +3,7 @@ use Rattle.std.specs.List.{sum_by}
 use Rattle.simplex_base.specs.Format.{fixed}
 use Rattle.simplex_evidence.specs.Activity.{activity_format}
 use Rattle.simplex_scheme.specs.Committees.{Schedule, bound_of}
-use Rattle.simplex_detector.specs.Scheme.{rules_of, scheme_of}
+use Rattle.simplex_rules.specs.Scheme.{rules_of, scheme_of}
 use Rattle.simplex_audit.specs.Auditor.{Stands, fed_of}
 use Rattle.simplex_audit.specs.Basis.{Basis}
 use Rattle.simplex_shards.specs.Ranges.{bytes_of_ranges}

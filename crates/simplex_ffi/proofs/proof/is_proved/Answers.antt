@@ -2,7 +2,7 @@ use Rattle.std.proofs.Common.{None, Some, ap, subst, sym, ◌∙◌}
 use Rattle.simplex_base.specs.Positions.{Round}
 use Rattle.simplex_scheme.specs.Committees.{committee_of}
 use Rattle.simplex_evidence.specs.Contents.{AreInConflict, ContentsValue, contents_value}
-use Rattle.simplex_detector.specs.Scheme.{Scheme, scheme_of}
+use Rattle.simplex_rules.specs.Scheme.{Scheme, scheme_of}
 use Rattle.simplex_ffi.proofs.ProofLemmas.{proved_by, two_votes}
 use Rattle.simplex_ffi.proofs.proof.is_proved.Given as given
 use Rattle.simplex_ffi.proofs.proof.is_proved.Goals as goal

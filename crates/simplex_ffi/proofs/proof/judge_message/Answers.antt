@@ -1,5 +1,5 @@
 use Rattle.std.proofs.Common.{inl, inr, refl, sym, ◌∙◌}
-use Rattle.simplex_detector.specs.Scheme.{rules_of, scheme_of}
+use Rattle.simplex_rules.specs.Scheme.{rules_of, scheme_of}
 use Rattle.simplex_ffi.specs.Proof.{IsMessageJudged, are_valid, equivocation_of}
 use Rattle.simplex_ffi.proofs.ProofLemmas.{accusation_found, none_found}
 use Rattle.simplex_ffi.proofs.proof.judge_message.Goals as goal

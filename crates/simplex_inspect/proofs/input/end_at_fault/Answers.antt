@@ -5,7 +5,7 @@ use Rattle.simplex_evidence.specs.Activity.{activity_format}
 use Rattle.simplex_evidence.specs.ActivityLaws.{activity_lawful}
 use Rattle.simplex_evidence.specs.declared.types.activity.Activity.{Activity}
 use Rattle.simplex_scheme.specs.Committees.{Schedule}
-use Rattle.simplex_detector.specs.Scheme.{scheme_of}
+use Rattle.simplex_rules.specs.Scheme.{scheme_of}
 use Rattle.simplex_stream.specs.Tail.{bytes_held}
 use Rattle.simplex_stream.specs.Watched.{inner_of}
 use Rattle.simplex_inspect.specs.Inspected.{Lines, IsWritten, bound_under}

@@ -3,7 +3,7 @@ use Rattle.simplex_base.specs.Format.{fixed}
 use Rattle.simplex_evidence.specs.Activity.{activity_format}
 use Rattle.simplex_evidence.specs.declared.types.activity.Activity.{Activity}
 use Rattle.simplex_scheme.specs.Committees.{Schedule}
-use Rattle.simplex_detector.specs.Scheme.{scheme_of}
+use Rattle.simplex_rules.specs.Scheme.{scheme_of}
 use Rattle.simplex_stream.specs.Watched.{inner_of}
 use Rattle.simplex_inspect.specs.Inspected.{Lines, bound_under}
 use Rattle.simplex_inspect.specs.Line.{line_json}

@@ -1,5 +1,5 @@
 use Rattle.std.proofs.Common.{string_bytes}
-use Rattle.simplex_detector.specs.Scheme.{scheme_of}
+use Rattle.simplex_rules.specs.Scheme.{scheme_of}
 use Rattle.simplex_inspect.specs.Line.{message_json}
 use Rattle.simplex_inspect.specs.Shown.{shown_of}
 use Rattle.simplex_inspect.proofs.DepthLemmas.{message_within}

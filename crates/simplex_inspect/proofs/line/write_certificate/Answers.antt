@@ -1,7 +1,7 @@
 use Rattle.std.proofs.Common.{map}
 use Rattle.std.specs.Prelude.{codes}
 use Rattle.simplex_scheme.specs.Subject.{subject_value}
-use Rattle.simplex_detector.specs.Scheme.{scheme_of}
+use Rattle.simplex_rules.specs.Scheme.{scheme_of}
 use Rattle.simplex_inspect.specs.Line.{subject_members, attestation_json}
 use Rattle.simplex_inspect.specs.Shown.{shown_of}
 use Rattle.simplex_inspect.proofs.TokenLemmas.{listed}

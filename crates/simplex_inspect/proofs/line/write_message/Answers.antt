@@ -1,7 +1,7 @@
 use Rattle.std.proofs.Common.{None}
 use Rattle.std.specs.Prelude.{codes}
 use Rattle.simplex_evidence.specs.Activity.{activity_round, contents_of}
-use Rattle.simplex_detector.specs.Scheme.{scheme_of}
+use Rattle.simplex_rules.specs.Scheme.{scheme_of}
 use Rattle.simplex_inspect.specs.Json.{head_members}
 use Rattle.simplex_inspect.specs.Line.{statements_json}
 use Rattle.simplex_inspect.specs.Shown.{shown_of}

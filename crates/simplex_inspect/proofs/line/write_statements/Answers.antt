@@ -2,7 +2,7 @@ use Rattle.std.proofs.Common.{List, ◌++◌, append-nil, sym, ap}
 use Rattle.json.specs.Token.{Token}
 use Rattle.json.specs.Tree.{json_tokens}
 use Rattle.simplex_evidence.specs.Contents.{signed_value}
-use Rattle.simplex_detector.specs.Scheme.{scheme_of}
+use Rattle.simplex_rules.specs.Scheme.{scheme_of}
 use Rattle.simplex_inspect.specs.Line.{vote_json}
 use Rattle.simplex_inspect.specs.Shown.{shown_of}
 use Rattle.simplex_inspect.proofs.TokenLemmas.{alone, then}

@@ -1,5 +1,5 @@
 use Rattle.std.proofs.Common.{[]}
-use Rattle.simplex_detector.specs.Alarm.{nothing_told}
+use Rattle.simplex_alarm.specs.Alarm.{nothing_told}
 use Rattle.simplex_live.proofs.ListenLemmas.{ready_again}
 use Rattle.simplex_live.proofs.listening.resume.Goals as goal
 

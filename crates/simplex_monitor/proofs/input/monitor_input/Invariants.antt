@@ -4,7 +4,7 @@ use Rattle.std.specs.Io.KnownBytes.{Consumes}
 use Rattle.simplex_base.specs.Format.{fixed}
 use Rattle.simplex_evidence.specs.Activity.{activity_format}
 use Rattle.simplex_scheme.specs.Committees.{Schedule, bound_of}
-use Rattle.simplex_detector.specs.Scheme.{rules_of, scheme_of}
+use Rattle.simplex_rules.specs.Scheme.{rules_of, scheme_of}
 use Rattle.simplex_stream.specs.Watched.{inner_of, has_failed, is_flushed}
 use Rattle.simplex_audit.specs.Basis.{Basis}
 use Rattle.simplex_monitor.specs.Hearing.{Heard}

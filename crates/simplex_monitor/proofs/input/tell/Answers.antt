@@ -1,7 +1,7 @@
 use Rattle.std.proofs.Common.{◌++◌, ◌∙◌, map, subst}
-use Rattle.simplex_detector.specs.Line.{line_of}
-use Rattle.simplex_detector.specs.Splits.{split_line}
-use Rattle.simplex_detector.specs.Values.{evidence_value}
+use Rattle.simplex_rules.specs.Line.{line_of}
+use Rattle.simplex_rules.specs.Splits.{split_line}
+use Rattle.simplex_rules.specs.Values.{evidence_value}
 use Rattle.simplex_stream.specs.Text.{AppendsBeginning}
 use Rattle.simplex_stream.specs.Watched.{inner_of}
 use Rattle.simplex_audit.specs.Run.{text_of}

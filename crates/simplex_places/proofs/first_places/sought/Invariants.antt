@@ -1,6 +1,6 @@
 use Rattle.std.proofs.Common.{take}
 use Rattle.std.specs.Prelude.{All}
-use Rattle.simplex_detector.specs.Values.{evidence_value}
+use Rattle.simplex_rules.specs.Values.{evidence_value}
 use Rattle.simplex_places.specs.FirstPlaces.{AreSought}
 use Rattle.simplex_places.proofs.first_places.sought.Given as goal
 

@@ -4,7 +4,7 @@ use Rattle.std.specs.List.{flat_map}
 use Rattle.simplex_base.specs.Format.{fixed}
 use Rattle.simplex_evidence.specs.Activity.{votes_in}
 use Rattle.simplex_scheme.specs.Committees.{committee_of, size_by}
-use Rattle.simplex_detector.specs.Scheme.{rules_of, scheme_of}
+use Rattle.simplex_rules.specs.Scheme.{rules_of, scheme_of}
 use Rattle.simplex_places.specs.Pieces.{is_judged}
 use Rattle.simplex_places.specs.Suspects.{passing_of}
 use Rattle.simplex_places.proofs.ByteLemmas.{IsCast, passing_stand}

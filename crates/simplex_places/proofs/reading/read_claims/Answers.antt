@@ -2,11 +2,11 @@ use Rattle.std.proofs.Common.{ℕ, refl, subst}
 use Rattle.simplex_base.specs.Format.{Format, fixed}
 use Rattle.simplex_evidence.specs.Activity.{activity_format}
 use Rattle.simplex_evidence.specs.declared.types.activity.Activity.{Activity}
-use Rattle.simplex_detector.specs.Judging.{rules_under}
-use Rattle.simplex_detector.specs.declared.judging.Judging.TheVariants.{Claimed}
+use Rattle.simplex_rules.specs.Judging.{rules_under}
+use Rattle.simplex_rules.specs.declared.judging.Judging.TheVariants.{Claimed}
 use Rattle.simplex_scheme.specs.Committees.{Schedule}
-use Rattle.simplex_detector.specs.Scheme.{rules_of, scheme_of}
-use Rattle.simplex_detector.specs.Rules.{Rules}
+use Rattle.simplex_rules.specs.Scheme.{rules_of, scheme_of}
+use Rattle.simplex_rules.specs.Rules.{Rules}
 use Rattle.simplex_audit.specs.Basis.{Basis}
 use Rattle.simplex_places.specs.Places.{message_places}
 use Rattle.simplex_places.specs.Suspects.{AreRead}

@@ -1,6 +1,6 @@
 use Rattle.std.proofs.Common.{map, ap, ◌∙◌}
 use Rattle.std.proofs.lemmas.List.{take_all}
-use Rattle.simplex_detector.specs.Values.{evidence_value}
+use Rattle.simplex_rules.specs.Values.{evidence_value}
 use Rattle.simplex_places.specs.Records.{record_by}
 use Rattle.simplex_places.proofs.records.listed.Goals as goal
 

@@ -1,5 +1,5 @@
 use Rattle.std.proofs.Common.{◌≡◌, map, take}
-use Rattle.simplex_detector.specs.Values.{evidence_value}
+use Rattle.simplex_rules.specs.Values.{evidence_value}
 use Rattle.simplex_places.specs.Records.{record_by}
 use Rattle.simplex_places.proofs.records.listed.Given as goal
 

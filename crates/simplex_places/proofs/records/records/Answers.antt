@@ -1,7 +1,7 @@
 use Rattle.std.proofs.Common.{length, sym, ◌∙◌}
 use Rattle.std.proofs.lemmas.Bool.{eqb-true}
 use Rattle.std.proofs.lemmas.List.{nil_from_length}
-use Rattle.simplex_detector.specs.Values.{evidence_value}
+use Rattle.simplex_rules.specs.Values.{evidence_value}
 use Rattle.simplex_places.proofs.RecordLemmas.{no_records}
 use Rattle.simplex_places.proofs.records.records.Goals as goal
 

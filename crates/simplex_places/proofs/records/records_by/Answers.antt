@@ -5,9 +5,9 @@ use Rattle.std.proofs.lemmas.Result.{IfOk-weaker}
 use Rattle.simplex_base.specs.Format.{Format, fixed}
 use Rattle.simplex_evidence.specs.Activity.{activity_format, votes_in}
 use Rattle.simplex_evidence.specs.declared.types.activity.Activity.{Activity}
-use Rattle.simplex_detector.specs.Scheme.{rules_of, scheme_of}
-use Rattle.simplex_detector.specs.Rules.{is_valid}
-use Rattle.simplex_detector.specs.Values.{evidence_value}
+use Rattle.simplex_rules.specs.Scheme.{rules_of, scheme_of}
+use Rattle.simplex_rules.specs.Rules.{is_valid}
+use Rattle.simplex_rules.specs.Values.{evidence_value}
 use Rattle.simplex_votes.specs.Votes.{SignedVote}
 use Rattle.simplex_stream.specs.Messages.{AreMessages}
 use Rattle.simplex_places.specs.Bytes.{IsVoteAt}

@@ -2,15 +2,14 @@ use Rattle.std.proofs.Common.{◌≡◌, map, sym, ap, subst, ◌∙◌}
 use Rattle.std.specs.BTreeSet.{contains}
 use Rattle.std.proofs.lemmas.Simd.{map-map}
 use Rattle.simplex_scheme.specs.Subject.{round_of}
-use Rattle.simplex_detector.specs.Scheme.{rules_of, scheme_of}
-use Rattle.simplex_detector.specs.Evidence.{IsEvidence}
-use Rattle.simplex_detector.specs.Accusation.{round_cmp, signer_cmp, signer_in}
-use Rattle.simplex_detector.specs.Rules.{valid_votes}
-use Rattle.simplex_detector.specs.Suspects.{is_suspect, is_suspect_round, suspect_of}
-use Rattle.simplex_detector.specs.Values.{evidence_value}
-use Rattle.simplex_detector.specs.declared.evidence.SignerInRound.{SignerInRound}
-use Rattle.simplex_detector.specs.declared.judging.Judging.TheVariants.{Claimed}
-use Rattle.simplex_detector.specs.Scheme.{scheme_of}
+use Rattle.simplex_rules.specs.Scheme.{rules_of, scheme_of}
+use Rattle.simplex_rules.specs.Evidence.{IsEvidence}
+use Rattle.simplex_rules.specs.Accusation.{round_cmp, signer_cmp, signer_in}
+use Rattle.simplex_rules.specs.Rules.{valid_votes}
+use Rattle.simplex_rules.specs.Suspects.{is_suspect, is_suspect_round, suspect_of}
+use Rattle.simplex_rules.specs.Values.{evidence_value}
+use Rattle.simplex_rules.specs.declared.evidence.SignerInRound.{SignerInRound}
+use Rattle.simplex_rules.specs.declared.judging.Judging.TheVariants.{Claimed}
 use Rattle.simplex_places.proofs.SuspectLemmas.{holds_alike}
 use Rattle.simplex_places.proofs.suspects.claimed_suspects.Goals as goal
 

@@ -3,7 +3,7 @@ use Rattle.std.proofs.lemmas.Result.{IfOk-weaker}
 use Rattle.simplex_base.specs.Format.{fixed}
 use Rattle.simplex_evidence.specs.Activity.{activity_encoding}
 use Rattle.simplex_scheme.specs.Committees.{committee_of, size_by}
-use Rattle.simplex_detector.specs.Scheme.{rules_of, scheme_of}
+use Rattle.simplex_rules.specs.Scheme.{rules_of, scheme_of}
 use Rattle.simplex_places.specs.Places.{message_places, places_along}
 use Rattle.simplex_places.specs.Suspects.{sought_of, suspected_by, suspected_in}
 use Rattle.simplex_places.proofs.SuspectLemmas.{sought_alike}

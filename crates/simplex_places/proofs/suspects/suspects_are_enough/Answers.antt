@@ -7,7 +7,7 @@ use Rattle.simplex_schemes.specs.ListedLaws.{listed_lawful}
 use Rattle.simplex_schemes.specs.Vouched.{VouchedScheme, vouched_valid}
 use Rattle.simplex_evidence.specs.ActivityLaws.{activity_lawful}
 use Rattle.simplex_scheme.specs.Committees.{bound_of}
-use Rattle.simplex_detector.specs.Scheme.{rules_of, scheme_of}
+use Rattle.simplex_rules.specs.Scheme.{rules_of, scheme_of}
 use Rattle.simplex_places.proofs.RewrittenLemmas.{determined}
 use Rattle.simplex_places.proofs.suspects.suspects_are_enough.Goals as goal
 

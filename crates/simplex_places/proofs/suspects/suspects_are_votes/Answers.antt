@@ -3,7 +3,7 @@ use Rattle.std.specs.Prelude.{All, Contains}
 use Rattle.std.specs.List.{flat_map}
 use Rattle.simplex_base.specs.Format.{fixed}
 use Rattle.simplex_evidence.specs.Activity.{votes_in}
-use Rattle.simplex_detector.specs.Scheme.{rules_of, scheme_of}
+use Rattle.simplex_rules.specs.Scheme.{rules_of, scheme_of}
 use Rattle.simplex_places.specs.Suspects.{is_sought, suspected_in}
 use Rattle.simplex_places.proofs.ByteLemmas.{IsCast, passing_stand}
 use Rattle.simplex_places.proofs.suspects.suspects_are_votes.Goals as goal

@@ -2,7 +2,7 @@ use Rattle.std.proofs.Common.{[]}
 use Rattle.simplex_base.specs.Format.{fixed}
 use Rattle.simplex_evidence.specs.Activity.{activity_format}
 use Rattle.simplex_scheme.specs.Committees.{Schedule, bound_of}
-use Rattle.simplex_detector.specs.Scheme.{rules_of, scheme_of}
+use Rattle.simplex_rules.specs.Scheme.{rules_of, scheme_of}
 use Rattle.simplex_audit.specs.Basis.{Basis}
 use Rattle.simplex_shards.proofs.AccusedLemmas.{accuse_same}
 use Rattle.simplex_shards.proofs.canonical.accuses_same.Given as given

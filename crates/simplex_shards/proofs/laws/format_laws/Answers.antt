@@ -1,7 +1,7 @@
 use Rattle.simplex_base.specs.Format.{fixed}
 use Rattle.simplex_evidence.specs.ActivityLaws.{activity_lawful}
 use Rattle.simplex_scheme.specs.Committees.{bound_of}
-use Rattle.simplex_detector.specs.Scheme.{rules_of, scheme_of}
+use Rattle.simplex_rules.specs.Scheme.{rules_of, scheme_of}
 use Rattle.simplex_shards.proofs.PartLemmas.{in_conflict}
 use Rattle.simplex_shards.proofs.laws.format_laws.Goals as goal
 

@@ -5,7 +5,7 @@ use Rattle.simplex_stream.specs.Fault.{IsFault}
 use Rattle.simplex_stream.specs.declared.fault.Fault.{Fault}
 use Rattle.simplex_evidence.specs.Activity.{activity_format}
 use Rattle.simplex_scheme.specs.Committees.{Schedule, bound_of}
-use Rattle.simplex_detector.specs.Scheme.{rules_of, scheme_of}
+use Rattle.simplex_rules.specs.Scheme.{rules_of, scheme_of}
 use Rattle.simplex_audit.specs.Basis.{Basis}
 use Rattle.simplex_shards.proofs.MergeLemmas.{merges, merges_shards}
 use Rattle.simplex_shards.proofs.merge.merge.Given as given

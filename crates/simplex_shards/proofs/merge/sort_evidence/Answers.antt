@@ -1,8 +1,8 @@
 use Rattle.std.proofs.Common.{rules}
 use Rattle.std.proofs.lemmas.List.Sorted.{answers_always}
 use Rattle.std.proofs.lemmas.Result.{on_ok_weaker}
-use Rattle.simplex_detector.specs.Accusation.{accused_by}
-use Rattle.simplex_detector.specs.Values.{evidence_value}
+use Rattle.simplex_rules.specs.Accusation.{accused_by}
+use Rattle.simplex_rules.specs.Values.{evidence_value}
 use Rattle.simplex_shards.specs.Merge.{sort_key}
 use Rattle.simplex_shards.proofs.MergeLemmas.{sorted_by_accusation}
 use Rattle.simplex_shards.proofs.merge.sort_evidence.Goals as goal

@@ -4,8 +4,8 @@ use Rattle.simplex_evidence.specs.Activity.{activity_format}
 use Rattle.simplex_scheme.specs.Committees.{Schedule, bound_of}
 use Rattle.simplex_stream.specs.Progress.{IsProgress}
 use Rattle.simplex_stream.specs.StreamLaws.{fault_is}
-use Rattle.simplex_detector.specs.Scheme.{rules_of, scheme_of}
-use Rattle.simplex_detector.specs.declared.judging.Judging.TheVariants.{Verified}
+use Rattle.simplex_rules.specs.Scheme.{rules_of, scheme_of}
+use Rattle.simplex_rules.specs.declared.judging.Judging.TheVariants.{Verified}
 use Rattle.simplex_audit.specs.Basis.{Basis}
 use Rattle.simplex_shards.specs.Cut.{class_under}
 use Rattle.simplex_shards.specs.Part.{RecordsPart, is_class}

@@ -1,5 +1,5 @@
 use Rattle.std.proofs.Common.{[]}
-use Rattle.simplex_detector.specs.Alarm.{nothing_told, told_then}
+use Rattle.simplex_alarm.specs.Alarm.{nothing_told, told_then}
 use Rattle.simplex_tracker.proofs.live.track.Goals as goal
 
 pub returns : goal.returns

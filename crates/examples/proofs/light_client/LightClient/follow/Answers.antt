@@ -1,6 +1,6 @@
 use Rattle.std.proofs.Common.{ap, ◌∙◌, subst}
 use Rattle.simplex_base.specs.Format.{fixed}
-use Rattle.simplex_detector.specs.Scheme.{rules_of, scheme_of}
+use Rattle.simplex_rules.specs.Scheme.{rules_of, scheme_of}
 use Rattle.examples.specs.Following.{Follows}
 use Rattle.examples.proofs.ForkLemmas.{taken_now, not_taken_now, value_outside}
 use Rattle.examples.proofs.light_client.LightClient.follow.Goals as goal

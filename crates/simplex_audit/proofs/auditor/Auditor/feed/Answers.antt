@@ -3,7 +3,7 @@ use Rattle.simplex_base.specs.Format.{Format, fixed}
 use Rattle.simplex_evidence.specs.Activity.{activity_format}
 use Rattle.simplex_evidence.specs.declared.types.activity.Activity.{Activity}
 use Rattle.simplex_detector.specs.Detector.{RecallsMore}
-use Rattle.simplex_detector.specs.Rules.{Rules}
+use Rattle.simplex_rules.specs.Rules.{Rules}
 use Rattle.simplex_audit.proofs.AuditorLemmas.{stands_on}
 use Rattle.simplex_audit.proofs.auditor.Auditor.feed.Given as given
 use Rattle.simplex_audit.proofs.auditor.Auditor.feed.Goals as goal

@@ -3,7 +3,7 @@ use Rattle.simplex_base.specs.Format.{Format, fixed}
 use Rattle.simplex_evidence.specs.Activity.{activity_format}
 use Rattle.simplex_evidence.specs.declared.types.activity.Activity.{Activity}
 use Rattle.simplex_scheme.specs.Committees.{bound_of}
-use Rattle.simplex_detector.specs.declared.judging.Judging.TheVariants.{From}
+use Rattle.simplex_rules.specs.declared.judging.Judging.TheVariants.{From}
 use Rattle.simplex_stream.specs.Messages.{IsStuck, IsStop}
 use Rattle.simplex_audit.proofs.AuditorLemmas.{makes_same, stands_reported, answers_audited}
 use Rattle.simplex_audit.proofs.AccusedLemmas.{if_both}

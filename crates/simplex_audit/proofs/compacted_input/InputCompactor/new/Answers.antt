@@ -3,9 +3,9 @@ use Rattle.simplex_base.specs.Format.{Format, fixed}
 use Rattle.simplex_evidence.specs.Activity.{IsActivity, activity_format}
 use Rattle.simplex_evidence.specs.declared.types.activity.Activity.{Activity}
 use Rattle.simplex_scheme.specs.Committees.{Schedule, bound_of}
-use Rattle.simplex_detector.specs.Scheme.{Scheme, rules_of, scheme_of}
+use Rattle.simplex_rules.specs.Scheme.{Scheme, rules_of, scheme_of}
 use Rattle.simplex_detector.specs.Detector.{Recalls}
-use Rattle.simplex_detector.specs.Rules.{Rules}
+use Rattle.simplex_rules.specs.Rules.{Rules}
 use Rattle.simplex_audit.specs.Basis.{Basis}
 use Rattle.simplex_audit.proofs.CompactedInputLemmas.{starts}
 use Rattle.simplex_audit.proofs.compacted_input.InputCompactor.new.Given as given

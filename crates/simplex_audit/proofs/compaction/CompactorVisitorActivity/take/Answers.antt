@@ -1,8 +1,8 @@
 use Rattle.std.proofs.Common.{refl}
 use Rattle.simplex_base.specs.Format.{fixed}
 use Rattle.simplex_evidence.specs.Activity.{IsActivity, activity_encoding}
-use Rattle.simplex_detector.specs.Judging.{rules_under}
-use Rattle.simplex_detector.specs.Scheme.{scheme_of}
+use Rattle.simplex_rules.specs.Judging.{rules_under}
+use Rattle.simplex_rules.specs.Scheme.{scheme_of}
 use Rattle.simplex_audit.proofs.CompactionLemmas.{compacts_one, when_both}
 use Rattle.simplex_audit.proofs.compaction.CompactorVisitorActivity.take.Goals as goal
 

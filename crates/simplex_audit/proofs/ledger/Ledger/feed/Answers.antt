@@ -1,4 +1,4 @@
-use Rattle.simplex_detector.specs.Independence.{first_round}
+use Rattle.simplex_rules.specs.Independence.{first_round}
 use Rattle.simplex_audit.proofs.ledger.Ledger.feed.Goals as goal
 
 pub returns-clause-fed : goal.returns-clause-fed

@@ -1,5 +1,5 @@
 use Rattle.simplex_audit.proofs.StoreLemmas.{if_ok, stored}
-use Rattle.simplex_detector.specs.Independence.{first_round}
+use Rattle.simplex_rules.specs.Independence.{first_round}
 use Rattle.simplex_audit.proofs.ledger.Ledger.store.Goals as goal
 
 pub returns : goal.returns

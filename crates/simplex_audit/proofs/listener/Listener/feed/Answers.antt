@@ -2,7 +2,7 @@ use Rattle.std.proofs.Common.{ℕ, refl, subst}
 use Rattle.simplex_base.specs.Format.{Format, fixed}
 use Rattle.simplex_evidence.specs.Activity.{activity_format}
 use Rattle.simplex_evidence.specs.declared.types.activity.Activity.{Activity}
-use Rattle.simplex_detector.specs.Rules.{Rules}
+use Rattle.simplex_rules.specs.Rules.{Rules}
 use Rattle.simplex_audit.proofs.ListenerLemmas.{RecordsAndSounds, hears_on}
 use Rattle.simplex_audit.proofs.listener.Listener.feed.Given as given
 use Rattle.simplex_audit.proofs.listener.Listener.feed.Goals as goal

@@ -1,8 +1,8 @@
 use Rattle.std.proofs.Common.{[], sym, subst, arith}
-use Rattle.simplex_detector.specs.Alarm.{Sounds, nothing_told}
-use Rattle.simplex_detector.specs.Independence.{first_round}
-use Rattle.simplex_detector.specs.Scheme.{rules_of, scheme_of}
-use Rattle.simplex_detector.specs.declared.judging.Judging.TheVariants.{Verified}
+use Rattle.simplex_alarm.specs.Alarm.{Sounds, nothing_told}
+use Rattle.simplex_rules.specs.Independence.{first_round}
+use Rattle.simplex_rules.specs.Scheme.{rules_of, scheme_of}
+use Rattle.simplex_rules.specs.declared.judging.Judging.TheVariants.{Verified}
 use Rattle.simplex_audit.proofs.ListenerLemmas.{hears_nothing}
 use Rattle.simplex_audit.proofs.listener.Listener.new.Goals as goal
 

@@ -1,4 +1,5 @@
-use Rattle.simplex_detector.proofs.Prelude.{All, All-nil, IsEncoded, IsOrdered, [], ap, arith, evidence_value, fixed, map, round_cmp, rules as std_rules, rules_under, subst, sym, scheme_of}
+use Rattle.simplex_rules.proofs.Prelude.{All, All-nil, IsEncoded, [], ap, arith, evidence_value, fixed, map, round_cmp, rules as std_rules, rules_under, subst, sym, scheme_of}
+use Rattle.simplex_detector.specs.RoundMap.{IsOrdered}
 use Rattle.simplex_detector.proofs.ReportLemmas.{Walked, walked_next, report_of_walk}
 use Rattle.simplex_detector.proofs.detector.Detector.evidence.Goals as goal
 

@@ -1,4 +1,4 @@
-use Rattle.simplex_detector.proofs.Prelude.{All, IsEncoded, evidence_value, fixed, map}
+use Rattle.simplex_rules.proofs.Prelude.{All, IsEncoded, evidence_value, fixed, map}
 use Rattle.simplex_detector.proofs.ReportLemmas.{Walked}
 use Rattle.simplex_detector.proofs.detector.Detector.evidence.Given as goal
 

@@ -1,4 +1,6 @@
-use Rattle.simplex_detector.proofs.Prelude.{Judging, RecallsAt, Rules, Schedule, nothing_certified, rules_under, subst, sym, ◌∙◌, scheme_of, Some, is_some, firsts_of, false, refl, ◌≡◌}
+use Rattle.simplex_rules.proofs.Prelude.{Rules, Schedule, nothing_certified, rules_under, subst, sym, ◌∙◌, scheme_of, Some, is_some, firsts_of, false, refl, ◌≡◌}
+use Rattle.simplex_rules.specs.declared.judging.Judging.{Judging}
+use Rattle.simplex_detector.specs.Detector.{RecallsAt}
 use Rattle.simplex_scheme.specs.declared.kind.VoteKind.{VoteKind}
 use Rattle.simplex_scheme.specs.declared.kind.VoteKind.TheVariants as kinds
 use Rattle.simplex_detector.proofs.CountLemmas.{certified_told}

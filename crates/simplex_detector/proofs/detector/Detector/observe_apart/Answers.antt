@@ -1,4 +1,4 @@
-use Rattle.simplex_detector.proofs.Prelude.{rules_under, scheme_of, ◌∙◌}
+use Rattle.simplex_rules.proofs.Prelude.{rules_under, scheme_of, ◌∙◌}
 use Rattle.simplex_detector.proofs.GatherLemmas.{kept_told}
 use Rattle.simplex_detector.proofs.detector.Detector.observe_apart.Goals as goal
 

@@ -1,4 +1,4 @@
-use Rattle.simplex_detector.proofs.Prelude.{ap, is_from, is_key, round_cmp, ◌∙◌}
+use Rattle.simplex_rules.proofs.Prelude.{ap, is_from, is_key, round_cmp, ◌∙◌}
 use Rattle.std.specs.Map.{lookup}
 use Rattle.simplex_detector.proofs.PruneLemmas.{lookup-within, recalls_pruned}
 use Rattle.simplex_detector.proofs.detector.Detector.prune.Goals as goal

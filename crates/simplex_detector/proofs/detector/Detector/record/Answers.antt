@@ -1,8 +1,13 @@
-use Rattle.simplex_detector.proofs.Prelude.{IfOk-weaker, on_ok_weaker, IsSized, IsSome, Judging, RecallsAt, Some, activity_round, ap, committee_of, get, is_key, length, refl, round_cmp, subst, sym, ◌∙◌, Scheme, scheme_of, scheme_under, rules_of}
+use Rattle.simplex_rules.proofs.Prelude.{IfOk-weaker, on_ok_weaker, IsSome, Some, activity_round, ap, committee_of, is_key, length, refl, round_cmp, subst, sym, ◌∙◌, Scheme, scheme_of, scheme_under, rules_of}
+use Rattle.simplex_rules.specs.declared.judging.Judging.{Judging}
+use Rattle.simplex_ballots.specs.Rounds.{IsSized}
+use Rattle.simplex_detector.specs.Detector.{RecallsAt}
+use Rattle.simplex_detector.specs.RoundMap.{get}
 use Rattle.std.specs.Map.{set_value}
 use Rattle.simplex_evidence.specs.Activity.{contents_of}
 use Rattle.simplex_evidence.specs.Contents.{contents_round}
-use Rattle.simplex_detector.proofs.DetectorLemmas.{news_taken, no_news_no_committee, votes_here, recalls_changed, recalls_still_none, recalls_fresh, recalls_taken, recalls_no_committee}
+use Rattle.simplex_detector.proofs.DetectorLemmas.{news_taken, no_news_no_committee, recalls_changed, recalls_still_none, recalls_fresh, recalls_taken, recalls_no_committee}
+use Rattle.simplex_rules.proofs.MessageLemmas.{votes_here}
 use Rattle.simplex_detector.proofs.GatherLemmas.{gathered_taken, none_gathered}
 use Rattle.simplex_detector.proofs.RoundMapLemmas.{set_updates}
 use Rattle.simplex_detector.proofs.detector.Detector.record.Given as given

@@ -1,4 +1,6 @@
-use Rattle.simplex_detector.proofs.Prelude.{Judging, RecallsAt, Rules, Schedule, rules_under, subst, sym, scheme_of}
+use Rattle.simplex_rules.proofs.Prelude.{Rules, Schedule, rules_under, subst, sym, scheme_of}
+use Rattle.simplex_rules.specs.declared.judging.Judging.{Judging}
+use Rattle.simplex_detector.specs.Detector.{RecallsAt}
 use Rattle.simplex_detector.proofs.CountLemmas.{no_split_recorded}
 use Rattle.simplex_detector.proofs.detector.Detector.split_of.Given as given
 use Rattle.simplex_detector.proofs.detector.Detector.split_of.Goals as goal

@@ -1,4 +1,7 @@
-use Rattle.simplex_detector.proofs.Prelude.{AllByRecursion, AreSplits, IsOrdered, Judging, RecallsRound, Rules, Schedule, ap, append-nil, filter_map, map, recursion_from_All, round_cmp, rules as std_rules, rules_under, split_of, subst, sym, ◌++◌, ◌∙◌, scheme_of}
+use Rattle.simplex_rules.proofs.Prelude.{AllByRecursion, AreSplits, Rules, Schedule, ap, append-nil, filter_map, map, recursion_from_All, round_cmp, rules as std_rules, rules_under, split_of, subst, sym, ◌++◌, ◌∙◌, scheme_of}
+use Rattle.simplex_rules.specs.declared.judging.Judging.{Judging}
+use Rattle.simplex_detector.specs.RoundMap.{IsOrdered}
+use Rattle.simplex_detector.specs.Detector.{RecallsRound}
 use Rattle.simplex_detector.proofs.CountLemmas.{splits_of_detector, splits_next}
 use Rattle.simplex_detector.proofs.ReportLemmas.{recalls_listed}
 use Rattle.simplex_detector.proofs.detector.Detector.splits.Given as given

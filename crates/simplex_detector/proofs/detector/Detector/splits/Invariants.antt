@@ -1,4 +1,6 @@
-use Rattle.simplex_detector.proofs.Prelude.{Activity, AllByRecursion, HaveCommittees, Judging, List, RecallsRound, filter_map, map, rules_under, split_of, ◌++◌, ◌≡◌, scheme_of}
+use Rattle.simplex_rules.proofs.Prelude.{Activity, AllByRecursion, HaveCommittees, List, filter_map, map, rules_under, split_of, ◌++◌, ◌≡◌, scheme_of}
+use Rattle.simplex_rules.specs.declared.judging.Judging.{Judging}
+use Rattle.simplex_detector.specs.Detector.{RecallsRound}
 use Rattle.simplex_detector.proofs.detector.Detector.splits.Given as goal
 
 -- the splits so far, and those of the rounds that are left

@@ -1,4 +1,5 @@
-use Rattle.simplex_detector.proofs.Prelude.{IsOrdered, ap, arith, round_cmp, rules as std_rules, rules_under, scheme_of}
+use Rattle.simplex_detector.specs.RoundMap.{IsOrdered}
+use Rattle.simplex_rules.proofs.Prelude.{ap, arith, round_cmp, rules as std_rules, rules_under, scheme_of}
 use Rattle.simplex_detector.proofs.CountLemmas.{rounds_count, counted_votes}
 use Rattle.simplex_detector.proofs.detector.Detector.votes.Goals as goal
 

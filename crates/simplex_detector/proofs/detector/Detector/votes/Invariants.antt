@@ -1,4 +1,4 @@
-use Rattle.simplex_detector.proofs.Prelude.{min, ◌+◌, ◌-◌, ◌<◌, ◌^◌, ◌≡◌}
+use Rattle.simplex_rules.proofs.Prelude.{min, ◌+◌, ◌-◌, ◌<◌, ◌^◌, ◌≡◌}
 use Rattle.simplex_detector.proofs.CountLemmas.{rounds_count}
 use Rattle.simplex_detector.proofs.detector.Detector.votes.Given as goal
 

@@ -1,7 +1,7 @@
 use Rattle.std.proofs.Common.{ap, subst, sym, ◌∙◌}
 use Rattle.std.specs.List.Sorted.{IsStrictlySortedBy}
 use Rattle.slab.specs.Slab as slab
-use Rattle.simplex_detector.specs.Accusation.{round_cmp}
+use Rattle.simplex_rules.specs.Accusation.{round_cmp}
 use Rattle.simplex_detector.specs.RoundMap.{IsOrdered, placed}
 use Rattle.simplex_detector.proofs.RoundMapLemmas.{placed_keys}
 use Rattle.simplex_detector.proofs.round_map.RefRoundMapIntoIterator.into_iter.Goals as goal

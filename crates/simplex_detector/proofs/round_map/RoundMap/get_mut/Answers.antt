@@ -3,7 +3,7 @@ use Rattle.std.proofs.Common.{ap, None, Some, refl, sym, ◌∙◌}
 use Rattle.std.specs.BTreeMap.{is_at}
 use Rattle.std.specs.Map.{set_value}
 use Rattle.std.specs.Option.{ghost_name_of, option_copied_mut}
-use Rattle.simplex_detector.specs.Accusation.{round_cmp}
+use Rattle.simplex_rules.specs.Accusation.{round_cmp}
 use Rattle.simplex_detector.proofs.RoundMapLemmas.{found_sound, lent_sound, lent_value, read}
 use Rattle.simplex_detector.proofs.round_map.RoundMap.get_mut.Goals as goal
 

@@ -1,6 +1,6 @@
 use Rattle.std.proofs.Common.{ap, sym, ◌∙◌}
 use Rattle.slab.specs.Slab as slab
-use Rattle.simplex_detector.specs.Independence.{is_from}
+use Rattle.simplex_rules.specs.Independence.{is_from}
 use Rattle.simplex_detector.specs.RoundMap.{placed}
 use Rattle.simplex_detector.proofs.RoundMapLemmas.{placed_filter, removed, removed_sound}
 use Rattle.simplex_detector.proofs.round_map.RoundMap.prune.Goals as goal

@@ -1,6 +1,6 @@
 use Rattle.std.proofs.Common.{filter, length, ◌≡◌}
 use Rattle.slab.specs.Slab as slab
-use Rattle.simplex_detector.specs.Independence.{is_from}
+use Rattle.simplex_rules.specs.Independence.{is_from}
 use Rattle.simplex_detector.specs.RoundMap.{IsSound, placed}
 use Rattle.simplex_detector.proofs.round_map.RoundMap.prune.Given as goal
 

@@ -1,6 +1,7 @@
 use Rattle.simplex_evidence.specs.Contents.{signed_value}
-use Rattle.simplex_detector.proofs.Prelude.{IfOk-weaker, refl}
-use Rattle.simplex_detector.proofs.DetectorLemmas.{one_round, takes_two}
+use Rattle.simplex_rules.proofs.Prelude.{IfOk-weaker, refl}
+use Rattle.simplex_rules.proofs.MessageLemmas.{one_round}
+use Rattle.simplex_detector.proofs.DetectorLemmas.{takes_two}
 use Rattle.simplex_detector.proofs.GatherLemmas.{gathers_none}
 use Rattle.simplex_detector.proofs.round_state.RoundState.observe.Goals as goal
 

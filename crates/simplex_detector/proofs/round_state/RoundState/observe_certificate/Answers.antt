@@ -1,5 +1,5 @@
-use Rattle.simplex_detector.proofs.Prelude.{All, ap, are_known, certified_under, subject_value, true, ◌∙◌, ◌≡◌}
-use Rattle.simplex_detector.proofs.CommitteeLemmas.{certified_by_scheme, holds_of_listed, known_tells}
+use Rattle.simplex_rules.proofs.Prelude.{All, ap, are_known, certified_under, subject_value, true, ◌∙◌, ◌≡◌}
+use Rattle.simplex_rules.proofs.CommitteeLemmas.{certified_by_scheme, holds_of_listed, known_tells}
 use Rattle.simplex_detector.proofs.DetectorLemmas.{takes_certificate}
 use Rattle.simplex_detector.proofs.GatherLemmas.{gathers_certificate}
 use Rattle.simplex_detector.proofs.round_state.RoundState.observe_certificate.Goals as goal

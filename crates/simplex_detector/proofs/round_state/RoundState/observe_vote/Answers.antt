@@ -1,5 +1,5 @@
-use Rattle.simplex_detector.proofs.Prelude.{IfOk-weaker, refl, subject_value}
-use Rattle.simplex_detector.proofs.CommitteeLemmas.{unverified}
+use Rattle.simplex_rules.proofs.Prelude.{IfOk-weaker, refl, subject_value}
+use Rattle.simplex_rules.proofs.CommitteeLemmas.{unverified}
 use Rattle.simplex_detector.proofs.DetectorLemmas.{takes_vote}
 use Rattle.simplex_detector.proofs.round_state.RoundState.observe_vote.Goals as goal
 

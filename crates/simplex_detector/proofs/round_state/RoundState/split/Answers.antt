@@ -1,6 +1,7 @@
-use Rattle.simplex_detector.proofs.Prelude.{cond-false, is_split, None, false_from_ne_true, Judging, Rules, Schedule, ap, arith, committee_of, length, rules_under, size_by, sym, ◌+◌, ◌∙◌, ◌≡◌, scheme_of}
+use Rattle.simplex_rules.proofs.Prelude.{cond-false, is_split, None, false_from_ne_true, Rules, Schedule, ap, arith, committee_of, length, rules_under, size_by, sym, ◌+◌, ◌∙◌, ◌≡◌, scheme_of}
+use Rattle.simplex_rules.specs.declared.judging.Judging.{Judging}
 use Rattle.simplex_detector.proofs.CountLemmas.{split_found}
-use Rattle.simplex_detector.proofs.SplitLemmas.{from_subjects, someone_in_split}
+use Rattle.simplex_rules.proofs.SplitLemmas.{from_subjects, someone_in_split}
 use Rattle.simplex_detector.proofs.round_state.RoundState.split.Given as given
 use Rattle.simplex_detector.proofs.round_state.RoundState.split.Goals as goal
 

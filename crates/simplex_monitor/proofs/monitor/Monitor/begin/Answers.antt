@@ -1,6 +1,6 @@
 use Rattle.std.proofs.Common.{◌≤◌, refl, rules, subst}
 use Rattle.simplex_evidence.specs.ActivityLaws.{activity_lawful}
-use Rattle.simplex_detector.specs.declared.judging.Judging.TheVariants.{Verified}
+use Rattle.simplex_rules.specs.declared.judging.Judging.TheVariants.{Verified}
 use Rattle.simplex_scheme.specs.Committees.{bound_of, committee_of, size_by}
 use Rattle.simplex_monitor.proofs.MonitorLemmas.{listens_to_nothing, size_at_most}
 use Rattle.simplex_monitor.proofs.monitor.Monitor.begin.Goals as goal

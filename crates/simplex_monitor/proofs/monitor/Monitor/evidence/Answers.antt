@@ -1,5 +1,5 @@
 use Rattle.std.proofs.lemmas.Result.{IfOk-weaker}
-use Rattle.simplex_detector.specs.declared.judging.Judging.TheVariants.{From}
+use Rattle.simplex_rules.specs.declared.judging.Judging.TheVariants.{From}
 use Rattle.simplex_monitor.specs.Window.{floor_of}
 use Rattle.simplex_monitor.proofs.MonitorLemmas.{evidence_retained}
 use Rattle.simplex_monitor.proofs.monitor.Monitor.evidence.Goals as goal

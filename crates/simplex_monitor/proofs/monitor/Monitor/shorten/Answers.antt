@@ -4,8 +4,8 @@ use Rattle.simplex_base.specs.Format.{Format, fixed}
 use Rattle.simplex_evidence.specs.Activity.{activity_format}
 use Rattle.simplex_evidence.specs.declared.types.activity.Activity.{Activity}
 use Rattle.simplex_scheme.specs.Committees.{bound_of}
-use Rattle.simplex_detector.specs.Independence.{is_from, of_rounds}
-use Rattle.simplex_detector.specs.Scheme.{rules_of, scheme_of}
+use Rattle.simplex_rules.specs.Independence.{is_from, of_rounds}
+use Rattle.simplex_rules.specs.Scheme.{rules_of, scheme_of}
 use Rattle.simplex_stream.specs.Messages.{AreMessages}
 use Rattle.simplex_monitor.specs.Window.{floor_of}
 use Rattle.simplex_monitor.proofs.HoldingLemmas.{holds_short, stands_by, stands_if}

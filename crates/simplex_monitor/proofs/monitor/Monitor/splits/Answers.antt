@@ -1,6 +1,6 @@
 use Rattle.std.proofs.lemmas.Result.{IfOk-weaker}
-use Rattle.simplex_detector.specs.Independence.{is_from}
-use Rattle.simplex_detector.specs.declared.judging.Judging.TheVariants.{From}
+use Rattle.simplex_rules.specs.Independence.{is_from}
+use Rattle.simplex_rules.specs.declared.judging.Judging.TheVariants.{From}
 use Rattle.simplex_monitor.specs.Window.{floor_of}
 use Rattle.simplex_monitor.proofs.MonitorLemmas.{splits_retained}
 use Rattle.simplex_monitor.proofs.monitor.Monitor.splits.Goals as goal

@@ -2,8 +2,8 @@ use Rattle.std.proofs.Common.{subst, sym}
 use Rattle.std.specs.Cmp.{IsEquivalence}
 use Rattle.simplex_base.specs.Format.{fixed}
 use Rattle.simplex_scheme.specs.Committees.{bound_of}
-use Rattle.simplex_detector.specs.Scheme.{rules_of, scheme_of}
-use Rattle.simplex_detector.specs.declared.judging.Judging.TheVariants.{From}
+use Rattle.simplex_rules.specs.Scheme.{rules_of, scheme_of}
+use Rattle.simplex_rules.specs.declared.judging.Judging.TheVariants.{From}
 use Rattle.simplex_monitor.specs.Window.{floor_of}
 use Rattle.simplex_monitor.proofs.MonitorLemmas.{few_votes, votes_retained}
 use Rattle.simplex_monitor.proofs.RecordedLemmas.{in_conflict}

@@ -1,5 +1,5 @@
 use Rattle.std.proofs.Common.{[], ◌∷◌, ◌++◌, inl}
-use Rattle.simplex_detector.specs.declared.judging.Judging.TheVariants.{From}
+use Rattle.simplex_rules.specs.declared.judging.Judging.TheVariants.{From}
 use Rattle.simplex_monitor.specs.Window.{floor_of}
 use Rattle.simplex_monitor.proofs.WatchingLemmas.{tells_certified}
 use Rattle.simplex_monitor.proofs.watcher.Watcher.has_certified.Goals as goal

@@ -1,11 +1,11 @@
 use Rattle.std.proofs.Common.{◌≡◌, [], ◌∷◌, ◌++◌, cond, subst, sym, ◌∙◌}
-use Rattle.simplex_detector.specs.Independence.{is_from}
+use Rattle.simplex_rules.specs.Independence.{is_from}
 use Rattle.simplex_monitor.specs.Taken.{certified_rounds, finalized_rounds}
 use Rattle.simplex_monitor.specs.Window.{window_after}
 use Rattle.simplex_monitor.proofs.WatchingLemmas.{keeps_pruned, keeps_same}
 use Rattle.simplex_scheme.specs.Committees.{Schedule}
-use Rattle.simplex_detector.specs.Rules.{Rules}
-use Rattle.simplex_detector.specs.Scheme.{rules_of, scheme_of}
+use Rattle.simplex_rules.specs.Rules.{Rules}
+use Rattle.simplex_rules.specs.Scheme.{rules_of, scheme_of}
 use Rattle.simplex_monitor.proofs.watcher.Watcher.move_by.Given as given
 use Rattle.simplex_monitor.proofs.watcher.Watcher.move_by.Goals as goal
 

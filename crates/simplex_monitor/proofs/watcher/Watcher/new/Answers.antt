@@ -1,8 +1,8 @@
 use Rattle.std.proofs.Common.{[], ap, subst, sym, ◌≡◌, ◌∙◌}
 use Rattle.std.specs.Prelude.{IfSome, is_some}
-use Rattle.simplex_detector.specs.Alarm.{Sounds, nothing_told}
+use Rattle.simplex_alarm.specs.Alarm.{Sounds, nothing_told}
 use Rattle.simplex_detector.specs.Detector.{Recalls}
-use Rattle.simplex_detector.specs.declared.judging.Judging.TheVariants.{From}
+use Rattle.simplex_rules.specs.declared.judging.Judging.TheVariants.{From}
 use Rattle.simplex_monitor.proofs.HoldingLemmas.{held_if, none_held}
 use Rattle.simplex_monitor.proofs.WatchingLemmas.{begins}
 use Rattle.simplex_monitor.proofs.watcher.Watcher.new.Goals as goal

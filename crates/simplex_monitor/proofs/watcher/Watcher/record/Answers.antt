@@ -1,9 +1,9 @@
 use Rattle.std.proofs.Common.{Some}
 use Rattle.simplex_base.specs.Format.{fixed}
 use Rattle.simplex_scheme.specs.Committees.{bound_of}
-use Rattle.simplex_detector.specs.Judging.{rules_under}
-use Rattle.simplex_detector.specs.Scheme.{scheme_of}
-use Rattle.simplex_detector.specs.declared.judging.Judging.TheVariants.{From}
+use Rattle.simplex_rules.specs.Judging.{rules_under}
+use Rattle.simplex_rules.specs.Scheme.{scheme_of}
+use Rattle.simplex_rules.specs.declared.judging.Judging.TheVariants.{From}
 use Rattle.simplex_monitor.proofs.HoldingLemmas.{fits_kept, holds_kept, holds_nothing, on_both}
 use Rattle.simplex_monitor.proofs.WatchingLemmas.{records_one}
 use Rattle.simplex_monitor.proofs.watcher.Watcher.record.Goals as goal

@@ -1,7 +1,7 @@
 use Rattle.std.proofs.Common.{refl, ap, ◌∙◌}
-use Rattle.simplex_detector.specs.Judging.{rules_under}
-use Rattle.simplex_detector.specs.Scheme.{scheme_of}
-use Rattle.simplex_detector.specs.declared.judging.Judging.TheVariants.{Verified}
+use Rattle.simplex_rules.specs.Judging.{rules_under}
+use Rattle.simplex_rules.specs.Scheme.{scheme_of}
+use Rattle.simplex_rules.specs.declared.judging.Judging.TheVariants.{Verified}
 use Rattle.simplex_shards.specs.Cut.{class_under}
 use Rattle.simplex_shards.proofs.PartLemmas.{part_elsewhere, part_here}
 use Rattle.simplex_shards.proofs.part.PartRecorderVisitorActivity.take.Goals as goal

@@ -1,6 +1,6 @@
 use Rattle.std.proofs.Common.{◌≡◌, map, ap, refl, rules}
-use Rattle.simplex_detector.specs.Independence.{first_round}
-use Rattle.simplex_detector.specs.Values.{evidence_value}
+use Rattle.simplex_rules.specs.Independence.{first_round}
+use Rattle.simplex_rules.specs.Values.{evidence_value}
 use Rattle.simplex_tracker.proofs.LiveLemmas.{begun}
 use Rattle.simplex_tracker.proofs.live.LiveAuditor.begin.Goals as goal
 

@@ -1,5 +1,5 @@
 use Rattle.std.proofs.Common.{map, ap}
-use Rattle.simplex_detector.specs.Values.{evidence_value}
+use Rattle.simplex_rules.specs.Values.{evidence_value}
 use Rattle.simplex_tracker.proofs.LiveLemmas.{follows_still}
 use Rattle.simplex_tracker.proofs.live.LiveAuditor.hand_over.Goals as goal
 

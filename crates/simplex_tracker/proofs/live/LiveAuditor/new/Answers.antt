@@ -1,5 +1,5 @@
 use Rattle.std.proofs.Common.{[]}
-use Rattle.simplex_detector.specs.Independence.{first_round}
+use Rattle.simplex_rules.specs.Independence.{first_round}
 use Rattle.simplex_tracker.proofs.LiveLemmas.{begins}
 use Rattle.simplex_tracker.proofs.live.LiveAuditor.new.Goals as goal
 

@@ -2,9 +2,9 @@ use Rattle.std.proofs.Common.{ℕ, refl, subst}
 use Rattle.simplex_base.specs.Format.{Format, fixed}
 use Rattle.simplex_evidence.specs.Activity.{activity_format}
 use Rattle.simplex_evidence.specs.declared.types.activity.Activity.{Activity}
-use Rattle.simplex_detector.specs.Alarm.{SoundsMore}
+use Rattle.simplex_alarm.specs.Alarm.{SoundsMore}
 use Rattle.simplex_detector.specs.Detector.{RecallsMore}
-use Rattle.simplex_detector.specs.Rules.{Rules}
+use Rattle.simplex_rules.specs.Rules.{Rules}
 use Rattle.simplex_tracker.proofs.TrackingLemmas.{tracks_on}
 use Rattle.simplex_tracker.proofs.tracker.Tracker.feed.Given as given
 use Rattle.simplex_tracker.proofs.tracker.Tracker.feed.Goals as goal

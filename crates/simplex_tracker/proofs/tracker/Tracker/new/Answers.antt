@@ -1,9 +1,9 @@
 use Rattle.std.proofs.Common.{[], refl, subst}
 use Rattle.simplex_evidence.specs.ActivityLaws.{activity_lawful}
 use Rattle.simplex_scheme.specs.Committees.{bound_of}
-use Rattle.simplex_detector.specs.Alarm.{Sounds, nothing_told}
+use Rattle.simplex_alarm.specs.Alarm.{Sounds, nothing_told}
 use Rattle.simplex_detector.specs.Detector.{Recalls}
-use Rattle.simplex_detector.specs.declared.judging.Judging.TheVariants.{From, Verified}
+use Rattle.simplex_rules.specs.declared.judging.Judging.TheVariants.{From, Verified}
 use Rattle.simplex_tracker.proofs.tracker.Tracker.new.Goals as goal
 
 pub returns-clause-tracks : goal.returns-clause-tracks

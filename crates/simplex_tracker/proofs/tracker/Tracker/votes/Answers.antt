@@ -1,4 +1,4 @@
-use Rattle.simplex_detector.specs.declared.judging.Judging.TheVariants.{From}
+use Rattle.simplex_rules.specs.declared.judging.Judging.TheVariants.{From}
 use Rattle.simplex_tracker.proofs.TrackingLemmas.{tracks_votes}
 use Rattle.simplex_tracker.proofs.tracker.Tracker.votes.Goals as goal
 

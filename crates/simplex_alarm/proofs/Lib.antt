@@ -1,0 +1,3 @@
+pub mod SplitAlertLemmas
+pub mod AlertLemmas
+pub mod AlarmLemmas

@@ -1,0 +1,4 @@
+pub mod BallotLemmas
+pub mod HeldLemmas
+pub mod SignerLemmas
+pub mod ApartLemmas

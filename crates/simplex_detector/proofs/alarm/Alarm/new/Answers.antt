@@ -1,5 +1,0 @@
-use Rattle.simplex_detector.proofs.alarm.Alarm.new.Goals as goal
-
-pub returns : goal.returns
-returns g c judging schedule =
-    record { evidence = c.new.ensures judging schedule; splits = c.new-2.ensures judging schedule }

@@ -1,9 +1,0 @@
-use Rattle.simplex_detector.proofs.Prelude.{evidence_value, map, ◌++◌, ◌≡◌}
-use Rattle.simplex_detector.specs.Alerts.{NotesAll}
-use Rattle.simplex_detector.proofs.alerts.Alerts.note_all.Given as goal
-
-abbrev pub invariant-found : goal.invariant-found
-invariant-found g l = record {
-  over : l.yielded ++ l.evidence-iterator.rest.items ≡ l.fn.found.items;
-  noted : NotesAll (map evidence_value l.yielded) l.fn.self l.self;
-}

@@ -1,9 +1,0 @@
-use Rattle.simplex_detector.proofs.Prelude.{map, take}
-use Rattle.simplex_detector.specs.Alerts.{NotesAll}
-use Rattle.simplex_detector.specs.Rounds.{found_against}
-use Rattle.simplex_detector.proofs.alerts.Alerts.note_signers.Given as goal
-
-abbrev pub invariant-listed : goal.invariant-listed
-invariant-listed g l =
-    NotesAll (found_against g.D.PartialEq.eq l.fn.votes (map (λ a. a.signer) (take l.attestation-index l.fn.attestations)))
-    l.fn.self l.self

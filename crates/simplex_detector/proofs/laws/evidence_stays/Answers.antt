@@ -1,5 +1,0 @@
-use Rattle.simplex_detector.proofs.StayLemmas as lemmas
-use Rattle.simplex_detector.proofs.laws.evidence_stays.Goals as goal
-
-pub returns : goal.returns
-returns g c rules messages more = lemmas.evidence_stays rules messages more

@@ -1,5 +1,0 @@
-use Rattle.simplex_detector.proofs.AgreementLemmas.{suspects_decide}
-use Rattle.simplex_detector.proofs.laws.suspects_decide.Goals as goal
-
-pub returns : goal.returns
-returns g c rules l = suspects_decide rules l

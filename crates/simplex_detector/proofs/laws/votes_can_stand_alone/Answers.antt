@@ -1,5 +1,0 @@
-use Rattle.simplex_detector.proofs.NewsLemmas as lemmas
-use Rattle.simplex_detector.proofs.laws.votes_can_stand_alone.Goals as goal
-
-pub returns : goal.returns
-returns g c rules l = lemmas.votes_can_stand_alone rules l

@@ -1,8 +1,0 @@
-use Rattle.simplex_detector.proofs.Prelude.{All, All-push, IsEncoded, fixed, subst, sym}
-use Rattle.simplex_detector.proofs.round_votes.push_found.Goals as goal
-
-pub returns-in_ok-push-clause-encoded : goal.returns-in_ok-push-clause-encoded
-returns-in_ok-push-clause-encoded g c = λ old.
-    let P = IsEncoded g.D.PartialEq.eq (fixed g.D.FixedSize.SIZE g.D.Fixed.bytes_of g.D.Fixed.of_bytes)
-    (fixed g.S.Signature.FixedSize.SIZE g.S.Signature.Fixed.bytes_of g.S.Signature.Fixed.of_bytes) in
-    subst (All P) (sym c.in_ok-push.ensures.items) (All-push P _ _ old c.encode_size.ensures.encoded)

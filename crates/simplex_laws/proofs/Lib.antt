@@ -1,0 +1,11 @@
+pub mod AgainLemmas
+pub mod RoomLemmas
+pub mod SuspectLemmas
+pub mod AgreementLemmas
+pub mod IndependenceLemmas
+pub mod InterchangeLemmas
+pub mod NewsLemmas
+pub mod StayLemmas
+pub mod BoundLemmas
+pub mod StateLemmas
+pub mod ArisingLemmas

@@ -1,0 +1,12 @@
+pub mod Prelude
+pub mod Lists
+pub mod Places
+pub mod EvidenceLemmas
+pub mod RecordedLemmas
+pub mod CommitteeLemmas
+pub mod AccountLemmas
+pub mod SplitLemmas
+pub mod Filters
+pub mod PartLemmas
+pub mod OrderLemmas
+pub mod MessageLemmas
