@@ -8,6 +8,7 @@ use simplex_base::codec::parts::{size_both, write_both};
 use simplex_base::codec::{
     EncodeSize, Encoding, Error, Fixed, FixedSize, MaxEncodeSize, Read, ReadExt, Write,
 };
+use simplex_base::or_return;
 use simplex_base::positions::{Round, Roundable, View};
 use std::alloc::{AllocError, Global};
 
@@ -118,11 +119,14 @@ impl<D: Digest> Read for Proposal<D> {
 
     ghost takes_memory = { false };
 
+    #[inline(always)]
     fn read_cfg(alloc: Global, input: &mut &[u8], cfg: &()) -> Result<Self, Error> {
-        match <(Round, (View, D))>::read_cfg(alloc, input, cfg) {
-            Ok((round, (parent, payload))) => Ok(Proposal::new(round, parent, payload)),
-            Err(error) => Err(error),
-        }
+        let mut rest: &[u8] = *input;
+        let round = or_return!(Round::read_cfg(alloc, &mut rest, cfg));
+        let parent = or_return!(View::read_cfg(alloc, &mut rest, cfg));
+        let payload = or_return!(D::read_cfg(alloc, &mut rest, cfg));
+        *input = rest;
+        Ok(Proposal::new(round, parent, payload))
     }
 
     ghost lawful = { λ _. proposal_lawful (format_of ⟦<D as Read>⟧) D.lawful };

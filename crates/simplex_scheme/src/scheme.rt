@@ -22,6 +22,7 @@ use simplex_base::codec::parts::{size_both, write_both};
 use simplex_base::codec::{
     EncodeSize, Encoding, Error, Fixed, FixedSize, MaxEncodeSize, Read, ReadExt, Write,
 };
+use simplex_base::or_return;
 use simplex_base::positions::Participant;
 use std::alloc::{AllocError, Global};
 use std::hash::Hash;
@@ -334,11 +335,13 @@ impl<S: SchemeTypes> Read for Attestation<S> {
 
     ghost takes_memory = { false };
 
+    #[inline(always)]
     fn read_cfg(alloc: Global, input: &mut &[u8], cfg: &()) -> Result<Self, Error> {
-        match <(Participant, S::Signature)>::read_cfg(alloc, input, cfg) {
-            Ok((signer, signature)) => Ok(Attestation { signer, signature }),
-            Err(error) => Err(error),
-        }
+        let mut rest: &[u8] = *input;
+        let signer = or_return!(Participant::read_cfg(alloc, &mut rest, cfg));
+        let signature = or_return!(S::Signature::read_cfg(alloc, &mut rest, cfg));
+        *input = rest;
+        Ok(Attestation { signer, signature })
     }
 
     ghost lawful = { λ _. attestation_lawful (format_of ⟦<S::Signature as Read>⟧)

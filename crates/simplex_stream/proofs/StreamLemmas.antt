@@ -4,7 +4,7 @@ use Rattle.std.specs.Prelude.{All}
 use Rattle.std.specs.List.{flat_map}
 use Rattle.std.proofs.lemmas.Grind.{flat_map-append}
 use Rattle.std.proofs.lemmas.List.Elements.{All-nil, All-push}
-use Rattle.simplex_base.specs.Reading.{IsBytes, Refusal, Fails}
+use Rattle.simplex_base.specs.Reading.{IsBytes, Reading, Refusal, Fails, Gives}
 use Rattle.simplex_base.specs.Format.{Format, IsLawful}
 use Rattle.simplex_base.specs.FormatLaws.{IsBytes-after}
 use Rattle.simplex_base.specs.declared.codec.error.Error.{Error}
@@ -135,3 +135,8 @@ none_left (x ∷ xs) e = absurd (omega arith)
 
 pub some_left : {A : Type 0} (xs : List A) → length xs ≢ 0 → xs ≢ []
 some_left xs some e = some (ap length e)
+
+-- a reading that gave a value gives that value, and the bytes after it
+pub gives_value : {T : Type 0} (memory : Bool) {result : Result T Error} {x : T} (old new : List ℕ) (read : Reading T) →
+    result ≡ Ok x → Gives memory result old new read → read ≡ Ok (x, new)
+gives_value memory old new read is gives = subst (λ r. Gives memory r old new read) is gives

@@ -163,13 +163,14 @@ pub(crate) fn read_on<'a, M: Message + Drop, V: Visitor<M>>(
     let mut read = 0;
     'messages: while !rest.is_empty() {
         let before = rest.len();
-        match M::read_cfg(alloc, &mut rest, &bound) {
+        let message = M::read_cfg(alloc, &mut rest, &bound);
+        match &message {
             Ok(message) => {
                 read += 1;
-                visitor.take(alloc, context, before - rest.len(), &message)?;
+                visitor.take(alloc, context, before - rest.len(), message)?;
             }
             Err(error) => {
-                let stop = Some(refusal(error)?);
+                let stop = Some(refusal(*error)?);
                 return Ok(Progress { read, rest, stop });
             }
         }

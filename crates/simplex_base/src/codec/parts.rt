@@ -9,6 +9,18 @@ use crate::codec::error::Error;
 use crate::codec::{EncodeSize, Encoding, Fixed, Read, ReadExt, Write};
 use std::alloc::{AllocError, Global};
 
+/// The value that was read; after an error the function ends with it. It is `?`, written as a match: the borrow checker does
+/// not follow `?` behind a slice that a call moves, and each `?` would clear and copy what was read once more.
+#[macro_export]
+macro_rules! or_return {
+    ($result:expr) => {
+        match $result {
+            Ok(value) => value,
+            Err(error) => return Err(error),
+        }
+    };
+}
+
 /// Truncates the buffer to its old length where a write failed.
 pub(super) fn or_restore(
     buf: &mut Vec<u8>,

@@ -42,6 +42,7 @@ pub trait Tagged {
 
 /// Reads a tag and then its body, and moves the slice past both. `EndOfBuffer` where the input is
 /// empty. `OutOfMemory` only where an allocation failed. After an error the slice is as before.
+#[inline(always)]
 pub fn read_tagged<T: Tagged>(alloc: Global, input: &mut &[u8], cfg: &T::Cfg) -> Result<T, Error>
     ensures { Gives T.takes_memory result input.old.now input.new.now
         (union_at (T.branches cfg.now) input.old.now) }
@@ -51,7 +52,9 @@ pub fn read_tagged<T: Tagged>(alloc: Global, input: &mut &[u8], cfg: &T::Cfg) ->
         return Err(Error::EndOfBuffer);
     };
     let mut rest: &[u8] = body;
-    let value = T::read_body(alloc, *tag, &mut rest, cfg)?;
-    *input = rest;
-    Ok(value)
+    let value = T::read_body(alloc, *tag, &mut rest, cfg);
+    if value.is_ok() {
+        *input = rest;
+    }
+    value
 }

@@ -6,6 +6,7 @@ ghost use Rattle.simplex_base.specs.PositionLaws.{round_lawful, round_within, lo
 
 use crate::codec::parts::{size_both, write_both};
 use crate::codec::{EncodeSize, Encoding, Error, MaxEncodeSize, Read, ReadExt, Write};
+use crate::or_return;
 use crate::positions::epoch::{Epoch, Epochable};
 use crate::positions::view::{View, Viewable};
 use std::alloc::{AllocError, Global};
@@ -128,11 +129,13 @@ impl Read for Round {
 
     ghost takes_memory = { false };
 
+    #[inline(always)]
     fn read_cfg(alloc: Global, input: &mut &[u8], cfg: &()) -> Result<Self, Error> {
-        match <(Epoch, View)>::read_cfg(alloc, input, cfg) {
-            Ok((epoch, view)) => Ok(Round { epoch, view }),
-            Err(error) => Err(error),
-        }
+        let mut rest: &[u8] = *input;
+        let epoch = or_return!(Epoch::read_cfg(alloc, &mut rest, cfg));
+        let view = or_return!(View::read_cfg(alloc, &mut rest, cfg));
+        *input = rest;
+        Ok(Round { epoch, view })
     }
 
     ghost lawful = { λ _. round_lawful };

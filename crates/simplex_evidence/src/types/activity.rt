@@ -1,8 +1,9 @@
 //! The union of all messages.
 
-ghost use Rattle.std.specs.Prelude.{◌≡◌, ◌+◌, ◌*◌, ◌^◌, ◌∷◌, IfOk, IfErr, IsTrue};
+ghost use Rattle.std.specs.Prelude.{ℕ, ◌≡◌, ◌≢◌, ◌+◌, ◌*◌, ◌^◌, ◌∷◌, IfOk, IfErr, IsTrue};
 ghost use Rattle.simplex_base.specs.Format.{format_of, format_under};
 ghost use Rattle.simplex_base.specs.LeastSize.{NoneShorter};
+ghost use Rattle.simplex_base.specs.Reading.{Gives};
 
 use crate::types::conflicting_finalize::ConflictingFinalize;
 use crate::types::conflicting_notarize::ConflictingNotarize;
@@ -218,6 +219,7 @@ impl<S: CertificateScheme, D: Digest> Read for Activity<S, D> {
 
     ghost takes_memory = { S.Certificate.takes_memory };
 
+    #[inline(always)]
     fn read_cfg(alloc: Global, input: &mut &[u8], bound: &u32) -> Result<Self, Error> {
         read_tagged(alloc, input, bound)
     }
@@ -262,41 +264,100 @@ impl<S: CertificateScheme, D: Digest> Tagged for Activity<S, D> {
 
     ghost takes_memory = { S.Certificate.takes_memory };
 
+    #[inline(always)]
     fn read_body(alloc: Global, tag: u8, input: &mut &[u8], bound: &u32) -> Result<Self, Error> {
         match tag {
-            0 => map_ok!(Notarize::read_cfg(alloc, input, &()), Activity::Notarize),
-            1 => map_ok!(
-                Notarization::read_cfg(alloc, input, bound),
-                Activity::Notarization
-            ),
-            2 => map_ok!(
-                Notarization::read_cfg(alloc, input, bound),
-                Activity::Certification
-            ),
-            3 => map_ok!(Nullify::read_cfg(alloc, input, &()), Activity::Nullify),
-            4 => map_ok!(
-                Nullification::read_cfg(alloc, input, bound),
-                Activity::Nullification
-            ),
-            5 => map_ok!(Finalize::read_cfg(alloc, input, &()), Activity::Finalize),
-            6 => map_ok!(
-                Finalization::read_cfg(alloc, input, bound),
-                Activity::Finalization
-            ),
-            7 => map_ok!(
-                ConflictingNotarize::read_cfg(alloc, input, &()),
-                Activity::ConflictingNotarize
-            ),
-            8 => map_ok!(
-                ConflictingFinalize::read_cfg(alloc, input, &()),
-                Activity::ConflictingFinalize
-            ),
-            9 => map_ok!(
-                NullifyFinalize::read_cfg(alloc, input, &()),
-                Activity::NullifyFinalize
-            ),
-            _ => Err(Error::Invalid("consensus::simplex::Activity", "Invalid type")),
+            0 => read_notarize(alloc, input),
+            3 => read_nullify(alloc, input),
+            5 => read_finalize(alloc, input),
+            _ => read_other(alloc, tag, input, bound),
         }
+    }
+}
+
+// A function clears the room of all its arms when it is called, which would take longer than reading a vote. So each kind of vote
+// has a function of its own, and what is inlined stops at its border.
+
+/// Reads a notarize, the body behind the tag 0.
+#[inline(never)]
+fn read_notarize<S: CertificateScheme, D: Digest>(
+    alloc: Global,
+    input: &mut &[u8],
+) -> Result<Activity<S, D>, Error>
+    ensures { (bound : ℕ) → Gives S.Certificate.takes_memory result input.old.now input.new.now
+        (⟦<Activity<S, D> as Tagged>⟧.branches bound 0 input.old.now) }
+{
+    map_ok!(Notarize::read_cfg(alloc, input, &()), Activity::Notarize)
+}
+
+/// Reads a nullify, the body behind the tag 3.
+#[inline(never)]
+fn read_nullify<S: CertificateScheme, D: Digest>(
+    alloc: Global,
+    input: &mut &[u8],
+) -> Result<Activity<S, D>, Error>
+    ensures { (bound : ℕ) → Gives S.Certificate.takes_memory result input.old.now input.new.now
+        (⟦<Activity<S, D> as Tagged>⟧.branches bound 3 input.old.now) }
+{
+    map_ok!(Nullify::read_cfg(alloc, input, &()), Activity::Nullify)
+}
+
+/// Reads a finalize, the body behind the tag 5.
+#[inline(never)]
+fn read_finalize<S: CertificateScheme, D: Digest>(
+    alloc: Global,
+    input: &mut &[u8],
+) -> Result<Activity<S, D>, Error>
+    ensures { (bound : ℕ) → Gives S.Certificate.takes_memory result input.old.now input.new.now
+        (⟦<Activity<S, D> as Tagged>⟧.branches bound 5 input.old.now) }
+{
+    map_ok!(Finalize::read_cfg(alloc, input, &()), Activity::Finalize)
+}
+
+/// Reads the body behind a tag that no vote has.
+#[inline(never)]
+fn read_other<S: CertificateScheme, D: Digest>(
+    alloc: Global,
+    tag: u8,
+    input: &mut &[u8],
+    bound: &u32,
+) -> Result<Activity<S, D>, Error>
+    requires notarize { tag ≢ 0 }
+    requires nullify { tag ≢ 3 }
+    requires finalize { tag ≢ 5 }
+    ensures { Gives S.Certificate.takes_memory result input.old.now input.new.now
+        (⟦<Activity<S, D> as Tagged>⟧.branches bound.now tag input.old.now) }
+{
+    match tag {
+        1 => map_ok!(
+            Notarization::read_cfg(alloc, input, bound),
+            Activity::Notarization
+        ),
+        2 => map_ok!(
+            Notarization::read_cfg(alloc, input, bound),
+            Activity::Certification
+        ),
+        4 => map_ok!(
+            Nullification::read_cfg(alloc, input, bound),
+            Activity::Nullification
+        ),
+        6 => map_ok!(
+            Finalization::read_cfg(alloc, input, bound),
+            Activity::Finalization
+        ),
+        7 => map_ok!(
+            ConflictingNotarize::read_cfg(alloc, input, &()),
+            Activity::ConflictingNotarize
+        ),
+        8 => map_ok!(
+            ConflictingFinalize::read_cfg(alloc, input, &()),
+            Activity::ConflictingFinalize
+        ),
+        9 => map_ok!(
+            NullifyFinalize::read_cfg(alloc, input, &()),
+            Activity::NullifyFinalize
+        ),
+        _ => Err(Error::Invalid("consensus::simplex::Activity", "Invalid type")),
     }
 }
 

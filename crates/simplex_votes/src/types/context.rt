@@ -7,6 +7,7 @@ use simplex_base::codec::parts::{size_both, write_both};
 use simplex_base::codec::{
     EncodeSize, Encoding, Error, Fixed, FixedSize, MaxEncodeSize, Read, ReadExt, Write,
 };
+use simplex_base::or_return;
 use simplex_base::positions::{Round, Roundable, View};
 use simplex_scheme::scheme::{Digest, PublicKey};
 use std::alloc::{AllocError, Global};
@@ -101,14 +102,16 @@ impl<D: Digest, P: PublicKey> Read for Context<D, P> {
     ghost takes_memory = { false };
 
     fn read_cfg(alloc: Global, input: &mut &[u8], cfg: &()) -> Result<Self, Error> {
-        match <(Round, (P, (View, D)))>::read_cfg(alloc, input, cfg) {
-            Ok((round, (leader, parent))) => Ok(Context {
-                round,
-                leader,
-                parent,
-            }),
-            Err(error) => Err(error),
-        }
+        let mut rest: &[u8] = *input;
+        let round = or_return!(Round::read_cfg(alloc, &mut rest, cfg));
+        let leader = or_return!(P::read_cfg(alloc, &mut rest, cfg));
+        let parent = or_return!(<(View, D)>::read_cfg(alloc, &mut rest, cfg));
+        *input = rest;
+        Ok(Context {
+            round,
+            leader,
+            parent,
+        })
     }
 
     ghost lawful = { λ _. context_lawful _ _ D.lawful P.lawful };

@@ -8,6 +8,7 @@ use simplex_base::codec::parts::{size_both, write_both};
 use simplex_base::codec::{
     EncodeSize, Encoding, Error, Fixed, FixedSize, MaxEncodeSize, Read, ReadExt, Write,
 };
+use simplex_base::or_return;
 use simplex_base::positions::{Participant, Round, Roundable};
 use simplex_scheme::scheme::{
     Attestation, Attributable, Digest, Proposal, Scheme, SchemeTypes, Subject,
@@ -160,14 +161,16 @@ impl<S: SchemeTypes, D: Digest> Read for Finalize<S, D> {
 
     ghost takes_memory = { false };
 
+    #[inline(always)]
     fn read_cfg(alloc: Global, input: &mut &[u8], cfg: &()) -> Result<Self, Error> {
-        match <(Proposal<D>, Attestation<S>)>::read_cfg(alloc, input, cfg) {
-            Ok((proposal, attestation)) => Ok(Finalize {
-                proposal,
-                attestation,
-            }),
-            Err(error) => Err(error),
-        }
+        let mut rest: &[u8] = *input;
+        let proposal = or_return!(Proposal::<D>::read_cfg(alloc, &mut rest, cfg));
+        let attestation = or_return!(Attestation::<S>::read_cfg(alloc, &mut rest, cfg));
+        *input = rest;
+        Ok(Finalize {
+            proposal,
+            attestation,
+        })
     }
 
     ghost lawful = { λ _. finalize_lawful _ _ D.lawful S.Signature.lawful };

@@ -11,6 +11,7 @@ use simplex_base::codec::parts::{size_both, write_both};
 use simplex_base::codec::{
     EncodeSize, Encoding, Error, Fixed, FixedSize, MaxEncodeSize, Read, Write,
 };
+use simplex_base::or_return;
 use simplex_base::positions::{Round, Roundable, View};
 use simplex_scheme::scheme::{
     AssemblyError, CertificateScheme, CertificateVerifier, Digest, Proposal, Scheme, Subject,
@@ -190,13 +191,14 @@ impl<S: CertificateScheme, D: Digest> Read for Notarization<S, D> {
     ghost takes_memory = { S.Certificate.takes_memory };
 
     fn read_cfg(alloc: Global, input: &mut &[u8], bound: &u32) -> Result<Self, Error> {
-        match <(Proposal<D>, S::Certificate)>::read_cfg(alloc, input, bound) {
-            Ok((proposal, certificate)) => Ok(Notarization {
-                proposal,
-                certificate,
-            }),
-            Err(error) => Err(error),
-        }
+        let mut rest: &[u8] = *input;
+        let proposal = or_return!(Proposal::<D>::read_cfg(alloc, &mut rest, &()));
+        let certificate = or_return!(S::Certificate::read_cfg(alloc, &mut rest, bound));
+        *input = rest;
+        Ok(Notarization {
+            proposal,
+            certificate,
+        })
     }
 
     fn least_size(alloc: Global, bytes: &[u8], bound: &u32) -> usize {

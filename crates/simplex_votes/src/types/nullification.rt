@@ -9,6 +9,7 @@ use crate::types::assembly::{assemble, stand_together};
 use crate::types::nullify::Nullify;
 use simplex_base::codec::parts::{size_both, write_both};
 use simplex_base::codec::{EncodeSize, Encoding, Error, MaxEncodeSize, Read, Write};
+use simplex_base::or_return;
 use simplex_base::positions::{Round, Roundable};
 use simplex_scheme::scheme::{
     AssemblyError, CertificateScheme, CertificateVerifier, Digest, Scheme, Subject,
@@ -189,10 +190,11 @@ impl<S: CertificateScheme> Read for Nullification<S> {
     ghost takes_memory = { S.Certificate.takes_memory };
 
     fn read_cfg(alloc: Global, input: &mut &[u8], bound: &u32) -> Result<Self, Error> {
-        match <(Round, S::Certificate)>::read_cfg(alloc, input, bound) {
-            Ok((round, certificate)) => Ok(Nullification { round, certificate }),
-            Err(error) => Err(error),
-        }
+        let mut rest: &[u8] = *input;
+        let round = or_return!(Round::read_cfg(alloc, &mut rest, &()));
+        let certificate = or_return!(S::Certificate::read_cfg(alloc, &mut rest, bound));
+        *input = rest;
+        Ok(Nullification { round, certificate })
     }
 
     fn least_size(alloc: Global, bytes: &[u8], bound: &u32) -> usize {

@@ -8,6 +8,7 @@ use simplex_base::codec::parts::{size_both, write_both};
 use simplex_base::codec::{
     EncodeSize, Encoding, Error, Fixed, FixedSize, MaxEncodeSize, Read, ReadExt, Write,
 };
+use simplex_base::or_return;
 use simplex_base::positions::{Participant, Round, Roundable};
 use simplex_scheme::scheme::{Attestation, Attributable, Digest, Scheme, SchemeTypes, Subject};
 use std::alloc::{AllocError, Global};
@@ -148,11 +149,13 @@ impl<S: SchemeTypes> Read for Nullify<S> {
 
     ghost takes_memory = { false };
 
+    #[inline(always)]
     fn read_cfg(alloc: Global, input: &mut &[u8], cfg: &()) -> Result<Self, Error> {
-        match <(Round, Attestation<S>)>::read_cfg(alloc, input, cfg) {
-            Ok((round, attestation)) => Ok(Nullify { round, attestation }),
-            Err(error) => Err(error),
-        }
+        let mut rest: &[u8] = *input;
+        let round = or_return!(Round::read_cfg(alloc, &mut rest, cfg));
+        let attestation = or_return!(Attestation::<S>::read_cfg(alloc, &mut rest, cfg));
+        *input = rest;
+        Ok(Nullify { round, attestation })
     }
 
     ghost lawful = { λ _. nullify_lawful _ S.Signature.lawful };
