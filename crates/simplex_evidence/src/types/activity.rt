@@ -275,8 +275,8 @@ impl<S: CertificateScheme, D: Digest> Tagged for Activity<S, D> {
     }
 }
 
-// A function clears the room of all its arms when it is called, which would take longer than reading a vote. So each kind of vote
-// has a function of its own, and what is inlined stops at its border.
+// A function clears the room of all its arms when it is called, which would take longer than reading a vote. So each kind of
+// vote has a function of its own, and what is inlined stops at its border.
 
 /// Reads a notarize, the body behind the tag 0.
 #[inline(never)]

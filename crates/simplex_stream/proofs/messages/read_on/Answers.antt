@@ -61,6 +61,7 @@ messages-preserved-in_ok-take-in-Ok g c =
           c.messages.read c.in-Ok.message g.met.M.Message.never_empty c.messages.invariant.0 one
           (λ ms on. follows_next (g.V.Visitor.follows c.args.context.now) (g.met.V.Visitor.more c.args.context.now)
           ms c.in-Ok.message _ _ _ on taken),
-      λ more room. g.met.V.Visitor.left c.args.context.now c.in-Ok.message _ _ (length c.read_cfg-message.new.input.now + more) taken
+      λ more room. g.met.V.Visitor.left c.args.context.now c.in-Ok.message _ _
+          (length c.read_cfg-message.new.input.now + more) taken
           (subst (g.V.Visitor.has_room c.messages.visitor) (omega (arith, size)) (c.messages.invariant.1 more room)),
     )

@@ -18,12 +18,15 @@ by reading = record { is_value = λ x. ⊤; encoding = λ x. []; reading = readi
 
 pub returns-in-0 : goal.returns-in-0
 returns-in-0 g c =
-    at_tag (activity_branches g.D.PartialEq.eq (by _) (by _) (by _)) _ _ _ _ c.in-0.is (c.read_notarize.ensures c.args.bound.now)
+    at_tag (activity_branches g.D.PartialEq.eq (by _) (by _) (by _)) _ _ _ _ c.in-0.is
+    (c.read_notarize.ensures c.args.bound.now)
 
 pub returns-in-3 : goal.returns-in-3
 returns-in-3 g c =
-    at_tag (activity_branches g.D.PartialEq.eq (by _) (by _) (by _)) _ _ _ _ c.in-3.is (c.read_nullify.ensures c.args.bound.now)
+    at_tag (activity_branches g.D.PartialEq.eq (by _) (by _) (by _)) _ _ _ _ c.in-3.is
+    (c.read_nullify.ensures c.args.bound.now)
 
 pub returns-in-5 : goal.returns-in-5
 returns-in-5 g c =
-    at_tag (activity_branches g.D.PartialEq.eq (by _) (by _) (by _)) _ _ _ _ c.in-5.is (c.read_finalize.ensures c.args.bound.now)
+    at_tag (activity_branches g.D.PartialEq.eq (by _) (by _) (by _)) _ _ _ _ c.in-5.is
+    (c.read_finalize.ensures c.args.bound.now)
