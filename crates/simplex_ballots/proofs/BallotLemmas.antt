@@ -1,101 +1,31 @@
 -- What one ballot more, and one vote more in the index, leave of the recorded votes of a round.
-use Rattle.std.proofs.Common.{All, Result, Ok, inl, inr, map, get_or, ◌⊎◌, ◌≡◌, ℕ, ◌+◌, ◌*◌, ◌^◌, ◌<◌, ◌≤◌, ◌∙◌, zero, suc, List, [], ◌∷◌, ◌++◌, length, Bool, true, false, Option, Some, None, cond, eqb, refl, sym, ap, subst, arith}
+use Rattle.std.proofs.Common.{All, Result, Ok, inl, inr, map, get_or, ◌⊎◌, ◌≡◌, ℕ, ◌<◌, ◌∙◌, zero, suc, List, [], ◌∷◌, ◌++◌, length, Bool, true, false, Option, Some, None, eqb, refl, sym, ap, subst}
 use Rattle.std.proofs.Math.Bool.{and-false}
-use Rattle.std.proofs.lemmas.Bool.{and_from, and_parts, cond-false, cond-true, eq-eqb, eqb-false, eqb-true, false≢true, ltb-true}
+use Rattle.std.proofs.lemmas.Bool.{and_from, and_parts, cond-false, cond-true, eq-eqb, eqb-false, eqb-true, false≢true}
 use Rattle.std.proofs.lemmas.List.{get_or_append_left, map-append}
 use Rattle.std.proofs.lemmas.List.Elements.{recursion_from_All}
 use Rattle.std.proofs.lemmas.Option.{get_or_from_slice_get, same_Some}
 use Rattle.std.specs.List.{AllByRecursion, slice_get}
 use Rattle.std.specs.Option.{IsSome, is_none, is_some, option_or}
-use Rattle.std.specs.Prelude.{nat_lt, option_map, if◌then◌else◌, ◌&&◌}
+use Rattle.std.specs.Prelude.{option_map, if◌then◌else◌, ◌&&◌}
 use Rattle.simplex_base.specs.Positions.{Round}
 use Rattle.simplex_scheme.specs.Kind.{kind_of, same_kind}
 use Rattle.simplex_scheme.specs.Subject.{SubjectValue, Notarizes, Nullifies, Finalizes, round_of}
 use Rattle.simplex_scheme.specs.declared.proposal.Proposal.{Proposal}
 use Rattle.simplex_scheme.specs.declared.kind.VoteKind.{VoteKind}
-use Rattle.simplex_scheme.specs.declared.kind.VoteKind.TheVariants as kinds
 use Rattle.simplex_votes.specs.Votes.{SignedVote}
 use Rattle.simplex_evidence.specs.Contradiction.{excludes}
-use Rattle.simplex_evidence.specs.VoteMap.{AddsOnly, item_of}
-use Rattle.simplex_ballots.specs.Ballots.{kind_number, proposal_in, slot_number, subject_of, vote_key, vote_of}
-use Rattle.simplex_rules.specs.Recorded.{Slot, changes, if_differs, slot_with}
-use Rattle.simplex_ballots.specs.Rounds.{IsSized, TakesVote, ballot_at, is_for, placed_key, slots, vote_at}
+use Rattle.simplex_ballots.specs.Ballots.{proposal_in, subject_of, vote_key, vote_of}
+use Rattle.simplex_ballots.specs.Index.{PlacesOne, place_of, placed_at}
+use Rattle.simplex_rules.specs.Recorded.{Slot, changes, slot_with}
+use Rattle.simplex_ballots.specs.Rounds.{IsSized, TakesVote, ballot_at, is_for, slots, vote_at}
+use Rattle.simplex_ballots.proofs.IndexLemmas.{same_key}
 use Rattle.simplex_rules.proofs.Places.{same_kind-refl, same_kind-true}
 use Rattle.simplex_ballots.specs.declared.ballot.Ballot.{Ballot}
 use Rattle.simplex_ballots.specs.declared.ballots.StoredVote.{StoredVote}
+use Rattle.simplex_ballots.specs.declared.index.Index.{Index}
 use Rattle.simplex_ballots.specs.declared.placed.Placed.{Placed}
 use Rattle.simplex_ballots.specs.declared.round_votes.RoundVotes.{RoundVotes}
-
--- ---- the keys
-
-other_small : (b : Bool) → (if b then 1 else 0) ≤ 1
-other_small true = omega arith
-other_small false = omega arith
-
-number_small : (kind : VoteKind) → kind_number kind ≤ 2
-number_small kinds.Notarize = omega arith
-number_small kinds.Nullify = omega arith
-number_small kinds.Finalize = omega arith
-
-same_other : (a b : Bool) → ◌≡◌ {A = ℕ} (if a then 1 else 0) (if b then 1 else 0) → a ≡ b
-same_other true true e = refl
-same_other false false e = refl
-same_other true false e = absurd (omega (arith, e))
-same_other false true e = absurd (omega (arith, e))
-
-same_number : (k l : VoteKind) → kind_number k ≡ kind_number l → k ≡ l
-same_number kinds.Notarize kinds.Notarize e = refl
-same_number kinds.Nullify kinds.Nullify e = refl
-same_number kinds.Finalize kinds.Finalize e = refl
-same_number kinds.Notarize kinds.Nullify e = absurd (omega (arith, e))
-same_number kinds.Notarize kinds.Finalize e = absurd (omega (arith, e))
-same_number kinds.Nullify kinds.Notarize e = absurd (omega (arith, e))
-same_number kinds.Nullify kinds.Finalize e = absurd (omega (arith, e))
-same_number kinds.Finalize kinds.Notarize e = absurd (omega (arith, e))
-same_number kinds.Finalize kinds.Nullify e = absurd (omega (arith, e))
-
--- the numbers in a slot's number
-parts_of_slot : (m n a b : ℕ) → a ≤ 1 → b ≤ 1 → 2 * m + a ≡ 2 * n + b → (m ≡ n) × (a ≡ b)
-parts_of_slot m n a b p q e = (omega (arith, p, q, e), omega (arith, p, q, e))
-
-same_slot : (k l : VoteKind) (a b : Bool) → slot_number k a ≡ slot_number l b → (k ≡ l) × (a ≡ b)
-same_slot k l a b e =
-    let parts = parts_of_slot (kind_number k) (kind_number l) (if a then 1 else 0) (if b then 1 else 0) (other_small a)
-    (other_small b) e in
-    (same_number k l parts.0, same_other a b parts.1)
-
-slot_small : (k : VoteKind) (a : Bool) → slot_number k a ≤ 5
-slot_small k a = small (kind_number k) (if a then 1 else 0) (number_small k) (other_small a)
-  where
-    small : (m n : ℕ) → m ≤ 2 → n ≤ 1 → 2 * m + n ≤ 5
-    small m n p q = omega (arith, p, q)
-
--- the numbers in a key
-parts_of_key : (s t p q : ℕ) → p ≤ 5 → q ≤ 5 →
-    (if nat_lt s (2 ^ 32) then 2 ^ 32 * p + s else 6 * s + p + 6 * 2 ^ 32)
-    ≡ (if nat_lt t (2 ^ 32) then 2 ^ 32 * q + t else 6 * t + q + 6 * 2 ^ 32) → (s ≡ t) × (p ≡ q)
-parts_of_key s t p q u v e = by (nat_lt s (2 ^ 32)) (nat_lt t (2 ^ 32)) refl refl e
-  where
-    by : (a b : Bool) → nat_lt s (2 ^ 32) ≡ a → nat_lt t (2 ^ 32) ≡ b →
-        (if a then 2 ^ 32 * p + s else 6 * s + p + 6 * 2 ^ 32) ≡ (if b then 2 ^ 32 * q + t else 6 * t + q + 6 * 2 ^ 32) →
-        (s ≡ t) × (p ≡ q)
-    by true true x y e =
-        let s_lt = ltb-true _ _ x in
-        let t_lt = ltb-true _ _ y in
-        (omega (arith, u, v, s_lt, t_lt, e), omega (arith, u, v, s_lt, t_lt, e))
-    by true false x y e =
-        let s_lt = ltb-true _ _ x in
-        absurd (omega (arith, u, v, s_lt, e))
-    by false true x y e =
-        let t_lt = ltb-true _ _ y in
-        absurd (omega (arith, u, v, t_lt, e))
-    by false false x y e = (omega (arith, u, v, e), omega (arith, u, v, e))
-
--- a key is of one signer and kind
-pub same_key : (s t : ℕ) (k l : VoteKind) (a b : Bool) → vote_key s k a ≡ vote_key t l b → (s ≡ t) × ((k ≡ l) × (a ≡ b))
-same_key s t k l a b e =
-    let parts = parts_of_key s t (slot_number k a) (slot_number l b) (slot_small k a) (slot_small l b) e in
-    (parts.0, same_slot k l a b parts.1)
 
 -- ---- lists
 
@@ -176,21 +106,31 @@ own_vote S P {D} {G} v = by v.subject
 
 -- ---- whether a vote is news
 
+-- a vote whose place was found is there
+pub some_place : (o : Option Placed) (place : ℕ) → option_map place_of o ≡ Some place → IsSome o
+some_place None place e = absurd cc
+some_place (Some placed) place e = refl
+
+-- the ballot at its place is the vote's
+pub ballot_there : {S D P G : Type 0} (ballots : List (Ballot S D P G)) (o : Option Placed) (place : ℕ) →
+    option_map place_of o ≡ Some place → slice_get ballots place ≡ ballot_at ballots o
+ballot_there ballots None place e = absurd cc
+ballot_there ballots (Some placed) place e = ap (slice_get ballots) (sym (same_Some _ place e))
+
 -- a signer's first vote, if the index has one, and whether it is apart from a subject
 pub first_vote : {S D P G : Type 0} (eq : D → D → Bool) (recorded : RoundVotes S D P G) (n : ℕ) → IsSized n recorded →
-    (signer : ℕ) (kind : VoteKind) (x : SubjectValue D) (there : Option Placed) (is_apart : Bool) →
-    there ≡ item_of placed_key recorded.index (vote_key signer kind false) →
-    IsSome (item_of placed_key recorded.index (vote_key signer kind false)) →
-    ((ballot : Ballot S D P G) (y : SubjectValue D) → ballot_at recorded.ballots there ≡ Some ballot →
+    (signer : ℕ) (kind : VoteKind) (x : SubjectValue D) (place : ℕ) (is_apart : Bool) →
+    option_map place_of (placed_at recorded.index signer kind false) ≡ Some place →
+    ((ballot : Ballot S D P G) (y : SubjectValue D) → slice_get recorded.ballots place ≡ Some ballot →
     subject_of kind recorded.round ballot.proposal ≡ Some y → is_apart ≡ excludes eq y x) →
     (first : SignedVote D G) × ((vote_at recorded signer kind false ≡ Some first) × (is_apart ≡ excludes eq first.subject x))
-first_vote {S} {D} {P} {G} eq recorded n sized signer kind x there is_apart there_is some told =
-    by (ballot_at recorded.ballots (item_of placed_key recorded.index (vote_key signer kind false)))
-    (vote_at recorded signer kind false) refl refl (sized.whole signer kind false some)
+first_vote {S} {D} {P} {G} eq recorded n sized signer kind x place is_apart there told =
+    by (ballot_at recorded.ballots (placed_at recorded.index signer kind false)) (vote_at recorded signer kind false) refl refl
+    (sized.whole signer kind false (some_place _ place there))
   where
     by : (b : Option (Ballot S D P G)) (o : Option (SignedVote D G)) →
-        ballot_at recorded.ballots (item_of placed_key recorded.index (vote_key signer kind false)) ≡ b →
-        vote_of recorded.round signer kind b ≡ o → IsSome o → (first : SignedVote D G)
+        ballot_at recorded.ballots (placed_at recorded.index signer kind false) ≡ b → vote_of recorded.round signer kind b ≡ o →
+        IsSome o → (first : SignedVote D G)
         × ((vote_at recorded signer kind false ≡ Some first) × (is_apart ≡ excludes eq first.subject x))
     by b None at vote some = absurd (false≢true some)
     by None (Some first) at vote some = absurd cc
@@ -198,10 +138,20 @@ first_vote {S} {D} {P} {G} eq recorded n sized signer kind x there is_apart ther
       first,
       (
         ap (vote_of recorded.round signer kind) at ∙ vote,
-        told ballot first.subject (ap (ballot_at recorded.ballots) there_is ∙ at)
+        told ballot first.subject (ballot_there recorded.ballots _ place there ∙ at)
             (voted recorded.round signer kind ballot first vote),
       ),
     )
+
+-- the vote of a ballot that was found
+pub vote_found : {S D P G : Type 0} (recorded : RoundVotes S D P G) (signer : ℕ) (kind : VoteKind) (is_other : Bool)
+    (place : ℕ) (ballot : Ballot S D P G) (x : SubjectValue D) →
+    option_map place_of (placed_at recorded.index signer kind is_other) ≡ Some place →
+    slice_get recorded.ballots place ≡ Some ballot → subject_of kind recorded.round ballot.proposal ≡ Some x →
+    vote_at recorded signer kind is_other ≡ Some (record { subject = x; signer = signer; signature = ballot.signature })
+vote_found recorded signer kind is_other place ballot x there at is =
+    ap (vote_of recorded.round signer kind) (sym (ballot_there recorded.ballots _ place there) ∙ at)
+    ∙ ap (option_map (λ y. record { subject = y; signer = signer; signature = ballot.signature })) is
 
 -- a vote that is there is not none
 pub not_none : {X : Type 0} (o : Option X) → IsSome o → is_none o ≡ false
@@ -230,13 +180,12 @@ module _ {S D P G : Type 0} (before after : RoundVotes S D P G) (ballot : Ballot
 
   -- so does what the index has as before
   pub as_before : (signer : ℕ) (kind : VoteKind) (is_other : Bool) →
-      item_of placed_key after.index (vote_key signer kind is_other)
-      ≡ item_of placed_key before.index (vote_key signer kind is_other) →
-      (IsSome (item_of placed_key before.index (vote_key signer kind is_other)) →
-      IsSome (vote_at before signer kind is_other)) → vote_at after signer kind is_other ≡ vote_at before signer kind is_other
-  as_before signer kind is_other = by (item_of placed_key before.index (vote_key signer kind is_other))
+      placed_at after.index signer kind is_other ≡ placed_at before.index signer kind is_other →
+      (IsSome (placed_at before.index signer kind is_other) → IsSome (vote_at before signer kind is_other)) →
+      vote_at after signer kind is_other ≡ vote_at before signer kind is_other
+  as_before signer kind is_other = by (placed_at before.index signer kind is_other)
     where
-      by : (o : Option Placed) → item_of placed_key after.index (vote_key signer kind is_other) ≡ o →
+      by : (o : Option Placed) → placed_at after.index signer kind is_other ≡ o →
           (IsSome o → IsSome (vote_of before.round signer kind (ballot_at before.ballots o))) →
           vote_at after signer kind is_other ≡ vote_of before.round signer kind (ballot_at before.ballots o)
       by None at whole = ap (λ o. vote_of after.round signer kind (ballot_at after.ballots o)) at
@@ -292,7 +241,7 @@ module _ {S D P G : Type 0} (eq : D → D → Bool) (v : SignedVote D G) (before
   own_key = vote_key v.signer (kind_of v.subject) is_other
 
   -- ---- it went into the index
-  module _ (added : AddsOnly placed_key before.index after.index (own_place v is_other (length before.ballots))) where
+  module _ (added : PlacesOne before.index after.index (own_place v is_other (length before.ballots))) where
     new_vote : before.round ≡ round_of v.subject → vote_at after v.signer (kind_of v.subject) is_other ≡ Some v
     new_vote here =
         (λ i. vote_of (round_is i) v.signer (kind_of v.subject) (ballot_at (ballots_is i) (added.added i)))
@@ -304,10 +253,10 @@ module _ {S D P G : Type 0} (eq : D → D → Bool) (v : SignedVote D G) (before
         (vote_key signer kind b ≡ own_key → ⊥) → vote_at after signer kind b ≡ vote_at before signer kind b
     others n sized signer kind b differs =
         as_before before after (own_ballot v) round_is ballots_is signer kind b
-        (added.others (vote_key signer kind b) differs) (sized.whole signer kind b)
+        (added.others signer kind b differs) (sized.whole signer kind b)
 
     whole_after : (n : ℕ) → IsSized n before → before.round ≡ round_of v.subject → (signer : ℕ) (kind : VoteKind) (b : Bool) →
-        IsSome (item_of placed_key after.index (vote_key signer kind b)) → IsSome (vote_at after signer kind b)
+        IsSome (placed_at after.index signer kind b) → IsSome (vote_at after signer kind b)
     whole_after n sized here signer kind b some = by (eqb (vote_key signer kind b) own_key) refl
       where
         by : (same : Bool) → eqb (vote_key signer kind b) own_key ≡ same → IsSome (vote_at after signer kind b)
@@ -317,7 +266,7 @@ module _ {S D P G : Type 0} (eq : D → D → Bool) (v : SignedVote D G) (before
         by false e =
             let differs = eqb-false _ _ e in
             subst IsSome (sym (others n sized signer kind b differs))
-            (sized.whole signer kind b (subst IsSome (added.others (vote_key signer kind b) differs) some))
+            (sized.whole signer kind b (subst IsSome (added.others signer kind b differs) some))
 
     own_slot : (n : ℕ) → IsSized n before → before.round ≡ round_of v.subject →
         changes eq (slots before v.signer (kind_of v.subject)).earliest (slots before v.signer (kind_of v.subject)).other
@@ -370,7 +319,8 @@ module _ {S D P G : Type 0} (eq : D → D → Bool) (v : SignedVote D G) (before
             ∙ sym (cond-false (is_for v signer kind) (slot_with eq v (slots before signer kind)) (slots before signer kind) e)
 
   -- ---- it did not, since there is a vote of its key
-  module _ (index_is : after.index ≡ before.index) (some : IsSome (item_of placed_key before.index own_key)) where
+  module _ (index_is : after.index ≡ before.index)
+      (some : IsSome (placed_at before.index v.signer (kind_of v.subject) is_other)) where
     -- then it is no news
     no_news : (n : ℕ) → IsSized n before → changes eq (slots before v.signer (kind_of v.subject)).earliest
         (slots before v.signer (kind_of v.subject)).other v.subject ≡ true → ⊥
@@ -391,9 +341,9 @@ module _ {S D P G : Type 0} (eq : D → D → Bool) (v : SignedVote D G) (before
       sized = λ n sized here. record {
         participants = participants_is ∙ sized.participants;
         whole = λ signer kind b there.
-            let before_some = subst (λ items. IsSome (item_of placed_key items (vote_key signer kind b))) index_is there in
+            let before_some = subst (λ index. IsSome (placed_at index signer kind b)) index_is there in
             subst IsSome (sym (as_before before after (own_ballot v) round_is ballots_is signer kind b
-            (ap (λ items. item_of placed_key items (vote_key signer kind b)) index_is) (sized.whole signer kind b)))
+            (ap (λ index. placed_at index signer kind b) index_is) (sized.whole signer kind b)))
             (sized.whole signer kind b before_some);
       };
       taken = λ n sized here news signer kind. absurd (no_news n sized news);
@@ -401,16 +351,16 @@ module _ {S D P G : Type 0} (eq : D → D → Bool) (v : SignedVote D G) (before
     }
 
   -- whether it went in or not
-  pub takes : {E : Type 0} (b : Bool) (index : List Placed) (placed : Placed) → index ≡ before.index →
+  pub takes : {E : Type 0} (b : Bool) (index : Index) (placed : Placed) → index ≡ before.index →
       placed ≡ own_place v is_other (length before.ballots) →
-      (◌≡◌ {A = Result Bool E} (Ok b) (Ok true) → AddsOnly placed_key index after.index placed) →
+      (◌≡◌ {A = Result Bool E} (Ok b) (Ok true) → PlacesOne index after.index placed) →
       (◌≡◌ {A = Result Bool E} (Ok b) (Ok false) → after.index ≡ index) →
-      (◌≡◌ {A = Result Bool E} (Ok b) (Ok false) → IsSome (item_of placed_key index (placed_key placed))) →
-      TakesVote eq v before after
+      (◌≡◌ {A = Result Bool E} (Ok b) (Ok false) →
+      IsSome (placed_at index placed.signer placed.kind placed.is_other)) → TakesVote eq v before after
   takes true index placed index_is placed_is added stays some =
-      takes_vote (subst (λ p. AddsOnly placed_key before.index after.index p) placed_is
-      (subst (λ items. AddsOnly placed_key items after.index placed) index_is (added refl)))
+      takes_vote (subst (λ p. PlacesOne before.index after.index p) placed_is
+      (subst (λ i. PlacesOne i after.index placed) index_is (added refl)))
   takes false index placed index_is placed_is added stays some =
       takes_none (stays refl ∙ index_is)
-      (subst (λ p. IsSome (item_of placed_key before.index (placed_key p))) placed_is
-      (subst (λ items. IsSome (item_of placed_key items (placed_key placed))) index_is (some refl)))
+      (subst (λ p. IsSome (placed_at before.index p.signer p.kind p.is_other)) placed_is
+      (subst (λ i. IsSome (placed_at i placed.signer placed.kind placed.is_other)) index_is (some refl)))

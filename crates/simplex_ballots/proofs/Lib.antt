@@ -1,3 +1,4 @@
+pub mod IndexLemmas
 pub mod BallotLemmas
 pub mod HeldLemmas
 pub mod SignerLemmas

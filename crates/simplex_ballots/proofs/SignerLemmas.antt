@@ -1,37 +1,21 @@
 -- Which signers of a round have two votes that may contradict, and how many are accused.
-use Rattle.simplex_rules.proofs.Prelude.{Bool, Conflicting_finalize, Conflicting_notarize, Contains, Contains-append_left, Contains-dedup_nat, Contains-permutation, IsPermutation, IsSorted, IsStrictlyIncreasing-dedup, EquivocationKind, List, None, Nullify_finalize, SignedVote, Some, VoteKind, [], ap, arith, cond-true, dedup, eqb, eqb-true, evidence_from, false≢true, flat_map, flat_map_more, get_or, inl, inr, is_some, item_of, length, nat_cmp, refl, sorted_from_strictly_increasing, subst, sym, take, take_more, true, ℕ, ◌++◌, ◌+◌, ◌<◌, ◌∙◌, ◌∷◌, ◌≡◌, or_cases, equivocation_of, same_kind, ◌||◌, Option, Contains-push_cases, Contains-push, if◌then◌else◌, false, cond, count_by, range_with_len, suc, sum_by-cons, ◌-◌, ◌≤◌}
-use Rattle.simplex_ballots.specs.Rounds.{ListsSigners, slots, ballot_at, is_second, placed_key, vote_at}
+use Rattle.simplex_rules.proofs.Prelude.{Bool, Conflicting_finalize, Conflicting_notarize, Contains, Contains-dedup_nat, Contains-permutation, IsPermutation, IsSorted, IsStrictlyIncreasing-dedup, EquivocationKind, List, None, Nullify_finalize, SignedVote, Some, VoteKind, [], ap, arith, cond-true, dedup, eqb, eqb-true, evidence_from, false≢true, flat_map, inl, inr, is_some, nat_cmp, refl, sorted_from_strictly_increasing, subst, sym, true, ℕ, ◌+◌, ◌<◌, ◌∙◌, ◌∷◌, ◌≡◌, or_cases, equivocation_of, same_kind, ◌||◌, Option, false, cond, count_by, range_with_len, suc, sum_by-cons, ◌-◌, ◌≤◌}
+use Rattle.simplex_ballots.specs.Index.{is_second, placed_at, placed_key, places_in, second_signer}
+use Rattle.simplex_ballots.specs.Rounds.{ListsSigners, slots, ballot_at, vote_at}
 use Rattle.simplex_ballots.specs.declared.round_votes.RoundVotes.{RoundVotes}
 use Rattle.std.specs.List.Sorted.{IsStrictlySortedBy}
-use Rattle.simplex_rules.proofs.Lists.{found}
-use Rattle.simplex_ballots.proofs.BallotLemmas.{same_key}
+use Rattle.simplex_rules.proofs.Lists.{Contains-first, Contains-flat_map, found}
+use Rattle.simplex_ballots.proofs.IndexLemmas.{same_key}
 use Rattle.simplex_scheme.specs.declared.kind.VoteKind.TheVariants as kinds
 use Rattle.simplex_ballots.specs.Ballots.{vote_key, vote_of}
 use Rattle.simplex_ballots.specs.declared.placed.Placed.{Placed}
 use Rattle.std.specs.Int.{from_bool}
 
--- ---- the signers of a round, vote by vote
-
--- one vote more of an index was looked at
-pub collected_next : (votes : List Placed) (i : ℕ) (placed : Placed) → i < length votes → placed ≡ get_or votes i placed →
-    (old new : List ℕ) → new ≡ old ++ (if is_second placed then placed.signer ∷ [] else []) →
-    ((p : Placed) → Contains (take i votes) p → is_second p ≡ true → Contains old p.signer) → (p : Placed) →
-    Contains (take (i + 1) votes) p → is_second p ≡ true → Contains new p.signer
-collected_next votes i placed lt is old new pushed so_far p p_in second =
-    elim (Contains-push_cases (take i votes) placed p (subst (λ xs. Contains xs p)
-    (take_more votes i placed lt ∙ ap (λ q. take i votes ++ q ∷ []) (sym is)) p_in)) [
-      | inl before ↦ subst (λ xs. Contains xs p.signer) (sym pushed)
-          (Contains-append_left old _ p.signer (so_far p before second))
-      | inr same ↦
-          let here : new ≡ old ++ p.signer ∷ [] = pushed ∙ ap (λ xs. old ++ xs)
-          (cond-true (is_second placed) (placed.signer ∷ []) [] (ap is_second same ∙ second)
-          ∙ ap (λ (q : Placed). q.signer ∷ []) same) in
-          subst (λ xs. Contains xs p.signer) (sym here) (Contains-push old p.signer)
-    ]
+-- ---- the signers of a round
 
 -- signers of an index that were collected, sorted and deduplicated
 pub lists_signers : {S D P G : Type 0} (recorded : RoundVotes S D P G) (collected sorted signers : List ℕ) →
-    ((placed : Placed) → Contains recorded.index placed → is_second placed ≡ true → Contains collected placed.signer) →
+    collected ≡ flat_map second_signer (places_in recorded.index) →
     IsPermutation collected sorted → IsSorted nat_cmp sorted → signers ≡ dedup eqb sorted → ListsSigners recorded signers
 lists_signers {S} {D} {P} {G} recorded collected sorted signers all moved ordered is = record {
   ascending = subst (IsStrictlySortedBy nat_cmp) (sym is)
@@ -68,26 +52,20 @@ lists_signers {S} {D} {P} {G} recorded collected sorted signers all moved ordere
     -- the signer of such a vote is listed
     second : (signer : ℕ) (kind : VoteKind) (is_other : Bool) → is_some (vote_at recorded signer kind is_other) ≡ true →
         (same_kind kind kinds.Nullify || is_other) ≡ true → Contains signers signer
-    second signer kind is_other some flag = by (item_of placed_key recorded.index (vote_key signer kind is_other)) refl
+    second signer kind is_other some flag = by (placed_at recorded.index signer kind is_other) refl
       where
-        by : (o : Option Placed) → item_of placed_key recorded.index (vote_key signer kind is_other) ≡ o →
-            Contains signers signer
+        by : (o : Option Placed) → placed_at recorded.index signer kind is_other ≡ o → Contains signers signer
         by None at =
             absurd (false≢true (sym (ap (λ o. is_some (vote_of recorded.round signer kind (ballot_at recorded.ballots o))) at)
             ∙ some))
         by (Some placed) at =
-            let one = found (λ p. eqb (placed_key p) (vote_key signer kind is_other)) recorded.index placed at in
+            let one = found (λ p. eqb (placed_key p) (vote_key signer kind is_other)) (places_in recorded.index) placed at in
             let parts = same_key placed.signer signer placed.kind kind placed.is_other is_other (eqb-true _ _ one.1) in
-            stays signer (subst (Contains collected) parts.0 (all placed one.0
-            ((λ i. same_kind (parts.1.0 i) kinds.Nullify || parts.1.1 i) ∙ flag)))
-
--- what is found of one signer more
-pub found_next : {E : Type 0} (f : ℕ → List E) (old found new : List E) (signers : List ℕ) (i s : ℕ) → i < length signers →
-    s ≡ get_or signers i 0 → found ≡ old ++ flat_map f (take i signers) → new ≡ found ++ f s →
-    new ≡ old ++ flat_map f (take (i + 1) signers)
-found_next f old found new signers i s lt at so_far is =
-    is ∙ ap (λ es. es ++ f s) so_far ∙ flat_map_more f old (take i signers) s ∙
-    ap (λ ss. old ++ flat_map f ss) (ap (λ q. take i signers ++ q ∷ []) at ∙ sym (take_more signers i 0 lt))
+            let listed = cond-true (is_second placed) (placed.signer ∷ []) []
+            ((λ i. same_kind (parts.1.0 i) kinds.Nullify || parts.1.1 i) ∙ flag) in
+            stays signer (subst (Contains collected) parts.0 (subst (λ xs. Contains xs placed.signer) (sym all)
+            (Contains-flat_map second_signer (places_in recorded.index) placed placed.signer one.0
+            (subst (λ xs. Contains xs placed.signer) (sym listed) (Contains-first placed.signer [])))))
 
 -- ---- how many of the participants are accused
 

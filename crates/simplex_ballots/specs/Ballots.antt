@@ -1,4 +1,5 @@
 -- The recorded votes of a round without their signers and kinds, and the order of signers and kinds.
+use Rattle.std.specs.Borrow.{Bor}
 use Rattle.std.specs.Prelude.{ℕ, ◌+◌, ◌*◌, ◌^◌, nat_lt, Bool, Option, Some, None, option_map, if◌then◌else◌}
 use Rattle.simplex_base.specs.Positions.{Round}
 use Rattle.simplex_scheme.specs.declared.kind.VoteKind.{VoteKind}
@@ -19,6 +20,10 @@ abbrev pub subject_of : {D : Type 0} → VoteKind → Round → Option (Proposal
 subject_of kinds.Notarize round p = option_map Notarizes p
 subject_of kinds.Nullify round p = Some (Nullifies round)
 subject_of kinds.Finalize round p = option_map Finalizes p
+
+-- a ballot, by what it is for and its signature
+abbrev pub ballot_of : {S D P G : Type 0} → Bor (Option (Proposal D)) × Bor G → Ballot S D P G
+ballot_of parts = record { proposal = parts.0.now; signature = parts.1.now }
 
 -- the vote of a signer and kind in a round that a ballot is of
 abbrev pub vote_of : {S D P G : Type 0} → Round → ℕ → VoteKind → Option (Ballot S D P G) → Option (SignedVote D G)

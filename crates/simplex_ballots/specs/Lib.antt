@@ -1,3 +1,4 @@
 pub mod Ballots
+pub mod Index
 pub mod Rounds
 pub mod Kept

@@ -6,14 +6,13 @@ use Rattle.std.specs.List.Sorted.{IsStrictlySortedBy}
 use Rattle.std.specs.Ordering.{nat_cmp}
 use Rattle.simplex_base.specs.Positions.{Round}
 use Rattle.simplex_scheme.specs.declared.kind.VoteKind.{VoteKind}
-use Rattle.simplex_scheme.specs.declared.kind.VoteKind.TheVariants as kinds
 use Rattle.simplex_scheme.specs.Kind.{kind_of, same_kind}
 use Rattle.simplex_scheme.specs.Subject.{round_of}
 use Rattle.simplex_votes.specs.Votes.{SignedVote}
 use Rattle.simplex_evidence.specs.Contradiction.{EquivocationKind, Conflicting_notarize, Conflicting_finalize, Nullify_finalize, Equivocation, contradicts}
-use Rattle.simplex_evidence.specs.VoteMap.{item_of}
 use Rattle.simplex_rules.specs.News.{have_news}
-use Rattle.simplex_ballots.specs.Ballots.{vote_key, vote_of}
+use Rattle.simplex_ballots.specs.Ballots.{vote_of}
+use Rattle.simplex_ballots.specs.Index.{placed_at, places_in}
 use Rattle.simplex_rules.specs.Recorded.{Slot, slot_of, slot_with, changes, evidence_from, recorded_in}
 use Rattle.simplex_ballots.specs.declared.ballot.Ballot.{Ballot}
 use Rattle.simplex_ballots.specs.declared.placed.Placed.{Placed}
@@ -22,14 +21,6 @@ use Rattle.simplex_ballots.specs.declared.round_votes.RoundVotes.{RoundVotes}
 -- an empty slot
 abbrev pub no_slot : {D G : Type 0} → Slot D G
 no_slot = record { earliest = None; other = None }
-
--- the order of the recorded votes of a round
-abbrev pub placed_key : Placed → ℕ
-placed_key placed = vote_key placed.signer placed.kind placed.is_other
-
--- whether it is a nullify, or its signer has an earlier vote of its kind
-abbrev pub is_second : Placed → Bool
-is_second placed = same_kind placed.kind kinds.Nullify || placed.is_other
 
 -- the ballot of a vote that stands at a place, if it stands somewhere
 abbrev pub ballot_at : {S D P G : Type 0} → List (Ballot S D P G) → Option Placed → Option (Ballot S D P G)
@@ -40,7 +31,7 @@ ballot_at ballots (Some placed) = slice_get ballots placed.place
 abbrev pub vote_at : {S D P G : Type 0} → RoundVotes S D P G → ℕ → VoteKind → Bool → Option (SignedVote D G)
 vote_at recorded signer kind is_other =
     vote_of recorded.round signer kind
-    (ballot_at recorded.ballots (item_of placed_key recorded.index (vote_key signer kind is_other)))
+    (ballot_at recorded.ballots (placed_at recorded.index signer kind is_other))
 
 -- the slots of a signer
 abbrev pub slots : {S D P G : Type 0} → RoundVotes S D P G → ℕ → VoteKind → Slot D G
@@ -57,13 +48,13 @@ IsRecorded recorded v =
 
 -- how many votes there are
 abbrev pub round_count : {S D P G : Type 0} → RoundVotes S D P G → ℕ
-round_count recorded = length recorded.index
+round_count recorded = length (places_in recorded.index)
 
 -- the state is for n participants, and each vote that stands somewhere is there
 pub record IsSized {S D P G : Type 0} (n : ℕ) (recorded : RoundVotes S D P G) : Type 0 where
   pub participants : recorded.participants ≡ n
   pub whole : (signer : ℕ) (kind : VoteKind) (is_other : Bool) →
-      IsSome (item_of placed_key recorded.index (vote_key signer kind is_other)) →
+      IsSome (placed_at recorded.index signer kind is_other) →
       IsSome (vote_at recorded signer kind is_other)
 
 -- whether a vote is of a kind and a signer

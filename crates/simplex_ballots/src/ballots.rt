@@ -1,7 +1,8 @@
 //! The recorded votes of a round without their signers and kinds, in the order in which they came.
 
-ghost use Rattle.std.specs.Prelude.{◌≡◌, ◌++◌, [], ◌∷◌, length, Some, IsTrue, IfOk, OnOk, OnErr, ◌⊎◌};
+ghost use Rattle.std.specs.Prelude.{◌≡◌, ◌++◌, [], ◌∷◌, length, Some, IsTrue, IfOk, OnOk, OnErr, ◌⊎◌, option_map};
 ghost use Rattle.std.specs.List.{slice_get};
+ghost use Rattle.simplex_ballots.specs.Ballots.{ballot_of};
 
 use crate::ballot::Ballot;
 use crate::room::make_room;
@@ -51,14 +52,22 @@ impl<S: SchemeTypes, D: Digest> Ballots<S, D> {
         }
     }
 
+    /// What the ballot at a place is for and its signature, if there is one.
+    pub fn parts(&self, place: usize) -> Option<(&Option<Proposal<D>>, &S::Signature)>
+        ensures { option_map ballot_of result ≡ slice_get self.now place }
+    {
+        let vote = self.votes.get(place)?;
+        Some((&self.choices[vote.choice], &vote.signature))
+    }
+
     /// The ballot at a place, if there is one.
     pub fn get(&self, place: usize) -> Option<Ballot<S, D>>
         ensures { result ≡ slice_get self.now place }
     {
-        let vote = self.votes.get(place)?;
+        let (proposal, signature) = self.parts(place)?;
         Some(Ballot {
-            proposal: self.choices[vote.choice],
-            signature: vote.signature,
+            proposal: *proposal,
+            signature: *signature,
         })
     }
 

@@ -29,7 +29,7 @@ impl Keyed for Placed {
 }
 
 impl Placed {
-    ghost use Rattle.simplex_ballots.specs.Rounds.{is_second};
+    ghost use Rattle.simplex_ballots.specs.Index.{is_second};
 
     /// Whether it is a nullify, or its signer has an earlier vote of its kind.
     pub fn is_second(&self) -> bool

@@ -1,6 +1,6 @@
 //! The recorded votes of one round: enough to report every accused signer, and no more.
 
-ghost use Rattle.std.specs.Prelude.{◌≡◌, ◌↔◌, ◌-◌, ◌^◌, ◌≤◌, min, Bool, List, [], ◌∷◌, ◌++◌, ◌||◌, ◌&&◌, ℕ, true, false, count_by, map, filter, length, option_map, Some, IfOk, IfSome, OnOk, IsTrue, if◌then◌else◌};
+ghost use Rattle.std.specs.Prelude.{◌≡◌, ◌↔◌, ◌-◌, ◌^◌, min, List, [], ◌∷◌, ◌++◌, ◌||◌, ◌&&◌, ℕ, true, false, count_by, map, filter, length, option_map, Some, IfOk, IfSome, OnOk, IsTrue};
 ghost use Rattle.std.specs.List.{flat_map, range_with_len, slice_get};
 ghost use Rattle.std.specs.Option.{is_some, option_to_list};
 ghost use Rattle.simplex_base.specs.Format.{format_of};
@@ -11,24 +11,23 @@ ghost use Rattle.simplex_scheme.specs.Kind.{kind_of};
 ghost use Rattle.simplex_scheme.specs.Subject.{SubjectValue, subject_value, round_of};
 ghost use Rattle.simplex_votes.specs.Votes.{vote_on, notarize_vote, nullify_vote, finalize_vote};
 ghost use Rattle.simplex_evidence.specs.Contradiction.{Conflicting_notarize, Conflicting_finalize, Nullify_finalize, excludes};
-ghost use Rattle.simplex_evidence.specs.VoteMap.{item_of};
-ghost use Rattle.simplex_ballots.specs.Ballots.{proposal_in, subject_of, vote_key};
+ghost use Rattle.simplex_ballots.specs.Ballots.{proposal_in, subject_of};
+ghost use Rattle.simplex_ballots.specs.Index.{placed_at};
 ghost use Rattle.simplex_ballots.specs.declared.ballot.Ballot as stored;
 ghost use Rattle.simplex_rules.specs.EncodedEvidence.{StayEncoded};
 ghost use Rattle.simplex_rules.specs.Judging.{HoldsOf, are_known, valid_under};
 ghost use Rattle.simplex_ballots.specs.Kept.{GathersVotes};
 ghost use Rattle.simplex_rules.specs.Recorded.{changes};
-ghost use Rattle.simplex_ballots.specs.Rounds.{IsRecorded, ballot_at, placed_key, is_second, round_count, slots, vote_at, no_slot, IsSized, TakesVote, RecordsVotes, found_of_kind, found_at, accuses, ListsSigners};
+ghost use Rattle.simplex_ballots.specs.Rounds.{IsRecorded, ballot_at, round_count, slots, vote_at, no_slot, IsSized, TakesVote, RecordsVotes, found_of_kind, found_at, accuses, ListsSigners};
 ghost use Rattle.simplex_rules.specs.Values.{evidence_value};
 
 use crate::apart::Apart;
 use crate::ballot::Ballot;
 use crate::ballots::Ballots;
-use crate::placed::{Placed, vote_key};
-use crate::room::more_room;
+use crate::index::Index;
+use crate::placed::Placed;
 use simplex_base::codec::Read;
 use simplex_base::positions::{Participant, Round};
-use simplex_evidence::sorted::SortedList;
 use simplex_evidence::types::conflict_of;
 use simplex_rules::evidence::Evidence;
 use simplex_rules::judge::{Judge, Signatures};
@@ -46,7 +45,7 @@ pub struct RoundVotes<S: SchemeTypes, D: Digest> {
     /// The size of its committee.
     participants: usize,
     /// Where each vote stands among the ballots.
-    index: SortedList<Placed>,
+    index: Index,
     ballots: Ballots<S, D>,
 }
 
@@ -55,7 +54,7 @@ pub struct RoundVotes<S: SchemeTypes, D: Digest> {
 struct Spot {
     /// Whether its signer has an earlier vote of its kind.
     is_other: bool,
-    /// Its place in the index.
+    /// Where the index would insert it.
     near: usize,
 }
 
@@ -70,7 +69,7 @@ impl<S: SchemeTypes, D: Digest> RoundVotes<S, D> {
         RoundVotes {
             round,
             participants,
-            index: SortedList::new(alloc),
+            index: Index::new(alloc),
             ballots: Ballots::new(alloc),
         }
     }
@@ -94,10 +93,10 @@ impl<S: SchemeTypes, D: Digest> RoundVotes<S, D> {
     /// The ballot of a signer's vote of a kind, the earliest or the other, if it is recorded.
     fn ballot(&self, signer: Participant, kind: VoteKind, is_other: bool) -> Option<Ballot<S, D>>
         ensures { result ≡ ballot_at self.now.ballots
-            (item_of placed_key self.now.index (vote_key signer kind is_other)) }
+            (placed_at self.now.index signer kind is_other) }
     {
-        let placed = self.index.get(vote_key(signer, kind, is_other))?;
-        self.ballots.get(placed.place)
+        let place = self.index.find(signer, kind, is_other).ok()?;
+        self.ballots.get(place)
     }
 
     /// As what a vote is to be recorded, if it is news: it is the signer's first of its kind, or the first with another
@@ -110,8 +109,8 @@ impl<S: SchemeTypes, D: Digest> RoundVotes<S, D> {
             (subject_value subject.now)) × IfSome result (λ spot. spot.is_other ≡
             is_some (slots self.now signer (kind_of (subject_value subject.now))).earliest) }
     {
-        let (kind, count) = (subject.kind(), self.index.len());
-        let place = match self.index.find(count, vote_key(signer, kind, false)) {
+        let kind = subject.kind();
+        let place = match self.index.find(signer, kind, false) {
             Err(near) => {
                 return Some(Spot {
                     is_other: false,
@@ -123,7 +122,7 @@ impl<S: SchemeTypes, D: Digest> RoundVotes<S, D> {
         if !self.is_apart(place, subject) {
             return None;
         }
-        match self.index.find(count, vote_key(signer, kind, true)) {
+        match self.index.find(signer, kind, true) {
             Ok(_) => None,
             Err(near) => Some(Spot {
                 is_other: true,
@@ -132,19 +131,16 @@ impl<S: SchemeTypes, D: Digest> RoundVotes<S, D> {
         }
     }
 
-    /// Whether the vote at a place of the index has another proposal than a subject of its kind.
+    /// Whether the ballot at a place, a vote of a subject's kind, is for another proposal.
     fn is_apart(&self, place: usize, subject: &Subject<'_, D>) -> bool
         ensures { (ballot : stored.Ballot S D S.PublicKey S.Signature) (x : SubjectValue D) →
-            ballot_at self.now.ballots (slice_get self.now.index place) ≡ Some ballot →
+            slice_get self.now.ballots place ≡ Some ballot →
             subject_of (kind_of (subject_value subject.now)) self.now.round ballot.proposal ≡ Some x →
             result ≡ excludes D.eq x (subject_value subject.now) }
     {
-        let Some(placed) = self.index.as_slice().get(place) else {
-            return false;
-        };
-        match self.ballots.get(placed.place) {
+        match self.ballots.parts(place) {
             None => false,
-            Some(ballot) => is_apart(&ballot.proposal, subject),
+            Some((proposal, _)) => is_apart(proposal, subject),
         }
     }
 
@@ -159,18 +155,17 @@ impl<S: SchemeTypes, D: Digest> RoundVotes<S, D> {
             (kind_of (subject_value subject.now))).earliest → OnOk result (TakesVote D.eq
             (vote_on (subject_value subject.now) attestation.now) self.old self.new) }
     {
-        let more = more_room(self.index.len(), self.participants);
-        self.index.make_room(more)?;
-        let (proposal, signature) = (proposal_in(subject), attestation.signature);
+        let (kind, is_other) = (subject.kind(), spot.is_other);
+        self.index.make_room(kind, is_other, self.participants)?;
         let ballot = Ballot {
-            proposal,
-            signature,
+            proposal: proposal_in(subject),
+            signature: attestation.signature,
         };
         let place = self.ballots.push(self.participants, ballot)?;
         let placed = Placed {
             signer: attestation.signer,
-            kind: subject.kind(),
-            is_other: spot.is_other,
+            kind,
+            is_other,
             place,
         };
         self.index.insert(spot.near, placed)?;
@@ -310,9 +305,7 @@ impl<S: SchemeTypes, D: Digest> RoundVotes<S, D> {
         ensures { IfOk result (λ signers. ListsSigners self.now signers.items) }
     {
         let mut signers = Vec::new(alloc);
-        'votes: for placed in self.index.as_slice() {
-            add_if_second(&mut signers, placed)?;
-        }
+        self.index.add_seconds_to(&mut signers)?;
         signers.sort()?;
         signers.dedup();
         Ok(signers)
@@ -407,12 +400,17 @@ impl<S: SchemeTypes, D: Digest> RoundVotes<S, D> {
             Some (vote_on (subject_value subject.now) attestation.now) }
     {
         let signer = attestation.signer;
-        let Some(ballot) = self.ballot(signer, subject.kind(), is_other) else {
+        let Ok(place) = self.index.find(signer, subject.kind(), is_other) else {
             return false;
         };
-        let signature = ballot.signature;
-        let recorded = Attestation { signer, signature };
-        recorded.is_same(attestation) && is_on(&ballot.proposal, self.round, subject)
+        let Some((proposal, signature)) = self.ballots.parts(place) else {
+            return false;
+        };
+        let recorded = Attestation {
+            signer,
+            signature: *signature,
+        };
+        recorded.is_same(attestation) && is_on(proposal, self.round, subject)
     }
 }
 
@@ -473,17 +471,6 @@ fn is_of<D: Digest>(kind: VoteKind, voted: &Option<Proposal<D>>) -> bool
         VoteKind::Notarize | VoteKind::Finalize => voted.is_some(),
         VoteKind::Nullify => true,
     }
-}
-
-/// Appends the signer of a vote, if it is a nullify or its signer has an earlier vote of its kind.
-fn add_if_second(signers: &mut Vec<u32>, placed: &Placed) -> Result<(), AllocError>
-    ensures { OnOk result (signers.new.items ≡ signers.old.items ++
-        (if is_second placed.now then placed.now.signer ∷ [] else [])) }
-{
-    if placed.is_second() {
-        signers.push(placed.signer.get())?;
-    }
-    Ok(())
 }
 
 /// Whether one or the other is.

@@ -1,5 +1,5 @@
 -- The recorded votes are among the votes so far, so what is recorded of valid votes is known to be valid.
-use Rattle.simplex_rules.proofs.Prelude.{All, All-append, All-contains, Bool, Contains, List, None, Option, Round, Rules, Schedule, Scheme, SignedVote, Slot, Some, and_parts, ap, committee_of, excludes, filter, filter_passes, find, flat_map, inl, inr, is_at, is_valid, kind_of, option_map, other_than, round_of, rules_of, sym, true, valid_by, valid_votes, votes_in, ℕ, ◌&&◌, ◌++◌, ◌∙◌, ◌≡◌}
+use Rattle.simplex_rules.proofs.Prelude.{All, All-append, All-contains, Bool, Contains, List, None, Option, Round, Rules, Schedule, Scheme, SignedVote, Slot, Some, and_parts, ap, committee_of, excludes, filter, filter_passes, find, flat_map, inl, inr, is_at, is_valid, kind_of, other_than, round_of, rules_of, sym, true, valid_by, valid_votes, votes_in, ℕ, ◌&&◌, ◌++◌, ◌∙◌, ◌≡◌}
 use Rattle.simplex_ballots.specs.Rounds.{HoldsRound, IsRecorded}
 use Rattle.simplex_ballots.specs.declared.round_votes.RoundVotes.{RoundVotes}
 use Rattle.simplex_scheme.specs.Known.{AreValid}

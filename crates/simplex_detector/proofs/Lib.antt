@@ -5,3 +5,4 @@ pub mod DetectorLemmas
 pub mod CountLemmas
 pub mod PruneLemmas
 pub mod GatherLemmas
+pub mod FirstLemmas

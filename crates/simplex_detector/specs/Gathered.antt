@@ -1,13 +1,13 @@
 -- What a detector tells of a message that it observes, and which of its votes are gathered.
-use Rattle.std.specs.Prelude.{◌≡◌, All, true, not, ◌&&◌, List, [], ◌++◌, filter, map, if◌then◌else◌, Some}
+use Rattle.std.specs.Prelude.{◌≡◌, Bool, All, true, not, ◌&&◌, List, [], ◌∷◌, ◌++◌, filter, map, if◌then◌else◌, Some}
 use Rattle.std.specs.Option.{is_some}
 use Rattle.simplex_scheme.specs.Committees.{Schedule, committee_of}
 use Rattle.simplex_scheme.specs.Subject.{SubjectValue}
 use Rattle.simplex_votes.specs.Votes.{SignedVote}
-use Rattle.simplex_evidence.specs.Activity.{contents_of}
+use Rattle.simplex_evidence.specs.Activity.{activity_round, contents_of}
 use Rattle.simplex_evidence.specs.Contents.{ContentsValue, contents_certificate, contents_round, contents_votes}
 use Rattle.simplex_evidence.specs.declared.types.activity.Activity.{Activity}
-use Rattle.simplex_detector.specs.Detector.{Recalls}
+use Rattle.simplex_detector.specs.Detector.{Recalls, RecallsMore, TellsNews}
 use Rattle.simplex_rules.specs.FirstCertified.{RecordsFirsts, certified_subjects}
 use Rattle.simplex_rules.specs.News.{kept_of, subject_is_news, vote_message}
 use Rattle.simplex_rules.specs.Recorded.{news_after}
@@ -52,3 +52,13 @@ GathersMessage {S} {D} {C} {P} {G} rules m old before after =
     after.votes.items ≡ before.votes.items
     ++ (if before.wanted
     then votes_apart rules (contents_of m) (valid_votes rules messages) (certified_subjects rules messages) else [])
+
+-- The first message of a round is recorded. The committee of the round's epoch judges it, whatever the other committees are.
+pub record RecordsFirst {S D C P G : Type 0} (rules : Schedule S → Rules S D C P G) (committee : S) (m : Activity S D C P G)
+    (news : Bool) (old new : Detector S D P G) (before after : Apart S D C P G) : Type 0 where
+  pub records : (schedule : Schedule S) → committee_of schedule (activity_round m).epoch ≡ Some committee →
+      RecallsMore (rules schedule) (m ∷ []) old new
+  pub tells : (schedule : Schedule S) → committee_of schedule (activity_round m).epoch ≡ Some committee →
+      TellsNews (rules schedule) m old news
+  pub gathers : (schedule : Schedule S) → committee_of schedule (activity_round m).epoch ≡ Some committee →
+      GathersMessage (rules schedule) m old before after

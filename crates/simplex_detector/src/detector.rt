@@ -1,13 +1,17 @@
 //! The state of every round so far.
 
-ghost use Rattle.std.specs.Prelude.{◌≡◌, [], ◌∷◌, ◌++◌, List, All, map, IfOk, OnOk};
+ghost use Rattle.std.specs.Prelude.{◌≡◌, [], ◌∷◌, ◌++◌, List, All, map, None, IfOk, OnOk};
 ghost use Rattle.std.specs.Option.{option_to_list};
 ghost use Rattle.simplex_base.specs.Format.{format_of};
 ghost use Rattle.simplex_detector.specs.Detector.{RecallsNone, RecallsMore, TellsNews, GivesEvidence, GivesSplitOf, GivesSplits, CountsVotes, Recalls, TellsCertified};
+ghost use Rattle.simplex_detector.specs.RoundMap.{get};
+ghost use Rattle.simplex_evidence.specs.Activity.{activity_round, contents_of};
+ghost use Rattle.simplex_evidence.specs.Contents.{AreInConflict, contents_value};
 ghost use Rattle.simplex_evidence.specs.declared.types.activity.Activity.{Activity};
+ghost use Rattle.simplex_rules.specs.Accusation.{round_cmp};
 ghost use Rattle.simplex_rules.specs.EncodedEvidence.{IsEncoded};
 ghost use Rattle.simplex_rules.specs.Independence.{in_rounds, is_from};
-ghost use Rattle.simplex_detector.specs.Gathered.{GathersMessage, TellsKept};
+ghost use Rattle.simplex_detector.specs.Gathered.{GathersMessage, RecordsFirst, TellsKept};
 ghost use Rattle.simplex_ballots.specs.Kept.{is_kept};
 ghost use Rattle.simplex_rules.specs.Rules.{Rules};
 ghost use Rattle.simplex_rules.specs.Values.{evidence_value};
@@ -18,7 +22,7 @@ use simplex_ballots::apart::Apart;
 use simplex_ballots::kept::Kept;
 use simplex_base::codec::Read;
 use simplex_base::positions::Round;
-use simplex_evidence::types::Activity;
+use simplex_evidence::types::{Activity, Contents};
 use simplex_rules::evidence::Evidence;
 use simplex_rules::judge::Judge;
 use simplex_rules::judging::Judging;
@@ -117,8 +121,31 @@ impl<S: Listing<D>, D: Digest> Detector<S, D> {
         if let Some(round_state) = self.rounds.get_mut(round) {
             return round_state.observe(alloc, &judge, &contents, apart);
         }
-        let mut round_state = RoundState::new(alloc, round, committee.participants().len());
-        let news = round_state.observe(alloc, &judge, &contents, apart)?;
+        self.record_first(alloc, &judge, round, &contents, apart)
+    }
+
+    /// Records what the first message of a round holds, as `record` does. It stands apart, for a function clears the room of
+    /// its locals whenever it is called, and a round's state takes some hundred bytes.
+    #[inline(never)]
+    fn record_first(
+        &mut self,
+        alloc: Global,
+        judge: &Judge<'_, S>,
+        round: Round,
+        contents: &Contents<'_, S, D>,
+        apart: &mut Apart<S, D>,
+    ) -> Result<bool, AllocError>
+        requires { get round_cmp self.old.rounds round ≡ None }
+        ensures { IfOk result (λ news.
+            (message : Activity S D S.Certificate S.PublicKey S.Signature) →
+            contents_value contents.now ≡ contents_of message →
+            AreInConflict D.eq (contents_of message) → round ≡ activity_round message →
+            RecordsFirst (⟦<S as Judges<D>>⟧.rules_under judge.now.judging.now)
+            judge.now.committee.now message news self.old self.new apart.old apart.new) }
+    {
+        let participants = judge.committee.participants().len();
+        let mut round_state = RoundState::new(alloc, round, participants);
+        let news = round_state.observe(alloc, judge, contents, apart)?;
         if !round_state.is_empty() {
             self.rounds.insert(round, round_state)?;
         }

@@ -1,5 +1,4 @@
 use Rattle.std.proofs.Common.{ap, refl, length, [], ◌∙◌, ◌∷◌, ◌++◌, ◌≡◌}
-use Rattle.simplex_scheme.specs.Kind.{kind_of}
 use Rattle.simplex_scheme.specs.Subject.{subject_value}
 use Rattle.simplex_votes.specs.Votes.{vote_on}
 use Rattle.simplex_ballots.specs.declared.placed.Placed.{Placed}
@@ -20,18 +19,18 @@ returns g c other_is =
     } in
     let placed : Placed = record {
       signer = a.signer;
-      kind = c.kind.result;
+      kind = c.kind-kind.result;
       is_other = c.args.spot.now.is_other;
       place = c.in_ok-place.place;
     } in
     let placed_is : placed ≡ own_place v c.args.spot.now.is_other (length old.ballots) = λ i. record {
       signer = a.signer;
-      kind = c.kind.ensures i;
+      kind = c.kind-kind.ensures i;
       is_other = c.args.spot.now.is_other;
       place = c.in_ok-place.ensures.place i;
     } in
     takes g.D.PartialEq.eq v old after c.args.spot.now.is_other refl refl
     (c.in_ok-place.ensures.pushed ∙ ap (λ p. old.ballots ++ (record { proposal = p; signature = a.signature }) ∷ [])
-    c.proposal_in-proposal.ensures)
+    c.proposal_in.ensures)
     other_is c.in_ok-insert.field-0 c.make_room.new.self placed c.in_ok-make_room.ensures placed_is
     c.in_ok-insert.ensures.added c.in_ok-insert.ensures.recorded c.in_ok-insert.ensures.taken

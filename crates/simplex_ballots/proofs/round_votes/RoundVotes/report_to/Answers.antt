@@ -1,14 +1,14 @@
 use Rattle.simplex_ballots.specs.Rounds.{ListsSigners, found_at, slots}
 use Rattle.simplex_rules.proofs.Prelude.{ap, evidence_value, flat_map, map, subst, sym, take_all, ◌++◌, ◌∙◌}
-use Rattle.simplex_ballots.proofs.SignerLemmas.{found_next}
+use Rattle.simplex_ballots.proofs.IndexLemmas.{appended_next}
 use Rattle.simplex_ballots.proofs.round_votes.RoundVotes.report_to.Goals as goal
 
 pub signers-preserved : goal.signers-preserved
 signers-preserved g c = record {
-  appended = found_next (λ signer. found_at g.D.PartialEq.eq (slots c.args.self.now signer))
+  appended = appended_next (λ signer. found_at g.D.PartialEq.eq (slots c.args.self.now signer))
       (map evidence_value c.args.found.now.items)
       (map evidence_value c.signers.found.items) (map evidence_value c.report_signer.new.found.items)
-      c.deref-signer-items.result.now c.signers.signer-index c.new.result c.signers-test.true c.new.ensures
+      c.deref-signer-items.result.now c.signers.signer-index c.new.result 0 c.signers-test.true c.new.ensures
       c.signers.invariant.appended c.in_ok-report_signer.ensures.appended;
   encoded = λ old. c.in_ok-report_signer.ensures.encoded (c.signers.invariant.encoded old);
 }

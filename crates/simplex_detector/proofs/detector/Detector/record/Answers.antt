@@ -1,12 +1,11 @@
-use Rattle.simplex_rules.proofs.Prelude.{IfOk-weaker, on_ok_weaker, IsSome, Some, activity_round, ap, committee_of, is_key, length, refl, round_cmp, subst, sym, ◌∙◌, Scheme, scheme_of, scheme_under, rules_of}
+use Rattle.simplex_rules.proofs.Prelude.{IfOk-weaker, on_ok_weaker, IsSome, Some, activity_round, ap, committee_of, is_key, refl, round_cmp, subst, sym, ◌∙◌, Scheme, scheme_of, scheme_under, rules_of}
 use Rattle.simplex_rules.specs.declared.judging.Judging.{Judging}
-use Rattle.simplex_ballots.specs.Rounds.{IsSized}
 use Rattle.simplex_detector.specs.Detector.{RecallsAt}
 use Rattle.simplex_detector.specs.RoundMap.{get}
 use Rattle.std.specs.Map.{set_value}
 use Rattle.simplex_evidence.specs.Activity.{contents_of}
 use Rattle.simplex_evidence.specs.Contents.{contents_round}
-use Rattle.simplex_detector.proofs.DetectorLemmas.{news_taken, no_news_no_committee, recalls_changed, recalls_still_none, recalls_fresh, recalls_taken, recalls_no_committee}
+use Rattle.simplex_detector.proofs.DetectorLemmas.{news_taken, no_news_no_committee, recalls_changed, recalls_taken, recalls_no_committee}
 use Rattle.simplex_rules.proofs.MessageLemmas.{votes_here}
 use Rattle.simplex_detector.proofs.GatherLemmas.{gathered_taken, none_gathered}
 use Rattle.simplex_detector.proofs.RoundMapLemmas.{set_updates}
@@ -69,65 +68,19 @@ returns-in-Some-get_mut g c =
           (rw c.contents-contents.ensures.value at c.observe.ensures.gathers);
     }
 
--- nothing was recorded of its round
-pub returns-in_ok-insert : goal.returns-in_ok-insert
-returns-in_ok-insert g c =
-    let all = rules_of (scheme g c.args.judging.now) c.args.committees.now in
-    let m = c.args.message.now in
+-- nothing was
+pub returns : goal.returns
+returns g c =
     let at = c.round-round.ensures ∙ ap contents_round c.contents-contents.ensures.value in
     let judge = sym (c.in-Some.ensures ∙ ap (committee_of c.args.committees.now) (c.epoch.ensures ∙ ap (λ r. r.epoch) at)) in
-    let none = c.in_default-get_mut.ensures.value in
-    let sized = subst (λ n. IsSized n c.new-round_state.result.votes) (c.len.ensures ∙ ap length c.participants.ensures.keys)
-    c.new-round_state.ensures.sized in
-    let after = c.observe-2.new.self in
-    let fresh = recalls_fresh (scheme g c.args.judging.now) c.args.committees.now m c.in-Some.committee.now judge
-    g.met.D.Eq.laws c.args.self.now.rounds c.new-round_state.result (none ∙ ap (get round_cmp c.args.self.now.rounds) at) sized
-    (c.new-round_state.ensures.round ∙ at) c.new-round_state.ensures.empty c.new-round_state.ensures.none
-    c.new-round_state.ensures.certified in
-    let takes = (rw c.contents-contents.ensures.value at c.in_ok-news.ensures.takes) c.contents-contents.ensures.conflict in
-    let gathers = rw c.contents-contents.ensures.value at c.in_ok-news.ensures.gathers in
-    record {
-      records = λ messages holds. recalls_changed all g.met.D.Eq.laws messages m
-          (votes_here g.D.PartialEq.eq g.S.Listing.listed (contents_of c.args.message.now) c.contents-contents.ensures.conflict)
-          c.round-round.result at (Some after) c.args.self.now.rounds c.insert.new.self
-          c.in_ok-insert.ensures.inserted
-          (recalls_taken (scheme g c.args.judging.now) c.args.committees.now messages m c.in-Some.committee.now judge
-          c.in_ok-news.news c.new-round_state.result after takes (fresh messages holds)) holds;
-      news = λ messages holds. news_taken (scheme g c.args.judging.now) c.args.committees.now messages m
-          c.in-Some.committee.now judge c.in_ok-news.news c.new-round_state.result after takes (fresh messages holds);
-      gathers = λ messages holds. gathered_taken (scheme g c.args.judging.now) c.args.committees.now messages m
-          c.in-Some.committee.now judge c.new-round_state.result c.args.apart.now c.observe-2.new.apart gathers
-          (fresh messages holds);
-    }
-
--- nothing is recorded of its round now either
-pub returns-else-not-is_empty : goal.returns-else-not-is_empty
-returns-else-not-is_empty g c =
-    let all = rules_of (scheme g c.args.judging.now) c.args.committees.now in
     let m = c.args.message.now in
-    let at = c.round-round.ensures ∙ ap contents_round c.contents-contents.ensures.value in
-    let judge = sym (c.in-Some.ensures ∙ ap (committee_of c.args.committees.now) (c.epoch.ensures ∙ ap (λ r. r.epoch) at)) in
-    let none = c.in_default-get_mut.ensures.value in
-    let sized = subst (λ n. IsSized n c.new-round_state.result.votes) (c.len.ensures ∙ ap length c.participants.ensures.keys)
-    c.new-round_state.ensures.sized in
-    let after = c.observe-2.new.self in
-    let empty = c.if-not-is_empty.false in
-    let fresh = recalls_fresh (scheme g c.args.judging.now) c.args.committees.now m c.in-Some.committee.now judge
-    g.met.D.Eq.laws c.args.self.now.rounds c.new-round_state.result (none ∙ ap (get round_cmp c.args.self.now.rounds) at) sized
-    (c.new-round_state.ensures.round ∙ at) c.new-round_state.ensures.empty c.new-round_state.ensures.none
-    c.new-round_state.ensures.certified in
-    let takes = (rw c.contents-contents.ensures.value at c.in_ok-news.ensures.takes) c.contents-contents.ensures.conflict in
-    let gathers = rw c.contents-contents.ensures.value at c.in_ok-news.ensures.gathers in
-    record {
-      records = λ messages holds. recalls_still_none all g.met.D.Eq.laws messages m
-          (votes_here g.D.PartialEq.eq g.S.Listing.listed (contents_of c.args.message.now) c.contents-contents.ensures.conflict)
-          c.round-round.result at after
-          c.args.self.now.rounds (sym none) (c.is_empty.ensures.votes empty) (c.is_empty.ensures.certified empty)
-          (recalls_taken (scheme g c.args.judging.now) c.args.committees.now messages m c.in-Some.committee.now judge
-          c.in_ok-news.news c.new-round_state.result after takes (fresh messages holds)) holds;
-      news = λ messages holds. news_taken (scheme g c.args.judging.now) c.args.committees.now messages m
-          c.in-Some.committee.now judge c.in_ok-news.news c.new-round_state.result after takes (fresh messages holds);
-      gathers = λ messages holds. gathered_taken (scheme g c.args.judging.now) c.args.committees.now messages m
-          c.in-Some.committee.now judge c.new-round_state.result c.args.apart.now c.observe-2.new.apart gathers
-          (fresh messages holds);
+    let value = c.contents-contents.ensures.value in
+    let conflict = c.contents-contents.ensures.conflict in
+    let schedule = c.args.committees.now in record {
+      records = IfOk-weaker c.record_first.result _ _
+          (λ news first. (first m value conflict at).records schedule judge) c.record_first.ensures;
+      news = IfOk-weaker c.record_first.result _ _
+          (λ news first. (first m value conflict at).tells schedule judge) c.record_first.ensures;
+      gathers = IfOk-weaker c.record_first.result _ _
+          (λ news first. (first m value conflict at).gathers schedule judge) c.record_first.ensures;
     }
