@@ -11,8 +11,9 @@ use Rattle.simplex_scheme.specs.declared.kind.VoteKind.{VoteKind}
 use Rattle.simplex_scheme.specs.declared.kind.VoteKind.TheVariants as kinds
 use Rattle.simplex_evidence.specs.VoteMap.{AddsOnly, item_of}
 use Rattle.simplex_ballots.specs.Ballots.{kind_number, slot_number, vote_key}
-use Rattle.simplex_ballots.specs.Index.{PlacesOne, as_placed, first_key, firsts_in, placed_at, placed_key, places_in, second_signer}
-use Rattle.simplex_ballots.specs.declared.index.First.{First}
+use Rattle.simplex_ballots.specs.Firsts.{first_key}
+use Rattle.simplex_ballots.specs.Index.{PlacesOne, as_placed, firsts_in, placed_at, placed_key, places_in, second_signer}
+use Rattle.simplex_ballots.specs.declared.firsts.First.{First}
 use Rattle.simplex_ballots.specs.declared.index.Index.{Index}
 use Rattle.simplex_ballots.specs.declared.placed.Placed.{Placed}
 
@@ -212,18 +213,21 @@ held_first (Some f) k rest place e = e
 -- an index with another list of earliest votes of a kind
 abbrev pub with_firsts : Index → VoteKind → List First → Index
 with_firsts index kinds.Notarize firsts = record {
+  alloc = index.alloc;
   notarizes = firsts;
   nullifies = index.nullifies;
   finalizes = index.finalizes;
   others = index.others;
 }
 with_firsts index kinds.Nullify firsts = record {
+  alloc = index.alloc;
   notarizes = index.notarizes;
   nullifies = firsts;
   finalizes = index.finalizes;
   others = index.others;
 }
 with_firsts index kinds.Finalize firsts = record {
+  alloc = index.alloc;
   notarizes = index.notarizes;
   nullifies = index.nullifies;
   finalizes = firsts;
@@ -305,6 +309,7 @@ module _ (index : Index) (k : VoteKind) (firsts : List First) (first : First)
 -- an index with another list of other votes
 abbrev pub with_others : Index → List Placed → Index
 with_others index others = record {
+  alloc = index.alloc;
   notarizes = index.notarizes;
   nullifies = index.nullifies;
   finalizes = index.finalizes;

@@ -1,3 +1,4 @@
+pub mod TableLemmas
 pub mod IndexLemmas
 pub mod BallotLemmas
 pub mod HeldLemmas

@@ -5,7 +5,7 @@ use Rattle.simplex_scheme.specs.declared.kind.VoteKind.{VoteKind}
 use Rattle.simplex_scheme.specs.declared.kind.VoteKind.TheVariants as kinds
 use Rattle.simplex_evidence.specs.VoteMap.{item_of}
 use Rattle.simplex_ballots.specs.Ballots.{vote_key}
-use Rattle.simplex_ballots.specs.declared.index.First.{First}
+use Rattle.simplex_ballots.specs.declared.firsts.First.{First}
 use Rattle.simplex_ballots.specs.declared.index.Index.{Index}
 use Rattle.simplex_ballots.specs.declared.placed.Placed.{Placed}
 
@@ -26,14 +26,6 @@ abbrev pub second_signer : Placed → List ℕ
 second_signer placed = if is_second placed then placed.signer ∷ [] else []
 
 -- ---- the earliest votes of a kind
-
--- their order
-abbrev pub first_key : First → ℕ
-first_key first = first.signer
-
--- where one stands among the ballots
-abbrev pub first_place_of : First → ℕ
-first_place_of first = first.place
 
 -- one of a kind
 abbrev pub as_placed : VoteKind → First → Placed

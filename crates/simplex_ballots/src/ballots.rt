@@ -1,6 +1,6 @@
 //! The recorded votes of a round without their signers and kinds, in the order in which they came.
 
-ghost use Rattle.std.specs.Prelude.{◌≡◌, ◌++◌, [], ◌∷◌, length, Some, IsTrue, IfOk, OnOk, OnErr, ◌⊎◌, option_map};
+ghost use Rattle.std.specs.Prelude.{◌≡◌, ◌++◌, [], ◌∷◌, length, Some, IsTrue, IfOk, OnOk, OnErr, ◌⊎◌, option_copied, option_map};
 ghost use Rattle.std.specs.List.{slice_get};
 ghost use Rattle.simplex_ballots.specs.Ballots.{ballot_of};
 
@@ -71,43 +71,50 @@ impl<S: SchemeTypes, D: Digest> Ballots<S, D> {
         })
     }
 
-    /// Appends a ballot in a round of this many participants, and returns its place. `AllocError` only where an allocation
-    /// failed; then all is as before.
-    pub fn push(&mut self, participants: usize, ballot: Ballot<S, D>) -> Result<usize, AllocError>
+    /// Appends the ballot for a proposal, or for none, in a round of this many participants, and returns its place.
+    /// `AllocError` only where an allocation failed; then all is as before.
+    pub fn push(
+        &mut self,
+        participants: usize,
+        proposal: Option<&Proposal<D>>,
+        signature: &S::Signature,
+    ) -> Result<usize, AllocError>
         ensures place { IfOk result (λ place. place ≡ length self.old) }
-        ensures pushed { OnOk result (self.new ≡ self.old ++ ballot ∷ []) }
+        ensures pushed { OnOk result (self.new ≡ self.old ++
+            (record { proposal = option_copied proposal.entry; signature = signature.now }) ∷ []) }
         ensures refused { OnErr result (self.new ≡ self.old) }
     {
         let place = self.votes.len();
         make_room(&mut self.votes, participants)?;
-        let choice = place_among(&mut self.choices, participants, ballot.proposal)?;
-        let signature = ballot.signature;
+        let choice = place_among(&mut self.choices, participants, proposal)?;
+        let signature = *signature;
         self.votes.push_reserved(StoredVote { choice, signature });
         Ok(place)
     }
 }
 
-/// The place of a choice, which is appended if it is neither the first nor the last.
+/// The place of a choice, which is copied and appended if it is neither the first nor the last.
 fn place_among<D: Digest>(
     choices: &mut Vec<Option<Proposal<D>>>,
     participants: usize,
-    choice: Option<Proposal<D>>,
+    choice: Option<&Proposal<D>>,
 ) -> Result<usize, AllocError>
-    ensures place { IfOk result (λ place. slice_get choices.new.items place ≡ Some choice) }
+    ensures place { IfOk result (λ place.
+        slice_get choices.new.items place ≡ Some (option_copied choice.entry)) }
     ensures others { (choices.new.items ≡ choices.old.items) ⊎
-        (choices.new.items ≡ choices.old.items ++ choice ∷ []) }
+        (choices.new.items ≡ choices.old.items ++ option_copied choice.entry ∷ []) }
     ensures refused { OnErr result (choices.new.items ≡ choices.old.items) }
 {
-    if stands_at(choices, 0, &choice) {
+    if stands_at(choices, 0, choice) {
         return Ok(0);
     }
     let end = choices.len();
     let last = end.saturating_sub(1);
-    if stands_at(choices, last, &choice) {
+    if stands_at(choices, last, choice) {
         return Ok(last);
     }
     make_room(choices, participants)?;
-    choices.push_reserved(choice);
+    choices.push_reserved(choice.copied());
     Ok(end)
 }
 
@@ -115,9 +122,9 @@ fn place_among<D: Digest>(
 fn stands_at<D: Digest>(
     choices: &[Option<Proposal<D>>],
     place: usize,
-    choice: &Option<Proposal<D>>,
+    choice: Option<&Proposal<D>>,
 ) -> bool
-    ensures { IsTrue result → slice_get choices.now place ≡ Some choice.now }
+    ensures { IsTrue result → slice_get choices.now place ≡ Some (option_copied choice.entry) }
 {
     match choices.get(place) {
         None => false,
@@ -126,8 +133,8 @@ fn stands_at<D: Digest>(
 }
 
 /// Whether two choices are the same, byte by byte.
-fn is_same<D: Digest>(one: &Option<Proposal<D>>, other: &Option<Proposal<D>>) -> bool
-    ensures { IsTrue result → one.now ≡ other.now }
+fn is_same<D: Digest>(one: &Option<Proposal<D>>, other: Option<&Proposal<D>>) -> bool
+    ensures { IsTrue result → one.now ≡ option_copied other.entry }
 {
     match one {
         None => other.is_none(),

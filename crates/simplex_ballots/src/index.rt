@@ -1,46 +1,32 @@
-//! Where the recorded votes of a round stand: of each kind a list by signers.
+//! Where the recorded votes of a round stand: of each kind the earliest ones by signers, and all others in a list.
 
-ghost use Rattle.std.specs.Prelude.{◌≡◌, ◌^◌, ◌-◌, ◌==◌, ◌++◌, min, [], length, true, false, Ok, None, Some, IfOk, IfSome, IsSome, OnOk, OnErr, option_map, if◌then◌else◌};
+ghost use Rattle.std.specs.Prelude.{◌≡◌, ◌≢◌, ◌^◌, ◌-◌, ◌==◌, ◌++◌, min, [], length, true, false, Ok, None, Some, IfOk, IfSome, IsSome, OnOk, OnErr, option_map, if◌then◌else◌};
 ghost use Rattle.std.specs.List.{flat_map};
 ghost use Rattle.std.specs.Option.{is_some};
 ghost use Rattle.simplex_evidence.specs.VoteMap.{item_of};
 ghost use Rattle.simplex_ballots.specs.Ballots.{vote_key};
-ghost use Rattle.simplex_ballots.specs.Index.{PlacesOne, as_placed, first_key, first_place_of, firsts_in, is_second, place_of, placed_at, placed_key, places_in, second_signer};
+ghost use Rattle.simplex_ballots.specs.Firsts.{first_key, vacant};
+ghost use Rattle.simplex_ballots.specs.Index.{PlacesOne, as_placed, firsts_in, is_second, place_of, placed_at, placed_key, places_in, second_signer};
 
+use crate::firsts::{First, Firsts, VACANT};
 use crate::placed::{Placed, vote_key};
 use crate::room::more_room;
 use simplex_base::positions::Participant;
-use simplex_evidence::sorted::{Keyed, SortedList};
+use simplex_evidence::sorted::SortedList;
 use simplex_scheme::scheme::VoteKind;
 use std::alloc::{AllocError, Global};
-
-/// Where a signer's earliest vote of a kind stands, in 8 bytes.
-#[derive(Clone, Copy)]
-pub struct First {
-    /// Who signed it.
-    pub signer: Participant,
-    /// Its place among the ballots of its round.
-    pub place: u32,
-}
-
-impl Keyed for First {
-    ghost key_of = { λ first. first.signer };
-
-    fn key(&self) -> u64 {
-        u64::from(self.signer.get())
-    }
-}
 
 /// Where each vote of a round stands: of a signer and kind at most the earliest and one other.
 #[derive(Drop)]
 pub struct Index {
+    alloc: Global,
     /// The earliest notarizes.
-    notarizes: SortedList<First>,
+    notarizes: Firsts,
     /// The earliest nullifies.
-    nullifies: SortedList<First>,
+    nullifies: Firsts,
     /// The earliest finalizes.
-    finalizes: SortedList<First>,
-    /// The other votes, and earliest ones whose place takes more than 32 bits.
+    finalizes: Firsts,
+    /// The other votes, and earliest ones whose place is 2^32 - 1 or more.
     others: SortedList<Placed>,
 }
 
@@ -50,9 +36,10 @@ impl Index {
         ensures { places_in result ≡ [] }
     {
         Index {
-            notarizes: SortedList::new(alloc),
-            nullifies: SortedList::new(alloc),
-            finalizes: SortedList::new(alloc),
+            alloc,
+            notarizes: Firsts::new(alloc),
+            nullifies: Firsts::new(alloc),
+            finalizes: Firsts::new(alloc),
             others: SortedList::new(alloc),
         }
     }
@@ -74,7 +61,7 @@ impl Index {
     }
 
     /// The earliest votes of a kind.
-    fn firsts(&self, kind: VoteKind) -> &SortedList<First>
+    fn firsts(&self, kind: VoteKind) -> &Firsts
         ensures { result.now ≡ firsts_in self.now kind }
     {
         match kind {
@@ -93,7 +80,7 @@ impl Index {
         if is_other {
             return other_place(&self.others, signer, kind, true);
         }
-        match first_place(self.firsts(kind), signer) {
+        match self.firsts(kind).find(signer) {
             Ok(place) => Ok(place),
             Err(near) => match other_place(&self.others, signer, kind, false) {
                 Ok(place) => Ok(place),
@@ -116,11 +103,10 @@ impl Index {
             let more = more_room(self.others.len(), participants);
             return self.others.make_room(more);
         }
-        let more = more_room(self.firsts(kind).len(), participants);
         match kind {
-            VoteKind::Notarize => self.notarizes.make_room(more),
-            VoteKind::Nullify => self.nullifies.make_room(more),
-            VoteKind::Finalize => self.finalizes.make_room(more),
+            VoteKind::Notarize => self.notarizes.make_room(self.alloc, participants),
+            VoteKind::Nullify => self.nullifies.make_room(self.alloc, participants),
+            VoteKind::Finalize => self.finalizes.make_room(self.alloc, participants),
         }
     }
 
@@ -146,6 +132,7 @@ impl Index {
         kind: VoteKind,
         first: First,
     ) -> Result<bool, AllocError>
+        requires { first.place ≢ vacant }
         ensures added { result ≡ Ok true → PlacesOne self.old self.new (as_placed kind first) }
         ensures recorded { result ≡ Ok false → self.new ≡ self.old }
         ensures taken { result ≡ Ok false → IsSome (placed_at self.old first.signer kind false) }
@@ -177,7 +164,7 @@ impl Index {
     fn has_first(&self, signer: Participant, kind: VoteKind) -> bool
         ensures { result ≡ is_some (item_of first_key (firsts_in self.now kind) signer) }
     {
-        first_place(self.firsts(kind), signer).is_ok()
+        self.firsts(kind).find(signer).is_ok()
     }
 
     /// Appends the signers of nullifies and of other notarizes and finalizes.
@@ -185,9 +172,7 @@ impl Index {
         ensures { OnOk result (signers.new.items ≡ signers.old.items ++
             flat_map second_signer (places_in self.now)) }
     {
-        'nullifies: for first in self.nullifies.as_slice() {
-            signers.push(first.signer.get())?;
-        }
+        self.nullifies.add_signers_to(signers)?;
         'others: for placed in self.others.as_slice() {
             add_if_second(signers, placed)?;
         }
@@ -195,29 +180,22 @@ impl Index {
     }
 }
 
-/// How an earliest vote stands in the list of its kind, if it is one and its place takes no more than 32 bits.
+/// How an earliest vote stands among those of its kind, if it is one and its place is below 2^32 - 1.
 fn held_as_first(placed: &Placed) -> Option<First>
-    ensures { IfSome result (λ first. as_placed placed.now.kind first ≡ placed.now) }
+    ensures { IfSome result (λ first.
+        (as_placed placed.now.kind first ≡ placed.now) × (first.place ≢ vacant)) }
 {
     if placed.is_other {
         return None;
     }
     let place = u32::try_from(placed.place).ok()?;
+    if place == VACANT {
+        return None;
+    }
     Some(First {
         signer: placed.signer,
         place,
     })
-}
-
-/// The place of a signer's vote in the list of a kind, or else where in the list it would be inserted.
-fn first_place(firsts: &SortedList<First>, signer: Participant) -> Result<usize, usize>
-    ensures found { IfOk result (λ place.
-        option_map first_place_of (item_of first_key firsts.now signer) ≡ Some place) }
-    ensures none { OnErr result (item_of first_key firsts.now signer ≡ None) }
-{
-    let index = firsts.find(firsts.len(), u64::from(signer.get()))?;
-    let first = &firsts.as_slice()[index];
-    Ok(first.place as usize)
 }
 
 /// The place of a signer's vote among the others, or else where among them it would be inserted.

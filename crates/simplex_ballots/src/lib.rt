@@ -8,6 +8,7 @@
 pub mod apart;
 mod ballot;
 mod ballots;
+mod firsts;
 mod index;
 pub mod kept;
 mod placed;

@@ -5,7 +5,7 @@ ghost use Rattle.std.specs.Vec.{vec_len, vec_capacity};
 
 use std::alloc::AllocError;
 
-/// For how many more items to reserve room where there is room for `len`: first for one, then for half as many again but at
+/// For how many more items to reserve room where there is room for `len`: first for one, then for twice as many again but at
 /// least 3, and for no more than the next multiple of the participants, which is how many votes of a kind a round mostly has.
 pub fn more_room(len: usize, participants: usize) -> usize
     ensures { 1 ≤ result }
@@ -13,11 +13,14 @@ pub fn more_room(len: usize, participants: usize) -> usize
     if len == 0 {
         return 1;
     }
-    let half = (len / 2).max(3);
-    if participants == 0 {
-        return half;
+    let more = len.saturating_mul(2).max(3);
+    if len < participants {
+        return more.min(participants - len);
     }
-    half.min(participants - len % participants)
+    if participants == 0 {
+        return more;
+    }
+    more.min(participants - len % participants)
 }
 
 /// Makes room for one more item at least, if there is none. The items stay. `AllocError` only where an allocation failed.

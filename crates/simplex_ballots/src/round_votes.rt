@@ -1,6 +1,6 @@
 //! The recorded votes of one round: enough to report every accused signer, and no more.
 
-ghost use Rattle.std.specs.Prelude.{◌≡◌, ◌↔◌, ◌-◌, ◌^◌, min, List, [], ◌∷◌, ◌++◌, ◌||◌, ◌&&◌, ℕ, true, false, count_by, map, filter, length, option_map, Some, IfOk, IfSome, OnOk, IsTrue};
+ghost use Rattle.std.specs.Prelude.{◌≡◌, ◌↔◌, ◌-◌, ◌^◌, min, List, [], ◌∷◌, ◌++◌, ◌||◌, ◌&&◌, ℕ, true, false, count_by, map, filter, length, option_copied, option_map, Some, IfOk, IfSome, OnOk, IsTrue};
 ghost use Rattle.std.specs.List.{flat_map, range_with_len, slice_get};
 ghost use Rattle.std.specs.Option.{is_some, option_to_list};
 ghost use Rattle.simplex_base.specs.Format.{format_of};
@@ -157,11 +157,8 @@ impl<S: SchemeTypes, D: Digest> RoundVotes<S, D> {
     {
         let (kind, is_other) = (subject.kind(), spot.is_other);
         self.index.make_room(kind, is_other, self.participants)?;
-        let ballot = Ballot {
-            proposal: proposal_in(subject),
-            signature: attestation.signature,
-        };
-        let place = self.ballots.push(self.participants, ballot)?;
+        let (proposal, signature) = (proposal_in(subject), &attestation.signature);
+        let place = self.ballots.push(self.participants, proposal, signature)?;
         let placed = Placed {
             signer: attestation.signer,
             kind,
@@ -425,11 +422,11 @@ impl<S: SchemeTypes, D: Digest> Known<S, D> for RoundVotes<S, D> {
 }
 
 /// The proposal of a subject, if it has one.
-fn proposal_in<D: Digest>(subject: &Subject<'_, D>) -> Option<Proposal<D>>
-    ensures { result ≡ proposal_in (subject_value subject.now) }
+fn proposal_in<'a, D: Digest>(subject: &Subject<'a, D>) -> Option<&'a Proposal<D>>
+    ensures { option_copied result ≡ proposal_in (subject_value subject.now) }
 {
     match subject {
-        Subject::Notarize { proposal } | Subject::Finalize { proposal } => Some(**proposal),
+        Subject::Notarize { proposal } | Subject::Finalize { proposal } => Some(*proposal),
         Subject::Nullify { .. } => None,
     }
 }

@@ -1,35 +1,25 @@
 use Rattle.std.proofs.Common.{ap, append-nil, append_assoc, sym, take_all, [], ◌∷◌, ◌++◌, ◌∙◌}
 use Rattle.std.specs.List.{flat_map}
+use Rattle.simplex_ballots.specs.Firsts.{first_key}
 use Rattle.simplex_ballots.specs.Index.{second_signer}
-use Rattle.simplex_ballots.specs.declared.index.First.{First}
+use Rattle.simplex_ballots.specs.declared.firsts.First.{First}
 use Rattle.simplex_ballots.proofs.IndexLemmas.{seconds, appended_next}
 use Rattle.simplex_ballots.proofs.index.Index.add_seconds_to.Goals as goal
 
-pub nullifies-preserved : goal.nullifies-preserved
-nullifies-preserved c =
-    appended_next (λ (f : First). f.signer ∷ []) c.args.signers.now.items c.nullifies.signers.items c.push.new.self.items
-    c.as_slice-first-items.result.now c.nullifies.first-index c.first-item.result c.first-item.result c.nullifies-test.true
-    c.first-item.is c.nullifies.invariant
-    (c.in_ok-push.ensures.items ∙ ap (λ s. c.nullifies.signers.items ++ s ∷ []) c.get.ensures)
-
 pub others-init : goal.others-init
-others-init c =
-    c.nullifies.invariant
-    ∙ ap (λ firsts. c.args.signers.now.items ++ flat_map (λ (f : First). f.signer ∷ []) firsts)
-    (take_all c.nullifies.first-index c.as_slice-first-items.result.now c.nullifies-test.false
-    ∙ c.as_slice-first-items.ensures.items)
-    ∙ sym (append-nil _)
+others-init c = c.in_ok-add_signers_to.ensures ∙ sym (append-nil _)
 
 pub others-preserved : goal.others-preserved
 others-preserved c =
-    appended_next second_signer (c.args.signers.now.items ++ flat_map (λ (f : First). f.signer ∷ []) c.args.self.now.nullifies)
+    appended_next second_signer
+    (c.args.signers.now.items ++ flat_map (λ (f : First). first_key f ∷ []) c.args.self.now.nullifies)
     c.others.signers.items c.add_if_second.new.signers.items c.as_slice-placed-items.result.now c.others.placed-index
     c.placed-item.result c.placed-item.result c.others-test.true c.placed-item.is c.others.invariant
     c.in_ok-add_if_second.ensures
 
 pub returns : goal.returns
 returns c =
-    let nullifies = flat_map (λ (f : First). f.signer ∷ []) c.args.self.now.nullifies in
+    let nullifies = flat_map (λ (f : First). first_key f ∷ []) c.args.self.now.nullifies in
     c.others.invariant
     ∙ ap (λ placed. (c.args.signers.now.items ++ nullifies) ++ flat_map second_signer placed)
     (take_all c.others.placed-index c.as_slice-placed-items.result.now c.others-test.false

@@ -3,7 +3,8 @@ use Rattle.std.specs.Prelude.{IfOk, OnErr}
 use Rattle.std.specs.Option.{option_or}
 use Rattle.simplex_evidence.specs.VoteMap.{item_of}
 use Rattle.simplex_ballots.specs.Ballots.{vote_key}
-use Rattle.simplex_ballots.specs.Index.{as_placed, first_key, first_place_of, place_of, placed_at, placed_key}
+use Rattle.simplex_ballots.specs.Firsts.{first_key, first_place_of}
+use Rattle.simplex_ballots.specs.Index.{as_placed, place_of, placed_at, placed_key}
 use Rattle.simplex_ballots.specs.declared.placed.Placed.{Placed}
 use Rattle.simplex_ballots.proofs.IndexLemmas.{earliest, held_first, later}
 use Rattle.simplex_ballots.proofs.index.Index.find.Goals as goal

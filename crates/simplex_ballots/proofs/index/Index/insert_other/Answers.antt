@@ -2,7 +2,8 @@ use Rattle.std.proofs.Common.{None, false, subst, sym, ◌∙◌, ◌≡◌}
 use Rattle.std.proofs.lemmas.Bool.{false≢true, not-false, not-true}
 use Rattle.std.specs.Option.{IsSome}
 use Rattle.simplex_evidence.specs.VoteMap.{item_of}
-use Rattle.simplex_ballots.specs.Index.{first_key, firsts_in, placed_at}
+use Rattle.simplex_ballots.specs.Firsts.{first_key}
+use Rattle.simplex_ballots.specs.Index.{firsts_in, placed_at}
 use Rattle.simplex_ballots.proofs.IndexLemmas.{first_here, none_there, other_here, places_other}
 use Rattle.simplex_ballots.proofs.index.Index.insert_other.Goals as goal
 use Rattle.simplex_ballots.proofs.index.Index.insert_other.Goals.{else-is_first-via-then-is_first+else-not-placed, else-is_first-via-else-is_first}

@@ -31,6 +31,6 @@ returns g c other_is =
     } in
     takes g.D.PartialEq.eq v old after c.args.spot.now.is_other refl refl
     (c.in_ok-place.ensures.pushed ∙ ap (λ p. old.ballots ++ (record { proposal = p; signature = a.signature }) ∷ [])
-    c.proposal_in.ensures)
+    c.proposal_in-proposal.ensures)
     other_is c.in_ok-insert.field-0 c.make_room.new.self placed c.in_ok-make_room.ensures placed_is
     c.in_ok-insert.ensures.added c.in_ok-insert.ensures.recorded c.in_ok-insert.ensures.taken
