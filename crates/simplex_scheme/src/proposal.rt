@@ -1,10 +1,12 @@
 //! Proposals, which are voted on.
 
-ghost use Rattle.std.specs.Prelude.{◌≡◌, ◌↔◌, ⊤, ◌+◌, IsTrue, false};
+ghost use Rattle.std.specs.Prelude.{◌≡◌, ◌↔◌, ⊤, ◌+◌, IfOk, IsTrue, OnErr, false, length};
 ghost use Rattle.simplex_base.specs.Format.{format_of};
+ghost use Rattle.simplex_base.specs.Reading.{GivesRest};
+ghost use Rattle.simplex_scheme.specs.Proposal.{proposal_format};
 
 use crate::scheme::Digest;
-use simplex_base::codec::parts::{size_both, write_both};
+use simplex_base::codec::parts::{read_fixed, size_both, write_both};
 use simplex_base::codec::{
     EncodeSize, Encoding, Error, Fixed, FixedSize, MaxEncodeSize, Read, ReadExt, Write,
 };
@@ -63,6 +65,35 @@ impl<D: Copy> Clone for Proposal<D> {
 
 impl<D: Copy> Copy for Proposal<D> {}
 
+impl<D: Digest> Proposal<D> {
+    /// Reads the parts of a proposal and moves the slice past them: the round, the parent, and the payload's bytes, which are
+    /// not copied. Errors are those of `read_cfg`.
+    #[inline(always)]
+    pub fn read_parts<'a>(
+        alloc: Global,
+        input: &mut &'a [u8],
+    ) -> Result<(Round, View, &'a [u8]), Error>
+        ensures gives { GivesRest false (λ parts. (
+          (record {
+            round = parts.0;
+            parent = parts.1;
+            payload = D.of_bytes parts.2.now;
+          }),
+          input.new.now,
+        )) result
+            ((proposal_format (format_of ⟦<D as Read>⟧)).reading input.old.now) }
+        ensures refused { OnErr result (input.new.now ≡ input.old.now) }
+        ensures size { IfOk result (λ parts. length parts.2.now ≡ D.SIZE) }
+    {
+        let mut rest: &'a [u8] = *input;
+        let round = or_return!(Round::read_cfg(alloc, &mut rest, &()));
+        let parent = or_return!(View::read_cfg(alloc, &mut rest, &()));
+        let payload = or_return!(read_fixed::<D>(&mut rest));
+        *input = rest;
+        Ok((round, parent, payload))
+    }
+}
+
 impl<D> Roundable for Proposal<D> {
     ghost round_of = { λ proposal. proposal.round };
 
@@ -72,8 +103,6 @@ impl<D> Roundable for Proposal<D> {
 }
 
 impl<D: Digest> Encoding for Proposal<D> {
-    ghost use Rattle.simplex_scheme.specs.Proposal.{proposal_format};
-
     ghost is_value = { (proposal_format (format_of ⟦<D as Read>⟧)).is_value };
 
     ghost encoding = { (proposal_format (format_of ⟦<D as Read>⟧)).encoding };
@@ -108,7 +137,6 @@ impl<D: Digest> MaxEncodeSize for Proposal<D> {
 }
 
 impl<D: Digest> Read for Proposal<D> {
-    ghost use Rattle.simplex_scheme.specs.Proposal.{proposal_format};
     ghost use Rattle.simplex_scheme.specs.ProposalLaws.{proposal_lawful};
 
     type Cfg = ();
@@ -120,13 +148,9 @@ impl<D: Digest> Read for Proposal<D> {
     ghost takes_memory = { false };
 
     #[inline(always)]
-    fn read_cfg(alloc: Global, input: &mut &[u8], cfg: &()) -> Result<Self, Error> {
-        let mut rest: &[u8] = *input;
-        let round = or_return!(Round::read_cfg(alloc, &mut rest, cfg));
-        let parent = or_return!(View::read_cfg(alloc, &mut rest, cfg));
-        let payload = or_return!(D::read_cfg(alloc, &mut rest, cfg));
-        *input = rest;
-        Ok(Proposal::new(round, parent, payload))
+    fn read_cfg(alloc: Global, input: &mut &[u8], _cfg: &()) -> Result<Self, Error> {
+        let (round, parent, payload) = or_return!(Self::read_parts(alloc, input));
+        Ok(Proposal::new(round, parent, D::from_bytes(payload)))
     }
 
     ghost lawful = { λ _. proposal_lawful (format_of ⟦<D as Read>⟧) D.lawful };

@@ -1,9 +1,11 @@
 //! The traits of schemes that sign and verify, with the laws that each scheme proves.
 
-ghost use Rattle.std.specs.Prelude.{◌≡◌, ◌↔◌, ⊤, ◌+◌, ℕ, Bool, true, false, List, Option, Some, None, Ok, IfOk, IfSome, IsTrue, MatchOption, All, length, nat_eq, ◌<◌, ◌≤◌, ◌^◌};
+ghost use Rattle.std.specs.Prelude.{◌≡◌, ◌↔◌, ⊤, ◌+◌, ℕ, Bool, true, false, List, Option, Some, None, Ok, IfOk, IfSome, IsTrue, OnErr, MatchOption, All, length, nat_eq, ◌<◌, ◌≤◌, ◌^◌};
 ghost use Rattle.std.specs.List.{IsDistinct, list_all};
 ghost use Rattle.simplex_base.specs.Format.{format_of};
+ghost use Rattle.simplex_base.specs.Reading.{GivesRest};
 ghost use Rattle.simplex_base.specs.Finality.{IsFinal};
+ghost use Rattle.simplex_scheme.specs.Attestation.{attestation_format};
 ghost use Rattle.simplex_scheme.specs.Subject.{SubjectValue, subject_value};
 ghost use Rattle.simplex_scheme.specs.Known.{AreValid};
 ghost use Rattle.simplex_scheme.specs.Committee.{IsQuorum, IsInOrder, signers_of, RefusesFew, AssemblesQuorum};
@@ -18,7 +20,7 @@ pub use crate::proposal::Proposal;
 pub use crate::set::{Set, SetError};
 pub use crate::subject::{CertificateSubject, Subject};
 use simplex_base::codec::fixed_bytes::{FixedBytes, Role};
-use simplex_base::codec::parts::{size_both, write_both};
+use simplex_base::codec::parts::{read_fixed, size_both, write_both};
 use simplex_base::codec::{
     EncodeSize, Encoding, Error, Fixed, FixedSize, MaxEncodeSize, Read, ReadExt, Write,
 };
@@ -323,6 +325,34 @@ impl<S: SchemeTypes> MaxEncodeSize for Attestation<S> {
         S.Signature.longest };
 }
 
+impl<S: SchemeTypes> Attestation<S> {
+    /// Reads the parts of an attestation and moves the slice past them: the signer, and the signature's bytes, which are not
+    /// copied. Errors are those of `read_cfg`.
+    #[inline(always)]
+    pub fn read_parts<'a>(
+        alloc: Global,
+        input: &mut &'a [u8],
+    ) -> Result<(Participant, &'a [u8]), Error>
+        ensures gives { GivesRest false (λ parts. (
+          (record {
+            signer = parts.0;
+            signature = S.Signature.of_bytes parts.1.now;
+          }),
+          input.new.now,
+        )) result
+            ((attestation_format {S = S} {P = S.PublicKey}
+            (format_of ⟦<S::Signature as Read>⟧)).reading input.old.now) }
+        ensures refused { OnErr result (input.new.now ≡ input.old.now) }
+        ensures size { IfOk result (λ parts. length parts.1.now ≡ S.Signature.SIZE) }
+    {
+        let mut rest: &'a [u8] = *input;
+        let signer = or_return!(Participant::read_cfg(alloc, &mut rest, &()));
+        let signature = or_return!(read_fixed::<S::Signature>(&mut rest));
+        *input = rest;
+        Ok((signer, signature))
+    }
+}
+
 impl<S: SchemeTypes> Read for Attestation<S> {
     ghost use Rattle.simplex_scheme.specs.Attestation.{attestation_format};
     ghost use Rattle.simplex_scheme.specs.AttestationLaws.{attestation_lawful};
@@ -336,11 +366,9 @@ impl<S: SchemeTypes> Read for Attestation<S> {
     ghost takes_memory = { false };
 
     #[inline(always)]
-    fn read_cfg(alloc: Global, input: &mut &[u8], cfg: &()) -> Result<Self, Error> {
-        let mut rest: &[u8] = *input;
-        let signer = or_return!(Participant::read_cfg(alloc, &mut rest, cfg));
-        let signature = or_return!(S::Signature::read_cfg(alloc, &mut rest, cfg));
-        *input = rest;
+    fn read_cfg(alloc: Global, input: &mut &[u8], _cfg: &()) -> Result<Self, Error> {
+        let (signer, signature) = or_return!(Self::read_parts(alloc, input));
+        let signature = S::Signature::from_bytes(signature);
         Ok(Attestation { signer, signature })
     }
 

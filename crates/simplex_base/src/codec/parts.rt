@@ -1,7 +1,7 @@
 //! Values that are encoded part after part, and values of a fixed size.
 
-ghost use Rattle.std.specs.Prelude.{◌≡◌, ◌++◌, ◌+◌, ◌-◌, ◌≤◌, ◌^◌, ◌||◌, false, min, OnOk, OnErr, length, take};
-ghost use Rattle.simplex_base.specs.Reading.{IsBytes};
+ghost use Rattle.std.specs.Prelude.{◌≡◌, ◌++◌, ◌+◌, ◌-◌, ◌≤◌, ◌^◌, ◌||◌, false, min, IfOk, OnOk, OnErr, length, take};
+ghost use Rattle.simplex_base.specs.Reading.{GivesRest, IsBytes};
 ghost use Rattle.simplex_base.specs.Format.{both_encoded, both_at, BothAre, IsFixed, fixed_at};
 ghost use Rattle.simplex_base.specs.FormatLaws.{both_lawful};
 
@@ -141,12 +141,7 @@ impl<T: Fixed> Read for T {
     ghost takes_memory = { false };
 
     fn read_cfg(_alloc: Global, input: &mut &[u8], _cfg: &()) -> Result<Self, Error> {
-        let bytes: &[u8] = *input;
-        if bytes.len() < T::SIZE {
-            return Err(Error::EndOfBuffer);
-        }
-        let (front, rest) = bytes.split_at(T::SIZE);
-        *input = rest;
+        let front = or_return!(read_fixed::<T>(input));
         Ok(T::from_bytes(front))
     }
 
@@ -159,6 +154,25 @@ impl<T: Fixed> Read for T {
 
 impl<T: Fixed> ReadExt for T {
     ghost readable = { λ x value. value };
+}
+
+/// Reads the bytes of a value of fixed size and moves the slice past them, but copies none: a value that is moved into its
+/// place in turns is copied with each, so what is made of several parts is made when all were read. `EndOfBuffer` if there are
+/// fewer; the slice is then as before.
+#[inline(always)]
+pub fn read_fixed<'a, T: Fixed>(input: &mut &'a [u8]) -> Result<&'a [u8], Error>
+    ensures gives { GivesRest false (λ front. (T.of_bytes front.now, input.new.now)) result
+        (fixed_at T.SIZE T.of_bytes input.old.now) }
+    ensures refused { OnErr result (input.new.now ≡ input.old.now) }
+    ensures size { IfOk result (λ front. length front.now ≡ T.SIZE) }
+{
+    let bytes: &'a [u8] = *input;
+    if bytes.len() < T::SIZE {
+        return Err(Error::EndOfBuffer);
+    }
+    let (front, rest) = bytes.split_at(T::SIZE);
+    *input = rest;
+    Ok(front)
 }
 
 /// The same bytes, each of which is below 256. Of bytes behind a reference to a slice, and of a slice that changes, the

@@ -42,6 +42,23 @@ fn groups_of(bytes: &[u8], more: u8, top: u8) -> Result<(u64, &[u8]), Error>
     }
 }
 
+/// Reads the groups of a number after the first, as `groups_of` does, and a last one without a call of it.
+#[inline(always)]
+#[tactic(auto, unfolding(crate::specs::Varint::groups_at))]
+fn high_groups(bytes: &[u8], more: u8, top: u8) -> Result<(u64, &[u8]), Error>
+    requires size { top * 128 ^ more ≤ 2 ^ 64 }
+    requires some { 1 ≤ top }
+    ensures gives { GivesRest false (λ x. (x.0, x.1.now)) result (groups_at bytes.now more top) }
+    ensures range { IfOk result (λ x. x.0 < top * 128 ^ more) }
+{
+    match bytes {
+        [group, rest @ ..] if more > 0 && 0 < *group && *group < 128 => {
+            Ok((u64::from(*group), rest))
+        }
+        _ => groups_of(bytes, more, top),
+    }
+}
+
 /// Reads a number with at most `more` groups after the first, the last of which is below `top`.
 #[tactic(auto, unfolding(crate::specs::Varint::number_at))]
 fn read_number(input: &mut &[u8], more: u8, top: u8) -> Result<u64, Error>
@@ -61,7 +78,7 @@ fn read_number(input: &mut &[u8], more: u8, top: u8) -> Result<u64, Error>
                 *input = rest;
                 Ok(u64::from(group))
             } else {
-                let (high, rest) = groups_of(rest, more - 1, top)?;
+                let (high, rest) = high_groups(rest, more - 1, top)?;
                 *input = rest;
                 Ok(u64::from(group - 128) + 128 * high)
             }

@@ -153,9 +153,13 @@ impl<S: SchemeTypes> Read for Nullify<S> {
     fn read_cfg(alloc: Global, input: &mut &[u8], cfg: &()) -> Result<Self, Error> {
         let mut rest: &[u8] = *input;
         let round = or_return!(Round::read_cfg(alloc, &mut rest, cfg));
-        let attestation = or_return!(Attestation::<S>::read_cfg(alloc, &mut rest, cfg));
+        let (signer, signature) = or_return!(Attestation::<S>::read_parts(alloc, &mut rest));
         *input = rest;
-        Ok(Nullify { round, attestation })
+        let signature = S::Signature::from_bytes(signature);
+        Ok(Nullify {
+            round,
+            attestation: Attestation { signer, signature },
+        })
     }
 
     ghost lawful = { λ _. nullify_lawful _ S.Signature.lawful };
