@@ -156,9 +156,8 @@ impl<T: Fixed> ReadExt for T {
     ghost readable = { λ x value. value };
 }
 
-/// Reads the bytes of a value of fixed size and moves the slice past them, but copies none: a value that is moved into its
-/// place in turns is copied with each, so what is made of several parts is made when all were read. `EndOfBuffer` if there are
-/// fewer; the slice is then as before.
+/// Reads the bytes of a value of fixed size and moves the slice past them, but copies none. Each move of a value copies it, so
+/// a value of several parts is made when all were read. `EndOfBuffer` if there are fewer; the slice is then as before.
 #[inline(always)]
 pub fn read_fixed<'a, T: Fixed>(input: &mut &'a [u8]) -> Result<&'a [u8], Error>
     ensures gives { GivesRest false (λ front. (T.of_bytes front.now, input.new.now)) result
