@@ -3,7 +3,7 @@
 ghost use Rattle.std.specs.Prelude.{◌≡◌, IfOk};
 
 use crate::vectors::{Unanswered, bytes};
-use examples::voter;
+use node_examples::voter;
 use simplex_base::positions::{Round, TermLength, ViewDelta};
 use simplex_lead::elector::{Config, Elector, RoundRobin, can_be_stable};
 use simplex_scheme::scheme::{CertificateScheme, Sha256};

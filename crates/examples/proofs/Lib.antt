@@ -1,3 +1,1 @@
-pub mod ResolverLemmas
-pub mod BatchLemmas
 pub mod ForkLemmas

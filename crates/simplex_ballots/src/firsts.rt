@@ -181,7 +181,19 @@ fn table_of(
         places.resize(index, VACANT)?;
         places.push(first.place)?;
     }
+    fill_places(&mut places, participants)?;
     Ok(Some(places))
+}
+
+/// Makes a table as long as there are participants, so that none is made longer for a vote. The votes in it stay.
+fn fill_places(places: &mut Vec<u32>, participants: usize) -> Result<(), AllocError>
+    ensures votes { OnOk result (held_from 0 places.new.items ≡ held_from 0 places.old.items) }
+    ensures size { length places.old.items ≤ 2 ^ 32 → OnOk result (length places.new.items ≤ 2 ^ 32) }
+{
+    if places.len() < participants && participants <= VACANT as usize {
+        places.resize(participants, VACANT)?;
+    }
+    Ok(())
 }
 
 /// The place of a participant in a table.

@@ -2,7 +2,7 @@
 
 use crate::bisection::four_keys;
 use crate::without_memory::{is_of_four, is_out, proposal};
-use examples::judged::{Judged, Verdict};
+use node_examples::judged::{Judged, Verdict};
 use simplex_base::codec::{Fixed, decode_cfg};
 use simplex_base::positions::Participant;
 use simplex_scheme::scheme::{Attestation, Digest, Proposal, Scheme, Subject, VoteKind};

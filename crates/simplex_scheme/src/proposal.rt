@@ -1,12 +1,12 @@
 //! Proposals, which are voted on.
 
-ghost use Rattle.std.specs.Prelude.{◌≡◌, ◌↔◌, ⊤, ◌+◌, IfOk, IsTrue, OnErr, false, length};
+ghost use Rattle.std.specs.Prelude.{◌≡◌, ◌↔◌, ⊤, ◌+◌, Ok, IfSome, IsTrue, false, length};
 ghost use Rattle.simplex_base.specs.Format.{format_of};
-ghost use Rattle.simplex_base.specs.Reading.{GivesRest};
-ghost use Rattle.simplex_scheme.specs.Proposal.{proposal_format};
+ghost use Rattle.simplex_scheme.specs.Proposal.{proposal_format, proposal_of};
 
 use crate::scheme::Digest;
-use simplex_base::codec::parts::{read_fixed, size_both, write_both};
+use simplex_base::codec::parts::{size_both, split_fixed, write_both};
+use simplex_base::codec::varint::short_number;
 use simplex_base::codec::{
     EncodeSize, Encoding, Error, Fixed, FixedSize, MaxEncodeSize, Read, ReadExt, Write,
 };
@@ -65,32 +65,34 @@ impl<D: Copy> Clone for Proposal<D> {
 
 impl<D: Copy> Copy for Proposal<D> {}
 
+/// What a proposal is made of: its round, its parent, and the bytes of its payload.
+pub type ProposalParts<'a> = (Round, View, &'a [u8]);
+
 impl<D: Digest> Proposal<D> {
-    /// Reads the parts of a proposal and moves the slice past them: the round, the parent, and the payload's bytes, which are
-    /// not copied. Errors are those of `read_cfg`.
+    /// The parts of the proposal at the front of some bytes, if its numbers are short, and the bytes after it. `None` says
+    /// nothing: it may be longer, or refused. The payload is not copied, as it is with each move of a proposal.
     #[inline(always)]
-    pub fn read_parts<'a>(
-        alloc: Global,
-        input: &mut &'a [u8],
-    ) -> Result<(Round, View, &'a [u8]), Error>
-        ensures gives { GivesRest false (λ parts. (
-          (record {
-            round = parts.0;
-            parent = parts.1;
-            payload = D.of_bytes parts.2.now;
-          }),
-          input.new.now,
-        )) result
-            ((proposal_format (format_of ⟦<D as Read>⟧)).reading input.old.now) }
-        ensures refused { OnErr result (input.new.now ≡ input.old.now) }
-        ensures size { IfOk result (λ parts. length parts.2.now ≡ D.SIZE) }
+    pub fn short_parts(bytes: &[u8]) -> Option<(ProposalParts<'_>, &[u8])>
+        ensures size { IfSome result (λ x. length x.0.2.now ≡ D.SIZE) }
+        ensures gives { IfSome result (λ x. (proposal_format (format_of ⟦<D as Read>⟧)).reading bytes.now ≡
+            Ok (proposal_of D.of_bytes x.0, x.1.now)) }
     {
-        let mut rest: &'a [u8] = *input;
-        let round = or_return!(Round::read_cfg(alloc, &mut rest, &()));
-        let parent = or_return!(View::read_cfg(alloc, &mut rest, &()));
-        let payload = or_return!(read_fixed::<D>(&mut rest));
-        *input = rest;
-        Ok((round, parent, payload))
+        let Some((round, rest)) = Round::read_short(bytes) else {
+            return None;
+        };
+        let (parent, rest) = short_number(rest)?;
+        let (payload, rest) = split_fixed::<D>(rest)?;
+        Some(((round, View::new(parent), payload), rest))
+    }
+
+    /// The proposal of these parts, whose payload has the size of one.
+    #[inline(always)]
+    pub fn of_parts(parts: ProposalParts<'_>) -> Self
+        requires { length parts.2.now ≡ D.SIZE }
+        ensures { result ≡ proposal_of D.of_bytes parts.entry }
+    {
+        let (round, parent, payload) = parts;
+        Proposal::new(round, parent, D::from_bytes(payload))
     }
 }
 
@@ -148,9 +150,13 @@ impl<D: Digest> Read for Proposal<D> {
     ghost takes_memory = { false };
 
     #[inline(always)]
-    fn read_cfg(alloc: Global, input: &mut &[u8], _cfg: &()) -> Result<Self, Error> {
-        let (round, parent, payload) = or_return!(Self::read_parts(alloc, input));
-        Ok(Proposal::new(round, parent, D::from_bytes(payload)))
+    fn read_cfg(alloc: Global, input: &mut &[u8], cfg: &()) -> Result<Self, Error> {
+        let mut rest: &[u8] = *input;
+        let round = or_return!(Round::read_cfg(alloc, &mut rest, cfg));
+        let parent = or_return!(View::read_cfg(alloc, &mut rest, cfg));
+        let payload = or_return!(D::read_cfg(alloc, &mut rest, cfg));
+        *input = rest;
+        Ok(Proposal::new(round, parent, payload))
     }
 
     ghost lawful = { λ _. proposal_lawful (format_of ⟦<D as Read>⟧) D.lawful };

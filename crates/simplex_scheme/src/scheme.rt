@@ -1,11 +1,10 @@
 //! The traits of schemes that sign and verify, with the laws that each scheme proves.
 
-ghost use Rattle.std.specs.Prelude.{◌≡◌, ◌↔◌, ⊤, ◌+◌, ℕ, Bool, true, false, List, Option, Some, None, Ok, IfOk, IfSome, IsTrue, OnErr, MatchOption, All, length, nat_eq, ◌<◌, ◌≤◌, ◌^◌};
+ghost use Rattle.std.specs.Prelude.{◌≡◌, ◌↔◌, ⊤, ◌+◌, ℕ, Bool, true, false, List, Option, Some, None, Ok, IfOk, IfSome, IsTrue, MatchOption, All, length, nat_eq, ◌<◌, ◌≤◌, ◌^◌};
 ghost use Rattle.std.specs.List.{IsDistinct, list_all};
 ghost use Rattle.simplex_base.specs.Format.{format_of};
-ghost use Rattle.simplex_base.specs.Reading.{GivesRest};
 ghost use Rattle.simplex_base.specs.Finality.{IsFinal};
-ghost use Rattle.simplex_scheme.specs.Attestation.{attestation_format};
+ghost use Rattle.simplex_scheme.specs.Attestation.{attestation_format, attestation_of};
 ghost use Rattle.simplex_scheme.specs.Subject.{SubjectValue, subject_value};
 ghost use Rattle.simplex_scheme.specs.Known.{AreValid};
 ghost use Rattle.simplex_scheme.specs.Committee.{IsQuorum, IsInOrder, signers_of, RefusesFew, AssemblesQuorum};
@@ -16,11 +15,12 @@ pub use crate::hash::{Hasher, Sha256, Sha256Digest, Sha256Role};
 pub use crate::kind::VoteKind;
 pub use crate::known::{Known, NothingKnown};
 pub use crate::namespace::{CertificateNamespace, Namespace};
-pub use crate::proposal::Proposal;
+pub use crate::proposal::{Proposal, ProposalParts};
 pub use crate::set::{Set, SetError};
 pub use crate::subject::{CertificateSubject, Subject};
 use simplex_base::codec::fixed_bytes::{FixedBytes, Role};
-use simplex_base::codec::parts::{read_fixed, size_both, write_both};
+use simplex_base::codec::parts::{size_both, split_fixed, write_both};
+use simplex_base::codec::varint::short_number;
 use simplex_base::codec::{
     EncodeSize, Encoding, Error, Fixed, FixedSize, MaxEncodeSize, Read, ReadExt, Write,
 };
@@ -325,31 +325,33 @@ impl<S: SchemeTypes> MaxEncodeSize for Attestation<S> {
         S.Signature.longest };
 }
 
+/// What an attestation is made of: its signer, and the bytes of its signature.
+pub type AttestationParts<'a> = (Participant, &'a [u8]);
+
 impl<S: SchemeTypes> Attestation<S> {
-    /// Reads the parts of an attestation and moves the slice past them: the signer, and the signature's bytes, which are not
-    /// copied. Errors are those of `read_cfg`.
+    /// The parts of the attestation at the front of some bytes, if its signer's number is short, and the bytes after it. `None`
+    /// says nothing, and the signature is not copied, as with [`Proposal::short_parts`].
     #[inline(always)]
-    pub fn read_parts<'a>(
-        alloc: Global,
-        input: &mut &'a [u8],
-    ) -> Result<(Participant, &'a [u8]), Error>
-        ensures gives { GivesRest false (λ parts. (
-          (record {
-            signer = parts.0;
-            signature = S.Signature.of_bytes parts.1.now;
-          }),
-          input.new.now,
-        )) result
-            ((attestation_format {S = S} {P = S.PublicKey}
-            (format_of ⟦<S::Signature as Read>⟧)).reading input.old.now) }
-        ensures refused { OnErr result (input.new.now ≡ input.old.now) }
-        ensures size { IfOk result (λ parts. length parts.1.now ≡ S.Signature.SIZE) }
+    pub fn short_parts(bytes: &[u8]) -> Option<(AttestationParts<'_>, &[u8])>
+        ensures size { IfSome result (λ x. length x.0.1.now ≡ S.Signature.SIZE) }
+        ensures gives { IfSome result (λ x. (attestation_format {S = S} {P = S.PublicKey}
+            (format_of ⟦<S::Signature as Read>⟧)).reading bytes.now ≡
+            Ok (attestation_of S.Signature.of_bytes x.0, x.1.now)) }
     {
-        let mut rest: &'a [u8] = *input;
-        let signer = or_return!(Participant::read_cfg(alloc, &mut rest, &()));
-        let signature = or_return!(read_fixed::<S::Signature>(&mut rest));
-        *input = rest;
-        Ok((signer, signature))
+        let (signer, rest) = short_number(bytes)?;
+        let (signature, rest) = split_fixed::<S::Signature>(rest)?;
+        Some(((Participant::new(signer as u32), signature), rest))
+    }
+
+    /// The attestation of these parts, whose signature has the size of one.
+    #[inline(always)]
+    pub fn of_parts(parts: AttestationParts<'_>) -> Self
+        requires { length parts.1.now ≡ S.Signature.SIZE }
+        ensures { result ≡ attestation_of S.Signature.of_bytes parts.entry }
+    {
+        let (signer, signature) = parts;
+        let signature = S::Signature::from_bytes(signature);
+        Attestation { signer, signature }
     }
 }
 
@@ -366,9 +368,11 @@ impl<S: SchemeTypes> Read for Attestation<S> {
     ghost takes_memory = { false };
 
     #[inline(always)]
-    fn read_cfg(alloc: Global, input: &mut &[u8], _cfg: &()) -> Result<Self, Error> {
-        let (signer, signature) = or_return!(Self::read_parts(alloc, input));
-        let signature = S::Signature::from_bytes(signature);
+    fn read_cfg(alloc: Global, input: &mut &[u8], cfg: &()) -> Result<Self, Error> {
+        let mut rest: &[u8] = *input;
+        let signer = or_return!(Participant::read_cfg(alloc, &mut rest, cfg));
+        let signature = or_return!(S::Signature::read_cfg(alloc, &mut rest, cfg));
+        *input = rest;
         Ok(Attestation { signer, signature })
     }
 

@@ -17,7 +17,7 @@ use simplex_base::codec::{Encoding, Read, Write};
 use simplex_laws::laws::{evidence_is_determined, splits_are_determined};
 use simplex_scheme::scheme::{Digest, Listing};
 use simplex_stream::fault::{Fault, fault_at};
-use simplex_stream::messages::{Message, Visitor, for_each_message};
+use simplex_stream::messages::{Message, Show, Visitor, for_each_message};
 use std::alloc::{AllocError, Global};
 use std::collections::BTreeSet;
 
@@ -75,7 +75,7 @@ impl<M: Message + Write> Visitor<M> for Collector {
 /// with the same messages, in any order and however often, have the same bytes here. An audit of these accuses whom an audit of
 /// the stream accuses and has its splits, as [`accuses_same`] says. Certificates are read under `bound`, the number of
 /// participants of the greatest committee. Nothing is verified. `AllocError` is returned only after an allocation failed.
-pub fn canonical<M: Message + Write + Drop>(
+pub fn canonical<M: Show + Write>(
     alloc: Global,
     bound: u32,
     stream: &[u8],

@@ -7,7 +7,7 @@ ghost use Rattle.simplex_shards.specs.Index.{IsIndex};
 use simplex_base::codec::{Encoding, Read};
 use simplex_base::positions::Roundable;
 use simplex_stream::fault::{Fault, fault_at};
-use simplex_stream::messages::{Message, Visitor, for_each_message};
+use simplex_stream::messages::{Message, Show, Visitor, for_each_message};
 use std::alloc::{AllocError, Global};
 
 /// A message of a stream.
@@ -99,7 +99,7 @@ impl<M: Tabular> Visitor<M> for Tabulator {
 
 /// A row for each message of a stream, up to its end or first fault. Certificates are read under `bound`, the number of
 /// participants of the greatest committee. Nothing is verified. `AllocError` is returned only after an allocation failed.
-pub fn index<M: Tabular + Drop>(
+pub fn index<M: Tabular + Show>(
     alloc: Global,
     bound: u32,
     stream: &[u8],

@@ -15,7 +15,7 @@ use simplex_base::codec::{Read, Write};
 use simplex_base::positions::Roundable;
 use simplex_stream::decoder::Decoder;
 use simplex_stream::fault::{Fault, fault_at};
-use simplex_stream::messages::{Message, stop_of};
+use simplex_stream::messages::{Message, Show, stop_of};
 use std::alloc::{AllocError, Global};
 
 /// Reads a stream that comes in pieces, and returns the messages that each piece completes, as rows or as parts. It holds the
@@ -44,7 +44,7 @@ impl Cutter {
 
     /// Appends a piece to the stream, and returns the rows of the messages that it completes. The pieces have fewer than 2^64
     /// bytes together. `AllocError` is returned only after an allocation failed; the cutter then stands for no stream.
-    pub fn rows<M: Tabular + Drop>(&mut self, piece: &[u8]) -> Result<Vec<Row>, AllocError>
+    pub fn rows<M: Tabular + Show>(&mut self, piece: &[u8]) -> Result<Vec<Row>, AllocError>
         requires { fed_by self.old + length piece.now < 2 ^ 64 }
         ensures fed { IfOk result (λ _. fed_by self.new ≡ fed_by self.old + length piece.now) }
         ensures rows { IfOk result (λ rows.
@@ -64,7 +64,7 @@ impl Cutter {
     /// the stream: place i has those of class i. Joined class by class, the parts of all pieces are those that
     /// [`split`](crate::split::split) returns of the stream. The pieces have fewer than 2^64 bytes together. `AllocError` is
     /// returned only after an allocation failed; the cutter then stands for no stream.
-    pub fn parts<M: Message + Roundable + Write + Drop>(
+    pub fn parts<M: Show + Roundable + Write>(
         &mut self,
         cut: &Cut,
         piece: &[u8],
@@ -88,7 +88,7 @@ impl Cutter {
 
     /// Where the stream so far stops being messages, if it does; a last message that is incomplete is a fault too.
     /// `AllocError` is returned only after an allocation failed.
-    pub fn fault<M: Message + Drop>(&self) -> Result<Option<Fault>, AllocError>
+    pub fn fault<M: Show>(&self) -> Result<Option<Fault>, AllocError>
         ensures { IfOk result (λ fault.
             EndsCutting (format_under ⟦<M as Read>⟧ (bound_of self.now)) self.now fault) }
     {

@@ -9,7 +9,7 @@ use crate::cut::Cut;
 use simplex_base::codec::{Encoding, Read, Write};
 use simplex_base::positions::Roundable;
 use simplex_stream::fault::{Fault, fault_at};
-use simplex_stream::messages::{Message, Visitor, for_each_message};
+use simplex_stream::messages::{Message, Show, Visitor, for_each_message};
 use std::alloc::{AllocError, Global};
 
 /// What [`split`] returns of a stream.
@@ -67,7 +67,7 @@ impl<M: Message + Roundable + Write> Visitor<M> for Scatter {
 /// `bound`, which has to be the number of participants of the greatest committee of the whole audit: the parts are whole
 /// messages under it, and perhaps not under a smaller one. Nothing is verified. `AllocError` is returned only after an
 /// allocation failed.
-pub fn split<M: Message + Roundable + Write + Drop>(
+pub fn split<M: Show + Roundable + Write>(
     alloc: Global,
     bound: u32,
     cut: &Cut,

@@ -18,7 +18,7 @@ use itoa::Buffer;
 use simplex_base::codec::{Read as Readable, Write as Writable};
 use simplex_base::positions::Roundable;
 use simplex_shards::cut::Cut;
-use simplex_stream::messages::Message;
+use simplex_stream::messages::Show;
 use simplex_stream::run_error::RunError;
 use simplex_stream::text::write_text;
 use simplex_stream::watched::Watched;
@@ -51,7 +51,7 @@ fn line(alloc: Global, name: &str, totals: &Totals) -> Result<String, AllocError
 }
 
 /// Cuts the file at a place among the files.
-fn cut_file<M: Message + Roundable + Writable + Drop, F: Files<File = File>, P: Parts>(
+fn cut_file<M: Show + Roundable + Writable, F: Files<File = File>, P: Parts>(
     alloc: Global,
     files: &F,
     options: &Options<'_>,
@@ -112,7 +112,7 @@ fn is_faulted(before: bool, totals: &Totals) -> bool
 
 /// Cuts files, one after the other, and writes a line of each as soon as it was read. Returns whether one has a fault.
 pub fn cut_files<
-    M: Message + Roundable + Writable + Drop,
+    M: Show + Roundable + Writable,
     F: Files<File = File>,
     P: Parts,
     W: Write,

@@ -16,7 +16,7 @@ use simplex_base::positions::Roundable;
 use simplex_shards::cut::Cut;
 use simplex_shards::pieces::Cutter;
 use simplex_stream::fault::Fault;
-use simplex_stream::messages::Message;
+use simplex_stream::messages::Show;
 use simplex_stream::pieces::{fill, make_piece};
 use simplex_stream::run_error::RunError;
 use simplex_stream::watched::Watched;
@@ -34,7 +34,7 @@ pub struct Totals {
 
 /// Appends the messages that a piece completes to the parts of their classes. If nothing can be read behind the input so far,
 /// the piece is dropped.
-fn take_piece<M: Message + Roundable + Write + Drop, P: Parts>(
+fn take_piece<M: Show + Roundable + Write, P: Parts>(
     cutter: &mut Cutter,
     cut: &Cut,
     piece: &[u8],
@@ -64,7 +64,7 @@ fn take_piece<M: Message + Roundable + Write + Drop, P: Parts>(
 }
 
 /// How many messages were read, and where the input stops being messages.
-fn sum_up<M: Message + Roundable + Drop>(cutter: &Cutter) -> Result<Totals, AllocError>
+fn sum_up<M: Show + Roundable>(cutter: &Cutter) -> Result<Totals, AllocError>
     ensures { IfOk result (λ totals. (class : Round → ℕ) (bound : ℕ) (input : List ℕ)
         (start now : Contents) →
         IsCutSoFar (format_under ⟦<M as Readable>⟧ bound) M.round_of class bound cutter.now input
@@ -86,7 +86,7 @@ fn sum_up<M: Message + Roundable + Drop>(cutter: &Cutter) -> Result<Totals, Allo
 /// `Read` exactly if a read failed, `Write` exactly if a part cannot be written; an interrupted read counts as failed.
 /// `OutOfMemory` only after an allocation failed, and `TooLong` if the reader gave more than 2^64 - 1 bytes. After each of them
 /// each part got a prefix of its messages' bytes, perhaps nothing or all.
-pub fn split_input<M: Message + Roundable + Write + Drop, R: Read, P: Parts>(
+pub fn split_input<M: Show + Roundable + Write, R: Read, P: Parts>(
     alloc: Global,
     bound: u32,
     cut: &Cut,

@@ -1,16 +1,17 @@
 -- Reading a stream message after message.
-use Rattle.std.proofs.Common.{◌≡◌, ◌≢◌, ℕ, ◌+◌, ◌≤◌, Bool, false, Result, Some, None, List, [], ◌∷◌, ◌++◌, length, Ok, refl, sym, ap, subst, ◌∙◌, arith, append_assoc, append-nil, length-append}
+use Rattle.std.proofs.Common.{◌≡◌, ◌≢◌, ℕ, ◌+◌, ◌≤◌, Bool, false, Result, Option, Some, None, List, [], ◌∷◌, ◌++◌, length, Ok, refl, sym, ap, subst, ◌∙◌, arith, append_assoc, append-nil, length-append}
 use Rattle.std.specs.Prelude.{All}
 use Rattle.std.specs.List.{flat_map}
+use Rattle.std.specs.Option.{is_none}
 use Rattle.std.proofs.lemmas.Grind.{flat_map-append}
 use Rattle.std.proofs.lemmas.List.Elements.{All-nil, All-push}
-use Rattle.simplex_base.specs.Reading.{IsBytes, Reading, Refusal, Fails, Gives}
+use Rattle.simplex_base.specs.Reading.{IsBytes, Refusal, Fails}
 use Rattle.simplex_base.specs.Format.{Format, IsLawful}
 use Rattle.simplex_base.specs.FormatLaws.{IsBytes-after}
 use Rattle.simplex_base.specs.declared.codec.error.Error.{Error}
 use Rattle.simplex_base.specs.declared.codec.error.Error.TheVariants as errors
 use Rattle.simplex_stream.specs.Messages.{IsStuck}
-use Rattle.simplex_stream.specs.Progress.{IsProgress, FollowsOn}
+use Rattle.simplex_stream.specs.Progress.{IsProgress, IsShown, FollowsOn}
 use Rattle.simplex_stream.specs.StreamLaws.{IsNeverEmpty, nothing_stuck}
 
 -- the encodings of the messages so far are a prefix of the stream, and the messages are recorded
@@ -48,14 +49,28 @@ pub record IsRead {M : Type 0} (format : Format M) (rest rest' : List ℕ) (m : 
   pub parts : rest ≡ format.encoding m ++ rest'
   pub size : length rest ≡ length (format.encoding m) + length rest'
 
--- the message that was read of the rest
-pub is_read : {M : Type 0} (format : Format M) (Recorded : List M → Type 0) (stream rest rest' : List ℕ) (read : ℕ) (m : M) →
-    IsLawful format → IsBytes stream → SoFar format Recorded stream rest read → format.reading rest ≡ Ok (m, rest') →
-    IsRead format rest rest' m
-is_read format Recorded stream rest rest' read m law fit far e =
-    let bytes = IsBytes-after (flat_map format.encoding far.messages) rest (subst IsBytes far.whole fit) in
+-- the message that was read of some bytes
+pub was_read : {M : Type 0} (format : Format M) (rest rest' : List ℕ) (m : M) → IsLawful format → IsBytes rest →
+    format.reading rest ≡ Ok (m, rest') → IsRead format rest rest' m
+was_read format rest rest' m law bytes e =
     let t = law.takes rest m rest' bytes e in
     record { value = t.value; parts = t.parts; size = ap length t.parts ∙ length-append (format.encoding m) rest' }
+
+-- the message that was read of the rest of a stream and shown
+pub record WasShown {M V : Type 0} (format : Format M) (follows : List M → V → V → Type 0) (rest rest' : List ℕ)
+    (a b : V) : Type 0 where
+  pub message : M
+  pub read : IsRead format rest rest' message
+  pub taken : follows (message ∷ []) a b
+
+pub was_shown : {M V : Type 0} (format : Format M) (follows : List M → V → V → Type 0) {Recorded : List M → Type 0}
+    (stream rest rest' : List ℕ) (read : ℕ) {stop : Option Error} (a b : V) → IsLawful format → IsBytes stream →
+    SoFar format Recorded stream rest read → stop ≡ None →
+    IsShown format.reading follows (is_none stop) rest rest' a b → WasShown format follows rest rest' a b
+was_shown format follows stream rest rest' read a b law fit far none shown =
+    let (m, e, on) = subst (λ s. IsShown format.reading follows (is_none s) rest rest' a b) none shown in
+    let bytes = IsBytes-after (flat_map format.encoding far.messages) rest (subst IsBytes far.whole fit) in
+    record { message = m; read = was_read format rest rest' m law bytes e; taken = on }
 
 -- one message was read
 pub so_far_next : {M : Type 0} (format : Format M) (Recorded Recorded' : List M → Type 0) (stream rest rest' : List ℕ)
@@ -135,8 +150,3 @@ none_left (x ∷ xs) e = absurd (omega arith)
 
 pub some_left : {A : Type 0} (xs : List A) → length xs ≢ 0 → xs ≢ []
 some_left xs some e = some (ap length e)
-
--- a reading that gave a value gives that value, and the bytes after it
-pub gives_value : {T : Type 0} (memory : Bool) {result : Result T Error} {x : T} (old new : List ℕ) (read : Reading T) →
-    result ≡ Ok x → Gives memory result old new read → read ≡ Ok (x, new)
-gives_value memory old new read is gives = subst (λ r. Gives memory r old new read) is gives

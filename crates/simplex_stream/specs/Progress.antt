@@ -1,5 +1,6 @@
 -- What was read of a stream.
-use Rattle.std.specs.Prelude.{◌≡◌, ◌+◌, ◌++◌, ℕ, List, length, Option}
+use Rattle.std.specs.Prelude.{◌≡◌, ◌+◌, ◌∷◌, [], ◌++◌, ℕ, List, length, Option, Ok, Bool, true, false}
+use Rattle.simplex_base.specs.Reading.{Reading}
 use Rattle.simplex_base.specs.Format.{Format}
 use Rattle.simplex_base.specs.declared.codec.error.Error.{Error}
 use Rattle.simplex_stream.specs.Messages.{AreMessages, IsStop}
@@ -22,3 +23,8 @@ FollowsOn {M} {V} follows messages a b =
 -- where the first state has room for some bytes and more, the second has room for those that are left and more
 abbrev pub LeavesRoom : {V : Type 0} → (V → ℕ → Type 0) → ℕ → ℕ → V → V → Type 0
 LeavesRoom has_room bytes left a b = (more : ℕ) → has_room a (bytes + more) → has_room b (left + more)
+
+-- the message at the front of some bytes was read and leads on from the first state, or all is as it was
+abbrev pub IsShown : {M V : Type 0} → (List ℕ → Reading M) → (List M → V → V → Type 0) → Bool → List ℕ → List ℕ → V → V → Type 0
+IsShown {M} reading follows true old new a b = (m : M) × (reading old ≡ Ok (m, new)) × follows (m ∷ []) a b
+IsShown reading follows false old new a b = (new ≡ old) × (b ≡ a)

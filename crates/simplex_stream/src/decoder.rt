@@ -5,7 +5,7 @@ ghost use Rattle.simplex_base.specs.Format.{format_under};
 ghost use Rattle.simplex_stream.specs.Progress.{FollowsOn, LeavesRoom};
 ghost use Rattle.simplex_stream.specs.Tail.{bytes_held, due_of};
 
-use crate::messages::{Message, Visitor, is_over, read_on};
+use crate::messages::{Message, Show, Visitor, is_over, read_on};
 use crate::tail::Tail;
 use simplex_base::codec::Read;
 use std::alloc::{AllocError, Global};
@@ -50,7 +50,7 @@ impl Decoder {
     /// The message that an undecoded tail begins is read there: the bytes that it is known to lack are appended, and some more.
     /// The whole piece is appended only if the message does not end within these. All that is left is read in place. No byte of
     /// the tail is read again before there are as many as `least_size` finds of the message there.
-    pub fn feed<M: Message + Drop, V: Visitor<M>>(
+    pub fn feed<M: Show, V: Visitor<M>>(
         &mut self,
         context: &V::Context,
         bound: u32,
@@ -83,7 +83,7 @@ impl Decoder {
     }
 
     /// Reads messages where they stand, in bytes that begin with those of the tail. What follows the tail is fed.
-    fn read_in_place<M: Message + Drop, V: Visitor<M>>(
+    fn read_in_place<M: Show, V: Visitor<M>>(
         &mut self,
         context: &V::Context,
         bound: u32,
@@ -112,7 +112,7 @@ impl Decoder {
     }
 
     /// Appends a piece to the tail, and reads messages there if any can be read.
-    fn append<M: Message + Drop, V: Visitor<M>>(
+    fn append<M: Show, V: Visitor<M>>(
         &mut self,
         context: &V::Context,
         bound: u32,

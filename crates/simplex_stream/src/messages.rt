@@ -1,12 +1,13 @@
 //! Reads the messages of a stream one after another.
 
-ghost use Rattle.std.specs.Prelude.{◌≡◌, ◌+◌, ◌<◌, ◌≤◌, ℕ, List, [], ◌∷◌, ◌++◌, length, IfOk, IsTrue, OnOk};
+ghost use Rattle.std.specs.Prelude.{◌≡◌, ◌+◌, ◌<◌, ◌≤◌, ℕ, List, [], ◌∷◌, ◌++◌, length, false, true, Ok, IfOk, IfSome, IsTrue, OnOk};
+ghost use Rattle.std.specs.Option.{is_none};
 ghost use Rattle.simplex_base.specs.Format.{format_under};
 ghost use Rattle.simplex_base.specs.Finality.{IsFinal};
-ghost use Rattle.simplex_base.specs.Reading.{same_error};
+ghost use Rattle.simplex_base.specs.Reading.{Fails, same_error};
 ghost use Rattle.simplex_base.specs.declared.codec.error.Error.TheVariants as errors;
 ghost use Rattle.simplex_stream.specs.Messages.{IsOver, IsStuck, IsStop};
-ghost use Rattle.simplex_stream.specs.Progress.{IsProgress, FollowsOn, LeavesRoom};
+ghost use Rattle.simplex_stream.specs.Progress.{IsProgress, IsShown, FollowsOn, LeavesRoom};
 
 use crate::fault::refusal;
 use simplex_base::codec::parts::known_bytes;
@@ -69,6 +70,23 @@ pub trait Visitor<M: Message> {
         follows context (m ∷ []) a b → has_room a (length (M.encoding m) + n) → has_room b n };
 }
 
+/// A message that may be quicker to read and show to a visitor at once than to read first: a value that is returned is copied.
+pub trait Show: Message + Drop {
+    /// Shows the message at the front of some bytes to the visitor, if it is a short one, moves the slice past it, and returns
+    /// true. After false all is as before, and nothing is said: it may be longer, or refused. `AllocError` only where an
+    /// allocation failed.
+    fn show_short<V: Visitor<Self>>(
+        alloc: Global,
+        context: &V::Context,
+        bound: u32,
+        input: &mut &[u8],
+        visitor: &mut V,
+    ) -> Result<bool, AllocError>
+        requires { V.has_room visitor.old (length input.old.now) }
+        ensures { IfOk result (λ shown. IsShown (Self.reading bound) (V.follows context.now) shown
+            input.old.now input.new.now visitor.old visitor.new) };
+}
+
 /// What was read of some bytes.
 #[derive(Clone, Copy)]
 pub struct Progress<'a> {
@@ -125,9 +143,80 @@ fn ends_early(error: &Error) -> bool
     }
 }
 
+/// Reads the message at the front of some bytes under a bound, moves the slice past it, and shows it to the visitor. If none
+/// can be read, it returns why, and all is as before. `AllocError` only where an allocation failed.
+#[inline(always)]
+fn show_next<M: Show, V: Visitor<M>>(
+    alloc: Global,
+    context: &V::Context,
+    bound: u32,
+    input: &mut &[u8],
+    visitor: &mut V,
+) -> Result<Option<Error>, AllocError>
+    requires { V.has_room visitor.old (length input.old.now) }
+    ensures shown { IfOk result (λ stop. IsShown (⟦<M as Read>⟧.reading bound) (V.follows context.now) (is_none stop)
+        input.old.now input.new.now visitor.old visitor.new) }
+    ensures refused { IfOk result (λ stop. IfSome stop (λ error.
+        Fails false error (⟦<M as Read>⟧.reading bound input.old.now))) }
+{
+    if M::show_short(alloc, context, bound, input, visitor)? {
+        return Ok(None);
+    }
+    show_read::<M, V>(alloc, context, bound, input, visitor)
+}
+
+/// Does what `show_next` does for a message of any length. It stands apart, for a function clears the room of its locals
+/// whenever it is called.
+#[inline(never)]
+fn show_read<M: Message + Drop, V: Visitor<M>>(
+    alloc: Global,
+    context: &V::Context,
+    bound: u32,
+    input: &mut &[u8],
+    visitor: &mut V,
+) -> Result<Option<Error>, AllocError>
+    requires { V.has_room visitor.old (length input.old.now) }
+    ensures shown { IfOk result (λ stop. IsShown (⟦<M as Read>⟧.reading bound) (V.follows context.now) (is_none stop)
+        input.old.now input.new.now visitor.old visitor.new) }
+    ensures refused { IfOk result (λ stop. IfSome stop (λ error.
+        Fails false error (⟦<M as Read>⟧.reading bound input.old.now))) }
+{
+    let mut rest: &[u8] = *input;
+    let message = M::read_cfg(alloc, &mut rest, &bound);
+    match &message {
+        Ok(message) => {
+            show_front(alloc, context, bound, message, rest, input, visitor)?;
+            Ok(None)
+        }
+        Err(error) => Ok(Some(refusal(*error)?)),
+    }
+}
+
+/// Shows a message that was read at the front of some bytes, and moves the slice to the rest.
+#[inline(always)]
+pub fn show_front<'a, M: Message, V: Visitor<M>>(
+    alloc: Global,
+    context: &V::Context,
+    bound: u32,
+    message: &M,
+    rest: &'a [u8],
+    input: &mut &'a [u8],
+    visitor: &mut V,
+) -> Result<bool, AllocError>
+    requires read { ⟦<M as Read>⟧.reading bound input.old.now ≡ Ok (message.now, rest.now) }
+    requires room { V.has_room visitor.old (length input.old.now) }
+    ensures { IfOk result (λ shown. (shown ≡ true) × IsShown (⟦<M as Read>⟧.reading bound) (V.follows context.now) shown
+        input.old.now input.new.now visitor.old visitor.new) }
+{
+    let bytes = known_bytes(*input);
+    visitor.take(alloc, context, bytes.len() - rest.len(), message)?;
+    *input = rest;
+    Ok(true)
+}
+
 /// Reads the messages of some bytes under a bound, as many as there are, and shows each to the visitor. `AllocError` only where
 /// an allocation failed; the visitor may then have taken some of the messages.
-pub fn for_each_message<'a, M: Message + Drop, V: Visitor<M>>(
+pub fn for_each_message<'a, M: Show, V: Visitor<M>>(
     alloc: Global,
     context: &V::Context,
     bound: u32,
@@ -144,7 +233,7 @@ pub fn for_each_message<'a, M: Message + Drop, V: Visitor<M>>(
 }
 
 /// Does the same behind whatever messages the visitor took before, and leaves it room for what follows these bytes.
-pub(crate) fn read_on<'a, M: Message + Drop, V: Visitor<M>>(
+pub(crate) fn read_on<'a, M: Show, V: Visitor<M>>(
     alloc: Global,
     context: &V::Context,
     bound: u32,
@@ -162,17 +251,9 @@ pub(crate) fn read_on<'a, M: Message + Drop, V: Visitor<M>>(
     let mut rest: &[u8] = bytes;
     let mut read = 0;
     'messages: while !rest.is_empty() {
-        let before = rest.len();
-        let message = M::read_cfg(alloc, &mut rest, &bound);
-        match &message {
-            Ok(message) => {
-                read += 1;
-                visitor.take(alloc, context, before - rest.len(), message)?;
-            }
-            Err(error) => {
-                let stop = Some(refusal(*error)?);
-                return Ok(Progress { read, rest, stop });
-            }
+        match show_next::<M, V>(alloc, context, bound, &mut rest, visitor)? {
+            None => read += 1,
+            stop => return Ok(Progress { read, rest, stop }),
         }
     }
     Ok(Progress {

@@ -1,7 +1,7 @@
 //! Values that are encoded part after part, and values of a fixed size.
 
-ghost use Rattle.std.specs.Prelude.{◌≡◌, ◌++◌, ◌+◌, ◌-◌, ◌≤◌, ◌^◌, ◌||◌, false, min, IfOk, OnOk, OnErr, length, take};
-ghost use Rattle.simplex_base.specs.Reading.{GivesRest, IsBytes};
+ghost use Rattle.std.specs.Prelude.{◌≡◌, ◌++◌, ◌+◌, ◌-◌, ◌<◌, ◌≤◌, ◌^◌, ◌||◌, None, Ok, false, min, IfSome, OnOk, OnErr, length, take};
+ghost use Rattle.simplex_base.specs.Reading.{IsBytes};
 ghost use Rattle.simplex_base.specs.Format.{both_encoded, both_at, BothAre, IsFixed, fixed_at};
 ghost use Rattle.simplex_base.specs.FormatLaws.{both_lawful};
 
@@ -141,7 +141,10 @@ impl<T: Fixed> Read for T {
     ghost takes_memory = { false };
 
     fn read_cfg(_alloc: Global, input: &mut &[u8], _cfg: &()) -> Result<Self, Error> {
-        let front = or_return!(read_fixed::<T>(input));
+        let Some((front, rest)) = split_fixed::<T>(*input) else {
+            return Err(Error::EndOfBuffer);
+        };
+        *input = rest;
         Ok(T::from_bytes(front))
     }
 
@@ -156,22 +159,18 @@ impl<T: Fixed> ReadExt for T {
     ghost readable = { λ x value. value };
 }
 
-/// Reads the bytes of a value of fixed size and moves the slice past them, but copies none. Each move of a value copies it, so
-/// a value of several parts is made when all were read. `EndOfBuffer` if there are fewer; the slice is then as before.
+/// The bytes of a value of a fixed size at the front of others, and the bytes after it; `None` if there are fewer. It copies
+/// none of them.
 #[inline(always)]
-pub fn read_fixed<'a, T: Fixed>(input: &mut &'a [u8]) -> Result<&'a [u8], Error>
-    ensures gives { GivesRest false (λ front. (T.of_bytes front.now, input.new.now)) result
-        (fixed_at T.SIZE T.of_bytes input.old.now) }
-    ensures refused { OnErr result (input.new.now ≡ input.old.now) }
-    ensures size { IfOk result (λ front. length front.now ≡ T.SIZE) }
+pub fn split_fixed<T: Fixed>(bytes: &[u8]) -> Option<(&[u8], &[u8])>
+    ensures size { IfSome result (λ x. length x.0.now ≡ T.SIZE) }
+    ensures gives { IfSome result (λ x. fixed_at T.SIZE T.of_bytes bytes.now ≡ Ok (T.of_bytes x.0.now, x.1.now)) }
+    ensures none { result ≡ None → length bytes.now < T.SIZE }
 {
-    let bytes: &'a [u8] = *input;
     if bytes.len() < T::SIZE {
-        return Err(Error::EndOfBuffer);
+        return None;
     }
-    let (front, rest) = bytes.split_at(T::SIZE);
-    *input = rest;
-    Ok(front)
+    Some(bytes.split_at(T::SIZE))
 }
 
 /// The same bytes, each of which is below 256. Of bytes behind a reference to a slice, and of a slice that changes, the

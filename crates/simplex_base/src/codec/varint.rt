@@ -1,7 +1,7 @@
 //! Numbers in LEB128: groups of seven bits, the lowest group first. The top bit is set on each byte but the last, and
 //! the last is not zero unless it is the only one, so each number has one encoding.
 
-ghost use Rattle.std.specs.Prelude.{◌≡◌, ℕ, length, ◌++◌, OnOk, OnErr, IfOk, List, take, ◌≤◌, ◌<◌, ◌+◌, ◌*◌, ◌^◌, false};
+ghost use Rattle.std.specs.Prelude.{◌≡◌, ℕ, length, ◌++◌, Ok, OnOk, OnErr, IfOk, IfSome, List, take, ◌≤◌, ◌<◌, ◌+◌, ◌*◌, ◌^◌, false};
 ghost use Rattle.simplex_base.specs.Reading.{Gives, GivesRest, IsBytes};
 ghost use Rattle.simplex_base.specs.Varint.{IsNumber, ReadsNumber, groups, groups_at, number_at, number_32, number_64};
 
@@ -42,23 +42,6 @@ fn groups_of(bytes: &[u8], more: u8, top: u8) -> Result<(u64, &[u8]), Error>
     }
 }
 
-/// Reads the groups of a number after the first, as `groups_of` does, and a last one without a call of it.
-#[inline(always)]
-#[tactic(auto, unfolding(crate::specs::Varint::groups_at))]
-fn high_groups(bytes: &[u8], more: u8, top: u8) -> Result<(u64, &[u8]), Error>
-    requires size { top * 128 ^ more ≤ 2 ^ 64 }
-    requires some { 1 ≤ top }
-    ensures gives { GivesRest false (λ x. (x.0, x.1.now)) result (groups_at bytes.now more top) }
-    ensures range { IfOk result (λ x. x.0 < top * 128 ^ more) }
-{
-    match bytes {
-        [group, rest @ ..] if more > 0 && 0 < *group && *group < 128 => {
-            Ok((u64::from(*group), rest))
-        }
-        _ => groups_of(bytes, more, top),
-    }
-}
-
 /// Reads a number with at most `more` groups after the first, the last of which is below `top`.
 #[tactic(auto, unfolding(crate::specs::Varint::number_at))]
 fn read_number(input: &mut &[u8], more: u8, top: u8) -> Result<u64, Error>
@@ -78,9 +61,55 @@ fn read_number(input: &mut &[u8], more: u8, top: u8) -> Result<u64, Error>
                 *input = rest;
                 Ok(u64::from(group))
             } else {
-                let (high, rest) = high_groups(rest, more - 1, top)?;
+                let (high, rest) = groups_of(rest, more - 1, top)?;
                 *input = rest;
                 Ok(u64::from(group - 128) + 128 * high)
+            }
+        }
+    }
+}
+
+/// Reads the groups of a number after the first, if these are at most three; else `None`.
+#[inline(always)]
+#[tactic(auto, unfolding(crate::specs::Varint::groups_at))]
+fn short_groups(bytes: &[u8]) -> Option<(u64, &[u8])>
+    ensures wide { IfSome result (λ x. groups_at bytes.now 8 2 ≡ Ok (x.0, x.1.now)) }
+    ensures narrow { IfSome result (λ x. groups_at bytes.now 3 16 ≡ Ok (x.0, x.1.now)) }
+    ensures small { IfSome result (λ x. x.0 < 2 ^ 21) }
+{
+    match bytes {
+        [group, rest @ ..] if 0 < *group && *group < 128 => Some((u64::from(*group), rest)),
+        [low, high, rest @ ..] if *low >= 128 && 0 < *high && *high < 128 => {
+            Some((u64::from(*low - 128) + 128 * u64::from(*high), rest))
+        }
+        [low, middle, high, rest @ ..]
+            if *low >= 128 && *middle >= 128 && 0 < *high && *high < 128 => {
+            let groups = u64::from(*middle - 128) + 128 * u64::from(*high);
+            Some((u64::from(*low - 128) + 128 * groups, rest))
+        }
+        _ => None,
+    }
+}
+
+/// Reads a number of at most four bytes, and returns what follows it, too. `None` says nothing: the bytes may be refused, or
+/// begin with a longer number. It is for readers that look at short messages first: unlike a `Result`, what it returns needs
+/// no room that has to be cleared.
+#[inline(always)]
+#[tactic(auto, unfolding(crate::specs::Varint::number_at))]
+pub fn short_number(bytes: &[u8]) -> Option<(u64, &[u8])>
+    ensures wide { IfSome result (λ x. number_64.reading bytes.now ≡ Ok (x.0, x.1.now)) }
+    ensures narrow { IfSome result (λ x. number_32.reading bytes.now ≡ Ok (x.0, x.1.now)) }
+    ensures small { IfSome result (λ x. x.0 < 2 ^ 28) }
+{
+    match bytes {
+        [] => None,
+        [group, rest @ ..] => {
+            let group = *group;
+            if group < 128 {
+                Some((u64::from(group), rest))
+            } else {
+                let (high, rest) = short_groups(rest)?;
+                Some((u64::from(group - 128) + 128 * high, rest))
             }
         }
     }

@@ -1,10 +1,11 @@
 //! Rounds, each a view of an epoch.
 
-ghost use Rattle.std.specs.Prelude.{◌≡◌, false};
+ghost use Rattle.std.specs.Prelude.{◌≡◌, false, Ok, IfSome};
 ghost use Rattle.simplex_base.specs.Positions.{round_format};
 ghost use Rattle.simplex_base.specs.PositionLaws.{round_lawful, round_within, longest_round};
 
 use crate::codec::parts::{size_both, write_both};
+use crate::codec::varint::short_number;
 use crate::codec::{EncodeSize, Encoding, Error, MaxEncodeSize, Read, ReadExt, Write};
 use crate::or_return;
 use crate::positions::epoch::{Epoch, Epochable};
@@ -85,6 +86,18 @@ impl<T: Roundable> Viewable for T {
 
     fn view(&self) -> View {
         self.round().view
+    }
+}
+
+impl Round {
+    /// The round at the front of some bytes, if its numbers are short, and the bytes after it. `None` says nothing.
+    #[inline(always)]
+    pub fn read_short(bytes: &[u8]) -> Option<(Round, &[u8])>
+        ensures { IfSome result (λ x. ⟦<Round as Read>⟧.reading tt bytes.now ≡ Ok (x.0, x.1.now)) }
+    {
+        let (epoch, rest) = short_number(bytes)?;
+        let (view, rest) = short_number(rest)?;
+        Some((Round::new(Epoch::new(epoch), View::new(view)), rest))
     }
 }
 

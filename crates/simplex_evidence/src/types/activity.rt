@@ -1,9 +1,12 @@
 //! The union of all messages.
 
-ghost use Rattle.std.specs.Prelude.{ℕ, ◌≡◌, ◌≢◌, ◌+◌, ◌*◌, ◌^◌, ◌∷◌, IfOk, IfErr, IsTrue};
+ghost use Rattle.std.specs.Prelude.{ℕ, ◌≡◌, ◌≢◌, ◌+◌, ◌*◌, ◌^◌, ◌∷◌, length, Ok, IfOk, IfErr, IfSome, IsTrue};
 ghost use Rattle.simplex_base.specs.Format.{format_of, format_under};
 ghost use Rattle.simplex_base.specs.LeastSize.{NoneShorter};
 ghost use Rattle.simplex_base.specs.Reading.{Gives};
+ghost use Rattle.simplex_scheme.specs.Attestation.{attestation_of};
+ghost use Rattle.simplex_scheme.specs.Proposal.{proposal_of};
+ghost use Rattle.simplex_stream.specs.Progress.{IsShown};
 
 use crate::types::conflicting_finalize::ConflictingFinalize;
 use crate::types::conflicting_notarize::ConflictingNotarize;
@@ -12,8 +15,11 @@ use crate::types::nullify_finalize::NullifyFinalize;
 use simplex_base::codec::unions::{Tagged, read_tagged, write_tagged};
 use simplex_base::codec::{EncodeSize, Encoding, Error, Fixed, Read, Write};
 use simplex_base::positions::{Round, Roundable};
-use simplex_scheme::scheme::{CertificateScheme, Digest, Scheme, Subject};
-use simplex_stream::messages::Message;
+use simplex_scheme::scheme::{
+    Attestation, AttestationParts, CertificateScheme, Digest, Proposal, ProposalParts, Scheme,
+    Subject,
+};
+use simplex_stream::messages::{Message, Show, Visitor, show_front};
 use simplex_votes::map_ok;
 use simplex_votes::types::{
     Finalization, Finalize, Notarization, Notarize, Nullification, Nullify,
@@ -373,4 +379,146 @@ impl<S: CertificateScheme, D: Digest> Message for Activity<S, D> {
     fn refusals_are_final() -> bool {
         S::refusals_are_final()
     }
+}
+
+impl<S: CertificateScheme, D: Digest> Show for Activity<S, D> {
+    fn show_short<V: Visitor<Self>>(
+        alloc: Global,
+        context: &V::Context,
+        bound: u32,
+        input: &mut &[u8],
+        visitor: &mut V,
+    ) -> Result<bool, AllocError> {
+        match *input {
+            [0, body @ ..] => show_notarize(alloc, context, bound, body, input, visitor),
+            [3, body @ ..] => show_nullify(alloc, context, bound, body, input, visitor),
+            [5, body @ ..] => show_finalize(alloc, context, bound, body, input, visitor),
+            _ => Ok(false),
+        }
+    }
+}
+
+/// Shows a notarize, the body behind the tag 0. One whose numbers are short is read at once.
+#[inline(never)]
+fn show_notarize<'a, S: CertificateScheme, D: Digest, V: Visitor<Activity<S, D>>>(
+    alloc: Global,
+    context: &V::Context,
+    bound: u32,
+    body: &'a [u8],
+    input: &mut &'a [u8],
+    visitor: &mut V,
+) -> Result<bool, AllocError>
+    requires tag { input.old.now ≡ 0 ∷ body.now }
+    requires room { V.has_room visitor.old (length input.old.now) }
+    ensures { IfOk result (λ shown. IsShown (⟦<Activity<S, D> as Read>⟧.reading bound) (V.follows context.now) shown
+        input.old.now input.new.now visitor.old visitor.new) }
+{
+    let Some((proposal, attestation, rest)) = short_parts::<S, D>(body) else {
+        return Ok(false);
+    };
+    let message = Activity::Notarize(Notarize {
+        proposal: Proposal::of_parts(proposal),
+        attestation: Attestation::of_parts(attestation),
+    });
+    show_front(alloc, context, bound, &message, rest, input, visitor)
+}
+
+/// Shows a finalize, the body behind the tag 5. One whose numbers are short is read at once.
+#[inline(never)]
+fn show_finalize<'a, S: CertificateScheme, D: Digest, V: Visitor<Activity<S, D>>>(
+    alloc: Global,
+    context: &V::Context,
+    bound: u32,
+    body: &'a [u8],
+    input: &mut &'a [u8],
+    visitor: &mut V,
+) -> Result<bool, AllocError>
+    requires tag { input.old.now ≡ 5 ∷ body.now }
+    requires room { V.has_room visitor.old (length input.old.now) }
+    ensures { IfOk result (λ shown. IsShown (⟦<Activity<S, D> as Read>⟧.reading bound) (V.follows context.now) shown
+        input.old.now input.new.now visitor.old visitor.new) }
+{
+    let Some((proposal, attestation, rest)) = short_parts::<S, D>(body) else {
+        return Ok(false);
+    };
+    let message = Activity::Finalize(Finalize {
+        proposal: Proposal::of_parts(proposal),
+        attestation: Attestation::of_parts(attestation),
+    });
+    show_front(alloc, context, bound, &message, rest, input, visitor)
+}
+
+/// Shows a nullify, the body behind the tag 3. One whose numbers are short is read at once.
+#[inline(never)]
+fn show_nullify<'a, S: CertificateScheme, D: Digest, V: Visitor<Activity<S, D>>>(
+    alloc: Global,
+    context: &V::Context,
+    bound: u32,
+    body: &'a [u8],
+    input: &mut &'a [u8],
+    visitor: &mut V,
+) -> Result<bool, AllocError>
+    requires tag { input.old.now ≡ 3 ∷ body.now }
+    requires room { V.has_room visitor.old (length input.old.now) }
+    ensures { IfOk result (λ shown. IsShown (⟦<Activity<S, D> as Read>⟧.reading bound) (V.follows context.now) shown
+        input.old.now input.new.now visitor.old visitor.new) }
+{
+    let Some((round, attestation, rest)) = short_nullify::<S>(body) else {
+        return Ok(false);
+    };
+    let attestation = Attestation::of_parts(attestation);
+    let message = Activity::Nullify(Nullify { round, attestation });
+    show_front(alloc, context, bound, &message, rest, input, visitor)
+}
+
+/// The parts of a vote on a proposal at the front of some bytes, if its numbers are short, and the bytes after it.
+#[inline(always)]
+fn short_parts<S: CertificateScheme, D: Digest>(
+    bytes: &[u8],
+) -> Option<(ProposalParts<'_>, AttestationParts<'_>, &[u8])>
+    ensures proposal { IfSome result (λ x. length x.0.2.now ≡ D.SIZE) }
+    ensures attestation { IfSome result (λ x. length x.1.1.now ≡ S.Signature.SIZE) }
+    ensures notarize { IfSome result (λ x. ⟦<Notarize<S, D> as Read>⟧.reading tt bytes.now ≡ Ok (
+      record {
+        proposal = proposal_of D.of_bytes x.0;
+        attestation = attestation_of S.Signature.of_bytes x.1;
+      },
+      x.2.now,
+    )) }
+    ensures finalize { IfSome result (λ x. ⟦<Finalize<S, D> as Read>⟧.reading tt bytes.now ≡ Ok (
+      record {
+        proposal = proposal_of D.of_bytes x.0;
+        attestation = attestation_of S.Signature.of_bytes x.1;
+      },
+      x.2.now,
+    )) }
+{
+    let Some((proposal, rest)) = Proposal::<D>::short_parts(bytes) else {
+        return None;
+    };
+    let Some((attestation, rest)) = Attestation::<S>::short_parts(rest) else {
+        return None;
+    };
+    Some((proposal, attestation, rest))
+}
+
+/// The parts of a nullify at the front of some bytes, if its numbers are short, and the bytes after it.
+#[inline(always)]
+fn short_nullify<S: CertificateScheme>(bytes: &[u8]) -> Option<(Round, AttestationParts<'_>, &[u8])>
+    ensures attestation { IfSome result (λ x. length x.1.1.now ≡ S.Signature.SIZE) }
+    ensures nullify { IfSome result (λ x. ⟦<Nullify<S> as Read>⟧.reading tt bytes.now ≡ Ok (
+      record {
+        round = x.0;
+        attestation = attestation_of S.Signature.of_bytes x.1;
+      },
+      x.2.now,
+    )) }
+{
+    let Some((round, rest)) = Round::read_short(bytes) else {
+        return None;
+    };
+    let Some((attestation, rest)) = Attestation::<S>::short_parts(rest) else {
+        return None;
+    };
+    Some((round, attestation, rest))
 }

@@ -162,17 +162,14 @@ impl<S: SchemeTypes, D: Digest> Read for Notarize<S, D> {
     ghost takes_memory = { false };
 
     #[inline(always)]
-    fn read_cfg(alloc: Global, input: &mut &[u8], _cfg: &()) -> Result<Self, Error> {
+    fn read_cfg(alloc: Global, input: &mut &[u8], cfg: &()) -> Result<Self, Error> {
         let mut rest: &[u8] = *input;
-        let (round, parent, payload) = or_return!(Proposal::<D>::read_parts(alloc, &mut rest));
-        let (signer, signature) = or_return!(Attestation::<S>::read_parts(alloc, &mut rest));
+        let proposal = or_return!(Proposal::<D>::read_cfg(alloc, &mut rest, cfg));
+        let attestation = or_return!(Attestation::<S>::read_cfg(alloc, &mut rest, cfg));
         *input = rest;
         Ok(Notarize {
-            proposal: Proposal::new(round, parent, D::from_bytes(payload)),
-            attestation: Attestation {
-                signer,
-                signature: S::Signature::from_bytes(signature),
-            },
+            proposal,
+            attestation,
         })
     }
 

@@ -153,13 +153,9 @@ impl<S: SchemeTypes> Read for Nullify<S> {
     fn read_cfg(alloc: Global, input: &mut &[u8], cfg: &()) -> Result<Self, Error> {
         let mut rest: &[u8] = *input;
         let round = or_return!(Round::read_cfg(alloc, &mut rest, cfg));
-        let (signer, signature) = or_return!(Attestation::<S>::read_parts(alloc, &mut rest));
+        let attestation = or_return!(Attestation::<S>::read_cfg(alloc, &mut rest, cfg));
         *input = rest;
-        let signature = S::Signature::from_bytes(signature);
-        Ok(Nullify {
-            round,
-            attestation: Attestation { signer, signature },
-        })
+        Ok(Nullify { round, attestation })
     }
 
     ghost lawful = { λ _. nullify_lawful _ S.Signature.lawful };
