@@ -111,12 +111,7 @@ fn is_faulted(before: bool, totals: &Totals) -> bool
 }
 
 /// Cuts files, one after the other, and writes a line of each as soon as it was read. Returns whether one has a fault.
-pub fn cut_files<
-    M: Show + Roundable + Writable,
-    F: Files<File = File>,
-    P: Parts,
-    W: Write,
->(
+pub fn cut_files<M: Show + Roundable + Writable, F: Files<File = File>, P: Parts, W: Write>(
     alloc: Global,
     files: &F,
     options: &Options<'_>,
