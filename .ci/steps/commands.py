@@ -45,7 +45,6 @@ ELSEWHERE = {
     "rt version": "step documents",
     "make run": "this step, in README.md",
     "python3 .ci mutants": "the gate",
-    "rt must-fail": "the gate, which tries mutants by its `rt ci`",
     "bench/run": "a reader with `rustc` and some minutes",
     "bench/floods": "a reader with GNU time and some minutes",
     "bench/costs": "a reader with valgrind and some minutes",

@@ -1,8 +1,8 @@
 """Proves and tests everything, and then tries what was built as its users would.
 
-First the mutants of mutants/, which it leaves out, have to fit the code, linters have to find nothing, and the documents have
-to be as the sources have them; which of their sentences are too long is said and no more. Then `rt ci` proves and builds. Of
-what it built, the rest is tried side by side. The last line counts what passed and what failed.
+First all mutants have to fit the code, linters have to find nothing, and the documents have to be as the sources have them;
+which of their sentences are too long is said and no more. Then `rt ci` proves and builds, and the gate's mutants are tried. Of
+what was built, the rest is tried side by side. The last line counts what passed and what failed.
 """
 
 import concurrent.futures
@@ -49,20 +49,23 @@ FAILED = re.compile(r"(note: )?[^ ]+:[0-9:]+ (error|it is not proved)|.*(NOT (PR
 
 
 def proofs():
-    """Runs `rt ci`, and returns its last line. A mutant that does not compile shows nothing, nor does one that is refused
-    because a name is gone, and `rt ci` passes with both. So each crate and each mutant has to be counted among those that
-    passed, and none may be refused for such a name."""
-    status, said = prove(["rt", "ci"], crates(), DONE, shown=True, cwd=ROOT)
-    said = [line.rstrip("\n") for line in said] or [""]
-    if status:
-        fail("What failed:", *filter(FAILED.match, said), said[-1])
-    every = len(crates()) + len([*ROOT.glob("crates/*/must-fail/*.edit")])
-    little = [line for line in said if "says little of the contract" in line]
-    if said[-1] != f"{every} passed, 0 failed":
-        fail(f"crates and mutants: {every}; {said[-1]}")
-    if little:
-        fail(*little)
-    return said[-1]
+    """Runs `rt ci` and, as soon as libraries are built, tries the gate's mutants. Returns what to say last: how many crates and
+    mutants passed."""
+    trials = mutants.Trials()
+    try:
+        status, said = prove(["rt", "ci"], crates(), DONE, shown=True, told=trials.begin, cwd=ROOT)
+        said = [line.rstrip("\n") for line in said] or [""]
+        if status or said[-1] != f"{len(crates())} passed, 0 failed":
+            fail("What failed:", *filter(FAILED.match, said), said[-1])
+        say("trying the mutants that are left")
+        found = trials.end()
+    finally:
+        trials.stop()
+    print(*(mutants.verdict(it, why) for it, why in found), sep="\n")
+    missed = [it for it, why in found if not why]
+    if missed or len(found) != len(mutants.edits(gate=True)):
+        fail(f"{len(found)} mutants were tried; NOT REFUSED:", *missed)
+    return f"{len(crates()) + len(found)} passed, 0 failed"
 
 
 def step(name, begin):

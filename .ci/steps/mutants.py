@@ -1,84 +1,193 @@
-"""`mutants [CRATE ..]`: says whether all mutants fit the code, or has the prover try those of mutants/ of these crates.
+"""`mutants [CRATE ..]`: says whether all mutants fit the code, or has the prover try those of these crates.
 
-Mutants are edits of must-fail/, which the gate tries, and of mutants/, which it does not. The prover must refuse each. Each old
-text has to stand once in its file. Those of mutants/ are tried crate by crate on a clone of what is committed, under `--all`
-of all crates. mutants/refused.txt has of each the day when it was last refused there, by this step.
+A mutant is an edit of mutants/CRATE/, or of mutants/CRATE/gate/, which the gate tries. The prover must refuse the function that
+it changes. CRATE/NAME stands for one mutant, `--all` for those of all crates. One check tries mutants of several functions at
+once, and what was refused is kept under `~/.cache`. mutants/refused.txt has the day when this step last saw each refused.
 """
 
+import concurrent.futures
 import datetime
+import functools
+import hashlib
+import os
 import pathlib
 import re
 import shutil
 import subprocess
 import tempfile
 
-from .common import ROOT
+from .common import ROOT, below, crates, fail
+from .edits import batches, edits
+from .functions import functions
 
 LIST = ROOT / "mutants/refused.txt"
-# not those that are refused only because a name is gone
-REFUSED = re.compile(r"(?:rt: )?(\w+/[\w.-]+)\.edit: refused, as it must be(?! \(only because)")
-
-
-def misfit(edit, crate):
-    """Returns the old text of the edit that does not stand once in its file, if there is one."""
-    texts, path, old = {}, "", ""
-    for line in edit.read_text().splitlines():
-        word, _, rest = line.partition(": ")
-        if word == "file":
-            path = rest
-            if not (crate / path).is_file():
-                return path
-            texts.setdefault(path, (crate / path).read_text())
-        elif word == "old":
-            old = rest
-            if texts[path].count(old) != 1:
-                return old
-        elif word == "new":
-            texts[path] = texts[path].replace(old, rest)
-    return None
-
-
-def days():
-    """When mutants were last refused."""
-    return dict(line.split() for line in LIST.read_text().splitlines()) if LIST.exists() else {}
+PARTS = ("src", "specs", "proofs")
+# what was refused on this machine, under the sum of all that was read
+KEPT = pathlib.Path(os.environ.get("XDG_CACHE_HOME") or pathlib.Path.home() / ".cache") / "simplex_mutants"
+# where a check finds an error, and a goal that nothing proves
+ERROR = re.compile(r"(?:\./)?(\S+)\.(?:antt|rt):\d+:\d+: (error: .*)")
+GOAL = re.compile(r"note: (src/\S+):(\d+):\d+: (it is not proved .*)")
+# that a text speaks of what is no longer there, or cannot be read
+GONE = re.compile(r"error: .*(has no field|is no(t in scope| name)|has no `|was not admitted|operand is missing|cannot continue)")
 
 
 def fit():
-    """Says which edits do not fit, and returns how many. Says when those of mutants/ were last refused."""
-    left = {f"{it.parent.name}/{it.stem}": (it, it.parent) for it in sorted(ROOT.glob("mutants/*/*.edit"))}
-    edits = [*left.values(), *((it, it.parent.parent) for it in sorted(ROOT.glob("crates/*/must-fail/*.edit")))]
-    found = [(it, misfit(it, ROOT / "crates" / crate.name)) for it, crate in edits]
-    bad = [(it, old) for it, old in found if old is not None]
-    for it, old in bad:
-        print(f"{it.relative_to(ROOT)}: not once in its file: {old}")
-    print(f"{len(edits) - len(bad)} of {len(edits)} mutants fit the code")
-    dated = sorted(day for name, day in days().items() if name in left)
-    first = f", the first {dated[0]}" if dated else ""
-    print(f"{len(dated)} of {len(left)} of mutants/ have the day of their last refusal{first}")
+    """Says which mutants do not fit, and returns how many."""
+    every = edits()
+    bad = [(it, misfit) for it in every for texts, misfit in [it.applied({})] if texts is None]
+    for it, misfit in bad:
+        print(f"{it}: not once in its file: {misfit}")
+    print(f"{len(every) - len(bad)} of {len(every)} mutants fit the code, {len(edits(gate=True))} of them are the gate's")
     return len(bad)
 
 
-def tried(crates):
-    """Has the prover try the edits of these crates, notes which were refused, and returns its status."""
+@functools.cache
+def kit():
+    """The folder of the toolchain."""
+    return pathlib.Path(subprocess.run(["rt", "doc"], stdout=subprocess.PIPE, text=True, check=True).stdout.strip()).parent
+
+
+@functools.cache
+def sum_of(crate):
+    """A sum of all that a check of the crate reads, and of what tries its mutants."""
+    files = [kit() / "KIT-ID", *(pathlib.Path(__file__).with_stem(it) for it in ("edits", "functions", "mutants"))]
+    for it in sorted(below(crate)):
+        files += [file for part in PARTS for file in sorted((ROOT / "crates" / it / part).rglob("*")) if file.is_file()]
+    uses = [(it, crates()[it]) for it in sorted(below(crate))]
+    sums = [(it.name, hashlib.sha256(it.read_bytes()).hexdigest()) for it in files]
+    return hashlib.sha256(repr((uses, sums)).encode()).hexdigest()
+
+
+def checking(crate):
+    """The words that check a crate over the libraries that `rt` has built."""
+    own = {it: ROOT / f"crates/{it}/out/rlib" for it in below(crate) - {crate}}
+    words = [kit() / "bin/rattle", "check", "--crate-name", crate, "--links", f"{crate}=", "--jobs", "1"]
+    for name in ["std", *crates()[crate]]:
+        words += ["--extern", f"{name}={own.get(name, kit() / 'rlibs')}/{name}.rlib"]
+    for folder in [*own.values(), kit() / "rlibs"]:
+        words += ["-L", f"dependency={folder}"]
+    words += ["--antt-project", kit() / "rattle/logic/antt-project.json", "--logic-built", kit() / "logic_built"]
+    return [*words, next(it for it in ("src/lib.rt", "src/main.rt") if (ROOT / "crates" / crate / it).exists())]
+
+
+class Trial:
+    """Tries a crate's mutants, in a folder in which a check keeps what it proves of the functions that they leave alone."""
+
+    def __init__(self, crate, room):
+        self.crate, self.room, self.words = crate, pathlib.Path(room), checking(crate)
+
+    def check(self, texts, names):
+        """What a check of these functions says, or of all if none is named, with these texts in the place of the crate's."""
+        place = self.room / "crate"
+        for part in PARTS:
+            if (ROOT / "crates" / self.crate / part).is_dir():
+                shutil.copytree(ROOT / "crates" / self.crate / part, place / part)
+        for path, text in texts.items():
+            (place / path).write_text(text)
+        only = [word for name in sorted(names) for word in ("--only", name)]
+        how = {"stdin": subprocess.DEVNULL, "stdout": subprocess.PIPE, "stderr": subprocess.STDOUT, "errors": "replace"}
+        command = ["nice", *self.words, "--incremental", self.room / "kept", *only]
+        said = subprocess.run(command, cwd=place, **how).stdout.splitlines()
+        shutil.rmtree(place)
+        return said
+
+    def batch(self, mutants, texts):
+        """Tries mutants at once: yields each, with why the prover refuses it, or nothing where it does not."""
+        said = self.check(texts, set().union(*(it.turned()[0] for it in mutants)))
+        reasons = refusals(said, texts)
+        if len(mutants) > 1:
+            for it in mutants:
+                (name,) = it.turned()[0]
+                why = next((why for place, why in reasons if place == name or place.startswith(f"{name}::")), "")
+                yield from [(it, why)] if why else self.batch([it], it.applied({})[0])
+            return
+        if not reasons and not mutants[0].turned()[1]:
+            reasons = refusals(self.check(texts, ()), texts)
+        yield mutants[0], next((why for _, why in reasons), "")
+
+
+def refusals(said, texts):
+    """The functions that a check refuses, and why, if these files were changed. A goal that is gone is no reason."""
+    changed = [(path, it) for path, text in texts.items() for it in functions(path, text)]
+    found = []
+    for line in said:
+        goal, error = GOAL.match(line), ERROR.match(line)
+        if goal:
+            found += [(it.name, goal[3]) for path, it in changed if path == goal[1] and int(goal[2]) - 1 in it.lines]
+        if error and not GONE.match(error[2]):
+            parts = [it.removeprefix("+") for it in error[1].split("/")[1:-1] if it != "fn"]
+            found.append(("::".join(parts), error[2]))
+    return found
+
+
+def tried(mutants):
+    """Has the prover try mutants of one crate, unless it has refused them before: yields each, with why it is refused, or
+    nothing where it is not."""
+    crate, new = mutants[0].crate, []
+    places = {str(it): KEPT / hashlib.sha256(f"{sum_of(crate)} {it.pairs}".encode()).hexdigest() for it in mutants}
+    for it in mutants:
+        if places[str(it)].exists():
+            yield it, places[str(it)].read_text()
+        else:
+            new.append(it)
+    KEPT.mkdir(parents=True, exist_ok=True)
     with tempfile.TemporaryDirectory() as room:
-        clone = pathlib.Path(room) / "clone"
-        subprocess.run(["git", "clone", "--quiet", ROOT, clone], check=True)
-        for crate in crates:
-            place = clone / "crates" / crate / "must-fail"
-            shutil.rmtree(place, ignore_errors=True)
-            shutil.copytree(clone / "mutants" / crate, place)
-        refused = set()
-        with subprocess.Popen(["rt", "must-fail", *crates], cwd=clone, stdout=subprocess.PIPE, text=True) as rt:
-            for line in rt.stdout:
-                print(line, end="", flush=True)
-                refused |= {it[1] for it in [REFUSED.match(line)] if it}
+        trial = Trial(crate, room)
+        for batch in batches(new):
+            for it, why in trial.batch(*batch):
+                if why:
+                    places[str(it)].write_text(why)
+                yield it, why
+
+
+def verdict(mutant, why):
+    """What is to be said of a mutant that was tried."""
+    return f"{mutant}: {f'refused, {why}' if why else 'NOT REFUSED'}"
+
+
+class Trials:
+    """Tries the mutants of the gate, of two crates at a time, as soon as the libraries below a crate are built."""
+
+    def __init__(self):
+        self.left = {it.crate: below(it.crate) - {it.crate} for it in edits(gate=True)}
+        self.pool, self.begun, self.built = concurrent.futures.ThreadPoolExecutor(2), {}, set()
+        self.begin()
+
+    def begin(self, *built):
+        """Begins what can be tried now that these are built, too."""
+        self.built.update(built)
+        for crate in [it for it, needs in self.left.items() if needs <= self.built]:
+            del self.left[crate]
+            self.begun[crate] = self.pool.submit(lambda crate=crate: [*tried(edits(crate, gate=True))])
+
+    def end(self):
+        """Each mutant, and why it is refused, once all were tried."""
+        return [found for it in self.begun.values() for found in it.result()]
+
+    def stop(self):
+        """Begins no more."""
+        self.pool.shutdown(wait=False, cancel_futures=True)
+
+
+def note(refused):
+    """Notes the day for these mutants, which were refused."""
+    days = dict(line.split() for line in LIST.read_text().splitlines()) if LIST.exists() else {}
     today = datetime.datetime.now(datetime.timezone.utc).date().isoformat()
-    there = {f"{it.parent.name}/{it.stem}" for it in ROOT.glob("mutants/*/*.edit")}
-    noted = {name: day for name, day in days().items() if name in there} | dict.fromkeys(refused & there, today)
-    LIST.write_text("".join(f"{name} {day}\n" for name, day in sorted(noted.items())))
-    return rt.returncode
+    days = {it: day for it, day in (days | dict.fromkeys(refused, today)).items() if it in set(map(str, edits()))}
+    LIST.write_text("".join(f"{name} {day}\n" for name, day in sorted(days.items())))
 
 
-def main(*crates):
-    every = sorted(it.name for it in ROOT.glob("mutants/*") if it.is_dir())
-    return tried(every if crates == ("--all",) else crates) if crates else min(fit(), 1)
+def main(*names):
+    """Each name is that of a crate, or of one mutant, as CRATE/NAME."""
+    missed = 0
+    for name in dict.fromkeys(it.crate for it in edits()) if names == ("--all",) else names:
+        crate = name.partition("/")[0]
+        if subprocess.run(["rt", "check"], cwd=ROOT / "crates" / crate, stdin=subprocess.DEVNULL).returncode:
+            fail(f"{crate} is not proved as it stands")
+        refused = []
+        for it, why in tried([it for it in edits(crate) if name in (crate, str(it))] or fail(f"there is no mutant {name}")):
+            print(verdict(it, why))
+            refused += [str(it)] if why else []
+            missed += not why
+        note(refused)
+    return min(missed if names else fit(), 1)

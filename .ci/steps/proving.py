@@ -38,22 +38,25 @@ class Proving:
             print("\r\033[K", end="", file=sys.stderr, flush=True)
 
     def take(self, line, shown):
-        """Takes a line of `rt`, and prints it if it is shown."""
+        """Takes a line of `rt`, prints it if it is shown, and returns which crate is done by it, if one is."""
         found = self.pattern.match(line)
+        done = {found[1]} & self.names if found else set()
         with self.printing:
-            self.done |= {found[1]} & self.names if found else set()
+            self.done |= done
             if shown:
                 self.clear()
                 print(line, end="", flush=True)
+        return done
 
 
-def prove(command, names, pattern, shown=False, stdout=None, **how):
+def prove(command, names, pattern, shown=False, stdout=None, told=lambda name: None, **how):
     """Runs a command of `rt` that proves these crates: its status and the lines that it says, which are shown or not. If its
-    standard output goes elsewhere these are those of standard error."""
+    standard output goes elsewhere these are those of standard error. Each crate that is done is told."""
     how |= {"stdout": stdout or subprocess.PIPE, "stderr": None if shown else subprocess.PIPE if stdout else subprocess.STDOUT}
     said = []
     with Proving(names, pattern) as proving, subprocess.Popen(command, errors="replace", **how) as rt:
         for line in rt.stderr or rt.stdout:
             said.append(line)
-            proving.take(line, shown)
+            for name in proving.take(line, shown):
+                told(name)
     return rt.returncode, said

@@ -233,8 +233,8 @@ def page(text):
         text, count = re.subn(rf"(?s)(<!-- {name} -->\n).*?(<!-- end -->)", lambda it: f"{it[1]}\n{rows}\n\n{it[2]}", text)
         if count != 1:
             fail(f"{PAGE.name} has no one table {name}")
-    tried, left = len([*ROOT.glob("crates/*/must-fail/*.edit")]), len([*ROOT.glob("mutants/*/*.edit")])
-    text = re.sub(r"\d+(?=\s+mutants\s+in\s+`must-fail/`)", str(tried), text)
+    tried, left = len([*ROOT.glob("mutants/*/gate/*.edit")]), len([*ROOT.glob("mutants/*/*.edit")])
+    text = re.sub(r"\d+(?=\s+mutants\s+in\s+`mutants/CRATE/gate/`)", str(tried), text)
     return re.sub(r"\d+(?=\s+in\s+`mutants/`)", str(left), text)
 
 

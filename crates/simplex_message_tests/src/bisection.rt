@@ -11,7 +11,6 @@ use simplex_schemes::marked::{Marked, MarkedDigest};
 use simplex_schemes::plain::{Plain, PlainKey};
 use std::alloc::Global;
 use std::process::Abort;
-use std::test::Fail;
 
 /// The value with this encoding in hexadecimal.
 fn value<T: Read + Drop>(alloc: Global, cfg: &T::Cfg, encoding: &str) -> Option<T> {
@@ -73,8 +72,30 @@ fn is_answer_refused<S: CertificateVerifier<D>, D: Digest>(
     refused
 }
 
-/// Four lists: five certificates, the first with a participant too few and the fourth with an invalid signature; the second
-/// alone; the fourth alone; and none. Returns whether an allocation failed.
+/// A hundred certificates, of which the one at place 12 has a participant too few and the one at place 77 an invalid signature.
+/// A body that does not go on once it found an invalid certificate is refused. Returns whether an allocation failed.
+fn is_a_hundred_refused<S: CertificateVerifier<D>, D: Digest>(
+    rt: &(impl Abort + AllocGlobal),
+    scheme: &S,
+    payload: D,
+    [few, good, bad]: [&str; 3],
+) -> bool {
+    let (mut encodings, mut wanted) = (Vec::new(rt.alloc()), Vec::new(rt.alloc()));
+    for place in 0..100 {
+        let (encoding, verifies) = match place {
+            12 => (few, false),
+            77 => (bad, false),
+            _ => (good, true),
+        };
+        if encodings.push(encoding).is_err() || wanted.push(verifies).is_err() {
+            return true;
+        }
+    }
+    is_refused(rt, scheme, payload, &encodings, &wanted)
+}
+
+/// Five lists: five certificates, the first with a participant too few and the fourth with an invalid signature; the second
+/// alone; the fourth alone; none; and a hundred. Returns whether an allocation failed.
 fn any_list_is_refused<S: CertificateVerifier<D>, D: Digest>(
     rt: &(impl Abort + AllocGlobal),
     scheme: &S,
@@ -85,7 +106,8 @@ fn any_list_is_refused<S: CertificateVerifier<D>, D: Digest>(
     let five = is_refused(rt, scheme, payload, &[few, good, good, bad, good], &wanted);
     let second = is_refused(rt, scheme, payload, &[good], &[true]);
     let fourth = is_refused(rt, scheme, payload, &[bad], &[false]);
-    five || second || fourth || is_refused(rt, scheme, payload, &[], &[])
+    let none = is_refused(rt, scheme, payload, &[], &[]);
+    five || second || fourth || none || is_a_hundred_refused(rt, scheme, payload, [few, good, bad])
 }
 
 /// The key whose last byte is this number, behind zeros.
@@ -149,39 +171,6 @@ fn judged_is_refused(rt: &(impl Abort + AllocGlobal)) -> bool {
 #[test]
 fn ample(rt: HostRuntime) {
     assert!(rt; !marked_is_refused(&rt) && !plain_is_refused(&rt) && !judged_is_refused(&rt));
-}
-
-/// A hundred certificates, of which the one at place 12 has a participant too few and the one at place 77 an invalid signature.
-/// A body that does not go on once it found an invalid certificate is refused.
-fn are_hundred_verified<S: CertificateVerifier<D>, D: Digest>(
-    rt: &(impl Abort + AllocGlobal),
-    scheme: &S,
-    payload: D,
-    [few, good, bad]: [&str; 3],
-) {
-    let mut encodings = [good; 100];
-    let mut wanted = [true; 100];
-    encodings[12] = few;
-    wanted[12] = false;
-    encodings[77] = bad;
-    wanted[77] = false;
-    assert!(rt; !is_refused(rt, scheme, payload, &encodings, &wanted));
-}
-
-#[test]
-fn ample_two_of_a_hundred_are_invalid(rt: HostRuntime) -> Result<(), Fail> {
-    let alloc = rt.alloc();
-    let six = MarkedDigest::from_bytes(&[6]);
-    let sixes = Sha256Digest::from_bytes(&[6; 32]);
-    are_hundred_verified(&rt, &Marked::new(alloc, 4, None)?, six, MARKED);
-    are_hundred_verified(&rt, &plain(alloc).ok_or("no committee")?, sixes, PLAIN);
-    are_hundred_verified(
-        &rt,
-        &judged(alloc).ok_or("no committee")?,
-        six,
-        CERTIFICATES,
-    );
-    Ok(())
 }
 
 /// Where the allocation for the answers fails there are none.

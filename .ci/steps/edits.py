@@ -1,0 +1,83 @@
+"""Edits of mutants/: what each changes, and which can be tried at once."""
+
+import dataclasses
+
+from .common import ROOT
+from .functions import functions
+
+
+@dataclasses.dataclass
+class Edit:
+    """A mutant: its name, its crate, and the texts that it puts in place of others, as (path, old, new)."""
+
+    name: str
+    crate: str
+    pairs: list
+
+    def __str__(self):
+        return f"{self.crate}/{self.name}"
+
+    def text(self, path):
+        return (ROOT / "crates" / self.crate / path).read_text()
+
+    def applied(self, texts):
+        """These texts of files, edited, with those of other files that it changes; or None, and what does not stand once."""
+        texts = dict(texts)
+        for path, old, new in self.pairs:
+            if path not in texts:
+                if not (ROOT / "crates" / self.crate / path).is_file():
+                    return None, path
+                texts[path] = self.text(path)
+            if texts[path].count(old) != 1:
+                return None, old
+            texts[path] = texts[path].replace(old, new)
+        return texts, ""
+
+    def turned(self):
+        """The names of the functions that it changes, and whether it changes one alone and nothing else."""
+        found = set()
+        for path, old, _ in self.pairs:
+            text = self.text(path)
+            line = text.count("\n", 0, text.find(old)) if text.count(old) == 1 else None
+            found.add(next((it.name for it in functions(path, text) if line in it.body), None))
+        return found - {None}, len(found) == 1 and None not in found
+
+
+def edit(file):
+    """Reads a mutant: after `file:` come pairs of `old:` and `new:`, each text a line."""
+    pairs, path, old = [], "", ""
+    for line in file.read_text().splitlines():
+        word, _, rest = line.partition(":")
+        rest = rest.removeprefix(" ")
+        if word == "file":
+            path = rest.strip()
+        elif word == "old":
+            old = rest
+        elif word == "new":
+            pairs.append((path, old, rest))
+    return Edit(file.stem, file.relative_to(ROOT / "mutants").parts[0], pairs)
+
+
+def edits(crate="*", gate=False):
+    """The mutants of a crate, or of all: those of the gate, or all."""
+    places = ["gate/*.edit"] if gate else ["gate/*.edit", "*.edit"]
+    return [edit(it) for place in places for it in sorted((ROOT / "mutants").glob(f"{crate}/{place}"))]
+
+
+def batches(mutants):
+    """Lists of mutants that can be tried at once, with their texts: each changes a function of its own, and nothing else. One
+    that changes several functions, or what is none, is tried alone."""
+    alone, shared = [], []
+    for it in mutants:
+        names, single = it.turned()
+        if not single:
+            alone.append(([it], it.applied({})[0]))
+            continue
+        for batch in shared:
+            texts, _ = it.applied(batch["texts"])
+            if texts and not names & batch["names"]:
+                batch |= {"mutants": [*batch["mutants"], it], "names": names | batch["names"], "texts": texts}
+                break
+        else:
+            shared.append({"mutants": [it], "names": names, "texts": it.applied({})[0]})
+    return [*((it["mutants"], it["texts"]) for it in shared), *alone]
