@@ -64,20 +64,26 @@ def edits(crate="*", gate=False):
     return [edit(it) for place in places for it in sorted((ROOT / "mutants").glob(f"{crate}/{place}"))]
 
 
+def together(mutants):
+    """The files that mutants change, with all of their changes; or None where a text does not stand once."""
+    texts = {}
+    for it in mutants:
+        texts, _ = it.applied(texts)
+        if texts is None:
+            return None
+    return texts
+
+
 def batches(mutants):
-    """Lists of mutants that can be tried at once, with their texts: each changes a function of its own, and nothing else. One
-    that changes several functions, or what is none, is tried alone."""
+    """Lists of mutants that can be tried at once: each changes a function of its own, and nothing else. One that changes
+    several functions, or what is none, is tried alone."""
     alone, shared = [], []
     for it in mutants:
         names, single = it.turned()
-        if not single:
-            alone.append(([it], it.applied({})[0]))
-            continue
-        for batch in shared:
-            texts, _ = it.applied(batch["texts"])
-            if texts and not names & batch["names"]:
-                batch |= {"mutants": [*batch["mutants"], it], "names": names | batch["names"], "texts": texts}
-                break
+        fits = (some for some in shared if all(names != other.turned()[0] for other in some) and together([*some, it]))
+        some = next(fits, None) if single else None
+        if some:
+            some.append(it)
         else:
-            shared.append({"mutants": [it], "names": names, "texts": it.applied({})[0]})
-    return [*((it["mutants"], it["texts"]) for it in shared), *alone]
+            (shared if single else alone).append([it])
+    return [*shared, *alone]

@@ -10,7 +10,7 @@ NAME = re.compile(r"(&(?:'\w+ )?(?:mut )?)?(?:\w+::)*(\w+)")
 
 @dataclasses.dataclass(frozen=True)
 class Function:
-    """Its name from the crate on, and its lines, counted from 0: all, attributes included, and those of its body."""
+    """Its name, as `rattle` takes it, and its lines, counted from 0: all, attributes included, and those of its body."""
 
     name: str
     lines: range
@@ -36,7 +36,7 @@ def named(kind, parameters):
 
 
 def holder(head):
-    """The name of a trait, or of an impl: its type, its trait, and the argument of that if it is no parameter."""
+    """The name of a trait, or of an impl: its type, and then its trait, with the argument of that if it is no parameter."""
     trait = re.match(r"(?:pub(?:\([^)]*\))? )?trait (\w+)", head)
     if trait:
         return trait[1]
@@ -67,20 +67,24 @@ def end_of_head(lines, number, lead):
 
 
 def functions(path, text):
-    """The functions of a file of src/ that have a body."""
+    """The functions of a file of src/ that have a body. The path of a type's own method is that of the type, so if the type is not
+    of this file the method's name begins with it."""
     module = "" if path in ("src/lib.rt", "src/main.rt") else path.removeprefix("src/").removesuffix(".rt").replace("/", "::")
-    lines, inside = text.split("\n"), ""
+    types = set(re.findall(r"(?m)^(?:pub(?:\([^)]*\))? )?(?:struct|enum|union) (\w+)", text))
+    lines, inside, home = text.split("\n"), "", module
     for number, line in enumerate(lines):
         if HOLDER.match(line):
             end = next(at for at in range(number, len(lines)) if lines[at].endswith(("{", "}")))
-            inside = holder(" ".join(it.strip() for it in lines[number : end + 1]).rstrip("{} "))
+            head = " ".join(it.strip() for it in lines[number : end + 1]).rstrip("{} ")
+            inside = holder(head)
+            home = module if inside in types or "trait " in head or " for " in head else ""
         elif line == "}":
-            inside = ""
+            inside, home = "", module
         head = FUNCTION.match(line)
         if head and len(head[1]) == (4 if inside else 0):
             begin = end_of_head(lines, number, head[1])
             if not lines[begin].endswith(";"):
                 end = begin if lines[begin].endswith("}") else lines.index(head[1] + "}", begin)
-                name = "::".join(filter(None, (module, inside, head[2])))
+                name = "::".join(filter(None, (home, inside, head[2])))
                 first = next(at for at in range(number, -1, -1) if not lines[at - 1].startswith(head[1] + "#["))
                 yield Function(name, range(first, end + 1), range(begin, end + 1))

@@ -15,9 +15,10 @@ import re
 import shutil
 import subprocess
 import tempfile
+import threading
 
 from .common import ROOT, below, crates, fail
-from .edits import batches, edits
+from .edits import batches, edits, together
 from .functions import functions
 
 LIST = ROOT / "mutants/refused.txt"
@@ -28,7 +29,7 @@ KEPT = pathlib.Path(os.environ.get("XDG_CACHE_HOME") or pathlib.Path.home() / ".
 ERROR = re.compile(r"(?:\./)?(\S+)\.(?:antt|rt):\d+:\d+: (error: .*)")
 GOAL = re.compile(r"note: (src/\S+):(\d+):\d+: (it is not proved .*)")
 # that a text speaks of what is no longer there, or cannot be read
-GONE = re.compile(r"error: .*(has no field|is no(t in scope| name)|has no `|was not admitted|operand is missing|cannot continue)")
+GONE = re.compile(r"error: .*(has no (field|`)|is no(t in scope| name)|was not admitted|operand is missing|cannot continue)")
 
 
 def fit():
@@ -91,19 +92,26 @@ class Trial:
         shutil.rmtree(place)
         return said
 
-    def batch(self, mutants, texts):
-        """Tries mutants at once: yields each, with why the prover refuses it, or nothing where it does not."""
-        said = self.check(texts, set().union(*(it.turned()[0] for it in mutants)))
-        reasons = refusals(said, texts)
-        if len(mutants) > 1:
-            for it in mutants:
-                (name,) = it.turned()[0]
-                why = next((why for place, why in reasons if place == name or place.startswith(f"{name}::")), "")
-                yield from [(it, why)] if why else self.batch([it], it.applied({})[0])
+    def batch(self, mutants):
+        """Tries mutants at once: yields each, with why the prover refuses it, or nothing where it does not. It says nothing of
+        a function that calls one that is refused, so those of which it says nothing are tried once more."""
+        texts = together(mutants)
+        reasons = refusals(self.check(texts, set().union(*(it.turned()[0] for it in mutants))), texts)
+        if len(mutants) == 1:
+            if not reasons and not mutants[0].turned()[1]:
+                reasons = refusals(self.check(texts, ()), texts)
+            yield mutants[0], next((why for _, why in reasons), "")
             return
-        if not reasons and not mutants[0].turned()[1]:
-            reasons = refusals(self.check(texts, ()), texts)
-        yield mutants[0], next((why for _, why in reasons), "")
+        left = []
+        for it in mutants:
+            (name,) = it.turned()[0]
+            why = next((why for place, why in reasons if f"::{name}::" in f"::{place}::"), "")
+            if why:
+                yield it, why
+            else:
+                left.append(it)
+        for some in [left] if 0 < len(left) < len(mutants) else [[it] for it in left]:
+            yield from self.batch(some)
 
 
 def refusals(said, texts):
@@ -133,8 +141,8 @@ def tried(mutants):
     KEPT.mkdir(parents=True, exist_ok=True)
     with tempfile.TemporaryDirectory() as room:
         trial = Trial(crate, room)
-        for batch in batches(new):
-            for it, why in trial.batch(*batch):
+        for some in batches(new):
+            for it, why in trial.batch(some):
                 if why:
                     places[str(it)].write_text(why)
                 yield it, why
@@ -146,11 +154,14 @@ def verdict(mutant, why):
 
 
 class Trials:
-    """Tries the mutants of the gate, of two crates at a time, as soon as the libraries below a crate are built."""
+    """Tries the mutants of the gate, crate by crate, as soon as the libraries below a crate are built: on half of the
+    processors while `rt ci` runs, and on four at most."""
 
     def __init__(self):
         self.left = {it.crate: below(it.crate) - {it.crate} for it in edits(gate=True)}
-        self.pool, self.begun, self.built = concurrent.futures.ThreadPoolExecutor(2), {}, set()
+        self.most = min(4, len(os.sched_getaffinity(0)))
+        self.pool, self.turns = concurrent.futures.ThreadPoolExecutor(self.most), threading.Semaphore(-(-self.most // 2))
+        self.begun, self.built = {}, set()
         self.begin()
 
     def begin(self, *built):
@@ -158,10 +169,15 @@ class Trials:
         self.built.update(built)
         for crate in [it for it, needs in self.left.items() if needs <= self.built]:
             del self.left[crate]
-            self.begun[crate] = self.pool.submit(lambda crate=crate: [*tried(edits(crate, gate=True))])
+            self.begun[crate] = self.pool.submit(self.crate, crate)
+
+    def crate(self, crate):
+        with self.turns:
+            return [*tried(edits(crate, gate=True))]
 
     def end(self):
         """Each mutant, and why it is refused, once all were tried."""
+        self.turns.release(self.most)
         return [found for it in self.begun.values() for found in it.result()]
 
     def stop(self):
