@@ -8,11 +8,13 @@ from .functions import functions
 
 @dataclasses.dataclass
 class Edit:
-    """A mutant: its name, its crate, and the texts that it puts in place of others, as (path, old, new)."""
+    """A mutant: its name, its crate, and the texts that it puts in place of others, as (path, old, new). Or an edit that means
+    the same as what it changes, which the prover must not refuse."""
 
     name: str
     crate: str
     pairs: list
+    means_the_same: bool = False
 
     def __str__(self):
         return f"{self.crate}/{self.name}"
@@ -42,6 +44,11 @@ class Edit:
             found.add(next((it.name for it in functions(path, text) if line in it.body), None))
         return found - {None}, len(found) == 1 and None not in found
 
+    def reason(self, refusals):
+        """Why it is refused by these refusals of functions: by one of its function, or by any if it changes more than one."""
+        names, single = self.turned()
+        return next((why for place, why in refusals if not single or any(f"::{it}::" in f"::{place}::" for it in names)), "")
+
 
 def edit(file):
     """Reads a mutant: after `file:` come pairs of `old:` and `new:`, each text a line."""
@@ -55,12 +62,12 @@ def edit(file):
             old = rest
         elif word == "new":
             pairs.append((path, old, rest))
-    return Edit(file.stem, file.relative_to(ROOT / "mutants").parts[0], pairs)
+    return Edit(file.stem, file.relative_to(ROOT / "mutants").parts[0], pairs, file.parent.name == "same")
 
 
 def edits(crate="*", gate=False):
-    """The mutants of a crate, or of all: those of the gate, or all."""
-    places = ["gate/*.edit"] if gate else ["gate/*.edit", "*.edit"]
+    """The mutants of a crate, or of all, and the edits that mean the same: those of the gate, or all."""
+    places = ["gate/*.edit", "gate/same/*.edit"] + ([] if gate else ["*.edit"])
     return [edit(it) for place in places for it in sorted((ROOT / "mutants").glob(f"{crate}/{place}"))]
 
 

@@ -2,7 +2,10 @@
 
 A mutant is an edit of mutants/CRATE/, or of mutants/CRATE/gate/, which the gate tries. The prover must refuse the function that
 it changes. CRATE/NAME stands for one mutant, `--all` for those of all crates. One check tries mutants of several functions at
-once, and what was refused is kept under `~/.cache`. mutants/refused.txt has the day when this step last saw each refused.
+once, and what was found is kept under `~/.cache`. mutants/refused.txt has the day when this step last saw each refused.
+
+Two controls show that it is the mutants that are refused. The functions of a batch are first checked as they stand, and have to
+be proved. An edit of mutants/CRATE/gate/same/ means the same as what it changes: tried beside mutants, it must not be refused.
 """
 
 import concurrent.futures
@@ -25,7 +28,8 @@ LIST = ROOT / "mutants/refused.txt"
 PARTS = ("src", "specs", "proofs")
 # what was refused on this machine, under the sum of all that was read
 KEPT = pathlib.Path(os.environ.get("XDG_CACHE_HOME") or pathlib.Path.home() / ".cache") / "simplex_mutants"
-# where a check finds an error, and a goal that nothing proves
+# what a check says at last if it proved all, where it finds an error, and a goal that nothing proves
+PROVED = re.compile(r"only=(\d+) proved=\1$")
 ERROR = re.compile(r"(?:\./)?(\S+)\.(?:antt|rt):\d+:\d+: (error: .*)")
 GOAL = re.compile(r"note: (src/\S+):(\d+):\d+: (it is not proved .*)")
 # that a text speaks of what is no longer there, or cannot be read
@@ -38,7 +42,7 @@ def fit():
     bad = [(it, misfit) for it in every for texts, misfit in [it.applied({})] if texts is None]
     for it, misfit in bad:
         print(f"{it}: not once in its file: {misfit}")
-    print(f"{len(every) - len(bad)} of {len(every)} mutants fit the code, {len(edits(gate=True))} of them are the gate's")
+    print(f"{len(every) - len(bad)} of {len(every)} mutants fit the code, the gate tries {len(edits(gate=True))} of them")
     return len(bad)
 
 
@@ -92,36 +96,51 @@ class Trial:
         shutil.rmtree(place)
         return said
 
+    def stands(self, mutants):
+        """Whether the functions that these change, and what they call, are proved as they stand."""
+        names = changed(mutants)
+        return not names or is_proved(self.check({}, names))
+
     def batch(self, mutants):
         """Tries mutants at once: yields each, with why the prover refuses it, or nothing where it does not. It says nothing of
         a function that calls one that is refused, so those of which it says nothing are tried once more."""
         texts = together(mutants)
-        reasons = refusals(self.check(texts, set().union(*(it.turned()[0] for it in mutants))), texts)
-        if len(mutants) == 1:
-            if not reasons and not mutants[0].turned()[1]:
-                reasons = refusals(self.check(texts, ()), texts)
-            yield mutants[0], next((why for _, why in reasons), "")
-            return
-        left = []
+        said = self.check(texts, changed(mutants))
+        reasons, left = refusals(said, texts), []
         for it in mutants:
-            (name,) = it.turned()[0]
-            why = next((why for place, why in reasons if f"::{name}::" in f"::{place}::"), "")
-            if why:
+            why = it.reason(reasons) or (self.alone(it, texts, said) if len(mutants) == 1 else "")
+            if why or len(mutants) == 1:
                 yield it, why
             else:
                 left.append(it)
         for some in [left] if 0 < len(left) < len(mutants) else [[it] for it in left]:
             yield from self.batch(some)
 
+    def alone(self, mutant, texts, said):
+        """Why a mutant is refused that was tried alone, if no goal and no answer of its function says so."""
+        if mutant.means_the_same:
+            return "" if is_proved(said) else "it is not proved"
+        return "" if mutant.turned()[1] else mutant.reason(refusals(self.check(texts, ()), texts))
+
+
+def is_proved(said):
+    """Whether a check proved all that it was to."""
+    return any(PROVED.match(line) for line in said)
+
+
+def changed(mutants):
+    """The names of the functions that mutants change."""
+    return set().union(*(it.turned()[0] for it in mutants))
+
 
 def refusals(said, texts):
     """The functions that a check refuses, and why, if these files were changed. A goal that is gone is no reason."""
-    changed = [(path, it) for path, text in texts.items() for it in functions(path, text)]
+    turned = [(path, it) for path, text in texts.items() for it in functions(path, text)]
     found = []
     for line in said:
         goal, error = GOAL.match(line), ERROR.match(line)
         if goal:
-            found += [(it.name, goal[3]) for path, it in changed if path == goal[1] and int(goal[2]) - 1 in it.lines]
+            found += [(it.name, goal[3]) for path, it in turned if path == goal[1] and int(goal[2]) - 1 in it.lines]
         if error and not GONE.match(error[2]):
             parts = [it.removeprefix("+") for it in error[1].split("/")[1:-1] if it != "fn"]
             found.append(("::".join(parts), error[2]))
@@ -141,15 +160,24 @@ def tried(mutants):
     KEPT.mkdir(parents=True, exist_ok=True)
     with tempfile.TemporaryDirectory() as room:
         trial = Trial(crate, room)
+        if new and not trial.stands(new):
+            fail(f"{crate}: what its mutants change is NOT PROVED as it stands")
         for some in batches(new):
             for it, why in trial.batch(some):
-                if why:
+                if is_right(it, why):
                     places[str(it)].write_text(why)
                 yield it, why
 
 
+def is_right(mutant, why):
+    """Whether a mutant is refused, or an edit that means the same is not."""
+    return bool(why) != mutant.means_the_same
+
+
 def verdict(mutant, why):
     """What is to be said of a mutant that was tried."""
+    if mutant.means_the_same:
+        return f"{mutant}: {f'REFUSED, {why}' if why else 'not refused, and it means the same'}"
     return f"{mutant}: {f'refused, {why}' if why else 'NOT REFUSED'}"
 
 
@@ -173,7 +201,11 @@ class Trials:
 
     def crate(self, crate):
         with self.turns:
-            return [*tried(edits(crate, gate=True))]
+            found = [*tried(edits(crate, gate=True))]
+        for it, why in found:
+            if not is_right(it, why):
+                print(verdict(it, why), flush=True)
+        return found
 
     def end(self):
         """Each mutant, and why it is refused, once all were tried."""
@@ -204,6 +236,6 @@ def main(*names):
         for it, why in tried([it for it in edits(crate) if name in (crate, str(it))] or fail(f"there is no mutant {name}")):
             print(verdict(it, why))
             refused += [str(it)] if why else []
-            missed += not why
+            missed += not is_right(it, why)
         note(refused)
     return min(missed if names else fit(), 1)

@@ -1,6 +1,6 @@
 //! The earliest votes of a kind, by signers.
 
-ghost use Rattle.std.specs.Prelude.{◌≡◌, ◌≢◌, ◌^◌, ◌≤◌, ◌++◌, [], ◌∷◌, length, false, true, Ok, None, Some, IfOk, IfSome, IsSome, OnOk, OnErr, option_map, slice_index_or};
+ghost use Rattle.std.specs.Prelude.{◌≡◌, ◌≢◌, ◌^◌, ◌<◌, ◌≤◌, ◌++◌, [], ◌∷◌, length, false, true, Ok, None, Some, IfOk, IfSome, IsSome, OnOk, OnErr, option_map, slice_index_or};
 ghost use Rattle.std.specs.List.{flat_map};
 ghost use Rattle.simplex_evidence.specs.VoteMap.{AddsOnly, item_of};
 ghost use Rattle.simplex_ballots.specs.Firsts.{first_key, first_place_of, held_from, vacant};
@@ -169,8 +169,10 @@ fn table_of(
     few: &SortedList<First>,
     participants: usize,
 ) -> Result<Option<Vec<u32>>, AllocError>
-    ensures { IfOk result (λ table. IfSome table (λ places.
+    ensures held { IfOk result (λ table. IfSome table (λ places.
         (held_from 0 places.items ≡ few.now) × (length places.items ≤ 2 ^ 32))) }
+    ensures filled { participants < 2 ^ 32 → IfOk result (λ table. IfSome table (λ places.
+        participants ≤ length places.items)) }
 {
     let mut places = Vec::with_capacity(alloc, participants)?;
     'few: for first in few.as_slice() {
@@ -189,6 +191,7 @@ fn table_of(
 fn fill_places(places: &mut Vec<u32>, participants: usize) -> Result<(), AllocError>
     ensures votes { OnOk result (held_from 0 places.new.items ≡ held_from 0 places.old.items) }
     ensures size { length places.old.items ≤ 2 ^ 32 → OnOk result (length places.new.items ≤ 2 ^ 32) }
+    ensures filled { participants < 2 ^ 32 → OnOk result (participants ≤ length places.new.items) }
 {
     if places.len() < participants && participants <= VACANT as usize {
         places.resize(participants, VACANT)?;

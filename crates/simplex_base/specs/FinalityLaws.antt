@@ -1,15 +1,15 @@
 -- Formats put together have final refusals if their parts have.
 -- They stand beside the definitions because ghost members of impls cite them, and those see no proofs.
-use Rattle.std.proofs.Common.{◌≡◌, ◌≢◌, ◌==◌, ◌⊎◌, inl, inr, ℕ, zero, suc, ◌+◌, ◌-◌, ◌*◌, ◌<◌, ◌≤◌, List, [], ◌∷◌, ◌++◌, length, Ok, Err, Bool, true, false, cond, nat_lt, take, drop, refl, ◌∙◌, arith, length-append}
+use Rattle.std.proofs.Common.{◌≡◌, ◌==◌, ◌⊎◌, inl, inr, ℕ, zero, suc, ◌+◌, ◌-◌, ◌*◌, ◌≤◌, List, [], ◌∷◌, ◌++◌, length, Ok, Err, Bool, true, false, cond, nat_lt, refl, ◌∙◌, arith, length-append}
 use Rattle.std.proofs.lemmas.Bool.{ltb-true, ltb-false, le-ltb}
 use Rattle.std.proofs.lemmas.List.{take-append-le, drop-append-le, length-drop}
 use Rattle.std.specs.Prelude.{IfOk}
 use Rattle.std.proofs.Math.Dec.{eqb-suc-zero}
-use Rattle.simplex_base.specs.Reading.{Reading, Refusal, ◌>>=◌, end_of_buffer, invalid_bool, invalid_varint}
+use Rattle.simplex_base.specs.Reading.{Reading, Refusal, ◌>>=◌, end_of_buffer, invalid_varint}
 use Rattle.simplex_base.specs.Format.{both_at, made_at, tested_at, fixed_at, truth_at}
 use Rattle.simplex_base.specs.Union.{union_at, branch_at, no_branch}
 use Rattle.simplex_base.specs.Varint.{groups_at, with_group, number_at, number_32, number_64}
-use Rattle.simplex_base.specs.Finality.{before, EndsEarly, IsSettled, IsFinal}
+use Rattle.simplex_base.specs.Finality.{EndsEarly, IsSettled, IsFinal}
 
 -- ---- a longer bound
 

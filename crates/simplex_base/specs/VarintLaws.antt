@@ -2,10 +2,11 @@
 -- Each law is by induction on the groups: what holds of the rest holds with one more group before it.
 -- They stand beside the definitions because ghost members of impls cite them, and those see no proofs.
 use Rattle.std.proofs.Math.Nat.{mul-le-mul_left, le-mul_of_pos_right, one-le-pow}
-use Rattle.std.proofs.Common.{◌≡◌, ℕ, zero, suc, length, nat_lt, ◌+◌, ◌-◌, ◌*◌, ◌/◌, ◌%◌, ◌^◌, ◌<◌, ◌≤◌, Bool, true, false, cond, List, [], ◌∷◌, ◌++◌, Result, Ok, Err, refl, sym, ap, subst, ◌∙◌, arith, inl, inr, ltb, ◌⊎◌}
+use Rattle.std.proofs.Common.{◌≡◌, ℕ, zero, suc, length, get_or, take, drop, nat_lt, ◌+◌, ◌-◌, ◌*◌, ◌/◌, ◌%◌, ◌^◌, ◌<◌, ◌≤◌, Bool, true, false, cond, List, [], ◌∷◌, ◌++◌, Result, Ok, Err, refl, sym, ap, subst, ◌∙◌, arith, inl, inr, ltb, ◌⊎◌}
 use Rattle.std.proofs.Math.Dec.{eqb-suc-zero}
+use Rattle.std.proofs.lemmas.List.{take_all}
 use Rattle.std.proofs.lemmas.Bool.{cases_Bool, cases_lt, lt-ltb, le-ltb, ltb-true, ltb-false}
-use Rattle.std.specs.Prelude.{⊤, ◌≢◌}
+use Rattle.std.specs.Prelude.{⊤, ◌≢◌, IfOk}
 use Rattle.simplex_base.specs.declared.codec.error.Error.{Error}
 use Rattle.simplex_base.specs.declared.codec.error.Error.TheVariants as errors
 use Rattle.simplex_base.specs.Reading.{Reading, end_of_buffer, invalid_varint, IsBytes, Gives}
@@ -89,6 +90,66 @@ groups_len (suc k) n = elim (cases_Bool (nat_lt n 128)) [
   | inl small ↦ rw small (omega arith)
   | inr large ↦ rw large (omega (arith, groups_len k (n / 128)))
 ]
+
+-- a group before groups that are at least m
+pub above_group : (m n b : ℕ) (read : Reading ℕ) → n ≤ 128 * m → IfOk read (λ x. m ≤ x.0) →
+    IfOk (with_group b read) (λ x. n ≤ x.0)
+above_group m n b (Ok (high, rest)) le h = omega arith
+above_group m n b (Err e) le h = tt
+
+-- the groups above the first are not 0
+pub groups_above : (bytes : List ℕ) (k top : ℕ) → IfOk (groups_at bytes k top) (λ x. 1 ≤ x.0)
+unfolding groups_at
+groups_above [] k top = tt
+groups_above (b ∷ bytes) zero top = elim (cases_Bool (nat_lt 0 b)) [
+  | inl some ↦ rw some (elim (cases_Bool (nat_lt b top)) [
+    | inl below ↦ rw below (ltb-true 0 b some)
+    | inr past ↦ rw past tt
+  ])
+  | inr none ↦ rw none tt
+]
+groups_above (b ∷ bytes) (suc k) top = rw (eqb-suc-zero k) (elim (cases_Bool (nat_lt b 128)) [
+  | inl last ↦ rw last (elim (cases_Bool (nat_lt 0 b)) [
+    | inl some ↦ rw some (ltb-true 0 b some)
+    | inr none ↦ rw none tt
+  ])
+  | inr more ↦ rw more (above_group 1 1 b _ (omega arith) (groups_above bytes (suc k - 1) top))
+])
+
+-- that of a group that is not the last one
+next_group : (k top m n b : ℕ) (bytes : List ℕ) → 128 ≤ b → n ≤ 128 * m → IfOk (groups_at bytes k top) (λ x. m ≤ x.0) →
+    IfOk (groups_at (b ∷ bytes) (suc k) top) (λ x. n ≤ x.0)
+unfolding groups_at
+next_group k top m n b bytes more le h =
+    let less : suc k - 1 ≡ k = omega arith in
+    rw (eqb-suc-zero k, le-ltb b 128 more, less) (above_group m n b _ le h)
+
+-- what has more than three groups is at least 2^21
+pub many_groups : (k top low middle high : ℕ) (bytes : List ℕ) → 128 ≤ low → 128 ≤ middle → 128 ≤ high →
+    IfOk (groups_at (low ∷ middle ∷ high ∷ bytes) (suc (suc (suc k))) top) (λ x. 2 ^ 21 ≤ x.0)
+many_groups k top low middle high bytes p q r =
+    next_group (suc (suc k)) top (128 * 128) (2 ^ 21) low _ p (omega arith)
+    (next_group (suc k) top 128 (128 * 128) middle _ q (omega arith)
+    (next_group k top 1 128 high _ r (omega arith) (groups_above bytes k top)))
+
+-- what stands behind the first byte
+abbrev behind : List ℕ → List ℕ
+behind xs = take (length xs - 1) (drop 1 xs)
+
+behind_cons : (x : ℕ) (xs : List ℕ) → behind (x ∷ xs) ≡ xs
+behind_cons x xs = take_all (suc (length xs) - 1) xs (omega arith)
+
+-- that of bytes whose first three are no last groups
+pub many_groups_at : (k top : ℕ) (xs : List ℕ) → 1 ≤ length xs → 128 ≤ get_or xs 0 0 → 1 ≤ length (behind xs) →
+    128 ≤ get_or (behind xs) 0 0 → 1 ≤ length (behind (behind xs)) → 128 ≤ get_or (behind (behind xs)) 0 0 →
+    IfOk (groups_at xs (suc (suc (suc k))) top) (λ x. 2 ^ 21 ≤ x.0)
+many_groups_at k top [] a p b q d r = absurd (omega arith)
+many_groups_at k top (low ∷ []) a p b q d r = absurd (omega (arith, b))
+many_groups_at k top (low ∷ middle ∷ []) a p b q d r = absurd (omega (arith, d))
+many_groups_at k top (low ∷ middle ∷ high ∷ rest) a p b q d r =
+    let e = behind_cons low (middle ∷ high ∷ rest) in
+    let f = behind_cons middle (high ∷ rest) in
+    many_groups k top low middle high rest p (rw e at q) (rw f at (rw e at r))
 
 -- no encoding is empty
 pub groups_some : (k n : ℕ) → 1 ≤ length (groups k n)

@@ -1,10 +1,11 @@
 -- The union of all messages: how they are encoded, the votes that one holds, and what makes one valid.
-use Rattle.std.proofs.Common.{◌≡◌, ℕ, ◌+◌, ◌*◌, Bool, true, false, List, ◌∷◌}
+use Rattle.std.proofs.Common.{◌≡◌, ℕ, ◌+◌, ◌*◌, ◌^◌, ◌≤◌, ◌⊎◌, Bool, true, false, List, ◌∷◌}
 use Rattle.std.specs.Prelude.{codes, max, Option, ⊤}
 use Rattle.simplex_base.specs.Reading.{Refusal, invalid, Reading}
 use Rattle.simplex_base.specs.Format.{Format}
 use Rattle.simplex_base.specs.Union.{union_at, branch_at, no_branch}
-use Rattle.simplex_base.specs.Positions.{Round}
+use Rattle.simplex_base.specs.Positions.{Round, IsLongRound}
+use Rattle.simplex_scheme.specs.Proposal.{IsLongProposal}
 use Rattle.simplex_scheme.specs.declared.scheme.Attestation.{Attestation}
 use Rattle.simplex_scheme.specs.Subject.{SubjectValue, Notarizes, Nullifies, Finalizes}
 use Rattle.simplex_votes.specs.Votes.{SignedVote, notarize_vote, nullify_vote, finalize_vote}
@@ -88,6 +89,15 @@ has_certificate (activity.Certification n) = true
 has_certificate (activity.Nullification n) = true
 has_certificate (activity.Finalization n) = true
 has_certificate _ = false
+
+-- ---- long messages
+
+-- a vote with a number of more than four bytes, or a message that is no vote
+abbrev pub IsLongActivity : {S D C P G : Type 0} → Activity S D C P G → Type 0
+IsLongActivity (activity.Notarize v) = IsLongProposal v.proposal ⊎ (2 ^ 28 ≤ v.attestation.signer)
+IsLongActivity (activity.Nullify v) = IsLongRound v.round ⊎ (2 ^ 28 ≤ v.attestation.signer)
+IsLongActivity (activity.Finalize v) = IsLongProposal v.proposal ⊎ (2 ^ 28 ≤ v.attestation.signer)
+IsLongActivity _ = ⊤
 
 -- ---- clones
 

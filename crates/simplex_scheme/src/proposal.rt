@@ -1,8 +1,8 @@
 //! Proposals, which are voted on.
 
-ghost use Rattle.std.specs.Prelude.{◌≡◌, ◌↔◌, ⊤, ◌+◌, Ok, IfSome, IsTrue, false, length};
+ghost use Rattle.std.specs.Prelude.{◌≡◌, ◌↔◌, ⊤, ◌+◌, None, Ok, IfOk, IfSome, IsTrue, false, length};
 ghost use Rattle.simplex_base.specs.Format.{format_of};
-ghost use Rattle.simplex_scheme.specs.Proposal.{proposal_format, proposal_of};
+ghost use Rattle.simplex_scheme.specs.Proposal.{proposal_format, proposal_of, IsLongProposal};
 
 use crate::scheme::Digest;
 use simplex_base::codec::parts::{size_both, split_fixed, write_both};
@@ -69,13 +69,15 @@ impl<D: Copy> Copy for Proposal<D> {}
 pub type ProposalParts<'a> = (Round, View, &'a [u8]);
 
 impl<D: Digest> Proposal<D> {
-    /// The parts of the proposal at the front of some bytes, if its numbers are short, and the bytes after it. `None` says
-    /// nothing: it may be longer, or refused. The payload is not copied, as it is with each move of a proposal.
+    /// The parts of the proposal at the front of some bytes, if its numbers have at most four bytes, and the bytes after it. `None`
+    /// only where the bytes are refused, or a number is longer. The payload is not copied, as it is with each move of a proposal.
     #[inline(always)]
     pub fn short_parts(bytes: &[u8]) -> Option<(ProposalParts<'_>, &[u8])>
         ensures size { IfSome result (λ x. length x.0.2.now ≡ D.SIZE) }
         ensures gives { IfSome result (λ x. (proposal_format (format_of ⟦<D as Read>⟧)).reading bytes.now ≡
             Ok (proposal_of D.of_bytes x.0, x.1.now)) }
+        ensures long { result ≡ None → IfOk ((proposal_format (format_of ⟦<D as Read>⟧)).reading bytes.now) (λ x.
+            IsLongProposal x.0) }
     {
         let Some((round, rest)) = Round::read_short(bytes) else {
             return None;

@@ -329,14 +329,16 @@ impl<S: SchemeTypes> MaxEncodeSize for Attestation<S> {
 pub type AttestationParts<'a> = (Participant, &'a [u8]);
 
 impl<S: SchemeTypes> Attestation<S> {
-    /// The parts of the attestation at the front of some bytes, if its signer's number is short, and the bytes after it. `None`
-    /// says nothing, and the signature is not copied, as with [`Proposal::short_parts`].
+    /// The parts of the attestation at the front of some bytes, if its signer's number has at most four bytes, and the bytes after
+    /// it. `None` only where the bytes are refused, or the number is longer. The signature is not copied.
     #[inline(always)]
     pub fn short_parts(bytes: &[u8]) -> Option<(AttestationParts<'_>, &[u8])>
         ensures size { IfSome result (λ x. length x.0.1.now ≡ S.Signature.SIZE) }
         ensures gives { IfSome result (λ x. (attestation_format {S = S} {P = S.PublicKey}
             (format_of ⟦<S::Signature as Read>⟧)).reading bytes.now ≡
             Ok (attestation_of S.Signature.of_bytes x.0, x.1.now)) }
+        ensures long { result ≡ None → IfOk ((attestation_format {S = S} {P = S.PublicKey}
+            (format_of ⟦<S::Signature as Read>⟧)).reading bytes.now) (λ x. 2 ^ 28 ≤ x.0.signer) }
     {
         let (signer, rest) = short_number(bytes)?;
         let (signature, rest) = split_fixed::<S::Signature>(rest)?;

@@ -72,8 +72,11 @@ pub trait Visitor<M: Message> {
 
 /// A message that may be quicker to read and show to a visitor at once than to read first: a value that is returned is copied.
 pub trait Show: Message + Drop {
+    /// The messages that may be left to `read_cfg`.
+    ghost is_long: { Self → Type 0 };
+
     /// Shows the message at the front of some bytes to the visitor, if it is a short one, moves the slice past it, and returns
-    /// true. After false all is as before, and nothing is said: it may be longer, or refused. `AllocError` only where an
+    /// true. After false all is as before: the bytes are refused, or begin with a long message. `AllocError` only where an
     /// allocation failed.
     fn show_short<V: Visitor<Self>>(
         alloc: Global,
@@ -83,8 +86,10 @@ pub trait Show: Message + Drop {
         visitor: &mut V,
     ) -> Result<bool, AllocError>
         requires { V.has_room visitor.old (length input.old.now) }
-        ensures { IfOk result (λ shown. IsShown (Self.reading bound) (V.follows context.now) shown
-            input.old.now input.new.now visitor.old visitor.new) };
+        ensures shown { IfOk result (λ shown. IsShown (Self.reading bound) (V.follows context.now) shown
+            input.old.now input.new.now visitor.old visitor.new) }
+        ensures long { IfOk result (λ shown. shown ≡ false →
+            IfOk (Self.reading bound input.old.now) (λ x. Self.is_long x.0)) };
 }
 
 /// What was read of some bytes.

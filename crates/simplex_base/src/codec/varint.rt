@@ -1,7 +1,7 @@
 //! Numbers in LEB128: groups of seven bits, the lowest group first. The top bit is set on each byte but the last, and
 //! the last is not zero unless it is the only one, so each number has one encoding.
 
-ghost use Rattle.std.specs.Prelude.{◌≡◌, ℕ, length, ◌++◌, Ok, OnOk, OnErr, IfOk, IfSome, List, take, ◌≤◌, ◌<◌, ◌+◌, ◌*◌, ◌^◌, false};
+ghost use Rattle.std.specs.Prelude.{◌≡◌, ℕ, length, ◌++◌, None, Ok, OnOk, OnErr, IfOk, IfSome, List, take, ◌≤◌, ◌<◌, ◌+◌, ◌*◌, ◌^◌, false};
 ghost use Rattle.simplex_base.specs.Reading.{Gives, GivesRest, IsBytes};
 ghost use Rattle.simplex_base.specs.Varint.{IsNumber, ReadsNumber, groups, groups_at, number_at, number_32, number_64};
 
@@ -69,37 +69,52 @@ fn read_number(input: &mut &[u8], more: u8, top: u8) -> Result<u64, Error>
     }
 }
 
-/// Reads the groups of a number after the first, if these are at most three; else `None`.
+/// Reads the groups of a number after the first, if these are at most three. `None` only where the bytes are refused, or begin
+/// with more groups.
 #[inline(always)]
 #[tactic(auto, unfolding(crate::specs::Varint::groups_at))]
 fn short_groups(bytes: &[u8]) -> Option<(u64, &[u8])>
     ensures wide { IfSome result (λ x. groups_at bytes.now 8 2 ≡ Ok (x.0, x.1.now)) }
     ensures narrow { IfSome result (λ x. groups_at bytes.now 3 16 ≡ Ok (x.0, x.1.now)) }
     ensures small { IfSome result (λ x. x.0 < 2 ^ 21) }
+    ensures long_wide { result ≡ None → IfOk (groups_at bytes.now 8 2) (λ x. 2 ^ 21 ≤ x.0) }
+    ensures long_narrow { result ≡ None → IfOk (groups_at bytes.now 3 16) (λ x. 2 ^ 21 ≤ x.0) }
 {
-    match bytes {
-        [group, rest @ ..] if 0 < *group && *group < 128 => Some((u64::from(*group), rest)),
-        [low, high, rest @ ..] if *low >= 128 && 0 < *high && *high < 128 => {
-            Some((u64::from(*low - 128) + 128 * u64::from(*high), rest))
-        }
-        [low, middle, high, rest @ ..]
-            if *low >= 128 && *middle >= 128 && 0 < *high && *high < 128 => {
-            let groups = u64::from(*middle - 128) + 128 * u64::from(*high);
-            Some((u64::from(*low - 128) + 128 * groups, rest))
-        }
-        _ => None,
+    let [low, rest @ ..] = bytes else {
+        return None;
+    };
+    if *low < 128 {
+        return (0 < *low).then_some((u64::from(*low), rest));
     }
+    let [middle, rest @ ..] = rest else {
+        return None;
+    };
+    if *middle < 128 {
+        let number = u64::from(*low - 128) + 128 * u64::from(*middle);
+        return (0 < *middle).then_some((number, rest));
+    }
+    let [high, rest @ ..] = rest else {
+        return None;
+    };
+    if *high >= 128 {
+        return None;
+    }
+    let groups = u64::from(*middle - 128) + 128 * u64::from(*high);
+    let number = u64::from(*low - 128) + 128 * groups;
+    (0 < *high).then_some((number, rest))
 }
 
-/// Reads a number of at most four bytes, and returns what follows it, too. `None` says nothing: the bytes may be refused, or
-/// begin with a longer number. It is for readers that look at short messages first: unlike a `Result`, what it returns needs
-/// no room that has to be cleared.
+/// Reads a number of at most four bytes, and returns what follows it, too. `None` only where the bytes are refused, or begin with
+/// a longer number. It is for readers that look at short messages first: unlike a `Result`, what it returns needs no room that
+/// has to be cleared.
 #[inline(always)]
 #[tactic(auto, unfolding(crate::specs::Varint::number_at))]
 pub fn short_number(bytes: &[u8]) -> Option<(u64, &[u8])>
     ensures wide { IfSome result (λ x. number_64.reading bytes.now ≡ Ok (x.0, x.1.now)) }
     ensures narrow { IfSome result (λ x. number_32.reading bytes.now ≡ Ok (x.0, x.1.now)) }
     ensures small { IfSome result (λ x. x.0 < 2 ^ 28) }
+    ensures long_wide { result ≡ None → IfOk (number_64.reading bytes.now) (λ x. 2 ^ 28 ≤ x.0) }
+    ensures long_narrow { result ≡ None → IfOk (number_32.reading bytes.now) (λ x. 2 ^ 28 ≤ x.0) }
 {
     match bytes {
         [] => None,

@@ -1,7 +1,7 @@
 //! Rounds, each a view of an epoch.
 
-ghost use Rattle.std.specs.Prelude.{◌≡◌, false, Ok, IfSome};
-ghost use Rattle.simplex_base.specs.Positions.{round_format};
+ghost use Rattle.std.specs.Prelude.{◌≡◌, false, None, Ok, IfOk, IfSome};
+ghost use Rattle.simplex_base.specs.Positions.{round_format, IsLongRound};
 ghost use Rattle.simplex_base.specs.PositionLaws.{round_lawful, round_within, longest_round};
 
 use crate::codec::parts::{size_both, write_both};
@@ -90,10 +90,12 @@ impl<T: Roundable> Viewable for T {
 }
 
 impl Round {
-    /// The round at the front of some bytes, if its numbers are short, and the bytes after it. `None` says nothing.
+    /// The round at the front of some bytes, if its numbers have at most four bytes, and the bytes after it. `None` only where the
+    /// bytes are refused, or the round's numbers are longer.
     #[inline(always)]
     pub fn read_short(bytes: &[u8]) -> Option<(Round, &[u8])>
-        ensures { IfSome result (λ x. ⟦<Round as Read>⟧.reading tt bytes.now ≡ Ok (x.0, x.1.now)) }
+        ensures read { IfSome result (λ x. ⟦<Round as Read>⟧.reading tt bytes.now ≡ Ok (x.0, x.1.now)) }
+        ensures long { result ≡ None → IfOk (⟦<Round as Read>⟧.reading tt bytes.now) (λ x. IsLongRound x.0) }
     {
         let (epoch, rest) = short_number(bytes)?;
         let (view, rest) = short_number(rest)?;

@@ -1,11 +1,13 @@
 //! The union of all messages.
 
-ghost use Rattle.std.specs.Prelude.{ℕ, ◌≡◌, ◌≢◌, ◌+◌, ◌*◌, ◌^◌, ◌∷◌, length, Ok, IfOk, IfErr, IfSome, IsTrue};
+ghost use Rattle.std.specs.Prelude.{ℕ, ◌≡◌, ◌≢◌, ◌+◌, ◌*◌, ◌^◌, ◌≤◌, ◌⊎◌, ◌∷◌, length, false, None, Ok, IfOk, IfErr, IfSome, IsTrue};
 ghost use Rattle.simplex_base.specs.Format.{format_of, format_under};
 ghost use Rattle.simplex_base.specs.LeastSize.{NoneShorter};
+ghost use Rattle.simplex_base.specs.Positions.{IsLongRound};
 ghost use Rattle.simplex_base.specs.Reading.{Gives};
 ghost use Rattle.simplex_scheme.specs.Attestation.{attestation_of};
-ghost use Rattle.simplex_scheme.specs.Proposal.{proposal_of};
+ghost use Rattle.simplex_scheme.specs.Proposal.{proposal_of, IsLongProposal};
+ghost use Rattle.simplex_evidence.specs.Activity.{IsLongActivity};
 ghost use Rattle.simplex_stream.specs.Progress.{IsShown};
 
 use crate::types::conflicting_finalize::ConflictingFinalize;
@@ -382,6 +384,8 @@ impl<S: CertificateScheme, D: Digest> Message for Activity<S, D> {
 }
 
 impl<S: CertificateScheme, D: Digest> Show for Activity<S, D> {
+    ghost is_long = { IsLongActivity };
+
     fn show_short<V: Visitor<Self>>(
         alloc: Global,
         context: &V::Context,
@@ -389,10 +393,13 @@ impl<S: CertificateScheme, D: Digest> Show for Activity<S, D> {
         input: &mut &[u8],
         visitor: &mut V,
     ) -> Result<bool, AllocError> {
-        match *input {
-            [0, body @ ..] => show_notarize(alloc, context, bound, body, input, visitor),
-            [3, body @ ..] => show_nullify(alloc, context, bound, body, input, visitor),
-            [5, body @ ..] => show_finalize(alloc, context, bound, body, input, visitor),
+        let [tag, body @ ..] = *input else {
+            return Ok(false);
+        };
+        match *tag {
+            0 => show_notarize(alloc, context, bound, body, input, visitor),
+            3 => show_nullify(alloc, context, bound, body, input, visitor),
+            5 => show_finalize(alloc, context, bound, body, input, visitor),
             _ => Ok(false),
         }
     }
@@ -410,8 +417,10 @@ fn show_notarize<'a, S: CertificateScheme, D: Digest, V: Visitor<Activity<S, D>>
 ) -> Result<bool, AllocError>
     requires tag { input.old.now ≡ 0 ∷ body.now }
     requires room { V.has_room visitor.old (length input.old.now) }
-    ensures { IfOk result (λ shown. IsShown (⟦<Activity<S, D> as Read>⟧.reading bound) (V.follows context.now) shown
+    ensures shown { IfOk result (λ shown. IsShown (⟦<Activity<S, D> as Read>⟧.reading bound) (V.follows context.now) shown
         input.old.now input.new.now visitor.old visitor.new) }
+    ensures long { IfOk result (λ shown. shown ≡ false →
+        IfOk (⟦<Activity<S, D> as Read>⟧.reading bound input.old.now) (λ x. IsLongActivity x.0)) }
 {
     let Some((proposal, attestation, rest)) = short_parts::<S, D>(body) else {
         return Ok(false);
@@ -435,8 +444,10 @@ fn show_finalize<'a, S: CertificateScheme, D: Digest, V: Visitor<Activity<S, D>>
 ) -> Result<bool, AllocError>
     requires tag { input.old.now ≡ 5 ∷ body.now }
     requires room { V.has_room visitor.old (length input.old.now) }
-    ensures { IfOk result (λ shown. IsShown (⟦<Activity<S, D> as Read>⟧.reading bound) (V.follows context.now) shown
+    ensures shown { IfOk result (λ shown. IsShown (⟦<Activity<S, D> as Read>⟧.reading bound) (V.follows context.now) shown
         input.old.now input.new.now visitor.old visitor.new) }
+    ensures long { IfOk result (λ shown. shown ≡ false →
+        IfOk (⟦<Activity<S, D> as Read>⟧.reading bound input.old.now) (λ x. IsLongActivity x.0)) }
 {
     let Some((proposal, attestation, rest)) = short_parts::<S, D>(body) else {
         return Ok(false);
@@ -460,8 +471,10 @@ fn show_nullify<'a, S: CertificateScheme, D: Digest, V: Visitor<Activity<S, D>>>
 ) -> Result<bool, AllocError>
     requires tag { input.old.now ≡ 3 ∷ body.now }
     requires room { V.has_room visitor.old (length input.old.now) }
-    ensures { IfOk result (λ shown. IsShown (⟦<Activity<S, D> as Read>⟧.reading bound) (V.follows context.now) shown
+    ensures shown { IfOk result (λ shown. IsShown (⟦<Activity<S, D> as Read>⟧.reading bound) (V.follows context.now) shown
         input.old.now input.new.now visitor.old visitor.new) }
+    ensures long { IfOk result (λ shown. shown ≡ false →
+        IfOk (⟦<Activity<S, D> as Read>⟧.reading bound input.old.now) (λ x. IsLongActivity x.0)) }
 {
     let Some((round, attestation, rest)) = short_nullify::<S>(body) else {
         return Ok(false);
@@ -492,6 +505,10 @@ fn short_parts<S: CertificateScheme, D: Digest>(
       },
       x.2.now,
     )) }
+    ensures long_notarize { result ≡ None → IfOk (⟦<Notarize<S, D> as Read>⟧.reading tt bytes.now) (λ x.
+        IsLongProposal x.0.proposal ⊎ (2 ^ 28 ≤ x.0.attestation.signer)) }
+    ensures long_finalize { result ≡ None → IfOk (⟦<Finalize<S, D> as Read>⟧.reading tt bytes.now) (λ x.
+        IsLongProposal x.0.proposal ⊎ (2 ^ 28 ≤ x.0.attestation.signer)) }
 {
     let Some((proposal, rest)) = Proposal::<D>::short_parts(bytes) else {
         return None;
@@ -513,6 +530,8 @@ fn short_nullify<S: CertificateScheme>(bytes: &[u8]) -> Option<(Round, Attestati
       },
       x.2.now,
     )) }
+    ensures long { result ≡ None → IfOk (⟦<Nullify<S> as Read>⟧.reading tt bytes.now) (λ x.
+        IsLongRound x.0.round ⊎ (2 ^ 28 ≤ x.0.attestation.signer)) }
 {
     let Some((round, rest)) = Round::read_short(bytes) else {
         return None;
