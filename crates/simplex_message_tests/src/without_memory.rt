@@ -14,8 +14,8 @@ use simplex_scheme::scheme::{
     AssemblyError, Attestation, CertificateScheme, CertificateSubject, CertificateVerifier, Digest,
     Listing, Namespace, Proposal, Scheme, SchemeTypes, Set, SetError, Sha256Digest, Subject,
 };
-use simplex_schemes::listed::Listed;
 use simplex_schemes::marked::{Marked, MarkedDigest, MarkedKey, MarkedSignature};
+use simplex_schemes::own::{MarkedCertificate, PlainCertificate};
 use simplex_schemes::plain::{Plain, PlainKey};
 use simplex_votes::types::{
     Artifact, Attributable, Certificate, Context, Finalize, Notarize, Nullify, Vote,
@@ -508,7 +508,7 @@ fn without_memory_marked(rt: HostRuntime) -> Result<(), Fail> {
 fn is_certified_twice(
     scheme: &Marked,
     proposal: &Proposal<MarkedDigest>,
-    certificate: &Listed<Marked>,
+    certificate: &MarkedCertificate,
 ) -> bool {
     let items = [certificate, certificate].map(|certificate| {
         let subject = Subject::Notarize { proposal };
@@ -521,7 +521,7 @@ fn is_certified_twice(
 fn without_memory_twice(rt: HostRuntime) -> Result<(), Fail> {
     let alloc = rt.alloc();
     let nobody = Marked::new(alloc, 1, None)?;
-    let certificate = decode_cfg::<Listed<Marked>>(alloc, &[1, 0, 0xaa], &1)?;
+    let certificate = decode_cfg::<MarkedCertificate>(alloc, &[1, 0, 0xaa], &1)?;
     let _ = is_out(alloc);
     let proposal = proposal(MarkedDigest::from_bytes(&[6]));
     assert!(rt; is_certified_twice(&nobody, &proposal, &certificate));
@@ -545,7 +545,7 @@ fn key_of_zeros(alloc: Global) -> Result<Set<PlainKey>, Fail>
 fn is_plain_certified_twice(
     scheme: &Plain,
     proposal: &Proposal<Sha256Digest>,
-    certificate: &Listed<Plain>,
+    certificate: &PlainCertificate,
 ) -> bool {
     let items = [certificate, certificate].map(|certificate| {
         let subject = Subject::Notarize { proposal };
@@ -563,7 +563,7 @@ fn without_memory_plain_twice(rt: HostRuntime) -> Result<(), Fail> {
     let alloc = rt.alloc();
     let nobody = Plain::verifier(alloc, b"test", key_of_zeros(alloc)?)?;
     let encoding = hex::decode(alloc, PLAIN_CERTIFICATE)?;
-    let certificate = decode_cfg::<Listed<Plain>>(alloc, encoding.as_slice(), &1)?;
+    let certificate = decode_cfg::<PlainCertificate>(alloc, encoding.as_slice(), &1)?;
     let _ = is_out(alloc);
     let proposal = proposal(Sha256Digest::from_bytes(&[6; 32]));
     assert!(rt; is_plain_certified_twice(&nobody, &proposal, &certificate));

@@ -14,7 +14,8 @@ ghost use Rattle.simplex_places.specs.declared.places.Placed.{Placed};
 use simplex_base::codec::fixed_bytes::Role;
 use simplex_base::codec::{Encoding, Read};
 use simplex_scheme::scheme::{Digest, Listing};
-use simplex_schemes::listed::Listed;
+use simplex_schemes::listed::Lists;
+use simplex_schemes::own::{PlainCertificate, VouchedCertificate};
 use simplex_schemes::plain::Plain;
 use simplex_schemes::vouched::Vouched;
 
@@ -32,16 +33,16 @@ pub trait Counted<D: Digest>: Listing<D> {
 }
 
 impl<D: Digest, R: Role<N>, const N: usize> Counted<D> for Vouched<R, N> {
-    fn count(certificate: &Listed<Vouched<R, N>>) -> u32 {
-        certificate.attestations().len() as u32
+    fn count(certificate: &VouchedCertificate<R, N>) -> u32 {
+        certificate.as_listed().attestations().len() as u32
     }
 
     ghost counted = { λ certificate. refl };
 }
 
 impl<D: Digest> Counted<D> for Plain {
-    fn count(certificate: &Listed<Plain>) -> u32 {
-        certificate.attestations().len() as u32
+    fn count(certificate: &PlainCertificate) -> u32 {
+        certificate.as_listed().attestations().len() as u32
     }
 
     ghost counted = { λ certificate. refl };

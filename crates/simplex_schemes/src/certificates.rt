@@ -8,7 +8,7 @@ ghost use Rattle.simplex_scheme.specs.Subject.{SubjectValue, subject_value};
 ghost use Rattle.simplex_scheme.specs.Known.{AreValid};
 ghost use Rattle.simplex_scheme.specs.Committee.{IsInOrder, is_quorum, quorum_of, signers_of, RefusesFew};
 
-use crate::listed::Listed;
+use crate::listed::{Listed, Lists};
 use simplex_scheme::scheme::{
     AssemblyError, Attestation, CertificateScheme, Digest, Known, NothingKnown, SchemeTypes,
     Subject, quorum,
@@ -81,16 +81,16 @@ fn is_accepted<D: Digest, S: AttestationVerifier<D>, K: Known<S, D>>(
 }
 
 /// Whether each certificate certifies its subject.
-pub fn are_certified<'a, D: Digest, S: AttestationVerifier<D>>(
+pub fn are_certified<'a, D: Digest, S: AttestationVerifier<D>, C: Lists<S>>(
     scheme: &S,
-    items: &[(Subject<'a, D>, &'a Listed<S>)],
+    items: &[(Subject<'a, D>, &'a C)],
 ) -> bool
     ensures { result ≡ list_all (λ item.
         is_quorum (length (S.keys scheme.now)) (S.accepted scheme.now (subject_value item.0))
-        item.1.now) items.now }
+        (C.list item.1.now)) items.now }
 {
     for item in items {
-        if !is_certified(scheme, &item.0, item.1) {
+        if !is_certified(scheme, &item.0, item.1.as_listed()) {
             return false;
         }
     }

@@ -13,5 +13,6 @@ mod derived;
 mod hashed;
 pub mod listed;
 pub mod marked;
+pub mod own;
 pub mod plain;
 pub mod vouched;

@@ -64,6 +64,28 @@ impl<S: SchemeTypes> Listed<S> {
     }
 }
 
+/// A certificate that is a list of attestations. A scheme gives its certificates a type of their own: a bound at a type without
+/// parameters asks for nothing else, while each bound at [`Listed`] asks for all that the types of its scheme have.
+pub trait Lists<S: SchemeTypes> {
+    ghost use Rattle.std.specs.Prelude.{List};
+    ghost use Rattle.simplex_scheme.specs.declared.scheme.Attestation.{Attestation};
+
+    /// The attestations.
+    ghost list: { Self → List (Attestation S S.PublicKey S.Signature) };
+
+    /// The list of its attestations.
+    fn as_listed(&self) -> &Listed<S>
+        ensures { result.now ≡ list self.now };
+}
+
+impl<S: SchemeTypes> Lists<S> for Listed<S> {
+    ghost list = { λ listed. listed };
+
+    fn as_listed(&self) -> &Listed<S> {
+        self
+    }
+}
+
 impl<S: SchemeTypes> Clone for Listed<S> {
     ghost is_clone = { λ listed copy. copy ≡ listed };
 

@@ -14,7 +14,8 @@ ghost use Rattle.simplex_schemes.specs.MarkedLaws.{marked_members};
 use crate::certificates::{
     AttestationVerifier, are_certified, assembled, is_certified, is_certified_knowing,
 };
-use crate::listed::{Listed, listed_refusals_are_final};
+use crate::listed::listed_refusals_are_final;
+use crate::own::MarkedCertificate;
 use simplex_base::codec::Fixed;
 use simplex_base::codec::fixed_bytes::{FixedBytes, Role};
 use simplex_base::positions::Participant;
@@ -127,7 +128,7 @@ impl SchemeTypes for Marked {
 }
 
 impl CertificateScheme for Marked {
-    type Certificate = Listed<Marked>;
+    type Certificate = MarkedCertificate;
 
     ghost keys = { λ marked. marked.keys };
 
@@ -182,7 +183,7 @@ impl<D: Digest> CertificateVerifier<D> for Marked {
     ghost certified = { λ scheme subject.
         is_quorum (length scheme.keys) (marked_good (length scheme.keys) subject) };
 
-    fn verify_certificate(&self, subject: Subject<'_, D>, certificate: &Listed<Marked>) -> bool
+    fn verify_certificate(&self, subject: Subject<'_, D>, certificate: &MarkedCertificate) -> bool
         ensures certified { result ≡
             is_quorum (length self.now.keys)
             (marked_good (length self.now.keys) (subject_value subject.entry)) certificate.now }
@@ -197,10 +198,10 @@ impl<D: Digest> CertificateVerifier<D> for Marked {
             Subject::Nullify { round } => Subject::Nullify { round },
             Subject::Finalize { proposal } => Subject::Finalize { proposal },
         };
-        is_certified(self, &subject, certificate)
+        is_certified(self, &subject, &certificate.0)
     }
 
-    fn verify_all<'a>(&self, items: &[(Subject<'a, D>, &'a Listed<Marked>)]) -> bool {
+    fn verify_all<'a>(&self, items: &[(Subject<'a, D>, &'a MarkedCertificate)]) -> bool {
         are_certified(self, items)
     }
 }
@@ -243,7 +244,7 @@ impl<D: Digest> Scheme<D> for Marked {
         &self,
         _alloc: Global,
         attestations: Vec<Attestation<Self>>,
-    ) -> Result<Listed<Marked>, AssemblyError>
+    ) -> Result<MarkedCertificate, AssemblyError>
         requires distinct { IsDistinct nat_eq (signers_of attestations.items) }
         requires members { All (λ a. a.signer < length self.now.keys) attestations.items }
         ensures below { RefusesFew (length self.now.keys) (length attestations.items) result }
@@ -256,7 +257,7 @@ impl<D: Digest> Scheme<D> for Marked {
             is_quorum (length self.now.keys) (marked_good (length self.now.keys) subject)
             certificate ≡ true) }
     {
-        assembled(self, attestations)
+        Ok(MarkedCertificate(assembled(self, attestations)?))
     }
 
     ghost members = { λ marked subject signer signature h.
@@ -266,17 +267,17 @@ impl<D: Digest> Scheme<D> for Marked {
 impl<D: Digest> Listing<D> for Marked {
     ghost listed = { λ certificate. certificate };
 
-    fn attestations(certificate: &Listed<Marked>) -> &[Attestation<Self>] {
-        certificate.attestations()
+    fn attestations(certificate: &MarkedCertificate) -> &[Attestation<Self>] {
+        certificate.0.attestations()
     }
 
     fn verify_certificate_knowing<K: Known<Self, D>>(
         &self,
         subject: &Subject<'_, D>,
-        certificate: &Listed<Marked>,
+        certificate: &MarkedCertificate,
         known: &K,
     ) -> bool {
-        is_certified_knowing(self, subject, certificate, known)
+        is_certified_knowing(self, subject, &certificate.0, known)
     }
 
     ghost lists_quorums = { λ scheme subject certificate.

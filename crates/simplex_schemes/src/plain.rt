@@ -22,7 +22,8 @@ use crate::certificates::{
     AttestationVerifier, are_certified, assembled, is_certified, is_certified_knowing,
 };
 use crate::hashed::{Hashers, hash_of_proposal, hash_of_round};
-use crate::listed::{Listed, listed_refusals_are_final};
+use crate::listed::listed_refusals_are_final;
+use crate::own::PlainCertificate;
 use simplex_base::codec::fixed_bytes::{FixedBytes, Role};
 use simplex_base::codec::{Fixed, Read};
 use simplex_base::positions::{Participant, Round};
@@ -217,7 +218,7 @@ impl SchemeTypes for Plain {
 }
 
 impl CertificateScheme for Plain {
-    type Certificate = Listed<Plain>;
+    type Certificate = PlainCertificate;
 
     ghost keys = { λ plain. plain.keys };
 
@@ -286,7 +287,7 @@ impl<D: Digest> CertificateVerifier<D> for Plain {
     ghost certified = { λ scheme subject.
         is_quorum (length scheme.keys) (plain_good (format_of ⟦<D as Read>⟧) scheme subject) };
 
-    fn verify_certificate(&self, subject: Subject<'_, D>, certificate: &Listed<Plain>) -> bool
+    fn verify_certificate(&self, subject: Subject<'_, D>, certificate: &PlainCertificate) -> bool
         ensures certified { result ≡
             is_quorum (length self.now.keys)
             (plain_good (format_of ⟦<D as Read>⟧) self.now (subject_value subject.entry))
@@ -303,10 +304,10 @@ impl<D: Digest> CertificateVerifier<D> for Plain {
             Subject::Nullify { round } => Subject::Nullify { round },
             Subject::Finalize { proposal } => Subject::Finalize { proposal },
         };
-        is_certified(self, &subject, certificate)
+        is_certified(self, &subject, &certificate.0)
     }
 
-    fn verify_all<'a>(&self, items: &[(Subject<'a, D>, &'a Listed<Plain>)]) -> bool {
+    fn verify_all<'a>(&self, items: &[(Subject<'a, D>, &'a PlainCertificate)]) -> bool {
         are_certified(self, items)
     }
 }
@@ -368,7 +369,7 @@ impl<D: Digest> Scheme<D> for Plain {
         &self,
         _alloc: Global,
         attestations: Vec<Attestation<Self>>,
-    ) -> Result<Listed<Plain>, AssemblyError>
+    ) -> Result<PlainCertificate, AssemblyError>
         requires distinct { IsDistinct nat_eq (signers_of attestations.items) }
         requires members { All (λ a. a.signer < length self.now.keys) attestations.items }
         ensures below { RefusesFew (length self.now.keys) (length attestations.items) result }
@@ -381,7 +382,7 @@ impl<D: Digest> Scheme<D> for Plain {
             is_quorum (length self.now.keys) (plain_good (format_of ⟦<D as Read>⟧) self.now subject)
             certificate ≡ true) }
     {
-        assembled(self, attestations)
+        Ok(PlainCertificate(assembled(self, attestations)?))
     }
 
     ghost members = { λ scheme subject signer signature h.
@@ -391,17 +392,17 @@ impl<D: Digest> Scheme<D> for Plain {
 impl<D: Digest> Listing<D> for Plain {
     ghost listed = { λ certificate. certificate };
 
-    fn attestations(certificate: &Listed<Plain>) -> &[Attestation<Self>] {
-        certificate.attestations()
+    fn attestations(certificate: &PlainCertificate) -> &[Attestation<Self>] {
+        certificate.0.attestations()
     }
 
     fn verify_certificate_knowing<K: Known<Self, D>>(
         &self,
         subject: &Subject<'_, D>,
-        certificate: &Listed<Plain>,
+        certificate: &PlainCertificate,
         known: &K,
     ) -> bool {
-        is_certified_knowing(self, subject, certificate, known)
+        is_certified_knowing(self, subject, &certificate.0, known)
     }
 
     ghost lists_quorums = { λ scheme subject certificate.

@@ -17,8 +17,9 @@ ghost use Rattle.simplex_schemes.specs.VouchedLaws.{vouched_members};
 use crate::certificates::{
     AttestationVerifier, are_certified, assembled, is_certified, is_certified_knowing,
 };
-use crate::listed::{Listed, listed_refusals_are_final};
+use crate::listed::listed_refusals_are_final;
 use crate::marked::{Marked, MarkedKey, MarkedKeyRole};
+use crate::own::VouchedCertificate;
 use simplex_base::codec::Fixed;
 use simplex_base::codec::fixed_bytes::{FixedBytes, Role};
 use simplex_base::positions::Participant;
@@ -100,7 +101,7 @@ impl<R: Role<N>, const N: usize> SchemeTypes for Vouched<R, N> {
 }
 
 impl<R: Role<N>, const N: usize> CertificateScheme for Vouched<R, N> {
-    type Certificate = Listed<Vouched<R, N>>;
+    type Certificate = VouchedCertificate<R, N>;
 
     ghost keys = { λ vouched. vouched.keys };
 
@@ -156,7 +157,7 @@ impl<D: Digest, R: Role<N>, const N: usize> CertificateVerifier<D> for Vouched<R
     fn verify_certificate(
         &self,
         subject: Subject<'_, D>,
-        certificate: &Listed<Vouched<R, N>>,
+        certificate: &VouchedCertificate<R, N>,
     ) -> bool
         ensures certified { result ≡ is_quorum (length self.now.keys)
             (vouched_valid self.now.keys (subject_value subject.entry)) certificate.now }
@@ -170,10 +171,10 @@ impl<D: Digest, R: Role<N>, const N: usize> CertificateVerifier<D> for Vouched<R
             Subject::Nullify { round } => Subject::Nullify { round },
             Subject::Finalize { proposal } => Subject::Finalize { proposal },
         };
-        is_certified(self, &subject, certificate)
+        is_certified(self, &subject, &certificate.0)
     }
 
-    fn verify_all<'a>(&self, items: &[(Subject<'a, D>, &'a Listed<Vouched<R, N>>)]) -> bool {
+    fn verify_all<'a>(&self, items: &[(Subject<'a, D>, &'a VouchedCertificate<R, N>)]) -> bool {
         are_certified(self, items)
     }
 }
@@ -209,7 +210,7 @@ impl<D: Digest, R: Role<N>, const N: usize> Scheme<D> for Vouched<R, N> {
         &self,
         _alloc: Global,
         attestations: Vec<Attestation<Self>>,
-    ) -> Result<Listed<Vouched<R, N>>, AssemblyError>
+    ) -> Result<VouchedCertificate<R, N>, AssemblyError>
         requires distinct { IsDistinct nat_eq (signers_of attestations.items) }
         requires members { All (λ a. a.signer < length self.now.keys) attestations.items }
         ensures below { RefusesFew (length self.now.keys) (length attestations.items) result }
@@ -223,7 +224,7 @@ impl<D: Digest, R: Role<N>, const N: usize> Scheme<D> for Vouched<R, N> {
             is_quorum (length self.now.keys) (vouched_valid self.now.keys subject) certificate ≡
             true) }
     {
-        assembled(self, attestations)
+        Ok(VouchedCertificate(assembled(self, attestations)?))
     }
 
     ghost members = { λ scheme. vouched_members scheme.keys };
@@ -232,17 +233,17 @@ impl<D: Digest, R: Role<N>, const N: usize> Scheme<D> for Vouched<R, N> {
 impl<D: Digest, R: Role<N>, const N: usize> Listing<D> for Vouched<R, N> {
     ghost listed = { λ certificate. certificate };
 
-    fn attestations(certificate: &Listed<Vouched<R, N>>) -> &[Attestation<Self>] {
-        certificate.attestations()
+    fn attestations(certificate: &VouchedCertificate<R, N>) -> &[Attestation<Self>] {
+        certificate.0.attestations()
     }
 
     fn verify_certificate_knowing<K: Known<Self, D>>(
         &self,
         subject: &Subject<'_, D>,
-        certificate: &Listed<Vouched<R, N>>,
+        certificate: &VouchedCertificate<R, N>,
         known: &K,
     ) -> bool {
-        is_certified_knowing(self, subject, certificate, known)
+        is_certified_knowing(self, subject, &certificate.0, known)
     }
 
     ghost lists_quorums = { λ scheme subject certificate.
