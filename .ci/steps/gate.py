@@ -65,7 +65,7 @@ def proofs():
     missed = [mutants.verdict(it, why) for it, why in found if not mutants.is_right(it, why)]
     if missed or len(found) != len(mutants.edits(gate=True)):
         fail(f"{len(found)} mutants were tried", *missed)
-    return f"{len(crates()) + len(found)} passed, 0 failed"
+    return f"{len(crates()) + sum(not it.means_the_same for it, _ in found)} passed, 0 failed"
 
 
 def step(name, begin):

@@ -42,7 +42,7 @@ def fit():
     bad = [(it, misfit) for it in every for texts, misfit in [it.applied({})] if texts is None]
     for it, misfit in bad:
         print(f"{it}: not once in its file: {misfit}")
-    print(f"{len(every) - len(bad)} of {len(every)} mutants fit the code, the gate tries {len(edits(gate=True))} of them")
+    print(f"{len(every) - len(bad)} of {len(every)} edits fit the code, the gate tries {len(edits(gate=True))} of them")
     return len(bad)
 
 
@@ -235,7 +235,7 @@ def main(*names):
         refused = []
         for it, why in tried([it for it in edits(crate) if name in (crate, str(it))] or fail(f"there is no mutant {name}")):
             print(verdict(it, why))
-            refused += [str(it)] if why else []
+            refused += [str(it)] if why and is_right(it, why) else []
             missed += not is_right(it, why)
         note(refused)
     return min(missed if names else fit(), 1)

@@ -64,8 +64,8 @@ impl<S: SchemeTypes> Listed<S> {
     }
 }
 
-/// A certificate that is a list of attestations. A scheme gives its certificates a type of their own: a bound at a type without
-/// parameters asks for nothing else, while each bound at [`Listed`] asks for all that the types of its scheme have.
+/// A certificate that is a list of attestations. A scheme gives its certificates a type of their own. A bound at a type without
+/// parameters asks for nothing else; each bound at [`Listed`] asks for all that the types of its scheme have.
 pub trait Lists<S: SchemeTypes> {
     ghost use Rattle.std.specs.Prelude.{List};
     ghost use Rattle.simplex_scheme.specs.declared.scheme.Attestation.{Attestation};

@@ -8,4 +8,5 @@ use Rattle.simplex_schemes.proofs.certificates.are_certified.Given as goal
 abbrev pub invariant-loop-item : goal.invariant-loop-item
 invariant-loop-item g l =
     list_all (λ item. is_quorum (length (g.S.CertificateScheme.keys l.scheme))
-    (g.S.AttestationVerifier.accepted l.scheme (subject_value item.0)) (g.C.Lists.list item.1.now)) (take l.item-index l.items) ≡ true
+    (g.S.AttestationVerifier.accepted l.scheme (subject_value item.0)) (g.C.Lists.list item.1.now))
+    (take l.item-index l.items) ≡ true
